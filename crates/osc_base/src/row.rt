@@ -1,0 +1,75 @@
+ghost use Rattle.std.specs.Prelude.{◌≡◌, [], ◌∷◌, ◌++◌, OnOk, OnErr};
+
+use std::alloc::{AllocError, Global};
+use std::marker::Model;
+
+/// A `Vec` that contracts see as the list of its items.
+#[derive(Debug, Drop)]
+pub struct Row<T> {
+    items: Vec<T>,
+}
+
+impl<T> Model for Row<T> {
+    ghost use Rattle.std.specs.Prelude.{List};
+    ghost use Rattle.std.specs.Coded.{coded_list};
+
+    ghost Value = { List T };
+
+    ghost coded = { coded_list T.code };
+
+    ghost view = { λ r. r.items.items };
+}
+
+impl<T> Row<T> {
+    /// Takes over `items`, without taking memory.
+    pub fn of(items: Vec<T>) -> Row<T>
+        ensures { result ≡ items.items }
+    {
+        Row { items }
+    }
+
+    /// The empty row, which takes no memory.
+    pub fn new(alloc: Global) -> Row<T>
+        ensures { result ≡ [] }
+    {
+        Row {
+            items: Vec::new(alloc),
+        }
+    }
+
+    /// The items in order.
+    pub fn as_slice(&self) -> &[T]
+        ensures { result.now ≡ self.now }
+    {
+        self.items.as_slice()
+    }
+}
+
+impl<T: Drop> Row<T> {
+    /// Puts `item` at the end. Where memory is missing the row stays as it was, and the item is given up.
+    pub fn push(&mut self, item: T) -> Result<(), AllocError>
+        ensures ok { OnOk result (self.new ≡ self.old ++ item ∷ []) }
+        ensures err { OnErr result (self.new ≡ self.old) }
+    {
+        self.items.push(item)?;
+        Ok(())
+    }
+}
+
+impl<T: PartialEq> PartialEq for Row<T> {
+    ghost use Rattle.std.specs.Cmp.Lexicographic.{pointwise, lists_per};
+
+    ghost eq = { pointwise T.eq };
+
+    fn eq(&self, other: &Row<T>) -> bool {
+        self.items.as_slice() == other.items.as_slice()
+    }
+
+    ghost laws = { lists_per T.laws };
+}
+
+impl<T: Eq> Eq for Row<T> {
+    ghost use Rattle.std.specs.Cmp.Lexicographic.{lists_equiv};
+
+    ghost laws = { lists_equiv T.Eq.laws };
+}

@@ -1,0 +1,8 @@
+/// What a vehicle does at one tick: its lane (1 is the rightmost), its position in micrometres and
+/// its speed in millimetres a second.
+#[derive(Debug, Clone, Copy, PartialEq, Eq)]
+pub struct Sample {
+    pub lane: i64,
+    pub position: i64,
+    pub speed: i64,
+}
