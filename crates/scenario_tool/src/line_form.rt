@@ -1,0 +1,5 @@
+//! The source that is read so far, line by line: `docs/LANGUAGE.md` has the form.
+mod lines;
+mod names;
+mod numbers;
+mod pieces;
