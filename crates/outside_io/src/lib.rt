@@ -1,0 +1,21 @@
+//! Where bytes come from and go to: shelves of files and sinks of bytes, in memory and real.
+//!
+//! A call that fails on the outside's behalf counts its fault, so that a caller's contract can say that a fault is
+//! answered only where one came.
+#![tactic(auto)]
+
+mod file_shelf;
+mod loops;
+mod memory_shelf;
+mod memory_sink;
+mod out_sink;
+mod shelf;
+mod sink;
+
+pub use file_shelf::FileShelf;
+pub use loops::{ReadStop, SinkStop, read_all, write_all};
+pub use memory_shelf::MemoryShelf;
+pub use memory_sink::MemorySink;
+pub use out_sink::OutSink;
+pub use shelf::{NamedBytes, Shelf, ShelfFault};
+pub use sink::{Sink, SinkFault};

@@ -1,0 +1,59 @@
+ghost use Rattle.std.specs.Prelude.{◌≡◌, ℕ, ◌≤◌, List, Option, false, is_some, IfSome, IfOk, OnErr, length};
+ghost use Rattle.outside_io.specs.Counts.{Rises};
+ghost use Rattle.outside_io.specs.Files.{Finds, NothingLeft, Takes, TellsAll};
+
+use osc_base::{Row, Text};
+
+/// A file: its name and its bytes.
+#[derive(Debug, Drop)]
+pub struct NamedBytes {
+    pub name: Text,
+    pub bytes: Row<u8>,
+}
+
+/// A call of a shelf failed. It has counted the fault.
+#[derive(Debug, Clone, Copy, PartialEq, Eq)]
+pub struct ShelfFault;
+
+/// Files by their names, of which one at a time is fetched and then read piece by piece.
+///
+/// Contracts see its files, where it tells them, what is left of the fetched file, where it tells that, and its count
+/// of faults. No fetched file is the same as nothing left. The count stops at the last value of a `u64`, so where a
+/// clause says that it rose, it rose or stands there.
+pub trait Shelf {
+    ghost use Rattle.outside_io.specs.declared.shelf.NamedBytes.{NamedBytes};
+
+    ghost files: { Self → Option (List NamedBytes) };
+
+    ghost left: { Self → Option (List ℕ) };
+
+    ghost faults: { Self → ℕ };
+
+    /// Fetches the first file of this name, and answers whether there is one. After false, and after a fault, no file
+    /// is fetched.
+    fn fetch(&mut self, name: &str) -> Result<bool, ShelfFault>
+        ensures files_kept { files self.new ≡ files self.old }
+        ensures telling_kept { is_some (left self.new) ≡ is_some (left self.old) }
+
+        ensures finds { IfOk result (λ found. IfSome (files self.old) (λ all. Finds all name.now found (left self.new))) }
+        ensures absent { result ≡ Ok false → NothingLeft (left self.new) }
+        ensures fault { OnErr result (NothingLeft (left self.new)) }
+
+        ensures never_falls { faults self.old ≤ faults self.new }
+        ensures cause { OnErr result (Rises (faults self.old) (faults self.new)) };
+
+    /// Takes the front of what is left of the fetched file to the front of `piece`, and answers how many bytes it
+    /// took: 0 of a piece with room only at the end, or where no file is fetched. After a fault no file is fetched.
+    fn read(&mut self, piece: &mut [u8]) -> Result<usize, ShelfFault>
+        ensures files_kept { files self.new ≡ files self.old }
+        ensures telling_kept { is_some (left self.new) ≡ is_some (left self.old) }
+
+        ensures fits { IfOk result (λ count. count ≤ length piece.new) }
+        ensures takes { IfOk result (λ count. IfSome (left self.old) (λ before. Takes before count piece.new (left self.new))) }
+        ensures fault { OnErr result (NothingLeft (left self.new)) }
+
+        ensures never_falls { faults self.old ≤ faults self.new }
+        ensures cause { OnErr result (Rises (faults self.old) (faults self.new)) };
+
+    ghost tells_all: { (shelf : Self) → TellsAll (files shelf) (left shelf) };
+}
