@@ -1,9 +1,9 @@
 -- A text before and behind a piece that stands at its front or its end.
-use Rattle.std.proofs.Common.{◌≡◌, ◌≢◌, ◌∙◌, refl, sym, ap, subst, ℕ, ◌-◌, ◌+◌, List, [], ◌∷◌, ◌++◌, length, take, drop, Bool, true, false, Option, Some, None, IfSome, IfNone, MatchOption, Bor, arith, length-append}
+use Rattle.std.proofs.Common.{◌≡◌, ◌≢◌, ◌∙◌, refl, sym, ap, subst, ℕ, ◌-◌, ◌+◌, List, [], ◌∷◌, ◌++◌, length, take, drop, Bool, true, false, Option, Some, None, IfSome, IfNone, MatchOption, Bor, arith, length-append, append_assoc}
 use Rattle.std.specs.Str.{bytes_eq}
 use Rattle.std.specs.Bool.{Decides}
 use Rattle.std.proofs.lemmas.Slice.Eq.{bytes_eq-Decides}
-use Rattle.std.proofs.lemmas.List.{take-append-drop}
+use Rattle.std.proofs.lemmas.List.{take-append-drop, append_cancel_left, append_cancel_right}
 use Rattle.std.proofs.Math.Seq.{take-append_seam, drop-append_seam}
 
 told : (r : Bool) (P : Type 0) → Decides r P → r ≡ true → P
@@ -56,3 +56,20 @@ pub before_none : (text suffix : List ℕ) (r : Option (Bor (List ℕ))) →
     IfNone r ((rest : List ℕ) → text ≡ rest ++ suffix → ⊥)
 before_none text suffix None h = λ rest same. other_bytes _ _ h (ap (λ t. drop (length t - length suffix) t) same ∙ suffix_of rest suffix)
 before_none text suffix (Some x) h = tt
+
+-- what stands between a prefix and a suffix is one text
+pub one_between : (prefix suffix a b line : List ℕ) → line ≡ prefix ++ a ++ suffix → line ≡ prefix ++ b ++ suffix → a ≡ b
+one_between prefix suffix a b line one two =
+    append_cancel_left prefix a b (append_cancel_right (prefix ++ a) (prefix ++ b) suffix (sym one ∙ two))
+
+pub inside_none : (text prefix suffix rest : List ℕ) (r : Option (Bor (List ℕ))) → text ≡ prefix ++ rest →
+    IfNone r ((front : List ℕ) → rest ≡ front ++ suffix → ⊥) →
+    IfNone r ((middle : List ℕ) → text ≡ prefix ++ middle ++ suffix → ⊥)
+inside_none text prefix suffix rest None split none = λ middle same.
+    none middle (append_cancel_left prefix rest (middle ++ suffix) (sym split ∙ same ∙ append_assoc prefix middle suffix))
+inside_none text prefix suffix rest (Some x) split none = tt
+
+-- a fact for the case of no answer
+pub if_none : {T : Type 0} (r : Option T) (P : Type 0) → P → IfNone r P
+if_none None P p = p
+if_none (Some x) P p = tt

@@ -1,2 +1,4 @@
+pub mod Entries
+pub mod Fields
 pub mod LineForm
 pub mod Names

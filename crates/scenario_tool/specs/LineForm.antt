@@ -1,6 +1,6 @@
 -- The source that is read so far: a head line `scenario NAME:`, and then, by turns, a field line `    NAME: int` and a
 -- constraint line `    keep(NAME in [A..B])`.
-use Rattle.std.specs.Prelude.{◌≡◌, ℕ, ◌+◌, ◌≤◌, ◌<◌, ◌==◌, if◌then◌else◌, Bool, true, false, not, List, [], ◌∷◌, ◌++◌, length, codes, flat_map, map, count_by, take_while, Contains, reverse}
+use Rattle.std.specs.Prelude.{◌≡◌, ℕ, ◌+◌, ◌≤◌, ◌<◌, ◌==◌, if◌then◌else◌, Bool, true, false, not, List, [], ◌∷◌, ◌++◌, length, codes, flat_map, map, count_by, take_while, reverse}
 use Rattle.std.specs.Char.{is_ascii_digit}
 use Rattle.std.specs.List.{list_all}
 use Rattle.std.specs.Str.Parse.{digits_value}
@@ -43,6 +43,10 @@ field_line name = codes "    " ++ name ++ codes ": int\n"
 abbrev pub keep_line : WrittenField → List ℕ
 keep_line f = codes "    keep(" ++ f.name ++ codes " in [" ++ f.low ++ codes ".." ++ f.high ++ codes "])\n"
 
+-- the two lines of each field
+abbrev pub lines_of_fields : List WrittenField → List (List ℕ)
+lines_of_fields fields = flat_map (λ f. field_line f.name ∷ keep_line f ∷ []) fields
+
 abbrev pub number_of : List ℕ → ℕ
 number_of digits = digits_value 10 digits
 
@@ -75,11 +79,16 @@ pub record IsHeadLine (line : List ℕ) : Type 0 where
   pub allowed : IsScenarioName scenario
   pub written : line ≡ head_line scenario
 
+-- none of these lines is the line
+abbrev pub NoneIs : List (List ℕ) → List ℕ → Type 0
+NoneIs [] line = Unit {0}
+NoneIs (other ∷ others) line = (other ≡ line → ⊥) × NoneIs others line
+
 -- a field line whose name none of the field lines before it has
 pub record IsFieldLine (before : List (List ℕ)) (line : List ℕ) : Type 0 where
   pub field : List ℕ
   pub allowed : IsFieldName field
-  pub fresh : Contains before (field_line field) → ⊥
+  pub fresh : NoneIs before (field_line field)
   pub written : line ≡ field_line field
 
 -- the constraint line that belongs to the field line before it
@@ -109,7 +118,7 @@ AllFitAfter before (line ∷ later) = Fits before line × AllFitAfter (before ++
 
 -- a source of the form: these are its name and its fields
 pub record Declares (source name : List ℕ) (fields : List WrittenField) : Type 0 where
-  pub lines : lines_of source ≡ head_line name ∷ flat_map (λ f. field_line f.name ∷ keep_line f ∷ []) fields
+  pub lines : lines_of source ≡ head_line name ∷ lines_of_fields fields
   pub some : fields ≡ [] → ⊥
   pub fit : AllFitAfter [] (lines_of source)
 

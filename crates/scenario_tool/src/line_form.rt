@@ -1,5 +1,8 @@
 //! The source that is read so far, line by line: `docs/LANGUAGE.md` has the form.
+mod fields;
+mod heads;
 mod lines;
 mod names;
 mod numbers;
 mod pieces;
+mod ranges;

@@ -15,3 +15,12 @@ pub fn before<'a>(text: &'a [u8], suffix: &[u8]) -> Option<&'a [u8]>
 {
     text.strip_suffix(suffix)
 }
+
+/// What stands between `prefix` and `suffix`, where `text` is these three.
+pub fn inside<'a>(text: &'a [u8], prefix: &[u8], suffix: &[u8]) -> Option<&'a [u8]>
+    ensures some { IfSome result (λ middle. text.now ≡ prefix.now ++ middle.now ++ suffix.now) }
+    ensures none { IfNone result ((middle : List ℕ) → text.now ≡ prefix.now ++ middle ++ suffix.now → ⊥) }
+{
+    let rest = behind(text, prefix)?;
+    before(rest, suffix)
+}
