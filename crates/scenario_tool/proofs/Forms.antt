@@ -1,11 +1,12 @@
 -- A source that has been read up to a whole number of fields, and what the next lines make of it.
-use Rattle.std.proofs.Common.{◌≡◌, ◌∙◌, refl, sym, ap, ap₂, subst, ℕ, ◌+◌, ◌*◌, suc, List, [], ◌∷◌, ◌++◌, length, map, Bool, true, false, ◌||◌, codes, append_assoc, append-nil, arith, length-append}
+use Rattle.std.proofs.Common.{◌≡◌, ◌∙◌, refl, sym, ap, ap₂, subst, ℕ, ◌+◌, ◌*◌, suc, List, [], ◌∷◌, ◌++◌, length, map, Bool, true, false, ◌||◌, codes, append_assoc, append-nil, arith, length-append, ◌<◌, ◌≤◌}
 use Rattle.std.specs.Prelude.{flat_map}
 use Rattle.std.proofs.lemmas.Grind.{flat_map-append}
+use Rattle.std.proofs.lemmas.List.{map-append}
 use Rattle.std.specs.Str.{bytes_eq}
 use Rattle.composition.specs.Instance.{RangedField}
 use Rattle.scenario_tool.specs.Fields.{is_declared}
-use Rattle.scenario_tool.specs.LineForm.{WrittenField, lines_of, head_line, field_line, keep_line, lines_of_fields, ranged, IsScenarioName, IsFieldName, HasRange, IsHeadLine, IsFieldLine, IsKeepLine, NoneIs, FitsAfter, Fits, AllFitAfter, Declares, IsWholeBody, MayEnd, Breaks, BreaksAt}
+use Rattle.scenario_tool.specs.LineForm.{WrittenField, lines_of, head_line, field_line, keep_line, lines_of_fields, ranged, number_of, IsScenarioName, IsFieldName, HasRange, IsHeadLine, IsFieldLine, IsKeepLine, NoneIs, FitsAfter, Fits, AllFitAfter, Declares, IsWholeBody, MayEnd, Breaks, BreaksAt}
 use Rattle.scenario_tool.proofs.Lines.{lines_cut}
 use Rattle.scenario_tool.proofs.Pieces.{one_between, equal_bytes, other_bytes}
 
@@ -201,3 +202,70 @@ no_head source never =
         Breaks [] lines
     no_head_fits [] never = λ may. may
     no_head_fits (line ∷ later) never = λ head. never head.scenario later head.allowed (ap (λ l. l ∷ later) head.written)
+
+-- ---- The loop over the fields
+
+pub record Reading (source name rest : List ℕ) (fields : List RangedField) (line : ℕ) : Type 0 where
+  pub written : List WrittenField
+  pub begun : Begun source name written rest
+  pub seen : fields ≡ map ranged written
+  pub at : line ≡ 2 * length written + 2
+  pub room : 2 * length written + length rest ≤ length source
+
+pub reading_started : (source name rest : List ℕ) → IsScenarioName name → lines_of source ≡ head_line name ∷ lines_of rest →
+    length rest < length source → Reading source name rest [] 2
+reading_started source name rest allowed split shorter =
+    record { written = []; begun = started source name rest allowed split; seen = refl; at = refl; room = omega arith }
+
+pub reading_continued : (source name rest middle later : List ℕ) (fields : List RangedField) (line : ℕ) (field : List ℕ) (f : WrittenField)
+    (least greatest : ℕ) (fields' : List RangedField) → Reading source name rest fields line →
+    IsFieldName field → is_declared fields field ≡ false → f.name ≡ field → HasRange f →
+    lines_of rest ≡ field_line field ∷ lines_of middle → lines_of middle ≡ keep_line f ∷ lines_of later →
+    length middle < length rest → length later < length middle → least ≡ number_of f.low → greatest ≡ number_of f.high →
+    fields' ≡ fields ++ record { name = field; least = least; greatest = greatest } ∷ [] →
+    Reading source name later fields' (line + 2)
+reading_continued source name rest middle later fields line field f least greatest fields' r allowed undeclared same range one two short shorter low high declared =
+    let names : IsFieldName f.name = subst IsFieldName (sym same) allowed in
+    let free : is_declared (map ranged r.written) f.name ≡ false = ap₂ is_declared (sym r.seen) same ∙ undeclared in
+    let first : lines_of rest ≡ field_line f.name ∷ lines_of middle = one ∙ ap (λ n. field_line n ∷ lines_of middle) (sym same) in
+    let room = r.room in
+    let at = r.at in
+    let long = length-append r.written (f ∷ []) in
+    record {
+      written = r.written ++ f ∷ [];
+      begun = continued source name rest middle later r.written f r.begun names free range first two;
+      seen = declared
+          ∙ ap₂ (λ fs f. fs ++ f ∷ []) r.seen (ranged_is f field least greatest same low high)
+          ∙ sym (map-append ranged r.written (f ∷ []));
+      at = omega (arith, at, long);
+      room = omega (arith, room, long, short, shorter);
+    }
+  where
+    ranged_is : (f : WrittenField) (field : List ℕ) (least greatest : ℕ) → f.name ≡ field → least ≡ number_of f.low → greatest ≡ number_of f.high →
+        (record { name = field; least = least; greatest = greatest }) ≡ ranged f
+    ranged_is f field least greatest same low high = rw (← same, low, high) refl
+
+pub reading_ended : (source name rest : List ℕ) (fields : List RangedField) (line : ℕ) → Reading source name rest fields line → rest ≡ [] →
+    (fields ≡ [] → ⊥) → (written : List WrittenField) × Declares source name written × (fields ≡ map ranged written)
+reading_ended source name rest fields line r empty some =
+    (r.written, ended source name rest r.written r.begun empty (λ none. some (r.seen ∙ ap (map ranged) none)), r.seen)
+
+map_empty : (written : List WrittenField) → map ranged written ≡ [] → written ≡ []
+map_empty [] e = refl
+map_empty (f ∷ fs) e = cc
+
+pub reading_no_field : (source name rest : List ℕ) (fields : List RangedField) (line : ℕ) → Reading source name rest fields line → (rest ≡ [] → fields ≡ []) →
+    ((field : List ℕ) (later : List (List ℕ)) → IsFieldName field → is_declared fields field ≡ false → lines_of rest ≡ field_line field ∷ later → ⊥) →
+    BreaksAt source line
+reading_no_field source name rest fields line r none never =
+    rw r.at (no_field source name rest r.written r.begun (λ empty. map_empty r.written (sym r.seen ∙ none empty))
+        (λ field later allowed undeclared. never field later allowed (ap (λ fs. is_declared fs field) r.seen ∙ undeclared)))
+
+pub reading_no_keep : (source name rest middle : List ℕ) (fields : List RangedField) (line : ℕ) (field : List ℕ) → Reading source name rest fields line →
+    IsFieldName field → is_declared fields field ≡ false → lines_of rest ≡ field_line field ∷ lines_of middle →
+    ((f : WrittenField) (later : List (List ℕ)) → f.name ≡ field → HasRange f → lines_of middle ≡ keep_line f ∷ later → ⊥) →
+    BreaksAt source (line + 1)
+reading_no_keep source name rest middle fields line field r allowed undeclared one never =
+    let at = r.at in
+    let place : line + 1 ≡ 2 * length r.written + 3 = omega (arith, at) in
+    rw place (no_keep source name rest middle r.written field r.begun allowed (ap (λ fs. is_declared fs field) (sym r.seen) ∙ undeclared) one never)

@@ -6,3 +6,4 @@ mod names;
 mod numbers;
 mod pieces;
 mod ranges;
+mod reader;
