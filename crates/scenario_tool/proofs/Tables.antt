@@ -9,7 +9,8 @@ use Rattle.std.specs.String.{string_eq}
 use Rattle.std.proofs.lemmas.List.{map-append}
 use Rattle.indexmap.specs.IndexMap.{IndexMap, get, insert_entry}
 use Rattle.indexmap.proofs.CallerLemmas.{insert_entry-new}
-use Rattle.composition.specs.Instance.{RangedField}
+use Rattle.composition.specs.Instance.{RangedField, HoldsField, HoldFields}
+use Rattle.composition.specs.declared.run.Value.{Value}
 use Rattle.scenario_tool.specs.declared.line_form.fields.Range.{Range}
 use Rattle.scenario_tool.specs.Entries.{field_of}
 use Rattle.scenario_tool.specs.Fields.{is_declared}
@@ -42,3 +43,11 @@ declared_more m later key range name fields seen fresh same written =
     ap (map field_of) (written ∙ insert_entry-new string_eq m key range none)
     ∙ map-append field_of m.entries ((key, range) ∷ [])
     ∙ ap₂ (λ fs n. fs ++ record { name = n; least = range.least; greatest = range.greatest } ∷ []) seen same
+
+-- one value more
+pub hold_more : (fields : List RangedField) (values : List Value) (field : RangedField) (value : Value) →
+    HoldFields fields values → HoldsField field value → HoldFields (fields ++ field ∷ []) (values ++ value ∷ [])
+hold_more [] [] field value held one = (one, tt)
+hold_more [] (v ∷ vs) field value held one = absurd held
+hold_more (f ∷ fs) [] field value held one = absurd held
+hold_more (f ∷ fs) (v ∷ vs) field value held one = (held.0, hold_more fs vs field value held.1 one)

@@ -1,5 +1,5 @@
-ghost use Rattle.std.specs.Prelude.{◌≡◌, [], ◌∷◌, ◌++◌, false, IfOk, OnOk, IsTrue, ◌↔◌};
-ghost use Rattle.composition.specs.Instance.{RangedField, HoldFields};
+ghost use Rattle.std.specs.Prelude.{◌≡◌, [], ◌∷◌, ◌++◌, ◌≤◌, false, IfOk, OnOk, IsTrue, ◌↔◌};
+ghost use Rattle.composition.specs.Instance.{RangedField, HoldFields, HoldsField};
 ghost use Rattle.scenario_tool.specs.Fields.{is_declared};
 
 use composition::{Held, Value};
@@ -9,10 +9,11 @@ use std::alloc::{AllocError, Global};
 use std::marker::Model;
 
 /// The least and the greatest number that a field may hold.
-#[derive(Debug, Clone, Copy, PartialEq, Eq)]
+#[derive(Clone, Copy)]
 pub struct Range {
     pub least: u32,
     pub greatest: u32,
+    ghost ordered: { least ≤ greatest },
 }
 
 /// The fields of a scenario by their names, in the order in which they are declared.
@@ -64,4 +65,27 @@ impl Fields {
         self.ranges.insert(key, range)?;
         Ok(())
     }
+
+    /// A value for each field, its least number, in order.
+    pub fn values(&self, alloc: Global) -> Result<Row<Value>, AllocError>
+        ensures { IfOk result (HoldFields self.now) }
+    {
+        let mut values = Row::new(alloc);
+        for (name, range) in self.ranges.iter() {
+            values.push(least_value(alloc, name.as_str(), *range)?)?;
+        }
+        Ok(values)
+    }
+}
+
+fn least_value(alloc: Global, name: &str, range: Range) -> Result<Value, AllocError>
+    ensures { IfOk result (HoldsField (record { name = name.now; least = range.least; greatest = range.greatest })) }
+{
+    let mut steps = Row::new(alloc);
+    steps.push(Step::Name(Text::copy(alloc, name)?))?;
+    let held = Held::Number(i64::from(range.least));
+    Ok(Value {
+        path: Path { steps },
+        held,
+    })
 }

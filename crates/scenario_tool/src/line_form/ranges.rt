@@ -9,6 +9,7 @@ use super::pieces::{behind, inside};
 /// The least and the greatest number that a constraint line lets the field `name` hold.
 pub fn keep_range(line: &[u8], name: &[u8]) -> Option<(u32, u32)>
     ensures some { IfSome result (λ x. (f : WrittenField) × (f.name ≡ name.now) × HasRange f × (line.now ≡ keep_line f) × (x.0 ≡ number_of f.low) × (x.1 ≡ number_of f.high)) }
+    ensures ordered { IfSome result (λ x. x.0 ≤ x.1) }
     ensures none { IfNone result ((f : WrittenField) → f.name ≡ name.now → HasRange f → line.now ≡ keep_line f → ⊥) }
 {
     let (low, high) = written_ends(line, name)?;
