@@ -2,7 +2,13 @@
 //! memory, and those of the numbers in the queue are linked in a ring.
 #![tactic(auto)]
 
+mod block;
 mod memory;
+mod ring;
 
+// A contract of another crate can name the queue only if the types of its fields are exported.
+#[doc(hidden)]
+pub use block::{Block, Node};
 #[doc(hidden)]
 pub use memory::{Address, FreeRight, Places};
+pub use ring::WakeRing;
