@@ -5,6 +5,8 @@
 mod block;
 mod memory;
 mod ring;
+#[cfg(test)]
+mod tests;
 
 // A contract of another crate can name the queue only if the types of its fields are exported.
 #[doc(hidden)]
