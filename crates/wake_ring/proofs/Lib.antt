@@ -5,3 +5,4 @@ pub mod Nodes
 pub mod Order
 pub mod Rings
 pub mod Rows
+pub mod Worked

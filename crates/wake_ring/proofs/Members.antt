@@ -1,6 +1,6 @@
 -- The numbers of a list: which are there, that none is there twice, and that each is below a bound.
-use Rattle.std.proofs.Common.{◌≡◌, ◌≢◌, ℕ, zero, suc, ◌<◌, ◌≤◌, Bool, true, false, ◌||◌, eqb, List, [], ◌∷◌, ◌++◌, length, get_or, All, AllPairs, refl, sym, ap, subst, ◌∙◌, inl, inr, arith}
-use Rattle.std.proofs.lemmas.Bool.{cases_eq, cases_Bool, eq-eqb, ne_eqb, eqb-true, eqb-false, or_parts, or_from, or_cases, or_left, or_right, false≢true}
+use Rattle.std.proofs.Common.{◌≡◌, ◌≢◌, ℕ, zero, suc, ◌<◌, ◌≤◌, true, false, eqb, List, [], ◌∷◌, ◌++◌, length, All, AllPairs, refl, sym, ap, subst, ◌∙◌, inl, inr, arith}
+use Rattle.std.proofs.lemmas.Bool.{cases_eq, eq-eqb, ne_eqb, eqb-true, eqb-false, or_parts, or_from, or_cases, or_left, or_right, false≢true}
 use Rattle.std.proofs.lemmas.Bool.Decides.{Decides-eqb}
 use Rattle.std.proofs.lemmas.List.Kept.{AllPairs-cons}
 use Rattle.std.proofs.lemmas.Map.Made.{IsDistinct-from_AllPairs}
@@ -31,7 +31,7 @@ in_later x b xs here = or_right (eqb x b) (is_in x xs) here
 pub in_below : (n i : ℕ) (xs : List ℕ) → AllBelow n xs → is_in i xs ≡ true → i < n
 in_below n i [] below here = cc
 in_below n i (b ∷ xs) below here = elim (or_cases (eqb i b) (is_in i xs) here) [
-    inl e ↦ omega (arith, eqb-true i b e, below.0)
+  | inl e ↦ omega (arith, eqb-true i b e, below.0)
   | inr e ↦ in_below n i xs below.1 e
 ]
 
@@ -60,28 +60,28 @@ same_list P xs ys e p = subst P (sym e) p
 pub Lacks-without : (c i : ℕ) (xs : List ℕ) → Lacks c xs → Lacks c (without i xs)
 Lacks-without c i [] lacks = tt
 Lacks-without c i (b ∷ xs) lacks = elim (cases_eq i b) [
-    inl e ↦ same_list (Lacks c) (without i (b ∷ xs)) (without i xs) (ap (λ k. without i (k ∷ xs)) (sym e) ∙ without_first i xs) (Lacks-without c i xs lacks.1)
+  | inl e ↦ same_list (Lacks c) (without i (b ∷ xs)) (without i xs) (ap (λ k. without i (k ∷ xs)) (sym e) ∙ without_first i xs) (Lacks-without c i xs lacks.1)
   | inr ne ↦ same_list (Lacks c) (without i (b ∷ xs)) (b ∷ without i xs) (without_other i b xs ne) (lacks.0, Lacks-without c i xs lacks.1)
 ]
 
 pub IsDistinct-without : (i : ℕ) (xs : List ℕ) → IsDistinct xs → IsDistinct (without i xs)
 IsDistinct-without i [] distinct = tt
 IsDistinct-without i (b ∷ xs) distinct = elim (cases_eq i b) [
-    inl e ↦ same_list IsDistinct (without i (b ∷ xs)) (without i xs) (ap (λ k. without i (k ∷ xs)) (sym e) ∙ without_first i xs) (IsDistinct-without i xs distinct.1)
+  | inl e ↦ same_list IsDistinct (without i (b ∷ xs)) (without i xs) (ap (λ k. without i (k ∷ xs)) (sym e) ∙ without_first i xs) (IsDistinct-without i xs distinct.1)
   | inr ne ↦ same_list IsDistinct (without i (b ∷ xs)) (b ∷ without i xs) (without_other i b xs ne) (Lacks-without b i xs distinct.0, IsDistinct-without i xs distinct.1)
 ]
 
 pub AllBelow-without : (n i : ℕ) (xs : List ℕ) → AllBelow n xs → AllBelow n (without i xs)
 AllBelow-without n i [] below = tt
 AllBelow-without n i (b ∷ xs) below = elim (cases_eq i b) [
-    inl e ↦ same_list (AllBelow n) (without i (b ∷ xs)) (without i xs) (ap (λ k. without i (k ∷ xs)) (sym e) ∙ without_first i xs) (AllBelow-without n i xs below.1)
+  | inl e ↦ same_list (AllBelow n) (without i (b ∷ xs)) (without i xs) (ap (λ k. without i (k ∷ xs)) (sym e) ∙ without_first i xs) (AllBelow-without n i xs below.1)
   | inr ne ↦ same_list (AllBelow n) (without i (b ∷ xs)) (b ∷ without i xs) (without_other i b xs ne) (below.0, AllBelow-without n i xs below.1)
 ]
 
 pub length-without : (i : ℕ) (xs : List ℕ) → is_in i xs ≡ true → IsDistinct xs → suc (length (without i xs)) ≡ length xs
 length-without i [] here distinct = cc
 length-without i (b ∷ xs) here distinct = elim (cases_eq i b) [
-    inl e ↦ ap (λ l. suc (length l)) (ap (λ k. without k (b ∷ xs)) e ∙ without_first b xs ∙ without_absent b xs distinct.0)
+  | inl e ↦ ap (λ l. suc (length l)) (ap (λ k. without k (b ∷ xs)) e ∙ without_first b xs ∙ without_absent b xs distinct.0)
   | inr ne ↦ ap (λ l. suc (length l)) (without_other i b xs ne) ∙ ap suc (length-without i xs (in_rest i b xs ne here) distinct.1)
 ]
 

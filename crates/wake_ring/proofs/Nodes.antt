@@ -1,5 +1,5 @@
 -- The nodes of a row: each place holds one, what a write to one makes of the links, and how a new row is filled.
-use Rattle.std.proofs.Common.{◌≡◌, ℕ, ◌+◌, ◌-◌, ◌*◌, ◌/◌, ◌<◌, ◌≤◌, List, map, length, get_or, set, Option, Some, None, refl, sym, ap, subst, ◌∙◌, inl, inr, arith, length-set, get_or-set_same, get_or-set_other}
+use Rattle.std.proofs.Common.{◌≡◌, ℕ, ◌+◌, ◌<◌, List, map, length, get_or, set, Option, Some, None, refl, sym, ap, subst, ◌∙◌, inl, inr, arith, length-set, get_or-set_same, get_or-set_other}
 use Rattle.std.proofs.Math.ListN.{get_or-map, length-map}
 use Rattle.std.proofs.Math.Seq.{map-set_same}
 use Rattle.std.proofs.lemmas.List.{map-set}
@@ -57,7 +57,7 @@ begun_more a p n k i slots slots' at_k i_is lt written begun =
     record {
       len = ap length write ∙ length-set slots k (alone p k) ∙ begun.len;
       node = λ j below. ap (λ l. get_or l j None) write ∙ elim (cases_eq j k) [
-          inl e ↦ ap (λ m. get_or (set slots k (alone p k)) m None) e ∙ get_or-set_same slots k (alone p k) None (omega (arith, begun.len))
+        | inl e ↦ ap (λ m. get_or (set slots k (alone p k)) m None) e ∙ get_or-set_same slots k (alone p k) None (omega (arith, begun.len))
             ∙ ap (λ q. alone q k) at_k ∙ ap (λ m. alone (ptr_add the_row m a) m) (sym e)
         | inr ne ↦ get_or-set_other slots k j (alone p k) None ne ∙ begun.node j (omega arith)
       ];
@@ -66,7 +66,7 @@ begun_more a p n k i slots slots' at_k i_is lt written begun =
 pub begun_nodes : (a : Ptr) (n : ℕ) (slots : List (Option Node)) → InBlock a → IsBegun a n n slots → IsNodes a slots
 begun_nodes a n slots here begun k lt =
     let member : IsMember a (length slots) (ptr_add the_row k a) =
-      (ap (λ m. ptr_add the_row m a) (sym (number_place a k here)), omega (arith, number_place a k here)) in
+    (ap (λ m. ptr_add the_row m a) (sym (number_place a k here)), omega (arith, number_place a k here)) in
     subst (λ slot. IsNode a (length slots) k slot) (sym (begun.node k (omega (arith, begun.len)))) (refl, member, member)
 
 pub begun_links : (a : Ptr) (n : ℕ) (slots : List (Option Node)) → InBlock a → IsBegun a n n slots → IsUnlinked n (links_of a slots)

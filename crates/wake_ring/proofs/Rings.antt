@@ -1,22 +1,22 @@
 -- What each change of the links makes of the list.
-use Rattle.std.proofs.Common.{◌≡◌, ◌≢◌, ℕ, zero, suc, ◌+◌, ◌-◌, ◌^◌, ◌<◌, ◌≤◌, Bool, true, false, not, cond, eqb, List, [], ◌∷◌, ◌++◌, length, get_or, set, refl, sym, ap, subst, ◌∙◌, ◌⊎◌, Some, inl, inr, arith, length-set, length-append, get_or-set_same, get_or-set_other}
-use Rattle.std.proofs.lemmas.Bool.{cases_eq, cases_Bool, eq-eqb, ne_eqb}
+use Rattle.std.proofs.Common.{◌≡◌, ◌≢◌, ℕ, zero, suc, ◌+◌, ◌-◌, ◌^◌, ◌<◌, ◌≤◌, true, false, cond, eqb, List, [], ◌∷◌, ◌++◌, length, get_or, set, refl, sym, ap, subst, ◌∙◌, ◌⊎◌, Some, inl, inr, arith, length-set, length-append, get_or-set_same, get_or-set_other}
+use Rattle.std.proofs.lemmas.Bool.{cases_eq, cases_Bool}
 use Rattle.wake_ring.specs.Queue.{queue, is_in, without, first, rest}
 use Rattle.wake_ring.specs.Links.{Links, next_at, prev_at, IsUnlinked, linked_before, unlinked}
-use Rattle.wake_ring.specs.Order.{Lacks, IsDistinct, AllBelow, after_in, before_in, walk, items_of, IsRing}
+use Rattle.wake_ring.specs.Order.{Lacks, IsDistinct, after_in, before_in, walk, items_of, IsRing}
 use Rattle.wake_ring.proofs.Order.{same, other, last, front, last_within, before_end, after_absent, after_first, after_pushed, before_pushed, after_within, before_within, after_without, before_without, without_first, without_absent, in_rest}
-use Rattle.wake_ring.proofs.Members.{lacks_from, not_in, differs, in_first, in_later, in_below, end_lacks, IsDistinct-push, AllBelow-push, IsDistinct-without, AllBelow-without, length-without}
+use Rattle.wake_ring.proofs.Members.{lacks_from, differs, in_first, in_later, in_below, end_lacks, IsDistinct-push, AllBelow-push, IsDistinct-without, AllBelow-without, length-without}
 
 -- ---- two writes to one list of links
 pub two_sets : (l : List ℕ) (p i u v x : ℕ) → p < length l → i < length l
     → get_or (set (set l p u) i v) x 0 ≡ cond (eqb x i) v (cond (eqb x p) u (get_or l x 0))
 two_sets l p i u v x p_in i_in =
     elim (cases_eq x i) [
-        inl e ↦ ap (λ k. get_or (set (set l p u) i v) k 0) e
+      | inl e ↦ ap (λ k. get_or (set (set l p u) i v) k 0) e
           ∙ get_or-set_same (set l p u) i v 0 (omega (arith, length-set l p u)) ∙ sym (same x i v _ e)
       | inr ne ↦ get_or-set_other (set l p u) i x v 0 ne
           ∙ elim (cases_eq x p) as (λ _. get_or (set l p u) x 0 ≡ cond (eqb x p) u (get_or l x 0)) [
-              inl f ↦ ap (λ k. get_or (set l p u) k 0) f ∙ get_or-set_same l p u 0 p_in ∙ sym (same x p u _ f)
+            | inl f ↦ ap (λ k. get_or (set l p u) k 0) f ∙ get_or-set_same l p u 0 p_in ∙ sym (same x p u _ f)
             | inr nf ↦ get_or-set_other l p x u 0 nf ∙ sym (other x p u _ nf)
           ]
           ∙ sym (other x i v _ ne)
@@ -30,7 +30,7 @@ walk_is nexts a z (b ∷ xs) out distinct links =
     let old : ℕ → ℕ = λ x. after_in x b xs z in
     ap (λ k. walk (suc (length xs)) k nexts) (links a (inl refl) ∙ after_first a z (b ∷ xs))
     ∙ ap (λ l. b ∷ l) (walk_is nexts b z xs distinct.0 distinct.1 (λ x place. elim place [
-        inl e ↦ let here = ap (λ k. is_in k (b ∷ xs)) e ∙ in_first b xs in
+      | inl e ↦ let here = ap (λ k. is_in k (b ∷ xs)) e ∙ in_first b xs in
           links x (inr here) ∙ other x a b (old x) (differs a x (b ∷ xs) out here)
       | inr e ↦ let here = in_later x b xs e in
           links x (inr here) ∙ other x a b (old x) (differs a x (b ∷ xs) out here)
@@ -39,7 +39,7 @@ walk_is nexts a z (b ∷ xs) out distinct links =
 pub items_are : (end : ℕ) (l : Links) (xs : List ℕ) → IsRing end l xs → items_of end (length xs) l ≡ xs
 items_are end l xs ring =
     walk_is l.nexts end end xs (end_lacks end xs ring.below) ring.distinct (λ x place. ring.forth x (elim place [
-        inl e ↦ omega arith
+      | inl e ↦ omega arith
       | inr here ↦ omega (arith, in_below end x xs ring.below here)
     ]))
 
@@ -63,11 +63,11 @@ unlinked_ring end l few alone = record {
   distinct = tt;
   below = tt;
   forth = λ x le. alone.next x (omega arith) ∙ elim (cases_eq x end) [
-      inl e ↦ e ∙ sym (same x end end x e)
+    | inl e ↦ e ∙ sym (same x end end x e)
     | inr ne ↦ sym (other x end end x ne)
   ];
   back = λ x le. alone.prev x (omega arith) ∙ elim (cases_eq x end) [
-      inl e ↦ e ∙ sym (same x end end x e)
+    | inl e ↦ e ∙ sym (same x end end x e)
     | inr ne ↦ sym (other x end end x ne)
   ];
 }
@@ -90,21 +90,21 @@ pushed end i l xs lt lacks ring =
       distinct = IsDistinct-push i xs lacks ring.distinct;
       below = AllBelow-push end i xs lt ring.below;
       forth = λ x le.
-        two_sets l.nexts p i i end x (omega (arith, nexts)) (omega (arith, nexts))
-        ∙ ap (λ y. cond (eqb x i) end (cond (eqb x p) i y)) (ring.forth x le)
-        ∙ ap (λ k. cond (eqb x i) end (cond (eqb x k) i (after_in x end xs end))) is_last
-        ∙ sym (after_pushed x i end end xs apart lacks out ring.distinct);
+          two_sets l.nexts p i i end x (omega (arith, nexts)) (omega (arith, nexts))
+          ∙ ap (λ y. cond (eqb x i) end (cond (eqb x p) i y)) (ring.forth x le)
+          ∙ ap (λ k. cond (eqb x i) end (cond (eqb x k) i (after_in x end xs end))) is_last
+          ∙ sym (after_pushed x i end end xs apart lacks out ring.distinct);
       back = λ x le.
-        two_sets l.prevs end i i p x (omega (arith, prevs)) (omega (arith, prevs))
-        ∙ ap (λ y. cond (eqb x i) p (cond (eqb x end) i y)) (ring.back x le)
-        ∙ ap (λ k. cond (eqb x i) k (cond (eqb x end) i (before_in x end xs end))) is_last
-        ∙ sym (before_pushed x i end end xs apart lacks out);
+          two_sets l.prevs end i i p x (omega (arith, prevs)) (omega (arith, prevs))
+          ∙ ap (λ y. cond (eqb x i) p (cond (eqb x end) i y)) (ring.back x le)
+          ∙ ap (λ k. cond (eqb x i) k (cond (eqb x end) i (before_in x end xs end))) is_last
+          ∙ sym (before_pushed x i end end xs apart lacks out);
     }
 
 -- the same number, under a test that it is i
 at_itself : (x i y : ℕ) → cond (eqb x i) i y ≡ cond (eqb x i) x y
 at_itself x i y = elim (cases_eq x i) [
-    inl e ↦ same x i i y e ∙ sym e ∙ sym (same x i x y e)
+  | inl e ↦ same x i i y e ∙ sym e ∙ sym (same x i x y e)
   | inr ne ↦ other x i i y ne ∙ sym (other x i x y ne)
 ]
 
@@ -127,19 +127,19 @@ removed end i l xs here ring =
       distinct = IsDistinct-without i xs ring.distinct;
       below = AllBelow-without end i xs ring.below;
       forth = λ x le.
-        two_sets l.nexts p i q i x (omega (arith, nexts)) (omega (arith, nexts))
-        ∙ at_itself x i (cond (eqb x p) q (get_or l.nexts x 0))
-        ∙ ap (λ y. cond (eqb x i) x (cond (eqb x p) q y)) (ring.forth x le)
-        ∙ ap (λ k. cond (eqb x i) x (cond (eqb x k) q (after_in x end xs end))) p_is
-        ∙ ap (λ k. cond (eqb x i) x (cond (eqb x P) k (after_in x end xs end))) q_is
-        ∙ sym (after_without x i end end xs apart here out ring.distinct);
+          two_sets l.nexts p i q i x (omega (arith, nexts)) (omega (arith, nexts))
+          ∙ at_itself x i (cond (eqb x p) q (get_or l.nexts x 0))
+          ∙ ap (λ y. cond (eqb x i) x (cond (eqb x p) q y)) (ring.forth x le)
+          ∙ ap (λ k. cond (eqb x i) x (cond (eqb x k) q (after_in x end xs end))) p_is
+          ∙ ap (λ k. cond (eqb x i) x (cond (eqb x P) k (after_in x end xs end))) q_is
+          ∙ sym (after_without x i end end xs apart here out ring.distinct);
       back = λ x le.
-        two_sets l.prevs q i p i x (omega (arith, prevs)) (omega (arith, prevs))
-        ∙ at_itself x i (cond (eqb x q) p (get_or l.prevs x 0))
-        ∙ ap (λ y. cond (eqb x i) x (cond (eqb x q) p y)) (ring.back x le)
-        ∙ ap (λ k. cond (eqb x i) x (cond (eqb x q) k (before_in x end xs end))) p_is
-        ∙ ap (λ k. cond (eqb x i) x (cond (eqb x k) P (before_in x end xs end))) q_is
-        ∙ sym (before_without x i end end xs apart apart here out ring.distinct);
+          two_sets l.prevs q i p i x (omega (arith, prevs)) (omega (arith, prevs))
+          ∙ at_itself x i (cond (eqb x q) p (get_or l.prevs x 0))
+          ∙ ap (λ y. cond (eqb x i) x (cond (eqb x q) p y)) (ring.back x le)
+          ∙ ap (λ k. cond (eqb x i) x (cond (eqb x q) k (before_in x end xs end))) p_is
+          ∙ ap (λ k. cond (eqb x i) x (cond (eqb x k) P (before_in x end xs end))) q_is
+          ∙ sym (before_without x i end end xs apart apart here out ring.distinct);
     }
 
 front_differs : (i z : ℕ) (xs : List ℕ) → i ≢ z → Lacks i xs → i ≢ front xs z
@@ -150,7 +150,7 @@ front_differs i z (c ∷ xs) ne lacks = lacks.0
 moves : (i a z : ℕ) (xs : List ℕ) → i ≢ a → i ≢ z → is_in i xs ≡ true → IsDistinct xs → after_in i a xs z ≢ i
 moves i a z [] i≢a i≢z here distinct e = cc
 moves i a z (b ∷ xs) i≢a i≢z here distinct e = elim (cases_eq i b) [
-    inl f ↦
+  | inl f ↦
       let step : after_in i a (b ∷ xs) z ≡ front xs z = other i a b (after_in i b xs z) i≢a ∙ ap (λ k. after_in k b xs z) f ∙ after_first b z xs in
       front_differs i z xs i≢z (subst (λ k. Lacks k xs) (sym f) distinct.0) (sym e ∙ step)
   | inr nf ↦ moves i b z xs nf i≢z (in_rest i b xs nf here) distinct.1 (sym (other i a b (after_in i b xs z) i≢a) ∙ e)
@@ -159,13 +159,13 @@ moves i a z (b ∷ xs) i≢a i≢z here distinct e = elim (cases_eq i b) [
 -- a node's link to itself tells that its number is not in the list
 pub lacks_when : (end i : ℕ) (l : Links) (xs : List ℕ) → i < end → IsRing end l xs → next_at l i ≡ i → is_in i xs ≡ false
 lacks_when end i l xs lt ring e = elim (cases_Bool (is_in i xs)) [
-    inl here ↦ absurd (moves i end end xs (omega arith) (omega arith) here ring.distinct (sym (ring.forth i (omega arith)) ∙ e))
+  | inl here ↦ absurd (moves i end end xs (omega arith) (omega arith) here ring.distinct (sym (ring.forth i (omega arith)) ∙ e))
   | inr gone ↦ gone
 ]
 
 pub has_when : (end i : ℕ) (l : Links) (xs : List ℕ) → i < end → IsRing end l xs → (next_at l i ≡ i → ⊥) → is_in i xs ≡ true
 has_when end i l xs lt ring ne = elim (cases_Bool (is_in i xs)) [
-    inl here ↦ here
+  | inl here ↦ here
   | inr gone ↦ absurd (ne (ring.forth i (omega arith) ∙ after_absent i end end xs (omega arith) (lacks_from i xs gone)))
 ]
 

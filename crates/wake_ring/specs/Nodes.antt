@@ -1,6 +1,5 @@
 -- A row of places that holds the nodes, each of which points to two of them.
 use Rattle.std.specs.Prelude.{◌≡◌, ℕ, ◌<◌, ◌≤◌, ◌^◌, List, map, length, get_or, Option, Some, None}
-use Rattle.std.specs.Ptr.{ptr_add}
 use denote.RawPtr.{Ptr, InBlock}
 use Rattle.wake_ring.specs.declared.block.Node.{Node}
 use Rattle.wake_ring.specs.contracts.block.Node.{the_row}

@@ -5,7 +5,7 @@ ghost use denote.RawPtr.{InBlock};
 ghost use Rattle.wake_ring.specs.Links.{next_at, prev_at, IsUnlinked, linked_before, unlinked};
 ghost use Rattle.wake_ring.specs.Nodes.{number_of, IsMember, IsNodes, links_of};
 
-use crate::memory::{allocate, deallocate, Address, FreeRight, Places};
+use crate::memory::{Address, FreeRight, Places, allocate, deallocate};
 use std::alloc::{AllocError, Global};
 use std::marker::Model;
 
@@ -34,8 +34,10 @@ fn load(places: &Places<Node>, at: *mut Node) -> Node
     ensures number { result.number ≡ number_of places.now.at at }
     ensures next { IsMember places.now.at (length places.now.slots) result.next }
     ensures prev { IsMember places.now.at (length places.now.slots) result.prev }
-    ensures next_number { number_of places.now.at result.next ≡ next_at (links_of places.now.at places.now.slots) (number_of places.now.at at) }
-    ensures prev_number { number_of places.now.at result.prev ≡ prev_at (links_of places.now.at places.now.slots) (number_of places.now.at at) }
+    ensures next_number { number_of places.now.at result.next
+        ≡ next_at (links_of places.now.at places.now.slots) (number_of places.now.at at) }
+    ensures prev_number { number_of places.now.at result.prev
+        ≡ prev_at (links_of places.now.at places.now.slots) (number_of places.now.at at) }
 {
     *places.get(Address { ptr: at })
 }
@@ -48,8 +50,10 @@ fn set_next(places: &mut Places<Node>, at: *mut Node, to: *mut Node)
     ensures start { places.new.at ≡ places.old.at }
     ensures len { length places.new.slots ≡ length places.old.slots }
     ensures nodes { IsNodes places.new.at places.new.slots }
-    ensures nexts { (links_of places.new.at places.new.slots).nexts ≡ slice_set (links_of places.old.at places.old.slots).nexts (number_of places.old.at at) (number_of places.old.at to) }
-    ensures prevs { (links_of places.new.at places.new.slots).prevs ≡ (links_of places.old.at places.old.slots).prevs }
+    ensures nexts { (links_of places.new.at places.new.slots).nexts
+        ≡ slice_set (links_of places.old.at places.old.slots).nexts (number_of places.old.at at) (number_of places.old.at to) }
+    ensures prevs { (links_of places.new.at places.new.slots).prevs
+        ≡ (links_of places.old.at places.old.slots).prevs }
 {
     let node = load(places, at);
     let linked = Node {
@@ -68,8 +72,10 @@ fn set_prev(places: &mut Places<Node>, at: *mut Node, to: *mut Node)
     ensures start { places.new.at ≡ places.old.at }
     ensures len { length places.new.slots ≡ length places.old.slots }
     ensures nodes { IsNodes places.new.at places.new.slots }
-    ensures nexts { (links_of places.new.at places.new.slots).nexts ≡ (links_of places.old.at places.old.slots).nexts }
-    ensures prevs { (links_of places.new.at places.new.slots).prevs ≡ slice_set (links_of places.old.at places.old.slots).prevs (number_of places.old.at at) (number_of places.old.at to) }
+    ensures nexts { (links_of places.new.at places.new.slots).nexts
+        ≡ (links_of places.old.at places.old.slots).nexts }
+    ensures prevs { (links_of places.new.at places.new.slots).prevs
+        ≡ slice_set (links_of places.old.at places.old.slots).prevs (number_of places.old.at at) (number_of places.old.at to) }
 {
     let node = load(places, at);
     let linked = Node {
@@ -99,7 +105,8 @@ impl Model for Block {
 
     ghost view = { λ b. links_of b.places.at b.places.slots };
 
-    ghost invariant = { λ b. IsBlock b.start.ptr b.count b.places.at b.places.slots × (b.right.at ≡ b.start.ptr) × (b.right.len ≡ b.count) × (b.right.alloc ≡ b.alloc) };
+    ghost invariant = { λ b. IsBlock b.start.ptr b.count b.places.at b.places.slots
+        × (b.right.at ≡ b.start.ptr) × (b.right.len ≡ b.count) × (b.right.alloc ≡ b.alloc) };
 }
 
 impl Block {

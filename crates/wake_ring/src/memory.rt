@@ -62,7 +62,8 @@ pub(crate) fn allocate<T, A: Allocator>(
     len: usize,
 ) -> Result<(Address<T>, Places<T>, FreeRight<T, A>), AllocError>
     requires { FitsInBlock T.row len }
-    ensures { IfOk result (λ r. (r.1.at ≡ r.0.ptr) × (r.1.slots ≡ replicate len None) × (r.2.at ≡ r.0.ptr) × (r.2.len ≡ len) × (r.2.alloc ≡ alloc.now) × InBlock r.0.ptr) }
+    ensures { IfOk result (λ r. (r.1.at ≡ r.0.ptr) × (r.1.slots ≡ replicate len None)
+        × (r.2.at ≡ r.0.ptr) × (r.2.len ≡ len) × (r.2.alloc ≡ alloc.now) × InBlock r.0.ptr) }
 {
     match alloc.allocate(len * size_of::<T>(), align_of::<T>()) {
         Ok(block) => {
@@ -87,7 +88,8 @@ pub(crate) fn deallocate<T, A: Allocator>(
     places: Places<T>,
     right: FreeRight<T, A>,
 )
-    requires { (places.at ≡ start.ptr) × (length places.slots ≡ len) × (right.at ≡ start.ptr) × (right.len ≡ len) × (right.alloc ≡ alloc.now) }
+    requires { (places.at ≡ start.ptr) × (length places.slots ≡ len)
+        × (right.at ≡ start.ptr) × (right.len ≡ len) × (right.alloc ≡ alloc.now) }
 {
     let Places { mark: _ } = places;
     let FreeRight { mark: _ } = right;
@@ -108,7 +110,8 @@ impl<T> Places<T> {
 
     /// The value in the place at `at`.
     pub(crate) fn get(&self, at: Address<T>) -> &T
-        requires { IsPlace T.row self.now.at at.ptr × IsFilled self.now.slots (index_in T.row self.now.at at.ptr) }
+        requires { IsPlace T.row self.now.at at.ptr
+            × IsFilled self.now.slots (index_in T.row self.now.at at.ptr) }
         ensures { get_or self.now.slots (index_in T.row self.now.at at.ptr) None ≡ Some result.now }
     {
         unsafe { &*at.ptr }
@@ -116,8 +119,10 @@ impl<T> Places<T> {
 
     /// Writes a value into the place at `at`, over whatever it holds, which is forgotten.
     pub(crate) fn put(&mut self, at: Address<T>, item: T)
-        requires { IsPlace T.row self.old.at at.ptr × (index_in T.row self.old.at at.ptr < length self.old.slots) }
-        ensures { (self.new.at ≡ self.old.at) × (self.new.slots ≡ slice_set self.old.slots (index_in T.row self.old.at at.ptr) (Some item)) }
+        requires { IsPlace T.row self.old.at at.ptr
+            × (index_in T.row self.old.at at.ptr < length self.old.slots) }
+        ensures { (self.new.at ≡ self.old.at)
+            × (self.new.slots ≡ slice_set self.old.slots (index_in T.row self.old.at at.ptr) (Some item)) }
     {
         unsafe { at.ptr.write(item) }
     }

@@ -1,4 +1,4 @@
-use Rattle.std.proofs.Common.{◌≡◌, ℕ, sym, subst, arith}
+use Rattle.std.proofs.Common.{◌≡◌, sym, subst, arith}
 use denote.RawPtr.{InBlock}
 use Rattle.wake_ring.proofs.Nodes.{IsBegun, begun_links}
 use Rattle.wake_ring.proofs.block.Block.new.Goals as goal

@@ -42,7 +42,7 @@ use Rattle.std.proofs.VecSteps.Shapes.{after}
 use Rattle.std.proofs.RcSteps.{Good, word, word-Good}
 use Rattle.wake_ring.specs.Addresses.{index_in, IsPlace}
 use Rattle.wake_ring.specs.Ownership.{place_owned, row_owned, places_owned}
-use Rattle.wake_ring.proofs.Rows.{Ps, Ad, width, Slot, address_had, value_in, value_had, Others, place_out, place_back, place_room}
+use Rattle.wake_ring.proofs.Rows.{Ps, Ad, width, address_had, value_in, value_had, Others, place_out, place_back, place_room}
 use Rattle.wake_ring.specs.contracts.memory.Places.put.Key.{name as #self}
 use Rattle.wake_ring.proofs.memory.Places.put.Statement as stated
 use Rattle.wake_ring.proofs.memory.Places.put.Code as code

@@ -1,4 +1,4 @@
-use Rattle.std.proofs.Common.{◌≢◌, ◌<◌, ◌≤◌, ℕ, length, All, AllPairs, sym, ap, subst, ◌∙◌, arith}
+use Rattle.std.proofs.Common.{◌≢◌, ◌<◌, ◌≤◌, length, All, AllPairs, sym, ap, subst, ◌∙◌, arith}
 use Rattle.wake_ring.specs.Links.{next_at}
 use Rattle.wake_ring.specs.Order.{items_of}
 use Rattle.wake_ring.specs.Queue.{Queue}

@@ -1,6 +1,5 @@
-use Rattle.std.proofs.Common.{◌≡◌, ◌-◌, ◌<◌, ℕ, length, sym, ap, subst, ◌∙◌, arith}
-use Rattle.wake_ring.specs.Links.{Links, next_at, unlinked}
-use Rattle.wake_ring.specs.Order.{IsRing, items_of}
+use Rattle.std.proofs.Common.{◌-◌, ◌<◌, sym, ap, subst, ◌∙◌, arith}
+use Rattle.wake_ring.specs.Order.{items_of}
 use Rattle.wake_ring.specs.Queue.{Queue, rest, queue}
 use Rattle.wake_ring.proofs.Rings.{Stands, taken, ring_of, queue_is}
 use Rattle.wake_ring.proofs.ring.WakeRing.pop_front.Goals as goal

@@ -1,6 +1,6 @@
 use Rattle.std.proofs.Common.{◌≡◌, ◌+◌, ◌<◌, ℕ, not, [], ◌∷◌, ◌++◌, sym, ap, subst, ◌∙◌, arith}
-use Rattle.wake_ring.specs.Links.{Links, next_at}
-use Rattle.wake_ring.specs.Order.{IsRing, items_of}
+use Rattle.wake_ring.specs.Links.{Links}
+use Rattle.wake_ring.specs.Order.{items_of}
 use Rattle.wake_ring.specs.Queue.{Queue, is_in, queue}
 use Rattle.wake_ring.proofs.Members.{few_below}
 use Rattle.wake_ring.proofs.Rings.{has_when, lacks_when, pushed_stands, ring_of, queue_is}

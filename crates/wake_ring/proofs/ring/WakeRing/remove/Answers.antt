@@ -1,6 +1,6 @@
-use Rattle.std.proofs.Common.{◌≡◌, ◌-◌, ◌<◌, ℕ, sym, ap, subst, ◌∙◌, arith}
-use Rattle.wake_ring.specs.Links.{Links, next_at}
-use Rattle.wake_ring.specs.Order.{IsRing, items_of}
+use Rattle.std.proofs.Common.{◌≡◌, ◌-◌, ◌<◌, ℕ, sym, ap, subst, ◌∙◌}
+use Rattle.wake_ring.specs.Links.{Links}
+use Rattle.wake_ring.specs.Order.{items_of}
 use Rattle.wake_ring.specs.Queue.{Queue, is_in, without, queue}
 use Rattle.wake_ring.proofs.Members.{lacks_from}
 use Rattle.wake_ring.proofs.Order.{without_absent}
