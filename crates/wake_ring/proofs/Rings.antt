@@ -1,7 +1,7 @@
 -- What each change of the links makes of the list.
 use Rattle.std.proofs.Common.{◌≡◌, ◌≢◌, ℕ, zero, suc, ◌+◌, ◌-◌, ◌^◌, ◌<◌, ◌≤◌, true, false, cond, eqb, List, [], ◌∷◌, ◌++◌, length, get_or, set, refl, sym, ap, subst, ◌∙◌, ◌⊎◌, Some, inl, inr, arith, length-set, length-append, get_or-set_same, get_or-set_other}
 use Rattle.std.proofs.lemmas.Bool.{cases_eq, cases_Bool}
-use Rattle.wake_ring.specs.Queue.{queue, is_in, without, first, rest}
+use Rattle.wake_ring.specs.Queue.{Queue, queue, is_in, without, first, rest}
 use Rattle.wake_ring.specs.Links.{Links, next_at, prev_at, IsUnlinked, linked_before, unlinked}
 use Rattle.wake_ring.specs.Order.{Lacks, IsDistinct, after_in, before_in, walk, items_of, IsRing}
 use Rattle.wake_ring.proofs.Order.{same, other, last, front, last_within, before_end, after_absent, after_first, after_pushed, before_pushed, after_within, before_within, after_without, before_without, without_first, without_absent, in_rest}
@@ -174,6 +174,10 @@ pub front_node : (end : ℕ) (l : Links) (xs : List ℕ) → IsRing end l xs →
 front_node end l xs ring = ring.forth end (omega arith) ∙ after_first end end xs
 
 -- ---- a queue's fields after a call
+-- a number below the queue's bound is below the number of the ring's end
+pub in_bound : (q : Queue) (end n i : ℕ) (l : Links) → queue end (items_of end n l) ≡ q → i < q.bound → i < end
+in_bound q end n i l e lt = subst (λ k. i < k) (ap (λ (p : Queue). p.bound) (sym e)) lt
+
 -- the links are those of the list, and the count is its length
 pub record Stands (end n : ℕ) (l : Links) (xs : List ℕ) : Type 0 where
   pub ring : IsRing end l xs

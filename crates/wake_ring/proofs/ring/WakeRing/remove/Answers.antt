@@ -1,15 +1,10 @@
-use Rattle.std.proofs.Common.{◌≡◌, ◌-◌, ◌<◌, ℕ, sym, ap, subst, ◌∙◌}
-use Rattle.wake_ring.specs.Links.{Links}
+use Rattle.std.proofs.Common.{◌-◌, sym, ap, ◌∙◌}
 use Rattle.wake_ring.specs.Order.{items_of}
 use Rattle.wake_ring.specs.Queue.{Queue, is_in, without, queue}
 use Rattle.wake_ring.proofs.Members.{lacks_from}
 use Rattle.wake_ring.proofs.Order.{without_absent}
-use Rattle.wake_ring.proofs.Rings.{has_when, lacks_when, removed_stands, ring_of, queue_is}
+use Rattle.wake_ring.proofs.Rings.{in_bound, has_when, lacks_when, removed_stands, ring_of, queue_is}
 use Rattle.wake_ring.proofs.ring.WakeRing.remove.Goals as goal
-
--- the bound of the queue is the number of the ring's end
-in_bound : (q : Queue) (end n i : ℕ) (l : Links) → queue end (items_of end n l) ≡ q → i < q.bound → i < end
-in_bound q end n i l e lt = subst (λ k. i < k) (ap (λ (p : Queue). p.bound) (sym e)) lt
 
 pub returns-then-next-i-clause-there : goal.returns-then-next-i-clause-there
 returns-then-next-i-clause-there c =
