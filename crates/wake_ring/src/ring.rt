@@ -1,0 +1,100 @@
+//! The queue over the block: the node past the last number is the ring's end, and stands before the first number and
+//! after the last. A node whose number is not in the queue is linked to itself.
+ghost use Rattle.std.specs.Prelude.{◌≡◌, ◌≢◌, ℕ, ◌<◌, ◌≤◌, [], ◌∷◌, ◌++◌, not, length, All, AllPairs, IfOk, IfSome};
+ghost use Rattle.std.specs.Bool.{OnTrue, OnFalse};
+ghost use Rattle.wake_ring.specs.Queue.{is_in, without, first, rest};
+
+use crate::block::Block;
+use std::alloc::{AllocError, Global};
+use std::marker::Model;
+
+/// A queue of distinct numbers below a bound. Each call takes the same time whatever the queue holds, and only `new`
+/// takes memory.
+#[derive(Drop)]
+pub struct WakeRing {
+    block: Block,
+    end: u32,
+    len: u32,
+}
+
+impl Model for WakeRing {
+    ghost use Rattle.wake_ring.specs.Queue.{Queue};
+
+    ghost Value = { Queue };
+
+    ghost use Rattle.wake_ring.specs.Order.{items_of, IsRing};
+
+    ghost view = { λ r. record { bound = r.end; items = items_of r.end r.len r.block } };
+
+    ghost invariant = { λ r. IsRing r.end r.block (items_of r.end r.len r.block) };
+}
+
+impl WakeRing {
+    /// An empty queue for the numbers below `n`, or an error where there is no memory for it.
+    pub fn new(alloc: Global, n: u32) -> Result<WakeRing, AllocError>
+        ensures { IfOk result (λ r. r ≡ record { bound = n; items = [] }) }
+    {
+        let block = Block::new(alloc, n as usize + 1)?;
+        Ok(WakeRing {
+            block,
+            end: n,
+            len: 0,
+        })
+    }
+
+    /// How many numbers are in the queue. They are distinct and below the bound, so they are at most that many.
+    pub fn len(&self) -> u32
+        ensures len { result ≡ length self.now.items }
+        ensures fits { result ≤ self.now.bound }
+        ensures distinct { AllPairs (λ x y. x ≢ y) self.now.items }
+        ensures below { All (λ x. x < self.now.bound) self.now.items }
+    {
+        self.len
+    }
+
+    /// Puts `i`, which is below the bound, last. Answers false where `i` is in the queue, which then stays as it is.
+    pub fn push_back(&mut self, i: u32) -> bool
+        requires { i < self.old.bound }
+        ensures there { result ≡ not (is_in i self.old.items) }
+        ensures added { OnTrue result (self.new ≡ record { bound = self.old.bound; items = self.old.items ++ i ∷ [] }) }
+        ensures same { OnFalse result (self.new ≡ self.old) }
+    {
+        if self.block.next(i) != i {
+            return false;
+        }
+        self.block.link_before(self.end, i);
+        self.len += 1;
+        true
+    }
+
+    /// Takes the first number, or answers `None` where the queue is empty.
+    pub fn pop_front(&mut self) -> Option<u32>
+        ensures first { result ≡ first self.old.items }
+        ensures below { IfSome result (λ i. i < self.old.bound) }
+        ensures rest { self.new ≡ record { bound = self.old.bound; items = rest self.old.items } }
+    {
+        let i = self.block.next(self.end);
+        if i == self.end {
+            return None;
+        }
+        self.block.unlink(i);
+        self.len -= 1;
+        Some(i)
+    }
+
+    /// Takes `i`, which is below the bound, out of the queue. Answers false where it is not there, and the queue then
+    /// stays as it is.
+    pub fn remove(&mut self, i: u32) -> bool
+        requires { i < self.old.bound }
+        ensures there { result ≡ is_in i self.old.items }
+        ensures removed { self.new ≡ record { bound = self.old.bound; items = without i self.old.items } }
+        ensures same { OnFalse result (self.new ≡ self.old) }
+    {
+        if self.block.next(i) == i {
+            return false;
+        }
+        self.block.unlink(i);
+        self.len -= 1;
+        true
+    }
+}
