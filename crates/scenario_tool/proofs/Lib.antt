@@ -5,3 +5,7 @@ pub mod Ranges
 pub mod Tables
 pub mod Ascii
 pub mod Forms
+pub mod Triples
+pub mod Compiled
+pub mod Outside
+pub mod Sole

@@ -1,5 +1,5 @@
 -- A table of ranges and the fields that it stands for.
-use Rattle.std.proofs.Common.{◌≡◌, ◌∙◌, refl, sym, ap, ap₂, ℕ, List, [], ◌∷◌, ◌++◌, Bool, true, false, cond, Option, Some, None, map, String, string_bytes, ◌||◌}
+use Rattle.std.proofs.Common.{◌≡◌, ◌∙◌, refl, sym, ap, ap₂, subst, append_assoc, append-nil, ℕ, List, [], ◌∷◌, ◌++◌, Bool, true, false, cond, Option, Some, None, map, String, string_bytes, ◌||◌}
 use Rattle.std.specs.Option.{is_some}
 use Rattle.std.specs.Map.{lookup}
 use Rattle.std.specs.List.{list_any}
@@ -51,3 +51,21 @@ hold_more [] [] field value held one = (one, tt)
 hold_more [] (v ∷ vs) field value held one = absurd held
 hold_more (f ∷ fs) [] field value held one = absurd held
 hold_more (f ∷ fs) (v ∷ vs) field value held one = (held.0, hold_more fs vs field value held.1 one)
+
+-- the values of the fields so far, and the entries that are left
+pub record HeldSoFar (fields : List RangedField) (left : List (String Global × Range)) (values : List Value) : Type 0 where
+  pub done : List RangedField
+  pub split : done ++ map field_of left ≡ fields
+  pub held : HoldFields done values
+
+pub held_more : (fields : List RangedField) (entry : String Global × Range) (left left' : List (String Global × Range)) (values values' : List Value) (value : Value) →
+    HeldSoFar fields left values → left ≡ entry ∷ left' → HoldsField (field_of entry) value → values' ≡ values ++ value ∷ [] → HeldSoFar fields left' values'
+held_more fields entry left left' values values' value h first one more = record {
+    done = h.done ++ field_of entry ∷ [];
+    split = append_assoc h.done (field_of entry ∷ []) (map field_of left') ∙ ap (λ es. h.done ++ map field_of es) (sym first) ∙ h.split;
+    held = rw more (hold_more h.done values (field_of entry) value h.held one);
+  }
+
+pub held_all : (fields : List RangedField) (left : List (String Global × Range)) (values : List Value) → HeldSoFar fields left values → left ≡ [] → HoldFields fields values
+held_all fields left values h empty =
+    subst (λ fs. HoldFields fs values) (sym (append-nil h.done) ∙ ap (λ es. h.done ++ map field_of es) (sym empty) ∙ h.split) h.held

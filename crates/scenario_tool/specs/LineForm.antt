@@ -1,6 +1,6 @@
 -- The source that is read so far: a head line `scenario NAME:`, and then, by turns, a field line `    NAME: int` and a
 -- constraint line `    keep(NAME in [A..B])`.
-use Rattle.std.specs.Prelude.{◌≡◌, ℕ, ◌+◌, ◌≤◌, ◌<◌, ◌==◌, if◌then◌else◌, Bool, true, false, not, List, [], ◌∷◌, ◌++◌, length, codes, flat_map, map, count_by, take_while, reverse}
+use Rattle.std.specs.Prelude.{◌≡◌, ℕ, ◌+◌, ◌≤◌, ◌<◌, ◌==◌, if◌then◌else◌, Bool, true, false, List, [], ◌∷◌, ◌++◌, length, codes, flat_map, map, count_by, fold}
 use Rattle.std.specs.Char.{is_ascii_digit}
 use Rattle.std.specs.List.{list_all}
 use Rattle.std.specs.Str.Parse.{digits_value}
@@ -23,8 +23,9 @@ lines_of (b ∷ bs) = if b == 10 then (b ∷ []) ∷ lines_of bs else with_first
 abbrev pub end_line : List ℕ → ℕ
 end_line source = count_by (λ b. b == 10) source + 1
 
+-- 1 behind a line feed, and one more behind each other byte
 abbrev pub end_column : List ℕ → ℕ
-end_column source = length (take_while (λ b. not (b == 10)) (reverse source)) + 1
+end_column source = fold (λ column b. if b == 10 then 1 else column + 1) 1 source
 
 -- ---- What the lines write
 

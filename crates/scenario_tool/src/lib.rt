@@ -1,4 +1,13 @@
 //! The top call of `osc`.
 #![tactic(auto)]
 
+mod compile;
+mod laws;
 mod line_form;
+mod load;
+mod replies;
+mod top;
+mod words;
+
+pub use laws::one_answer;
+pub use top::command;

@@ -7,3 +7,6 @@ mod numbers;
 mod pieces;
 mod ranges;
 mod reader;
+
+pub use fields::Fields;
+pub use reader::{Scenario, SourceStop, read_source};

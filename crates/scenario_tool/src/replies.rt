@@ -1,0 +1,57 @@
+ghost use Rattle.std.specs.Prelude.{◌≡◌, IfOk, codes};
+ghost use Rattle.scenario_tool.specs.Answers.{fault_text, missing_text, long_text, shelf_text};
+
+use osc_base::Text;
+use std::alloc::{AllocError, Global};
+
+/// A status and the text that comes with it.
+#[derive(Drop)]
+pub struct Reply {
+    pub status: u8,
+    pub text: Text,
+}
+
+/// The source has a fault at this place.
+pub fn fault(alloc: Global, code: u16, file: &str, line: usize, column: usize) -> Result<Reply, AllocError>
+    ensures status { IfOk result (λ reply. reply.status ≡ 3) }
+    ensures text { IfOk result (λ reply. reply.text ≡ fault_text code file.now line column) }
+{
+    let text = Text::of(format!(in alloc; "fault {code} {file}:{line}:{column}\n")?);
+    Ok(Reply { status: 3, text })
+}
+
+/// There is no file of the name.
+pub fn missing(alloc: Global, file: &str) -> Result<Reply, AllocError>
+    ensures status { IfOk result (λ reply. reply.status ≡ 6) }
+    ensures text { IfOk result (λ reply. reply.text ≡ missing_text file.now) }
+{
+    let text = Text::of(format!(in alloc; "missing {file}\n")?);
+    Ok(Reply { status: 6, text })
+}
+
+/// The file is longer than its limit.
+pub fn long(alloc: Global, file: &str) -> Result<Reply, AllocError>
+    ensures status { IfOk result (λ reply. reply.status ≡ 6) }
+    ensures text { IfOk result (λ reply. reply.text ≡ long_text file.now) }
+{
+    let text = Text::of(format!(in alloc; "long {file}\n")?);
+    Ok(Reply { status: 6, text })
+}
+
+/// The shelf failed at the file.
+pub fn shelf(alloc: Global, file: &str) -> Result<Reply, AllocError>
+    ensures status { IfOk result (λ reply. reply.status ≡ 6) }
+    ensures text { IfOk result (λ reply. reply.text ≡ shelf_text file.now) }
+{
+    let text = Text::of(format!(in alloc; "shelf {file}\n")?);
+    Ok(Reply { status: 6, text })
+}
+
+/// The words ask for nothing that is known.
+pub fn words(alloc: Global) -> Result<Reply, AllocError>
+    ensures status { IfOk result (λ reply. reply.status ≡ 4) }
+    ensures text { IfOk result (λ reply. reply.text ≡ codes "words\n") }
+{
+    let text = Text::copy(alloc, "words\n")?;
+    Ok(Reply { status: 4, text })
+}
