@@ -1,2 +1,4 @@
 pub mod formers
 pub mod Path
+pub mod Fraction
+pub mod Number

@@ -6,6 +6,7 @@
 
 mod boxed;
 mod fault;
+mod fraction;
 mod path;
 mod row;
 mod sample;
@@ -13,6 +14,7 @@ mod text;
 
 pub use boxed::Boxed;
 pub use fault::{Fault, Place};
+pub use fraction::Fraction;
 pub use path::{Path, Step};
 pub use row::Row;
 pub use sample::Sample;

@@ -10,6 +10,7 @@ use std::rt::Files;
 ///
 /// A name that the system says isn't found has no file. Every other failure is a fault, as where a name is that of a
 /// directory, or where the caller may not read it.
+#[derive(Drop)]
 pub struct FileShelf<'a, R: Files> {
     rt: &'a R,
     fetched: Option<R::File>,

@@ -1,4 +1,4 @@
-ghost use Rattle.std.specs.Prelude.{◌≡◌, ◌≤◌, ◌↔◌, [], IsErr, is_some, unwrap_or, IfOk, OnErr, Contains, length, drop, position};
+ghost use Rattle.std.specs.Prelude.{◌≡◌, ◌≤◌, ◌↔◌, [], IsErr, is_some, unwrap_or, IfOk, OnOk, OnErr, Contains, length, drop, position};
 ghost use Rattle.std.specs.Str.{bytes_eq};
 ghost use Rattle.outside_io.specs.Files.{bytes_at, file_named, Takes};
 ghost use Rattle.outside_io.specs.Memory.{after_call, after_fault, read_count};
@@ -51,6 +51,24 @@ impl MemoryShelf {
             faults: 0,
         }
     }
+
+    /// Numbers a call, and fails it where its number is among those that fail.
+    fn begin(&mut self) -> Result<(), ShelfFault>
+        ensures fails { IsErr result ↔ Contains self.old.failing self.old.calls }
+        ensures ok { OnOk result (self.new ≡ after_call self.old self.old.left) }
+        ensures err { OnErr result (self.new ≡ after_fault self.old) }
+        ensures never_falls { self.old.faults ≤ self.new.faults }
+    {
+        let call = self.calls;
+        self.calls = call.saturating_add(1);
+        if self.failing.as_slice().contains(&call) {
+            self.fetched = None;
+            self.taken = 0;
+            self.faults = self.faults.saturating_add(1);
+            return Err(ShelfFault);
+        }
+        Ok(())
+    }
 }
 
 impl Shelf for MemoryShelf {
@@ -70,16 +88,11 @@ impl Shelf for MemoryShelf {
         ensures after_fault { OnErr result (self.new ≡ after_fault self.old) }
         ensures never_falls { self.old.faults ≤ self.new.faults }
     {
-        let call = self.calls;
-        self.calls = call.saturating_add(1);
+        self.begin()?;
         self.taken = 0;
-        if self.failing.as_slice().contains(&call) {
-            self.fetched = None;
-            self.faults = self.faults.saturating_add(1);
-            return Err(ShelfFault);
-        }
-        self.fetched = place_of(self.files.as_slice(), name);
-        Ok(self.fetched.is_some())
+        let place = place_of(self.files.as_slice(), name);
+        self.fetched = place;
+        Ok(place.is_some())
     }
 
     fn read(&mut self, piece: &mut [u8]) -> Result<usize, ShelfFault>
@@ -90,14 +103,7 @@ impl Shelf for MemoryShelf {
         ensures after_fault { OnErr result (self.new ≡ after_fault self.old) }
         ensures never_falls { self.old.faults ≤ self.new.faults }
     {
-        let call = self.calls;
-        self.calls = call.saturating_add(1);
-        if self.failing.as_slice().contains(&call) {
-            self.fetched = None;
-            self.taken = 0;
-            self.faults = self.faults.saturating_add(1);
-            return Err(ShelfFault);
-        }
+        self.begin()?;
         let bytes = file_at(self.files.as_slice(), self.fetched);
         let left = &bytes[self.taken..];
         let count = piece.len().min(self.most).min(left.len());

@@ -3,6 +3,7 @@ ghost use Rattle.std.specs.Prelude.{◌≡◌};
 use crate::{Sink, SinkFault};
 
 /// The standard output. It tells no content: contracts see its count of faults alone.
+#[derive(Drop)]
 pub struct OutSink<'a, R: Print> {
     rt: &'a R,
     faults: u64,

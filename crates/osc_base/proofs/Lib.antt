@@ -1,0 +1,4 @@
+pub mod Fractions
+pub mod Integers
+pub mod Multiples
+pub mod Numbers

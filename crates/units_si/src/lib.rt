@@ -1,0 +1,9 @@
+//! Units of the SI: exponents of the base units, and the slot values of physical literals.
+#![tactic(auto)]
+
+mod units;
+
+pub use units::{Exponents, Unit, literal};
+
+#[cfg(test)]
+mod tests;
