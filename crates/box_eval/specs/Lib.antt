@@ -1,0 +1,4 @@
+pub mod Box
+pub mod Reach
+pub mod Truth
+pub mod Verdict
