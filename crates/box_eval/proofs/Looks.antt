@@ -1,5 +1,5 @@
 -- The verdict and the ends that are kept beside a reach are the plain ones.
-use Rattle.std.proofs.Common.{◌≡◌, refl, ap, ap₂, ℕ, List}
+use Rattle.std.proofs.Common.{◌≡◌, refl, ap, ap₂, List}
 use Rattle.box_eval.specs.declared.rule.Rule.{Rule}
 use Rattle.box_eval.specs.declared.rule.Term.{Term}
 use Rattle.box_eval.specs.declared.rule.Rule.TheOpen.{Rule-F, Term-F, Always, Below, AtMost, Equal, Differ, Both, Either, Not, Whole, Slot, Sum, Less, Times, Truth}

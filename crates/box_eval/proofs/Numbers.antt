@@ -1,5 +1,5 @@
 -- Facts about integers that the rest needs: ends of sums and products, and what fits 128 bits.
-use Rattle.std.proofs.Common.{◌≡◌, ℕ, suc, ◌≤◌, ◌^◌, arith, ℤ, pos, negsuc, ◌+ℤ◌, ◌-ℤ◌, ◌*ℤ◌, ◌≤ℤ◌, FitsSigned}
+use Rattle.std.proofs.Common.{ℕ, suc, ◌≤◌, ◌^◌, arith, ℤ, pos, negsuc, ◌*ℤ◌, ◌≤ℤ◌, FitsSigned}
 use Rattle.std.proofs.Math.Nat.{mul-le-mul_left}
 use borrow.Author.Differences.{le_out}
 use Rattle.std.proofs.lemmas.Int.{ints, clamps}

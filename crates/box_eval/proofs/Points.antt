@@ -1,7 +1,6 @@
 -- In the box of one point the verdict is the truth there, and a term's ends are its value twice.
-use Rattle.std.proofs.Common.{◌≡◌, ◌≢◌, refl, sym, ap, ap₂, ◌∙◌, subst, ℕ, suc, zero, List, [], ◌∷◌, length, map, slice_get, Bool, true, false, not, ◌&&◌, ◌||◌, ℤ, pos, ◌+ℤ◌, ◌-ℤ◌, ◌*ℤ◌, ◌≤ℤ◌, arith}
+use Rattle.std.proofs.Common.{◌≡◌, ◌≢◌, refl, sym, ap, ap₂, ◌∙◌, subst, ℕ, suc, zero, List, [], ◌∷◌, length, map, Bool, true, false, not, ◌&&◌, ◌||◌, ℤ, ◌*ℤ◌, arith}
 use Rattle.std.proofs.lemmas.Int.{ints, clamps}
-use Rattle.std.specs.Option.{option_map_or}
 use Rattle.box_eval.specs.declared.rule.Rule.{Rule}
 use Rattle.box_eval.specs.declared.rule.Term.{Term}
 use Rattle.box_eval.specs.declared.rule.Rule.TheOpen.{Rule-F, Term-F, Always, Below, AtMost, Equal, Differ, Both, Either, Not, Whole, Slot, Sum, Less, Times, Truth}
@@ -11,7 +10,7 @@ use Rattle.box_eval.specs.declared.verdict.Verdict.TheVariants.{True, False, Ope
 use Rattle.box_eval.specs.declared.verdict.Span.{Span}
 use Rattle.box_eval.specs.Box.{low_at, high_at, value_of, IsBox, IsInside, IsPointOf, IsOnePoint, box_of}
 use Rattle.box_eval.specs.Truth.{term_value, rule_truth, as_number, is_same, true_at, value_at}
-use Rattle.box_eval.specs.Verdict.{term_span, rule_verdict, negated, both_of, either_of, below_of, at_most_of, equal_of, sum_of, less_of, times_of, truth_of, least_of, greatest_of, verdict_of, span_of}
+use Rattle.box_eval.specs.Verdict.{term_span, rule_verdict, negated, both_of, either_of, below_of, at_most_of, equal_of, sum_of, less_of, times_of, truth_of, verdict_of, span_of}
 use Rattle.box_eval.proofs.Folds.{Two, rule_ones, rule_others, term_ones, term_others, rule_law, term_law}
 use Rattle.box_eval.proofs.Numbers.{span}
 use Rattle.box_eval.proofs.Smaller.{Keeps, smaller_keeps}

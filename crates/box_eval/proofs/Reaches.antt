@@ -1,5 +1,5 @@
 -- No reach grows in a smaller box.
-use Rattle.std.proofs.Common.{◌≡◌, ℕ, ◌≤◌, max, List, arith}
+use Rattle.std.proofs.Common.{ℕ, ◌≤◌, max, List, arith}
 use Rattle.std.proofs.lemmas.Int.{ints}
 use Rattle.box_eval.specs.declared.rule.Rule.{Rule}
 use Rattle.box_eval.specs.declared.rule.Term.{Term}
@@ -7,7 +7,7 @@ use Rattle.box_eval.specs.declared.rule.Rule.TheOpen.{Rule-F, Term-F, Always, Be
 use Rattle.box_eval.specs.declared.bounds.Pair.{Pair}
 use Rattle.box_eval.specs.declared.verdict.Span.{Span}
 use Rattle.box_eval.specs.Box.{IsBox, IsInside}
-use Rattle.box_eval.specs.Verdict.{negated, both_of, either_of, below_of, at_most_of, equal_of, sum_of, less_of, times_of, truth_of}
+use Rattle.box_eval.specs.Verdict.{equal_of}
 use Rattle.box_eval.specs.Reach.{Seen, Judged, magnitude, term_seen, rule_judged, reach_of, term_reach}
 use Rattle.box_eval.proofs.Folds.{Two, rule_ones, rule_others, term_ones, term_others, rule_law, term_law}
 use Rattle.box_eval.proofs.Smaller.{SpanIn, Keeps, sum_in, less_in, times_in, truth_in, below_keeps, at_most_keeps, equal_keeps, negated_keeps, both_keeps, either_keeps}

@@ -1,5 +1,5 @@
 -- At a point within reach, sums, differences and products fit 128 bits.
-use Rattle.std.proofs.Common.{◌≡◌, ℕ, ◌≤◌, ◌^◌, List, ℤ, ◌+ℤ◌, ◌-ℤ◌, ◌*ℤ◌, FitsSigned, ap, sym, subst, ◌∙◌, arith}
+use Rattle.std.proofs.Common.{◌≡◌, ◌≤◌, ◌^◌, List, ℤ, ◌+ℤ◌, ◌-ℤ◌, ◌*ℤ◌, FitsSigned, ap, sym, subst, ◌∙◌, arith}
 use Rattle.std.proofs.lemmas.Int.{ints}
 use Rattle.std.specs.Int.{w128}
 use Rattle.box_eval.specs.declared.rule.Rule.TheViews as V
@@ -7,7 +7,6 @@ use Rattle.box_eval.specs.declared.rule.Term.{Term}
 use Rattle.box_eval.specs.declared.verdict.Span.{Span}
 use Rattle.box_eval.specs.Box.{box_of}
 use Rattle.box_eval.specs.Truth.{value_at}
-use Rattle.box_eval.specs.Verdict.{sum_of, less_of, times_of}
 use Rattle.box_eval.specs.Reach.{magnitude, term_reach}
 use Rattle.box_eval.proofs.Points.{twice, times_twice, point_twice}
 use Rattle.box_eval.proofs.Reading.{Found, sum_small, less_small, times_small}

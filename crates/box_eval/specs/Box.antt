@@ -1,5 +1,5 @@
 -- Boxes, their points, and boxes inside boxes.
-use Rattle.std.specs.Prelude.{◌≡◌, ℕ, ◌+◌, List, length, map, slice_get, slice_set, ℤ, pos, ◌≤ℤ◌, ◌+ℤ◌}
+use Rattle.std.specs.Prelude.{◌≡◌, ℕ, List, length, map, slice_get, slice_set, ℤ, pos, ◌≤ℤ◌}
 use Rattle.std.specs.Option.{option_map_or}
 use Rattle.box_eval.specs.declared.bounds.Pair.{Pair}
 
