@@ -75,14 +75,14 @@ tree_empty rules room ends above (cut_low slot v first second) accepted closed =
     let ups = accepts rules room (up_to ends slot v) (above + 1) first in
     let downs = accepts rules room (from ends slot (v +ℤ pos 1)) (above + 1) second in
     cut_empty rules room ends above slot v (cut_facts room ends above slot v accepted.0)
-      (tree_empty rules room (up_to ends slot v) (above + 1) first (AllTrue-front ups downs accepted.1) closed.0)
-      (tree_empty rules room (from ends slot (v +ℤ pos 1)) (above + 1) second (AllTrue-back ups downs accepted.1) closed.1)
+    (tree_empty rules room (up_to ends slot v) (above + 1) first (AllTrue-front ups downs accepted.1) closed.0)
+    (tree_empty rules room (from ends slot (v +ℤ pos 1)) (above + 1) second (AllTrue-back ups downs accepted.1) closed.1)
 tree_empty rules room ends above (cut_high slot v first second) accepted closed =
     let downs = accepts rules room (from ends slot (v +ℤ pos 1)) (above + 1) first in
     let ups = accepts rules room (up_to ends slot v) (above + 1) second in
     cut_empty rules room ends above slot v (cut_facts room ends above slot v accepted.0)
-      (tree_empty rules room (up_to ends slot v) (above + 1) second (AllTrue-back downs ups accepted.1) closed.1)
-      (tree_empty rules room (from ends slot (v +ℤ pos 1)) (above + 1) first (AllTrue-front downs ups accepted.1) closed.0)
+    (tree_empty rules room (up_to ends slot v) (above + 1) second (AllTrue-back downs ups accepted.1) closed.1)
+    (tree_empty rules room (from ends slot (v +ℤ pos 1)) (above + 1) first (AllTrue-front downs ups accepted.1) closed.0)
 tree_empty rules room ends above (close k) accepted closed = close_empty rules ends k (close_facts rules ends k accepted.0)
 tree_empty rules room ends above unknown accepted closed = absurd closed
 

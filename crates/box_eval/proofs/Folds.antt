@@ -94,22 +94,22 @@ module _ (A B C D : Type 0) (R : A → B → Type 0) (S : C → D → Type 0) wh
     one_is : (y : Rule-F SuchRule SuchTerm) → one (roll-Rule (bare_rule y)) ≡ rule_one (rule_ones (rule_twos y))
     one_is y = fold-roll-Rule A C rule_one term_one (bare_rule y)
         ∙ ap rule_one (rule_twice SuchRule SuchTerm Rule Term A C (λ e. e.0) (λ e. e.0) one t_one y
-          ∙ sym (rule_twice SuchRule SuchTerm (Two A B R) (Two C D S) A C two_rule two_term (λ t. t.one) (λ t. t.one) y))
+        ∙ sym (rule_twice SuchRule SuchTerm (Two A B R) (Two C D S) A C two_rule two_term (λ t. t.one) (λ t. t.one) y))
 
     other_is : (y : Rule-F SuchRule SuchTerm) → other (roll-Rule (bare_rule y)) ≡ rule_other (rule_others (rule_twos y))
     other_is y = fold-roll-Rule B D rule_other term_other (bare_rule y)
         ∙ ap rule_other (rule_twice SuchRule SuchTerm Rule Term B D (λ e. e.0) (λ e. e.0) other t_other y
-          ∙ sym (rule_twice SuchRule SuchTerm (Two A B R) (Two C D S) B D two_rule two_term (λ t. t.other) (λ t. t.other) y))
+        ∙ sym (rule_twice SuchRule SuchTerm (Two A B R) (Two C D S) B D two_rule two_term (λ t. t.other) (λ t. t.other) y))
 
     t_one_is : (y : Term-F SuchRule SuchTerm) → t_one (roll-Term (bare_term y)) ≡ term_one (term_ones (term_twos y))
     t_one_is y = fold-roll-Term A C rule_one term_one (bare_term y)
         ∙ ap term_one (term_twice SuchRule SuchTerm Rule Term A C (λ e. e.0) (λ e. e.0) one t_one y
-          ∙ sym (term_twice SuchRule SuchTerm (Two A B R) (Two C D S) A C two_rule two_term (λ t. t.one) (λ t. t.one) y))
+        ∙ sym (term_twice SuchRule SuchTerm (Two A B R) (Two C D S) A C two_rule two_term (λ t. t.one) (λ t. t.one) y))
 
     t_other_is : (y : Term-F SuchRule SuchTerm) → t_other (roll-Term (bare_term y)) ≡ term_other (term_others (term_twos y))
     t_other_is y = fold-roll-Term B D rule_other term_other (bare_term y)
         ∙ ap term_other (term_twice SuchRule SuchTerm Rule Term B D (λ e. e.0) (λ e. e.0) other t_other y
-          ∙ sym (term_twice SuchRule SuchTerm (Two A B R) (Two C D S) B D two_rule two_term (λ t. t.other) (λ t. t.other) y))
+        ∙ sym (term_twice SuchRule SuchTerm (Two A B R) (Two C D S) B D two_rule two_term (λ t. t.other) (λ t. t.other) y))
 
     abbrev RuleStep : Type 0
     RuleStep = (x : Rule-F (Two A B R) (Two C D S)) → R (rule_one (rule_ones x)) (rule_other (rule_others x))
@@ -120,12 +120,12 @@ module _ (A B C D : Type 0) (R : A → B → Type 0) (S : C → D → Type 0) wh
     at_rule : RuleStep → (x : Rule-F Rule Term) (y : Rule-F SuchRule SuchTerm) → bare_rule y ≡ x → AtRule (roll-Rule x)
     at_rule h x y is = subst (λ z. AtRule (roll-Rule z)) is
         (subst (λ v. R v (other (roll-Rule (bare_rule y)))) (sym (one_is y))
-          (subst (λ v. R (rule_one (rule_ones (rule_twos y))) v) (sym (other_is y)) (h (rule_twos y))))
+        (subst (λ v. R (rule_one (rule_ones (rule_twos y))) v) (sym (other_is y)) (h (rule_twos y))))
 
     at_term : TermStep → (x : Term-F Rule Term) (y : Term-F SuchRule SuchTerm) → bare_term y ≡ x → AtTerm (roll-Term x)
     at_term h x y is = subst (λ z. AtTerm (roll-Term z)) is
         (subst (λ v. S v (t_other (roll-Term (bare_term y)))) (sym (t_one_is y))
-          (subst (λ v. S (term_one (term_ones (term_twos y))) v) (sym (t_other_is y)) (h (term_twos y))))
+        (subst (λ v. S (term_one (term_ones (term_twos y))) v) (sym (t_other_is y)) (h (term_twos y))))
 
     pub rule_law : RuleStep → TermStep → (r : Rule) → AtRule r
     rule_law h k = ind-Rule AtRule AtTerm (at_rule h) (at_term k)

@@ -41,8 +41,8 @@ module _ (ends : List Pair) (slot : ℕ) (p : Pair) (there : slot < length ends)
   pub box_set : IsBox ends → p.low ≤ℤ p.high → IsBox (slice_set ends slot p)
   box_set box h = record {
     ordered = λ other. elim (cases_eq other slot) as (λ _. low_at (slice_set ends slot p) other ≤ℤ high_at (slice_set ends slot p) other) [
-      inl same ↦ rw same (omega (arith, ints, low_set_same ends slot p there, high_set_same ends slot p there))
-    | inr differs ↦ omega (arith, ints, low_set_other ends slot other p differs, high_set_other ends slot other p differs, box.ordered other)
+      | inl same ↦ rw same (omega (arith, ints, low_set_same ends slot p there, high_set_same ends slot p there))
+      | inr differs ↦ omega (arith, ints, low_set_other ends slot other p differs, high_set_other ends slot other p differs, box.ordered other)
     ];
   }
 
@@ -50,12 +50,12 @@ module _ (ends : List Pair) (slot : ℕ) (p : Pair) (there : slot < length ends)
   inside_set h k = record {
     as_long = length-set ends slot p;
     above = λ other. elim (cases_eq other slot) as (λ _. low_at ends other ≤ℤ low_at (slice_set ends slot p) other) [
-      inl same ↦ rw same (omega (arith, ints, low_set_same ends slot p there))
-    | inr differs ↦ omega (arith, ints, low_set_other ends slot other p differs)
+      | inl same ↦ rw same (omega (arith, ints, low_set_same ends slot p there))
+      | inr differs ↦ omega (arith, ints, low_set_other ends slot other p differs)
     ];
     below = λ other. elim (cases_eq other slot) as (λ _. high_at (slice_set ends slot p) other ≤ℤ high_at ends other) [
-      inl same ↦ rw same (omega (arith, ints, high_set_same ends slot p there))
-    | inr differs ↦ omega (arith, ints, high_set_other ends slot other p differs)
+      | inl same ↦ rw same (omega (arith, ints, high_set_same ends slot p there))
+      | inr differs ↦ omega (arith, ints, high_set_other ends slot other p differs)
     ];
   }
 
@@ -63,12 +63,12 @@ module _ (ends : List Pair) (slot : ℕ) (p : Pair) (there : slot < length ends)
   point_set point of h k = record {
     as_long = of.as_long ∙ sym (length-set ends slot p);
     above = λ other. elim (cases_eq other slot) as (λ _. low_at (slice_set ends slot p) other ≤ℤ value_of point other) [
-      inl same ↦ rw same (omega (arith, ints, low_set_same ends slot p there))
-    | inr differs ↦ omega (arith, ints, low_set_other ends slot other p differs, of.above other)
+      | inl same ↦ rw same (omega (arith, ints, low_set_same ends slot p there))
+      | inr differs ↦ omega (arith, ints, low_set_other ends slot other p differs, of.above other)
     ];
     below = λ other. elim (cases_eq other slot) as (λ _. value_of point other ≤ℤ high_at (slice_set ends slot p) other) [
-      inl same ↦ rw same (omega (arith, ints, high_set_same ends slot p there))
-    | inr differs ↦ omega (arith, ints, high_set_other ends slot other p differs, of.below other)
+      | inl same ↦ rw same (omega (arith, ints, high_set_same ends slot p there))
+      | inr differs ↦ omega (arith, ints, high_set_other ends slot other p differs, of.below other)
     ];
   }
 
@@ -99,12 +99,12 @@ inside_both inner outer slot p q there h l k =
     record {
       as_long = length-set inner slot p ∙ (h.as_long ∙ sym (length-set outer slot q));
       above = λ other. elim (cases_eq other slot) as (λ _. low_at (slice_set outer slot q) other ≤ℤ low_at (slice_set inner slot p) other) [
-        inl same ↦ rw same (omega (arith, ints, low_set_same inner slot p there', low_set_same outer slot q there))
-      | inr differs ↦ omega (arith, ints, low_set_other inner slot other p differs, low_set_other outer slot other q differs, h.above other)
+        | inl same ↦ rw same (omega (arith, ints, low_set_same inner slot p there', low_set_same outer slot q there))
+        | inr differs ↦ omega (arith, ints, low_set_other inner slot other p differs, low_set_other outer slot other q differs, h.above other)
       ];
       below = λ other. elim (cases_eq other slot) as (λ _. high_at (slice_set inner slot p) other ≤ℤ high_at (slice_set outer slot q) other) [
-        inl same ↦ rw same (omega (arith, ints, high_set_same inner slot p there', high_set_same outer slot q there))
-      | inr differs ↦ omega (arith, ints, high_set_other inner slot other p differs, high_set_other outer slot other q differs, h.below other)
+        | inl same ↦ rw same (omega (arith, ints, high_set_same inner slot p there', high_set_same outer slot q there))
+        | inr differs ↦ omega (arith, ints, high_set_other inner slot other p differs, high_set_other outer slot other q differs, h.below other)
       ];
     }
 

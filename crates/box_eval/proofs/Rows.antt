@@ -1,5 +1,5 @@
 -- Worked rows: a flat form with one slot and three rules, and its refutation.
-use Rattle.std.proofs.Common.{◌≡◌, refl, ap, ◌<◌, ℕ, zero, suc, slice_get, Some, List, [], ◌∷◌, Bool, true, false, ℤ, pos, negsuc, arith}
+use Rattle.std.proofs.Common.{◌≡◌, ◌≤◌, ◌^◌, refl, ap, ◌<◌, ℕ, zero, suc, slice_get, Some, List, [], ◌∷◌, Bool, true, false, ℤ, pos, negsuc, ◌≤ℤ◌, arith}
 use Rattle.box_eval.specs.declared.rule.Rule.{Rule}
 use Rattle.box_eval.specs.declared.rule.Term.{Term}
 use Rattle.box_eval.specs.declared.rule.Rule.TheVariants.{Below, AtMost, Equal, Both, Not}
@@ -9,31 +9,41 @@ use Rattle.box_eval.specs.declared.bounds.Pair.{Pair}
 use Rattle.box_eval.specs.declared.flat.Flat.{Flat}
 use Rattle.box_eval.specs.declared.record.Record.{Record}
 use Rattle.box_eval.specs.declared.record.Line.TheVariants.{Low, High, Close}
+use Rattle.box_eval.specs.declared.verdict.Verdict.{Verdict}
 use Rattle.box_eval.specs.declared.verdict.Verdict.TheVariants.{False, Open}
+use Rattle.box_eval.specs.Box.{pair, low_at, high_at, IsBox, IsInside}
+use Rattle.box_eval.specs.Rules.{CanJudge}
 use Rattle.box_eval.specs.Truth.{true_at}
 use Rattle.box_eval.specs.Verdict.{verdict_of, span_of}
-use Rattle.box_eval.specs.Reach.{slots_of, reach_of, Judged, Seen, rule_judged, term_seen}
+use Rattle.box_eval.specs.Reach.{slots_of, Judged, Seen, rule_judged, term_seen}
 use Rattle.box_eval.specs.Record.{Tree, cut_low, cut_high, close, lines_of, accepts, IsFirstFalse, marks, IsRefutation}
 use Rattle.box_eval.proofs.Equations.{folds}
+use Rattle.box_eval.proofs.Parts.{inside_self, inside_both}
+use Rattle.box_eval.proofs.Fits.{can_judge_inside}
+use Rattle.std.proofs.lemmas.Int.{ints}
 
-abbrev box : ℤ → ℤ → List Pair
-box low high = record { low = low; high = high } ∷ []
+abbrev pub box : ℤ → ℤ → List Pair
+box low high = pair low high ∷ []
 
-abbrev x : Term
+-- the whole numbers from -1,000,000,000 to 1,000,000,000
+abbrev pub wide : List Pair
+wide = box (negsuc 999999999) (pos 1000000000)
+
+abbrev pub x : Term
 x = Slot 0
 
 -- from 0 to 5, above 3, and below 3
-abbrev within : Rule
+abbrev pub within : Rule
 within = Both (AtMost (Whole (pos 0)) x) (AtMost x (Whole (pos 5)))
 
-abbrev above : Rule
+abbrev pub above : Rule
 above = Below (Whole (pos 3)) x
 
-abbrev below : Rule
+abbrev pub below : Rule
 below = Below x (Whole (pos 3))
 
-abbrev flat : Flat
-flat = record { bounds = record { pairs = box (negsuc 999999999) (pos 1000000000) }; rules = within ∷ above ∷ below ∷ [] }
+abbrev pub flat : Flat
+flat = record { bounds = record { pairs = wide }; rules = within ∷ above ∷ below ∷ [] }
 
 abbrev tree : Tree
 tree = cut_low 0 (negsuc 0) (close 0) (cut_high 0 (pos 5) (close 0) (cut_low 0 (pos 3) (close 1) (close 2)))
@@ -43,14 +53,34 @@ claim = record { undecided = false; slots = 1; rules = 3; room = 3; lines = line
 
 -- ---- rules
 
-row_slots : slots_of within ≡ 1
-row_slots = simp folds
+abbrev judged_wide : Rule → Judged
+judged_wide = fold-Rule Judged Seen rule_judged (term_seen wide)
 
-row_judged : fold-Rule Judged Seen rule_judged (term_seen flat.bounds.pairs) within ≡ record { verdict = Open; reach = 1000000000 }
-row_judged = simp folds
+of_row : (rule : Rule) (n m : ℕ) (verdict : Verdict) → slots_of rule ≡ n → judged_wide rule ≡ record { verdict = verdict; reach = m } → n ≤ 1 → m ≤ 2 ^ 120 → CanJudge wide rule
+of_row rule n m verdict slots reach few small = record { slots = omega (arith, slots); reach = omega (arith, ap (λ j. j.reach) reach) }
 
-row_reach : reach_of flat.bounds.pairs within ≡ 1000000000
-row_reach = ap (λ j. j.reach) row_judged
+pub row_within : CanJudge wide within
+row_within = of_row within 1 1000000000 Open (simp folds) (simp folds) (omega arith) (omega arith)
+
+pub row_above : CanJudge wide above
+row_above = of_row above 1 1000000000 Open (simp folds) (simp folds) (omega arith) (omega arith)
+
+pub row_below : CanJudge wide below
+row_below = of_row below 1 1000000000 Open (simp folds) (simp folds) (omega arith) (omega arith)
+
+-- each of them may be judged on every box and point within the whole numbers
+pub inside_wide : (low high : ℤ) → negsuc 999999999 ≤ℤ low → high ≤ℤ pos 1000000000 → IsInside (box low high) wide
+inside_wide low high p q = inside_both wide wide 0 (pair low high) (pair (negsuc 999999999) (pos 1000000000)) (omega arith) (inside_self wide) p q
+
+pub box_wide : (low high : ℤ) → low ≤ℤ high → IsBox (box low high)
+box_wide low high p = record { ordered = slots }
+  where
+    slots : (slot : ℕ) → low_at (box low high) slot ≤ℤ high_at (box low high) slot
+    slots zero = p
+    slots (suc slot) = omega (arith, ints)
+
+pub judges : (rule : Rule) (low high : ℤ) → CanJudge wide rule → low ≤ℤ high → negsuc 999999999 ≤ℤ low → high ≤ℤ pos 1000000000 → CanJudge (box low high) rule
+judges rule low high can p q r = can_judge_inside (box low high) wide rule (box_wide low high p) (inside_wide low high q r) can
 
 row_true : true_at (pos 5 ∷ []) within ≡ true
 row_true = simp folds

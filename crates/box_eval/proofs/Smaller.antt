@@ -43,8 +43,8 @@ times_in a a' b b' h k =
     let bl : b.least ≤ℤ b'.greatest = omega (arith, ints) in
     let bg : b'.least ≤ℤ b.greatest = omega (arith, ints) in
     let f = four_in (times_of a' b').least (a.least *ℤ b.least) (a.least *ℤ b.greatest) (a.greatest *ℤ b.least) (a.greatest *ℤ b.greatest) (times_of a' b').greatest
-        (product_between a' b' a.least b.least h.above al k.above bl) (product_between a' b' a.least b.greatest h.above al bg k.below)
-        (product_between a' b' a.greatest b.least ag h.below k.above bl) (product_between a' b' a.greatest b.greatest ag h.below bg k.below) in
+    (product_between a' b' a.least b.least h.above al k.above bl) (product_between a' b' a.least b.greatest h.above al bg k.below)
+    (product_between a' b' a.greatest b.least ag h.below k.above bl) (product_between a' b' a.greatest b.greatest ag h.below bg k.below) in
     record { ordered = omega (arith, ints, clamps); above = f.0; below = f.1 }
 
 pub truth_in : (v v' : Verdict) → Keeps v v' → SpanIn (truth_of v) (truth_of v')

@@ -3,6 +3,10 @@ use Rattle.std.specs.Prelude.{◌≡◌, ℕ, List, length, map, slice_get, slic
 use Rattle.std.specs.Option.{option_map_or}
 use Rattle.box_eval.specs.declared.bounds.Pair.{Pair}
 
+-- a slot's ends
+abbrev pub pair : ℤ → ℤ → Pair
+pair low high = record { low = low; high = high }
+
 -- the least value of a slot; a slot past the last has the value 0 alone
 abbrev pub low_at : List Pair → ℕ → ℤ
 low_at ends slot = option_map_or (λ p. p.low) (slice_get ends slot) (pos 0)
@@ -37,16 +41,16 @@ pub record IsOnePoint (ends : List Pair) : Type 0 where
 
 -- the box whose one point this is
 abbrev pub box_of : List ℤ → List Pair
-box_of point = map (λ v. record { low = v; high = v }) point
+box_of point = map (λ v. pair v v) point
 
 -- the part of a box where a slot is at most v
 abbrev pub up_to : List Pair → ℕ → ℤ → List Pair
-up_to ends slot v = slice_set ends slot (record { low = low_at ends slot; high = v })
+up_to ends slot v = slice_set ends slot (pair (low_at ends slot) v)
 
 -- the part of a box where a slot is at least v
 abbrev pub from : List Pair → ℕ → ℤ → List Pair
-from ends slot v = slice_set ends slot (record { low = v; high = high_at ends slot })
+from ends slot v = slice_set ends slot (pair v (high_at ends slot))
 
 -- the part of a box where a slot is v
 abbrev pub fixed : List Pair → ℕ → ℤ → List Pair
-fixed ends slot v = slice_set ends slot (record { low = v; high = v })
+fixed ends slot v = slice_set ends slot (pair v v)

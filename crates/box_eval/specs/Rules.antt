@@ -16,10 +16,15 @@ Meets point (rule ∷ rules) = (true_at point rule ≡ true) × Meets point rule
 abbrev pub IsEmpty : List Rule → List Pair → Type 0
 IsEmpty rules ends = (point : List ℤ) → IsPointOf ends point → Meets point rules → ⊥
 
+-- a rule that may be judged on a box: its slots are those of the box, and no term within it reaches beyond 2^120
+pub record CanJudge (ends : List Pair) (rule : Rule) : Type 0 where
+  pub slots : slots_of rule ≤ length ends
+  pub reach : reach_of ends rule ≤ 2 ^ 120
+
 -- every rule may be judged on the box, and so on each smaller one
 abbrev pub AllFit : List Pair → List Rule → Type 0
 AllFit ends [] = ⊤
-AllFit ends (rule ∷ rules) = (slots_of rule ≤ length ends) × (reach_of ends rule ≤ 2 ^ 120) × AllFit ends rules
+AllFit ends (rule ∷ rules) = CanJudge ends rule × AllFit ends rules
 
 -- what holds of every flat form: its ends are a box on which every rule may be judged, and it has fewer than 2^32 slots and rules
 pub record IsFlat (flat : Flat) : Type 0 where

@@ -1,6 +1,5 @@
 ghost use Rattle.std.specs.Prelude.{◌≡◌, IfOk};
 
-use crate::rule::copy_rule;
 use crate::{Bounds, Rule};
 use osc_base::Row;
 use std::alloc::{AllocError, Global};
@@ -20,7 +19,7 @@ impl Flat {
         let bounds = self.bounds.copy(alloc)?;
         let mut rules = Row::new(alloc);
         for rule in self.rules.as_slice() {
-            rules.push(copy_rule(alloc, rule)?)?;
+            rules.push(rule.copy(alloc)?)?;
         }
         Ok(Flat { bounds, rules })
     }

@@ -5,7 +5,9 @@ ghost use Rattle.box_eval.specs.Truth.{true_at};
 ghost use Rattle.box_eval.specs.Verdict.{verdict_of, span_of};
 ghost use Rattle.box_eval.specs.Reach.{slots_of, term_slots, reach_of, term_reach};
 
-use crate::verdict::{at_most, below, both, either, equal, less, negated, sum, times, truth_span, Span};
+use crate::verdict::{
+    Span, at_most, below, between, both, either, equal, less, negated, sum, times, truth_span,
+};
 use crate::{Ends, Rule, Term, Verdict};
 
 /// What a box says of a rule: true or false at each of its points, or open.
@@ -60,14 +62,8 @@ fn span<E: Ends>(term: &Term, ends: &E) -> Span
     ensures { result ≡ span_of (E.ends ends.now) term.now }
 {
     match term {
-        Term::Whole(number) => Span {
-            least: *number,
-            greatest: *number,
-        },
-        Term::Slot(slot) => Span {
-            least: i128::from(ends.low(*slot)),
-            greatest: i128::from(ends.high(*slot)),
-        },
+        Term::Whole(number) => between(*number, *number),
+        Term::Slot(slot) => between(i128::from(ends.low(*slot)), i128::from(ends.high(*slot))),
         Term::Sum(a, b) => sum(span(a.get(), ends), span(b.get(), ends)),
         Term::Less(a, b) => less(span(a.get(), ends), span(b.get(), ends)),
         Term::Times(a, b) => times(span(a.get(), ends), span(b.get(), ends)),

@@ -13,7 +13,10 @@ mod whole;
 pub use bounds::{Bounds, Ends, Pair};
 pub use flat::Flat;
 pub use judgement::judge;
-pub use point::{truth, Point};
-pub use record::{refuted, Line, Record};
+pub use point::{Point, truth};
+pub use record::{Line, Record, refuted};
 pub use rule::{Rule, Term};
 pub use verdict::Verdict;
+
+#[cfg(test)]
+mod tests;

@@ -37,5 +37,4 @@ pub struct Record {
 /// Of a record that is a refutation of a flat form, no point of its box meets all its rules.
 pub fn refuted(flat: &Flat, claim: &Record)
     ensures { IsRefutation flat.now claim.now → IsEmpty flat.now.rules flat.now.bounds.pairs }
-{
-}
+{}

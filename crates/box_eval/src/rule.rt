@@ -43,46 +43,52 @@ pub enum Rule {
     Not(Boxed<Rule>),
 }
 
-#[cycle(copies)]
-pub(crate) fn copy_term(alloc: Global, term: &Term) -> Result<Term, AllocError>
-    ensures { IfOk result (λ t. t ≡ term.now) }
-{
-    match term {
-        Term::Whole(number) => Ok(Term::Whole(*number)),
-        Term::Slot(slot) => Ok(Term::Slot(*slot)),
-        Term::Sum(a, b) => Ok(Term::Sum(copy_part(alloc, a.get())?, copy_part(alloc, b.get())?)),
-        Term::Less(a, b) => Ok(Term::Less(copy_part(alloc, a.get())?, copy_part(alloc, b.get())?)),
-        Term::Times(a, b) => Ok(Term::Times(copy_part(alloc, a.get())?, copy_part(alloc, b.get())?)),
-        Term::Truth(rule) => Ok(Term::Truth(Boxed::new(alloc, copy_rule(alloc, rule.get())?)?)),
+impl Term {
+    /// An equal term.
+    #[cycle(copies)]
+    pub fn copy(&self, alloc: Global) -> Result<Term, AllocError>
+        ensures { IfOk result (λ t. t ≡ self.now) }
+    {
+        match self {
+            Term::Whole(number) => Ok(Term::Whole(*number)),
+            Term::Slot(slot) => Ok(Term::Slot(*slot)),
+            Term::Sum(a, b) => Ok(Term::Sum(copy_part(alloc, a)?, copy_part(alloc, b)?)),
+            Term::Less(a, b) => Ok(Term::Less(copy_part(alloc, a)?, copy_part(alloc, b)?)),
+            Term::Times(a, b) => Ok(Term::Times(copy_part(alloc, a)?, copy_part(alloc, b)?)),
+            Term::Truth(rule) => Ok(Term::Truth(copy_side(alloc, rule)?)),
+        }
+    }
+}
+
+impl Rule {
+    /// An equal rule.
+    #[cycle(copies)]
+    pub fn copy(&self, alloc: Global) -> Result<Rule, AllocError>
+        ensures { IfOk result (λ r. r ≡ self.now) }
+    {
+        match self {
+            Rule::Always => Ok(Rule::Always),
+            Rule::Below(a, b) => Ok(Rule::Below(a.copy(alloc)?, b.copy(alloc)?)),
+            Rule::AtMost(a, b) => Ok(Rule::AtMost(a.copy(alloc)?, b.copy(alloc)?)),
+            Rule::Equal(a, b) => Ok(Rule::Equal(a.copy(alloc)?, b.copy(alloc)?)),
+            Rule::Differ(a, b) => Ok(Rule::Differ(a.copy(alloc)?, b.copy(alloc)?)),
+            Rule::Both(a, b) => Ok(Rule::Both(copy_side(alloc, a)?, copy_side(alloc, b)?)),
+            Rule::Either(a, b) => Ok(Rule::Either(copy_side(alloc, a)?, copy_side(alloc, b)?)),
+            Rule::Not(a) => Ok(Rule::Not(copy_side(alloc, a)?)),
+        }
     }
 }
 
 #[cycle(copies)]
-fn copy_part(alloc: Global, term: &Term) -> Result<Boxed<Term>, AllocError>
+fn copy_part(alloc: Global, term: &Boxed<Term>) -> Result<Boxed<Term>, AllocError>
     ensures { IfOk result (λ t. t ≡ term.now) }
 {
-    Boxed::new(alloc, copy_term(alloc, term)?)
+    Boxed::new(alloc, term.get().copy(alloc)?)
 }
 
 #[cycle(copies)]
-pub(crate) fn copy_rule(alloc: Global, rule: &Rule) -> Result<Rule, AllocError>
+fn copy_side(alloc: Global, rule: &Boxed<Rule>) -> Result<Boxed<Rule>, AllocError>
     ensures { IfOk result (λ r. r ≡ rule.now) }
 {
-    match rule {
-        Rule::Always => Ok(Rule::Always),
-        Rule::Below(a, b) => Ok(Rule::Below(copy_term(alloc, a)?, copy_term(alloc, b)?)),
-        Rule::AtMost(a, b) => Ok(Rule::AtMost(copy_term(alloc, a)?, copy_term(alloc, b)?)),
-        Rule::Equal(a, b) => Ok(Rule::Equal(copy_term(alloc, a)?, copy_term(alloc, b)?)),
-        Rule::Differ(a, b) => Ok(Rule::Differ(copy_term(alloc, a)?, copy_term(alloc, b)?)),
-        Rule::Both(a, b) => Ok(Rule::Both(copy_side(alloc, a.get())?, copy_side(alloc, b.get())?)),
-        Rule::Either(a, b) => Ok(Rule::Either(copy_side(alloc, a.get())?, copy_side(alloc, b.get())?)),
-        Rule::Not(a) => Ok(Rule::Not(copy_side(alloc, a.get())?)),
-    }
-}
-
-#[cycle(copies)]
-fn copy_side(alloc: Global, rule: &Rule) -> Result<Boxed<Rule>, AllocError>
-    ensures { IfOk result (λ r. r ≡ rule.now) }
-{
-    Boxed::new(alloc, copy_rule(alloc, rule)?)
+    Boxed::new(alloc, rule.get().copy(alloc)?)
 }

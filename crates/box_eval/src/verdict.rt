@@ -137,17 +137,15 @@ pub(crate) fn truth_span(verdict: Verdict) -> Span
     ensures { result ≡ truth_of verdict }
 {
     match verdict {
-        Verdict::True => Span {
-            least: 1,
-            greatest: 1,
-        },
-        Verdict::False => Span {
-            least: 0,
-            greatest: 0,
-        },
-        Verdict::Open => Span {
-            least: 0,
-            greatest: 1,
-        },
+        Verdict::True => between(1, 1),
+        Verdict::False => between(0, 0),
+        Verdict::Open => between(0, 1),
     }
+}
+
+pub(crate) fn between(least: i128, greatest: i128) -> Span
+    ensures least { result.least ≡ least }
+    ensures greatest { result.greatest ≡ greatest }
+{
+    Span { least, greatest }
 }
