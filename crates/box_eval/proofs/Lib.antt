@@ -1,0 +1,13 @@
+pub mod Empty
+pub mod Equations
+pub mod Fits
+pub mod Folds
+pub mod Looks
+pub mod Numbers
+pub mod Parts
+pub mod Points
+pub mod Reaches
+pub mod Reading
+pub mod Rows
+pub mod Smaller
+pub mod Worth

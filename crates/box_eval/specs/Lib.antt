@@ -1,0 +1,6 @@
+pub mod Box
+pub mod Reach
+pub mod Record
+pub mod Rules
+pub mod Truth
+pub mod Verdict

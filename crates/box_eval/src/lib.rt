@@ -1,0 +1,22 @@
+//! Rules over numbered slots, the boxes that they are judged on, and refutation records.
+#![tactic(auto)]
+
+mod bounds;
+mod flat;
+mod judgement;
+mod point;
+mod record;
+mod rule;
+mod verdict;
+mod whole;
+
+pub use bounds::{Bounds, Ends, Pair};
+pub use flat::Flat;
+pub use judgement::judge;
+pub use point::{Point, truth};
+pub use record::{Line, Record, refuted};
+pub use rule::{Rule, Term};
+pub use verdict::Verdict;
+
+#[cfg(test)]
+mod tests;

@@ -1,0 +1,132 @@
+//! A flat form with one slot: from 0 to 5, above 3, and below 3.
+ghost use Rattle.std.specs.Prelude.{IfOk, [], ◌∷◌, negsuc, pos, ◌≤ℤ◌};
+ghost use Rattle.box_eval.specs.Box.{pair};
+ghost use Rattle.box_eval.specs.Rules.{CanJudge};
+
+use crate::{Bounds, Flat, Pair, Rule, Term, Verdict, judge, truth};
+use osc_base::{Boxed, Row};
+use std::alloc::{AllocError, Global};
+
+fn within(alloc: Global) -> Result<Rule, AllocError>
+    ensures { IfOk result (λ rule. CanJudge (pair (negsuc 999999999) (pos 1000000000) ∷ []) rule) }
+{
+    let low = Rule::AtMost(Term::Whole(0), Term::Slot(0));
+    let high = Rule::AtMost(Term::Slot(0), Term::Whole(5));
+    Ok(Rule::Both(Boxed::new(alloc, low)?, Boxed::new(alloc, high)?))
+}
+
+fn above() -> Rule
+    ensures { CanJudge (pair (negsuc 999999999) (pos 1000000000) ∷ []) result }
+{
+    Rule::Below(Term::Whole(3), Term::Slot(0))
+}
+
+fn below() -> Rule
+    ensures { CanJudge (pair (negsuc 999999999) (pos 1000000000) ∷ []) result }
+{
+    Rule::Below(Term::Slot(0), Term::Whole(3))
+}
+
+fn bounds(alloc: Global, low: i64, high: i64) -> Result<Bounds, AllocError> {
+    let mut pairs = Row::new(alloc);
+    pairs.push(Pair { low, high })?;
+    Ok(Bounds { pairs })
+}
+
+fn says(alloc: Global, rule: &Rule, low: i64, high: i64) -> Result<Verdict, AllocError>
+    requires rule { CanJudge (pair (negsuc 999999999) (pos 1000000000) ∷ []) rule.now }
+    requires ordered { low ≤ℤ high }
+    requires low { negsuc 999999999 ≤ℤ low }
+    requires high { high ≤ℤ pos 1000000000 }
+{
+    let mut pairs = Row::new(alloc);
+    pairs.push(Pair { low, high })?;
+    Ok(judge(rule, &Bounds { pairs }))
+}
+
+fn holds(rule: &Rule, x: i64) -> bool
+    requires rule { CanJudge (pair (negsuc 999999999) (pos 1000000000) ∷ []) rule.now }
+    requires low { negsuc 999999999 ≤ℤ x }
+    requires high { x ≤ℤ pos 1000000000 }
+{
+    truth(rule, &[x])
+}
+
+#[test]
+fn verdicts_and_truths(rt: HostRuntime) {
+    let within = within(rt.alloc()).expect(&rt, "memory");
+    for (low, high, want) in [
+        (-1_000_000_000, 1_000_000_000, Verdict::Open),
+        (-1_000_000_000, -1, Verdict::False),
+        (6, 1_000_000_000, Verdict::False),
+        (0, 5, Verdict::True),
+        (5, 5, Verdict::True),
+    ] {
+        assert!(rt; -1_000_000_000 <= low && low <= high && high <= 1_000_000_000);
+        assert_eq!(rt;
+            says(rt.alloc(), &within, low, high).expect(&rt, "memory"),
+            want,
+            "at {low}"
+        );
+    }
+    assert_eq!(rt;
+        says(rt.alloc(), &above(), 0, 3).expect(&rt, "memory"),
+        Verdict::False
+    );
+    assert_eq!(rt;
+        says(rt.alloc(), &above(), 3, 4).expect(&rt, "memory"),
+        Verdict::Open
+    );
+    assert_eq!(rt;
+        says(rt.alloc(), &below(), 4, 5).expect(&rt, "memory"),
+        Verdict::False
+    );
+    for (x, want) in [
+        (-1, (false, false, true)),
+        (3, (true, false, false)),
+        (4, (true, true, false)),
+        (6, (false, true, false)),
+    ] {
+        let got = (holds(&within, x), holds(&above(), x), holds(&below(), x));
+        assert!(rt; got == want, "at {x}");
+    }
+}
+
+#[test]
+fn copies(rt: HostRuntime) {
+    let mut rules = Row::new(rt.alloc());
+    rules
+        .push(within(rt.alloc()).expect(&rt, "memory"))
+        .expect(&rt, "memory");
+    rules.push(above()).expect(&rt, "memory");
+    rules.push(below()).expect(&rt, "memory");
+    let bounds = bounds(rt.alloc(), -1_000_000_000, 1_000_000_000).expect(&rt, "memory");
+    let copy = Flat { bounds, rules }
+        .copy(rt.alloc())
+        .expect(&rt, "memory");
+    let pairs = copy.bounds.pairs.as_slice();
+    assert!(rt;
+        matches!(
+            pairs,
+            [Pair {
+                low: -1_000_000_000,
+                high: 1_000_000_000
+            }]
+        )
+    );
+    let rules = copy.rules.as_slice();
+    assert!(rt;
+        matches!(
+            rules,
+            [
+                Rule::Both(_, _),
+                Rule::Below(Term::Whole(3), Term::Slot(0)),
+                Rule::Below(Term::Slot(0), Term::Whole(3))
+            ]
+        )
+    );
+    if let Rule::Both(low, high) = &rules[0] {
+        assert!(rt; matches!(low.get(), Rule::AtMost(Term::Whole(0), Term::Slot(0))));
+        assert!(rt; matches!(high.get(), Rule::AtMost(Term::Slot(0), Term::Whole(5))));
+    }
+}
