@@ -1,0 +1,7 @@
+//! Tests that cross crates: `command` over a shelf and a sink in memory, and the text of a run.
+#![tactic(auto)]
+
+#[cfg(test)]
+mod answers;
+#[cfg(test)]
+mod runs;
