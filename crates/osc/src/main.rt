@@ -4,9 +4,8 @@
 
 use outside_io::{FileShelf, OutSink};
 use scenario_tool::command;
-use std::env;
-use std::io;
 use std::process::ExitCode;
+use std::{env, io};
 
 /// The status where memory is missing while the arguments are collected.
 const NO_MEMORY: u8 = 8;
@@ -16,7 +15,9 @@ const NO_ARGUMENTS: u8 = 9;
 fn main(rt: HostRuntime) -> ExitCode {
     let words = match words(&rt) {
         Ok(words) => words,
-        Err(error) if error.kind() == io::ErrorKind::OutOfMemory => return ExitCode::from(NO_MEMORY),
+        Err(error) if error.kind() == io::ErrorKind::OutOfMemory => return ExitCode::from(
+            NO_MEMORY,
+        ),
         Err(_) => return ExitCode::from(NO_ARGUMENTS),
     };
     let mut shelf = FileShelf::new(&rt);

@@ -39,8 +39,12 @@ value_free v = rw (held_free v.held) refl
 
 pub run_free : (run : Run) → has_float (run_data run) ≡ false
 run_free run =
-    rw (list_free choice_data (λ c. refl) run.choices, list_free span_data (λ s. refl) run.phases,
-        list_free trace_data trace_free run.traces, list_free value_data value_free run.values) refl
+    rw (
+      list_free choice_data (λ c. refl) run.choices,
+      list_free span_data (λ s. refl) run.phases,
+      list_free trace_data trace_free run.traces,
+      list_free value_data value_free run.values,
+    ) refl
 
 -- what is written of the JSON of a run is the run's text
 pub written : {E : Type 0} (run : Run) (d : Data) (r : Result (String Global) E) → d ≡ run_data run →

@@ -23,15 +23,15 @@ in_range low high c h = leb-true c high (both (leb low c) (leb c high) h).1
 byte_small : (b : ℕ) → is_name_byte b ≡ true → b < 128
 byte_small b = either (b < 128) (is_ascii_alphanumeric b) (b == 95)
     (either (b < 128) (is_in_range 48 57 b || is_in_range 65 90 b) (is_in_range 97 122 b)
-        (either (b < 128) (is_in_range 48 57 b) (is_in_range 65 90 b)
-            (λ h. let top = in_range 48 57 b h in omega (arith, top)) (λ h. let top = in_range 65 90 b h in omega (arith, top)))
-        (λ h. let top = in_range 97 122 b h in omega (arith, top)))
+    (either (b < 128) (is_in_range 48 57 b) (is_in_range 65 90 b)
+    (λ h. let top = in_range 48 57 b h in omega (arith, top)) (λ h. let top = in_range 65 90 b h in omega (arith, top)))
+    (λ h. let top = in_range 97 122 b h in omega (arith, top)))
     (λ h. let same = eqb-true b 95 h in omega (arith, same))
 
 start_small : (b : ℕ) → is_name_start b ≡ true → b < 128
 start_small b = either (b < 128) (is_ascii_alphabetic b) (b == 95)
     (either (b < 128) (is_in_range 65 90 b) (is_in_range 97 122 b)
-        (λ h. let top = in_range 65 90 b h in omega (arith, top)) (λ h. let top = in_range 97 122 b h in omega (arith, top)))
+    (λ h. let top = in_range 65 90 b h in omega (arith, top)) (λ h. let top = in_range 97 122 b h in omega (arith, top)))
     (λ h. let same = eqb-true b 95 h in omega (arith, same))
 
 bytes_small : (bs : List ℕ) → list_all is_name_byte bs ≡ true → IsAscii bs

@@ -30,7 +30,7 @@ fresh_among [] name others undeclared rest = rest
 fresh_among (f ∷ fs) name others undeclared rest =
     let two = neither (bytes_eq name f.name) (is_declared (map ranged fs) name) undeclared in
     fresh_among fs name (field_line f.name ∷ others) two.1
-        ((λ same. other_bytes name f.name two.0 (sym (field_name_is f.name name same))), rest)
+    ((λ same. other_bytes name f.name two.0 (sym (field_name_is f.name name same))), rest)
 
 -- the converse, a case at a time
 declared_step : (t u : Bool) → (t ≡ true → ⊥) → u ≡ false → (t || u) ≡ false
@@ -46,8 +46,8 @@ not_declared : (written : List WrittenField) (name : List ℕ) (others : List (L
 not_declared [] name others none = refl
 not_declared (f ∷ fs) name others none =
     declared_step (bytes_eq name f.name) (is_declared (map ranged fs) name)
-        (λ same. (none_after fs (field_line name) (field_line f.name ∷ others) none).0 (ap field_line (sym (equal_bytes name f.name same))))
-        (not_declared fs name (field_line f.name ∷ others) none)
+    (λ same. (none_after fs (field_line name) (field_line f.name ∷ others) none).0 (ap field_line (sym (equal_bytes name f.name same))))
+    (not_declared fs name (field_line f.name ∷ others) none)
 
 -- ---- Which line fits behind whole fields
 
@@ -79,7 +79,7 @@ fits_field written line fits =
 field_fits : (written : List WrittenField) (line : List ℕ) → FitsAfter [] (lines_of_fields written) line → IsFieldLine (onto written []) line
 field_fits written line fits =
     let behind : FitsAfter [] (lines_of_fields written ++ []) line
-               = subst (λ lines. FitsAfter [] lines line) (sym (append-nil (lines_of_fields written))) fits in
+    = subst (λ lines. FitsAfter [] lines line) (sym (append-nil (lines_of_fields written))) fits in
     rw (behind_fields written [] [] line) at behind
 
 -- a field line more
@@ -88,8 +88,8 @@ fit_field : (name : List ℕ) (written : List WrittenField) (field : List ℕ) �
     AllFitAfter [] (head_line name ∷ (lines_of_fields written ++ field_line field ∷ []))
 fit_field name written field fit allowed undeclared =
     snoc [] (head_line name ∷ lines_of_fields written) (field_line field) fit
-        (fits_field written (field_line field)
-            (record { field = field; allowed = allowed; fresh = fresh_among written field [] undeclared tt; written = refl }))
+    (fits_field written (field_line field)
+    (record { field = field; allowed = allowed; fresh = fresh_among written field [] undeclared tt; written = refl }))
 
 -- and its constraint line
 fit_keep : (name : List ℕ) (written : List WrittenField) (f : WrittenField) →
@@ -97,8 +97,8 @@ fit_keep : (name : List ℕ) (written : List WrittenField) (f : WrittenField) �
     AllFitAfter [] (head_line name ∷ ((lines_of_fields written ++ field_line f.name ∷ []) ++ keep_line f ∷ []))
 fit_keep name written f fit range =
     snoc [] (head_line name ∷ (lines_of_fields written ++ field_line f.name ∷ [])) (keep_line f) fit
-        (rw (behind_fields written [] (field_line f.name ∷ []) (keep_line f))
-            (record { field = f; same = refl; range = range; written = refl }))
+    (rw (behind_fields written [] (field_line f.name ∷ []) (keep_line f))
+    (record { field = f; same = refl; range = range; written = refl }))
 
 more_lines : (written : List WrittenField) (f : WrittenField) →
     lines_of_fields (written ++ f ∷ []) ≡ (lines_of_fields written ++ field_line f.name ∷ []) ++ keep_line f ∷ []
@@ -116,7 +116,7 @@ continued source name rest middle later written f begun allowed undeclared range
           ∙ ap (λ tail. (head_line name ∷ lines_of_fields written) ++ tail) (one ∙ ap (λ tail. field_line f.name ∷ tail) two)
           ∙ sym (append_assoc (head_line name ∷ lines_of_fields written) (field_line f.name ∷ keep_line f ∷ []) (lines_of later))
           ∙ ap (λ lines. (head_line name ∷ lines) ++ lines_of later)
-              (sym (more_lines written f ∙ append_assoc (lines_of_fields written) (field_line f.name ∷ []) (keep_line f ∷ [])));
+          (sym (more_lines written f ∙ append_assoc (lines_of_fields written) (field_line f.name ∷ []) (keep_line f ∷ [])));
       fit = subst (λ lines. AllFitAfter [] (head_line name ∷ lines)) (sym (more_lines written f))
           (fit_keep name written f (fit_field name written f.name begun.fit allowed undeclared) range);
     }
@@ -127,8 +127,8 @@ pub ended : (source name rest : List ℕ) (written : List WrittenField) → Begu
     Declares source name written
 ended source name rest written begun empty some =
     let lines : lines_of source ≡ head_line name ∷ lines_of_fields written
-              = begun.split ∙ ap (λ tail. (head_line name ∷ lines_of_fields written) ++ lines_of tail) empty
-                ∙ append-nil (head_line name ∷ lines_of_fields written) in
+    = begun.split ∙ ap (λ tail. (head_line name ∷ lines_of_fields written) ++ lines_of tail) empty
+    ∙ append-nil (head_line name ∷ lines_of_fields written) in
     record { lines = lines; some = some; fit = subst (AllFitAfter []) (sym lines) begun.fit }
 
 count_lines : (written : List WrittenField) → length (lines_of_fields written) ≡ 2 * length written
@@ -259,7 +259,7 @@ pub reading_no_field : (source name rest : List ℕ) (fields : List RangedField)
     BreaksAt source line
 reading_no_field source name rest fields line r none never =
     rw r.at (no_field source name rest r.written r.begun (λ empty. map_empty r.written (sym r.seen ∙ none empty))
-        (λ field later allowed undeclared. never field later allowed (ap (λ fs. is_declared fs field) r.seen ∙ undeclared)))
+    (λ field later allowed undeclared. never field later allowed (ap (λ fs. is_declared fs field) r.seen ∙ undeclared)))
 
 pub reading_no_keep : (source name rest middle : List ℕ) (fields : List RangedField) (line : ℕ) (field : List ℕ) → Reading source name rest fields line →
     IsFieldName field → is_declared fields field ≡ false → lines_of rest ≡ field_line field ∷ lines_of middle →

@@ -20,7 +20,7 @@ other_bytes xs ys = denied (bytes_eq xs ys) (xs ≡ ys) (bytes_eq-Decides xs ys)
 
 pub behind_some : (text prefix : List ℕ) (r : Option (Bor (List ℕ))) →
     MatchOption r (bytes_eq (take (length prefix) text) prefix ≡ false)
-        (λ x. (bytes_eq (take (length prefix) text) prefix ≡ true) × (x.now ≡ drop (length prefix) text) × (length x.now + length prefix ≡ length text)) →
+    (λ x. (bytes_eq (take (length prefix) text) prefix ≡ true) × (x.now ≡ drop (length prefix) text) × (length x.now + length prefix ≡ length text)) →
     IfSome r (λ rest. text ≡ prefix ++ rest.now)
 behind_some text prefix None h = tt
 behind_some text prefix (Some x) h =
@@ -30,7 +30,7 @@ behind_some text prefix (Some x) h =
 
 pub behind_none : (text prefix : List ℕ) (r : Option (Bor (List ℕ))) →
     MatchOption r (bytes_eq (take (length prefix) text) prefix ≡ false)
-        (λ x. (bytes_eq (take (length prefix) text) prefix ≡ true) × (x.now ≡ drop (length prefix) text) × (length x.now + length prefix ≡ length text)) →
+    (λ x. (bytes_eq (take (length prefix) text) prefix ≡ true) × (x.now ≡ drop (length prefix) text) × (length x.now + length prefix ≡ length text)) →
     IfNone r ((rest : List ℕ) → text ≡ prefix ++ rest → ⊥)
 behind_none text prefix None h = λ rest same. other_bytes _ _ h (ap (take (length prefix)) same ∙ take-append_seam prefix rest)
 behind_none text prefix (Some x) h = tt
@@ -42,7 +42,7 @@ suffix_of rest suffix =
 
 pub before_some : (text suffix : List ℕ) (r : Option (Bor (List ℕ))) →
     MatchOption r (bytes_eq (drop (length text - length suffix) text) suffix ≡ false)
-        (λ x. (bytes_eq (drop (length text - length suffix) text) suffix ≡ true) × (x.now ≡ take (length text - length suffix) text) × (length x.now + length suffix ≡ length text)) →
+    (λ x. (bytes_eq (drop (length text - length suffix) text) suffix ≡ true) × (x.now ≡ take (length text - length suffix) text) × (length x.now + length suffix ≡ length text)) →
     IfSome r (λ rest. text ≡ rest.now ++ suffix)
 before_some text suffix None h = tt
 before_some text suffix (Some x) h =
@@ -52,7 +52,7 @@ before_some text suffix (Some x) h =
 
 pub before_none : (text suffix : List ℕ) (r : Option (Bor (List ℕ))) →
     MatchOption r (bytes_eq (drop (length text - length suffix) text) suffix ≡ false)
-        (λ x. (bytes_eq (drop (length text - length suffix) text) suffix ≡ true) × (x.now ≡ take (length text - length suffix) text) × (length x.now + length suffix ≡ length text)) →
+    (λ x. (bytes_eq (drop (length text - length suffix) text) suffix ≡ true) × (x.now ≡ take (length text - length suffix) text) × (length x.now + length suffix ≡ length text)) →
     IfNone r ((rest : List ℕ) → text ≡ rest ++ suffix → ⊥)
 before_none text suffix None h = λ rest same. other_bytes _ _ h (ap (λ t. drop (length t - length suffix) t) same ∙ suffix_of rest suffix)
 before_none text suffix (Some x) h = tt

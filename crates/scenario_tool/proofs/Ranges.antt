@@ -24,7 +24,7 @@ pub range_is : (line rest name range : List ℕ) (f : WrittenField) → line ≡
     rest ≡ name ++ range → f.name ≡ name → line ≡ keep_line f → codes " in [" ++ ends_of f ≡ range
 range_is line rest name range f one split same two =
     append_cancel_left name (codes " in [" ++ ends_of f) range
-        (ap (λ n. n ++ (codes " in [" ++ ends_of f)) (sym same) ∙ rest_is line rest f one two ∙ split)
+    (ap (λ n. n ++ (codes " in [" ++ ends_of f)) (sym same) ∙ rest_is line rest f one two ∙ split)
 
 pub ends_is : (line rest name range ends : List ℕ) (f : WrittenField) → line ≡ codes "    keep(" ++ rest ++ codes "])\n" →
     rest ≡ name ++ range → range ≡ codes " in [" ++ ends → f.name ≡ name → line ≡ keep_line f → ends_of f ≡ ends

@@ -31,9 +31,9 @@ one_break done (l ∷ ls) later [] later' same fit fit' breaks breaks' =
 one_break done (l ∷ ls) later (l' ∷ ls') later' same fit fit' breaks breaks' =
     let head : l ≡ l' = heads l l' (ls ++ later) (ls' ++ later') same in
     let tail = one_break (done ++ l ∷ []) ls later ls' later' (tails l l' (ls ++ later) (ls' ++ later') same) fit.1
-            (subst (λ line. AllFitAfter (done ++ line ∷ []) ls') (sym head) fit'.1)
-            (subst (λ b. Breaks b later) (sym (append_assoc done (l ∷ []) ls)) breaks)
-            (subst (λ b. Breaks b later') (ap (λ line. done ++ line ∷ ls') (sym head) ∙ sym (append_assoc done (l ∷ []) ls')) breaks') in
+    (subst (λ line. AllFitAfter (done ++ line ∷ []) ls') (sym head) fit'.1)
+    (subst (λ b. Breaks b later) (sym (append_assoc done (l ∷ []) ls)) breaks)
+    (subst (λ b. Breaks b later') (ap (λ line. done ++ line ∷ ls') (sym head) ∙ sym (append_assoc done (l ∷ []) ls')) breaks') in
     omega (arith, tail)
 
 -- a source all of whose lines fit, and that may end, breaks nowhere
@@ -48,8 +48,8 @@ no_break done (b ∷ bs) later [] same fit may breaks = cc
 no_break done (b ∷ bs) later (m ∷ ms) same fit may breaks =
     let head : b ≡ m = heads b m (bs ++ later) ms same in
     no_break (done ++ m ∷ []) bs later ms (tails b m (bs ++ later) ms same) fit.1
-        (subst MayEnd (sym (append_assoc done (m ∷ []) ms)) may)
-        (subst (λ front. Breaks front later) (ap (λ line. done ++ line ∷ bs) head ∙ sym (append_assoc done (m ∷ []) bs)) breaks)
+    (subst MayEnd (sym (append_assoc done (m ∷ []) ms)) may)
+    (subst (λ front. Breaks front later) (ap (λ line. done ++ line ∷ bs) head ∙ sym (append_assoc done (m ∷ []) bs)) breaks)
 
 whole_fields : (f : WrittenField) (fs : List WrittenField) → IsWholeBody (lines_of_fields (f ∷ fs))
 whole_fields f [] = tt
@@ -69,12 +69,12 @@ one_line source a b one two =
 never_both : (source name : List ℕ) (fields : List WrittenField) (line : ℕ) → Declares source name fields → BreaksAt source line → ⊥
 never_both source name fields line declares breaks =
     no_break [] breaks.before breaks.later (lines_of source) (sym breaks.split) declares.fit
-        (subst MayEnd (sym declares.lines) (may_end name fields declares.some)) breaks.breaks
+    (subst MayEnd (sym declares.lines) (may_end name fields declares.some)) breaks.breaks
 
 one_name : (source a b : List ℕ) (fields fields' : List WrittenField) → Declares source a fields → Declares source b fields' → a ≡ b
 one_name source a b fields fields' one two =
     let first : head_line a ≡ head_line b
-              = heads (head_line a) (head_line b) (lines_of_fields fields) (lines_of_fields fields') (sym one.lines ∙ two.lines) in
+    = heads (head_line a) (head_line b) (lines_of_fields fields) (lines_of_fields fields') (sym one.lines ∙ two.lines) in
     one_between (codes "scenario ") (codes ":\n") a b (head_line a) refl first
 
 -- ---- Answers
@@ -115,7 +115,7 @@ same_scenario : (words : List (List ℕ)) (file file' scenario scenario' : List 
 same_scenario words file file' scenario scenario' one two =
     let same : codes "generate" ∷ file ∷ scenario ∷ [] ≡ codes "generate" ∷ file' ∷ scenario' ∷ [] = sym one.words_are ∙ two.words_are in
     heads scenario scenario' [] [] (tails file file' (scenario ∷ []) (scenario' ∷ [])
-        (tails (codes "generate") (codes "generate") (file ∷ scenario ∷ []) (file' ∷ scenario' ∷ []) same))
+    (tails (codes "generate") (codes "generate") (file ∷ scenario ∷ []) (file' ∷ scenario' ∷ []) same))
 
 some_none : (source : List ℕ) (found : Option (List ℕ)) → found ≡ Some source → found ≡ None → ⊥
 some_none source found one two = let differ : Some source ≡ None = sym one ∙ two in cc
@@ -147,20 +147,20 @@ sole files words status status' text text' (long file scenario source asks some 
     agree status status' 6 text text' s s' (t ∙ ap long_text (same_file words file file' scenario scenario' asks asks') ∙ sym t')
 sole files words status status' text text' (long file scenario source asks some more s t) (compiled file' scenario' source' asks' some' short' result') =
     absurd (too_long source source' (same_source (file_named files file) source source' some
-        (ap (file_named files) (same_file words file file' scenario scenario' asks asks') ∙ some')) more short')
+    (ap (file_named files) (same_file words file file' scenario scenario' asks asks') ∙ some')) more short')
 sole files words status status' text text' (compiled file scenario source asks some short result) (refused_words nothing' s' t') = absurd (nothing' file scenario asks)
 sole files words status status' text text' (compiled file scenario source asks some short result) (missing file' scenario' asks' none' s' t') =
     absurd (some_none source (file_named files file) some (ap (file_named files) (same_file words file file' scenario scenario' asks asks') ∙ none'))
 sole files words status status' text text' (compiled file scenario source asks some short result) (long file' scenario' source' asks' some' more' s' t') =
     absurd (too_long source' source (sym (same_source (file_named files file) source source' some
-        (ap (file_named files) (same_file words file file' scenario scenario' asks asks') ∙ some'))) more' short)
+    (ap (file_named files) (same_file words file file' scenario scenario' asks asks') ∙ some'))) more' short)
 sole files words status status' text text' (compiled file scenario source asks some short result) (compiled file' scenario' source' asks' some' short' result') =
     let name = same_file words file file' scenario scenario' asks asks' in
     let bytes = same_source (file_named files file) source source' some (ap (file_named files) name ∙ some') in
     one_result file scenario source status status' text text' result
-        (subst (λ f. Compiles f scenario source status' text') (sym name)
-            (subst (λ n. Compiles file' n source status' text') (sym (same_scenario words file file' scenario scenario' asks asks'))
-                (subst (λ b. Compiles file' scenario' b status' text') (sym bytes) result')))
+    (subst (λ f. Compiles f scenario source status' text') (sym name)
+    (subst (λ n. Compiles file' n source status' text') (sym (same_scenario words file file' scenario scenario' asks asks'))
+    (subst (λ b. Compiles file' scenario' b status' text') (sym bytes) result')))
 
 pub answers_agree : OneAnswer
 answers_agree = sole

@@ -39,7 +39,7 @@ pub declared_more : {S : Type 0} (m : IndexMap (String Global) Range S) (later :
     map field_of later ≡ fields ++ record { name = name; least = range.least; greatest = range.greatest } ∷ []
 declared_more m later key range name fields seen fresh same written =
     let none : get string_eq m key ≡ None = absent (get string_eq m key)
-            (found_is (string_bytes key) m.entries ∙ ap₂ is_declared seen same ∙ fresh) in
+    (found_is (string_bytes key) m.entries ∙ ap₂ is_declared seen same ∙ fresh) in
     ap (map field_of) (written ∙ insert_entry-new string_eq m key range none)
     ∙ map-append field_of m.entries ((key, range) ∷ [])
     ∙ ap₂ (λ fs n. fs ++ record { name = n; least = range.least; greatest = range.greatest } ∷ []) seen same
@@ -61,10 +61,10 @@ pub record HeldSoFar (fields : List RangedField) (left : List (String Global × 
 pub held_more : (fields : List RangedField) (entry : String Global × Range) (left left' : List (String Global × Range)) (values values' : List Value) (value : Value) →
     HeldSoFar fields left values → left ≡ entry ∷ left' → HoldsField (field_of entry) value → values' ≡ values ++ value ∷ [] → HeldSoFar fields left' values'
 held_more fields entry left left' values values' value h first one more = record {
-    done = h.done ++ field_of entry ∷ [];
-    split = append_assoc h.done (field_of entry ∷ []) (map field_of left') ∙ ap (λ es. h.done ++ map field_of es) (sym first) ∙ h.split;
-    held = rw more (hold_more h.done values (field_of entry) value h.held one);
-  }
+  done = h.done ++ field_of entry ∷ [];
+  split = append_assoc h.done (field_of entry ∷ []) (map field_of left') ∙ ap (λ es. h.done ++ map field_of es) (sym first) ∙ h.split;
+  held = rw more (hold_more h.done values (field_of entry) value h.held one);
+}
 
 pub held_all : (fields : List RangedField) (left : List (String Global × Range)) (values : List Value) → HeldSoFar fields left values → left ≡ [] → HoldFields fields values
 held_all fields left values h empty =

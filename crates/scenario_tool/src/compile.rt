@@ -17,7 +17,12 @@ const NOT_YET: u16 = 298;
 const NO_SCENARIO: u16 = 324;
 
 /// What a source that was loaded is answered with.
-pub fn compile(alloc: Global, file: &str, scenario: &str, source: &[u8]) -> Result<Reply, AllocError>
+pub fn compile(
+    alloc: Global,
+    file: &str,
+    scenario: &str,
+    source: &[u8],
+) -> Result<Reply, AllocError>
     requires { length source.now ≤ source_limit }
     ensures { IfOk result (λ reply. Compiles file.now scenario.now source.now reply.status reply.text) }
 {
@@ -27,7 +32,13 @@ pub fn compile(alloc: Global, file: &str, scenario: &str, source: &[u8]) -> Resu
         Err(SourceStop::Memory) => return Err(AllocError),
     };
     if !is_same(read.name, scenario) {
-        return fault(alloc, NO_SCENARIO, file, end_line(source), end_column(source));
+        return fault(
+            alloc,
+            NO_SCENARIO,
+            file,
+            end_line(source),
+            end_column(source),
+        );
     }
     generate(alloc, &read.fields)
 }

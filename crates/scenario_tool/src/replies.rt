@@ -12,7 +12,13 @@ pub struct Reply {
 }
 
 /// The source has a fault at this place.
-pub fn fault(alloc: Global, code: u16, file: &str, line: usize, column: usize) -> Result<Reply, AllocError>
+pub fn fault(
+    alloc: Global,
+    code: u16,
+    file: &str,
+    line: usize,
+    column: usize,
+) -> Result<Reply, AllocError>
     ensures status { IfOk result (λ reply. reply.status ≡ 3) }
     ensures text { IfOk result (λ reply. reply.text ≡ fault_text code file.now line column) }
 {

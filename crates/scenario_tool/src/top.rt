@@ -19,7 +19,12 @@ const NO_MEMORY: u8 = 8;
 ///
 /// The definition `Ends` says which statuses and texts are allowed; `docs/FORMATS.md` lists them. Of a
 /// shelf that tells its files the answer is that of these files; of another, that of some files.
-pub fn command<H: Shelf, K: Sink>(alloc: Global, words: &Vec<String>, shelf: &mut H, out: &mut K) -> u8
+pub fn command<H: Shelf, K: Sink>(
+    alloc: Global,
+    words: &Vec<String>,
+    shelf: &mut H,
+    out: &mut K,
+) -> u8
     ensures { SomeFiles (H.files shelf.old) (λ files. Ends files (map string_bytes words.now.items)
         (H.faults shelf.old) (H.faults shelf.new) (K.contents out.old) (K.contents out.new)
         (K.faults out.old) (K.faults out.new) result) }
@@ -45,7 +50,12 @@ fn reply_to<H: Shelf>(alloc: Global, words: &[String], shelf: &mut H) -> Result<
 }
 
 /// The status and the text with which a run of a scenario of a file is answered.
-fn reply_to_run<H: Shelf>(alloc: Global, file: &str, scenario: &str, shelf: &mut H) -> Result<Reply, AllocError>
+fn reply_to_run<H: Shelf>(
+    alloc: Global,
+    file: &str,
+    scenario: &str,
+    shelf: &mut H,
+) -> Result<Reply, AllocError>
     ensures { IfOk result (λ reply. (words : List (List ℕ)) → AsksForRun words file.now scenario.now →
         SomeFiles (H.files shelf.old) (λ files. Replies files words (H.faults shelf.old) (H.faults shelf.new) reply.status reply.text)) }
 {

@@ -5,7 +5,9 @@ use std::alloc::{AllocError, Global};
 use std::test::Fail;
 
 const SOURCE: &str = "scenario top:\n    x: int\n    keep(x in [3..3])\n";
-const RUN: &str = "{\"choices\":[],\"end\":0,\"form\":1,\"phases\":[],\"traces\":[],\"values\":[[\"x\",3]]}\n";
+
+const RUN: &str =
+    "{\"choices\":[],\"end\":0,\"form\":1,\"phases\":[],\"traces\":[],\"values\":[[\"x\",3]]}\n";
 
 /// Which calls of the shelf and of the sink fail, how many bytes a call of the sink takes, and its room.
 #[derive(Clone, Copy)]
@@ -36,7 +38,12 @@ fn shelf(alloc: Global, source: Option<&[u8]>, failing: &[u64]) -> Result<Memory
 }
 
 /// The status with which the words are answered, and what is written, as a text.
-fn answer(alloc: Global, words: &[&str], source: Option<&[u8]>, outside: Outside<'_>) -> Result<String, AllocError> {
+fn answer(
+    alloc: Global,
+    words: &[&str],
+    source: Option<&[u8]>,
+    outside: Outside<'_>,
+) -> Result<String, AllocError> {
     let mut owned = Vec::new(alloc);
     for word in words {
         owned.push(String::from_str(alloc, word)?)?;
@@ -54,24 +61,48 @@ const GENERATE: [&str; 3] = ["generate", "main.osc", "top"];
 #[test]
 fn sources(rt: HostRuntime) -> Result<(), Fail> {
     let rows: [(&str, &str); 12] = [
-        (SOURCE, "0 {\"choices\":[],\"end\":0,\"form\":1,\"phases\":[],\"traces\":[],\"values\":[[\"x\",3]]}\n"),
+        (
+            SOURCE,
+            "0 {\"choices\":[],\"end\":0,\"form\":1,\"phases\":[],\"traces\":[],\"values\":[[\"x\",3]]}\n",
+        ),
         (
             "scenario top:\n    x: int\n    keep(x in [3..3])\n    y: int\n    keep(y in [0..0])\n",
             "0 {\"choices\":[],\"end\":0,\"form\":1,\"phases\":[],\"traces\":[],\"values\":[[\"x\",3],[\"y\",0]]}\n",
         ),
         ("", "3 fault 298 main.osc:1:1\n"),
-        ("scenario top:\n    y: float\n", "3 fault 298 main.osc:2:1\n"),
-        ("scenario top:\n    x: int\n    keep(x in [3..3])", "3 fault 298 main.osc:3:1\n"),
-        ("scenario other:\n    x: int\n    keep(x in [3..3])\n", "3 fault 324 main.osc:4:1\n"),
-        ("scenario int:\n    x: int\n    keep(x in [3..3])\n", "3 fault 298 main.osc:1:1\n"),
+        (
+            "scenario top:\n    y: float\n",
+            "3 fault 298 main.osc:2:1\n",
+        ),
+        (
+            "scenario top:\n    x: int\n    keep(x in [3..3])",
+            "3 fault 298 main.osc:3:1\n",
+        ),
+        (
+            "scenario other:\n    x: int\n    keep(x in [3..3])\n",
+            "3 fault 324 main.osc:4:1\n",
+        ),
+        (
+            "scenario int:\n    x: int\n    keep(x in [3..3])\n",
+            "3 fault 298 main.osc:1:1\n",
+        ),
         ("scenario top:\n", "3 fault 298 main.osc:2:1\n"),
-        ("scenario top:\n    x: int\n    keep(y in [3..3])\n", "3 fault 298 main.osc:3:1\n"),
-        ("scenario top:\n    x: int\n    keep(x in [4..3])\n", "3 fault 298 main.osc:3:1\n"),
+        (
+            "scenario top:\n    x: int\n    keep(y in [3..3])\n",
+            "3 fault 298 main.osc:3:1\n",
+        ),
+        (
+            "scenario top:\n    x: int\n    keep(x in [4..3])\n",
+            "3 fault 298 main.osc:3:1\n",
+        ),
         (
             "scenario top:\n    x: int\n    keep(x in [3..3])\n    x: int\n    keep(x in [3..3])\n",
             "3 fault 298 main.osc:4:1\n",
         ),
-        ("scenario top:\n    duration: int\n    keep(duration in [3..3])\n", "3 fault 298 main.osc:2:1\n"),
+        (
+            "scenario top:\n    duration: int\n    keep(duration in [3..3])\n",
+            "3 fault 298 main.osc:2:1\n",
+        ),
     ];
     for (source, want) in rows {
         let got = answer(rt.alloc(), &GENERATE, Some(source.as_bytes()), SOUND)?;
@@ -88,9 +119,15 @@ fn words_and_files(rt: HostRuntime) -> Result<(), Fail> {
     assert_eq!(rt; words(&[])?.as_str(), "4 words\n");
     assert_eq!(rt; words(&["generate", "main.osc"])?.as_str(), "4 words\n");
     assert_eq!(rt; words(&["generate", "-f", "top"])?.as_str(), "4 words\n");
-    assert_eq!(rt; words(&["generate", "main.osc", "-s"])?.as_str(), "4 words\n");
+    assert_eq!(rt;
+        words(&["generate", "main.osc", "-s"])?.as_str(),
+        "4 words\n"
+    );
     assert_eq!(rt; words(&["check", "main.osc", "top"])?.as_str(), "4 words\n");
-    assert_eq!(rt; words(&["generate", "none.osc", "top"])?.as_str(), "6 missing none.osc\n");
+    assert_eq!(rt;
+        words(&["generate", "none.osc", "top"])?.as_str(),
+        "6 missing none.osc\n"
+    );
     let long = vec![in alloc; b'#'; 1_048_577]?;
     let got = answer(alloc, &GENERATE, Some(&long), SOUND)?;
     assert_eq!(rt; got.as_str(), "6 long main.osc\n");
@@ -105,17 +142,41 @@ fn failing_outside(rt: HostRuntime) -> Result<(), Fail> {
     let alloc = rt.alloc();
     let source = Some(SOURCE.as_bytes());
     for call in 0..3 {
-        let got = answer(alloc, &GENERATE, source, Outside { shelf_failing: &[call], ..SOUND })?;
-        assert_eq!(rt; got.as_str(), "6 shelf main.osc\n", "call {call} of the shelf");
+        let got = answer(
+            alloc,
+            &GENERATE,
+            source,
+            Outside {
+                shelf_failing: &[call],
+                ..SOUND
+            },
+        )?;
+        assert_eq!(rt;
+            got.as_str(),
+            "6 shelf main.osc\n",
+            "call {call} of the shelf"
+        );
     }
     for call in 0..75 {
-        let outside = Outside { sink_failing: &[call as u64], most: 1, ..SOUND };
+        let outside = Outside {
+            sink_failing: &[call as u64],
+            most: 1,
+            ..SOUND
+        };
         let got = answer(alloc, &GENERATE, source, outside)?;
         let want = format!(in alloc; "7 {}", &RUN[..call])?;
         assert_eq!(rt; got.as_str(), want.as_str(), "call {call} of the sink");
     }
-    let ten = Outside { sink_failing: &[1], most: 10, room: 100, ..SOUND };
-    assert_eq!(rt; answer(alloc, &GENERATE, source, ten)?.as_str(), "7 {\"choices\"");
+    let ten = Outside {
+        sink_failing: &[1],
+        most: 10,
+        room: 100,
+        ..SOUND
+    };
+    assert_eq!(rt;
+        answer(alloc, &GENERATE, source, ten)?.as_str(),
+        "7 {\"choices\""
+    );
     let full = Outside { room: 0, ..SOUND };
     assert_eq!(rt; answer(alloc, &GENERATE, None, full)?.as_str(), "7 ");
     Ok(())

@@ -35,7 +35,10 @@ fn full_run(alloc: Global) -> Result<Run, AllocError> {
         samples: Row::of(vec![in alloc; sample]?),
     };
     let text = Value {
-        path: path(alloc, [name(alloc, "a")?, name(alloc, "b")?, Step::Index(0)])?,
+        path: path(
+            alloc,
+            [name(alloc, "a")?, name(alloc, "b")?, Step::Index(0)],
+        )?,
         held: Held::Chars(Text::copy(alloc, "q\"\\\u{e9}")?),
     };
     Ok(Run {
@@ -51,10 +54,16 @@ fn full_run(alloc: Global) -> Result<Run, AllocError> {
 fn run_texts(rt: HostRuntime) -> Result<(), Fail> {
     let alloc = rt.alloc();
     let text = write_run(alloc, &full_run(alloc)?)?;
-    assert_eq!(rt; text.as_str(), "{\"choices\":[[\"do\",1]],\"end\":5,\"form\":1,\"phases\":[[\"do[1]\",0,4294967295]],\"traces\":[[\"ego\",[[1,-9223372036854775808,9223372036854775807]]]],\"values\":[[\"a.b[0]\",\"q\\\"\\\\\u{e9}\"]]}\n");
+    assert_eq!(rt;
+        text.as_str(),
+        "{\"choices\":[[\"do\",1]],\"end\":5,\"form\":1,\"phases\":[[\"do[1]\",0,4294967295]],\"traces\":[[\"ego\",[[1,-9223372036854775808,9223372036854775807]]]],\"values\":[[\"a.b[0]\",\"q\\\"\\\\\u{e9}\"]]}\n"
+    );
     let root = path(alloc, [])?;
     assert_eq!(rt; root.text(alloc)?.as_str(), ".");
-    let long = path(alloc, [name(alloc, "do")?, Step::Member(0), name(alloc, "x")?])?;
+    let long = path(
+        alloc,
+        [name(alloc, "do")?, Step::Member(0), name(alloc, "x")?],
+    )?;
     assert!(rt; long.copy(alloc)? == long);
     assert!(rt; root.copy(alloc)? != long);
     Ok(())

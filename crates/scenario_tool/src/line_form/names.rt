@@ -4,11 +4,56 @@ ghost use Rattle.std.specs.Str.{bytes_eq};
 ghost use Rattle.scenario_tool.specs.Names.{is_name, is_word, is_among, is_name_start, is_name_byte, words_of_the_language, basic_types};
 
 const WORDS_OF_THE_LANGUAGE: [&str; 50] = [
-    "import", "type", "unit", "is", "of", "enum", "struct", "actor", "action", "scenario", "inherits",
-    "extend", "list", "keep", "hard", "default", "remove_default", "do", "serial", "parallel",
-    "one_of", "wait", "elapsed", "with", "it", "in", "range", "and", "or", "not", "true", "false",
-    "namespace", "export", "event", "on", "until", "emit", "rise", "fall", "every", "var", "sample",
-    "global", "def", "external", "call", "cover", "record", "modifier",
+    "import",
+    "type",
+    "unit",
+    "is",
+    "of",
+    "enum",
+    "struct",
+    "actor",
+    "action",
+    "scenario",
+    "inherits",
+    "extend",
+    "list",
+    "keep",
+    "hard",
+    "default",
+    "remove_default",
+    "do",
+    "serial",
+    "parallel",
+    "one_of",
+    "wait",
+    "elapsed",
+    "with",
+    "it",
+    "in",
+    "range",
+    "and",
+    "or",
+    "not",
+    "true",
+    "false",
+    "namespace",
+    "export",
+    "event",
+    "on",
+    "until",
+    "emit",
+    "rise",
+    "fall",
+    "every",
+    "var",
+    "sample",
+    "global",
+    "def",
+    "external",
+    "call",
+    "cover",
+    "record",
+    "modifier",
 ];
 
 const BASIC_TYPES: [&str; 5] = ["int", "uint", "float", "bool", "string"];
@@ -46,7 +91,9 @@ fn is_name_start(byte: u8) -> bool
 fn are_name_bytes(bytes: &[u8]) -> bool
     ensures { result ≡ list_all is_name_byte bytes.now }
 {
-    bytes.iter().all(|byte| byte.is_ascii_alphanumeric() || *byte == b'_')
+    bytes
+        .iter()
+        .all(|byte| byte.is_ascii_alphanumeric() || *byte == b'_')
 }
 
 #[tactic(auto, unfolding(crate::specs::Names::words_of_the_language))]

@@ -56,7 +56,7 @@ module _ (R S : RattleType) (h : R.Denot → S.Denot) where
       (BoxedType.the_row R).coded (BoxedType.the_row S).coded (invariant R.Denot) (invariant S.Denot)
       (λ u p q. refl) (λ u p q. refl) (λ u e. tt) (λ u e. tt) (over (BoxedFields.the_row R)) (over (BoxedFields.the_row S))
       (struct_places (BoxedFields.the_type R) (BoxedFields.the_type S) ((λ b. with_value b (h b.value)), tt) _ (λ fields. refl) refl
-        (laid _ _ _ (box_places same), tt))
+      (laid _ _ _ (box_places same), tt))
 
   pub the_codes_placed : Recodes R S h → Recodes (BoxedType.the_row R) (BoxedType.the_row S) ((the_former this).map R.Denot S.Denot h)
   the_codes_placed same value = same value

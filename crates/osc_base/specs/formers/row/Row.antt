@@ -45,7 +45,7 @@ module _ (R S : RattleType) (h : R.Denot → S.Denot) where
       (RowType.the_row R).coded (RowType.the_row S).coded (invariant R.Denot) (invariant S.Denot)
       (λ u p q. refl) (λ u p q. refl) (λ u e. tt) (λ u e. tt) (over (RowFields.the_row R)) (over (RowFields.the_row S))
       (struct_places (RowFields.the_type R) (RowFields.the_type S) (vec.mapped h, tt) _ (λ fields. refl) refl
-        (laid _ _ _ (vec.the_places global.the_row ghosts R S h same), tt))
+      (laid _ _ _ (vec.the_places global.the_row ghosts R S h same), tt))
 
   pub the_codes_placed : Recodes R S h → Recodes (RowType.the_row R) (RowType.the_row S) ((the_former this).map R.Denot S.Denot h)
   the_codes_placed same items = sym (code_map R.coded.code S.coded.code h (λ item. sym (same item)) items)

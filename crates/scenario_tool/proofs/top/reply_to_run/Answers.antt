@@ -8,8 +8,8 @@ pub returns-in-Ok : goal.returns-in-Ok
 returns-in-Ok g c =
     let same = sym c.as_slice.ensures in
     exit_compiled (g.H.Shelf.files c.args.shelf.now) c.args.file.now c.args.scenario.now c.as_slice.result.now _ _ c.compile.result
-        (subst (λ s. IfSome (g.H.Shelf.files c.args.shelf.now) (λ all. file_named all c.args.file.now ≡ Some s)) same c.in-Ok.ensures.loaded)
-        (subst (λ s. length s ≤ source_limit) same c.in-Ok.ensures.within) c.compile.ensures
+    (subst (λ s. IfSome (g.H.Shelf.files c.args.shelf.now) (λ all. file_named all c.args.file.now ≡ Some s)) same c.in-Ok.ensures.loaded)
+    (subst (λ s. length s ≤ source_limit) same c.in-Ok.ensures.within) c.compile.ensures
 
 pub returns-in-Err-Missing : goal.returns-in-Err-Missing
 returns-in-Err-Missing g c = exit_missing (g.H.Shelf.files c.args.shelf.now) c.args.file.now c.args.scenario.now _ _ c.missing.result

@@ -12,9 +12,9 @@ turned false h = let differ : false ≡ true = h in cc
 pub returns-clause-some : goal.returns-clause-some
 returns-clause-some c =
     let words = three c.args.words.now c.command-item.result c.file-item.result c.scenario-item.result
-            c.in-len3.len_at_least c.in-len3.len_below c.command-item.is c.file-item.is c.scenario-item.is in
+    c.in-len3.len_at_least c.in-len3.len_below c.command-item.is c.file-item.is c.scenario-item.is in
     let command : string_bytes c.command-item.result ≡ codes "generate"
-                = sym c.as_str.ensures.value ∙ equal_bytes c.as_str.result.now (codes "generate") (turned _ c.if-ne.ensures) in
+    = sym c.as_str.ensures.value ∙ equal_bytes c.as_str.result.now (codes "generate") (turned _ c.if-ne.ensures) in
     record {
       words_are = ap (map string_bytes) words
           ∙ ap₂ (λ a b. a ∷ string_bytes c.file-item.result ∷ b ∷ []) command (sym c.as_str-scenario.ensures.value)

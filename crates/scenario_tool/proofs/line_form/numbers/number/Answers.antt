@@ -17,6 +17,6 @@ overflow_add-value c =
 pub loop-byte-preserved : goal.loop-byte-preserved
 loop-byte-preserved c =
     let more = one_more c.args.digits.now c.loop-byte.byte-index c.loop-byte.value c.from.result c.loop-byte-test.true
-        c.loop-byte.invariant.is c.loop-byte.invariant.small c.loop-byte.invariant.digits
-        c.if-not-is_ascii_digit.ensures.cases (sym c.if-not-is_ascii_digit.ensures.value) c.from.ensures in
+    c.loop-byte.invariant.is c.loop-byte.invariant.small c.loop-byte.invariant.digits
+    c.if-not-is_ascii_digit.ensures.cases (sym c.if-not-is_ascii_digit.ensures.value) c.from.ensures in
     record { is = more.is; small = more.small; digits = more.all_digits }

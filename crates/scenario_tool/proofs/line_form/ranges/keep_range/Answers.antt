@@ -21,7 +21,11 @@ returns-then-least-greatest-clause-none c = λ f same range written.
 pub returns-clause-some : goal.returns-clause-some
 returns-clause-some c =
     let low = c.in_ok-least.ensures.some.1 in
-    let high = c.in_ok-greatest.ensures.some.1 in
-    (record { name = c.args.name.now; low = c.in_ok-low.low.now; high = c.in_ok-low.high.now }, refl,
-     record { low = c.in_ok-least.ensures.some.0; high = c.in_ok-greatest.ensures.some.0; ordered = omega (arith, low, high, c.if-least-greatest.false) },
-     c.in_ok-low.ensures.some, c.in_ok-least.ensures.some.1, c.in_ok-greatest.ensures.some.1)
+    let high = c.in_ok-greatest.ensures.some.1 in (
+      record { name = c.args.name.now; low = c.in_ok-low.low.now; high = c.in_ok-low.high.now },
+      refl,
+      record { low = c.in_ok-least.ensures.some.0; high = c.in_ok-greatest.ensures.some.0; ordered = omega (arith, low, high, c.if-least-greatest.false) },
+      c.in_ok-low.ensures.some,
+      c.in_ok-least.ensures.some.1,
+      c.in_ok-greatest.ensures.some.1,
+    )
