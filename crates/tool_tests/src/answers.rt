@@ -164,7 +164,8 @@ fn failing_outside(rt: HostRuntime) -> Result<(), Fail> {
             ..SOUND
         };
         let got = answer(alloc, &GENERATE, source, outside)?;
-        let want = format!(in alloc; "7 {}", &RUN[..call])?;
+        let front = str::from_utf8(&RUN.as_bytes()[..call]).unwrap_or("no text");
+        let want = format!(in alloc; "7 {front}")?;
         assert_eq!(rt; got.as_str(), want.as_str(), "call {call} of the sink");
     }
     let ten = Outside {
