@@ -66,7 +66,7 @@ pub sum_of : (f g : Fraction) (over : OverCommon f g) (num den : ℤ) → num �
 sum_of f g over num den top under = rw (top, under) (sum_same over.left over.right (pos over.common) f.num f.den g.num g.den over.left_same over.right_same)
 
 -- a decimal fraction in lowest terms
-module _ (digits places top scale g : ℕ) (small : digits < 10 ^ 18) (few : places ≤ 18) (is_top : top ≡ digits) (is_scale : scale ≡ 10 ^ places)
+module _ (digits places top scale g : ℕ) (small : digits ≤ 999999999999999999) (few : places ≤ 18) (is_top : top ≡ digits) (is_scale : scale ≡ 10 ^ places)
     (divisor : IsGcd top scale g) where
   scale_above : 0 < scale
   scale_above = rw is_scale (one-le-pow places 10 (omega arith))

@@ -17,6 +17,11 @@ pub struct Fraction {
     ghost positive: { pos 1 ≤ℤ den },
 }
 
+/// The most digits of a decimal, read as one number, and the most of them behind its point.
+const MOST_DIGITS: u64 = 999_999_999_999_999_999;
+
+const MOST_PLACES: u32 = 18;
+
 /// The greatest magnitude of a part of a calculation, 2^120.
 const MOST: u128 = 0x100_0000_0000_0000_0000_0000_0000_0000;
 
@@ -37,7 +42,7 @@ impl Fraction {
         ensures value { IfSome result (λ f. IsSame (value f) (record { numerator = pos digits; denominator = pos (10 ^ places) })) }
         ensures lowest { IfSome result (λ f. IsGcd (unsigned_abs f.num) (unsigned_abs f.den) 1) }
     {
-        if places > 18 || digits >= 1_000_000_000_000_000_000 {
+        if places > MOST_PLACES || digits > MOST_DIGITS {
             return None;
         }
         let digits = u128::from(digits);
