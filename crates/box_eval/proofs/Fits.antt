@@ -2,9 +2,10 @@
 use Rattle.std.proofs.Common.{◌≡◌, ℕ, suc, zero, List, [], ◌∷◌, slice_get, Some, true, ℤ, arith, subst}
 use Rattle.box_eval.specs.declared.rule.Rule.{Rule}
 use Rattle.box_eval.specs.declared.bounds.Pair.{Pair}
-use Rattle.box_eval.specs.Box.{IsBox, IsInside}
+use Rattle.box_eval.specs.Box.{IsBox, IsInside, IsPointOf, box_of}
 use Rattle.box_eval.specs.Truth.{true_at}
 use Rattle.box_eval.specs.Rules.{Meets, CanJudge, AllFit}
+use Rattle.box_eval.proofs.Points.{box_of-box, point_inside}
 use Rattle.box_eval.proofs.Reaches.{smaller_reach}
 
 pub fits_at : (ends : List Pair) (rules : List Rule) (k : ℕ) (rule : Rule) → AllFit ends rules → slice_get rules k ≡ Some rule → CanJudge ends rule
@@ -17,6 +18,10 @@ can_judge_inside smaller ends rule box inside can = record {
   slots = omega (arith, can.slots, inside.as_long);
   reach = omega (arith, can.reach, smaller_reach smaller ends box inside rule);
 }
+
+-- and at each point of the box
+pub can_judge_point : (ends : List Pair) (rule : Rule) (point : List ℤ) → IsPointOf ends point → CanJudge ends rule → CanJudge (box_of point) rule
+can_judge_point ends rule point p can = can_judge_inside (box_of point) ends rule (box_of-box point) (point_inside ends point p) can
 
 pub fit_inside : (smaller ends : List Pair) (rules : List Rule) → IsBox smaller → IsInside smaller ends → AllFit ends rules → AllFit smaller rules
 fit_inside smaller ends [] box inside all = tt

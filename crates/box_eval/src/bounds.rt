@@ -13,7 +13,7 @@ pub struct Pair {
 }
 
 /// A box: the ends of each slot, in order of the slots.
-#[derive(Debug, Drop)]
+#[derive(Debug, PartialEq, Eq, Drop)]
 pub struct Bounds {
     pub pairs: Row<Pair>,
 }

@@ -48,8 +48,15 @@ fn verdict_on<E: Ends>(rule: &Rule, ends: &E) -> Verdict
         Rule::AtMost(a, b) => at_most(span(a, ends), span(b, ends)),
         Rule::Equal(a, b) => equal(span(a, ends), span(b, ends)),
         Rule::Differ(a, b) => negated(equal(span(a, ends), span(b, ends))),
-        Rule::Both(a, b) => both(verdict_on(a.get(), ends), verdict_on(b.get(), ends)),
-        Rule::Either(a, b) => either(verdict_on(a.get(), ends), verdict_on(b.get(), ends)),
+        // The second part isn't looked at where the first decides.
+        Rule::Both(a, b) => match verdict_on(a.get(), ends) {
+            Verdict::False => Verdict::False,
+            first => both(first, verdict_on(b.get(), ends)),
+        },
+        Rule::Either(a, b) => match verdict_on(a.get(), ends) {
+            Verdict::True => Verdict::True,
+            first => either(first, verdict_on(b.get(), ends)),
+        },
         Rule::Not(a) => negated(verdict_on(a.get(), ends)),
     }
 }

@@ -3,7 +3,7 @@ ghost use Rattle.std.specs.Prelude.{IfOk, [], ◌∷◌, negsuc, pos, ◌≤ℤ�
 ghost use Rattle.box_eval.specs.Box.{pair};
 ghost use Rattle.box_eval.specs.Rules.{CanJudge};
 
-use crate::{Bounds, Flat, Pair, Rule, Term, Verdict, judge, truth};
+use crate::{Bounds, Flat, Line, Pair, Record, Rule, Term, Verdict, judge, refuted, truth};
 use osc_base::{Boxed, Row};
 use std::alloc::{AllocError, Global};
 
@@ -31,6 +31,24 @@ fn bounds(alloc: Global, low: i64, high: i64) -> Result<Bounds, AllocError> {
     let mut pairs = Row::new(alloc);
     pairs.push(Pair { low, high })?;
     Ok(Bounds { pairs })
+}
+
+fn record(alloc: Global) -> Result<Record, AllocError> {
+    let mut lines = Row::new(alloc);
+    lines.push(Line::Low { slot: 0, value: -1 })?;
+    lines.push(Line::Close { rule: 0 })?;
+    lines.push(Line::High { slot: 0, value: 5 })?;
+    lines.push(Line::Close { rule: 0 })?;
+    lines.push(Line::Low { slot: 0, value: 3 })?;
+    lines.push(Line::Close { rule: 1 })?;
+    lines.push(Line::Close { rule: 2 })?;
+    Ok(Record {
+        undecided: false,
+        slots: 1,
+        rules: 3,
+        room: 3,
+        lines,
+    })
 }
 
 fn says(alloc: Global, rule: &Rule, low: i64, high: i64) -> Result<Verdict, AllocError>
@@ -114,6 +132,7 @@ fn copies(rt: HostRuntime) {
             }]
         )
     );
+    refuted(&copy, &record(rt.alloc()).expect(&rt, "memory"));
     let rules = copy.rules.as_slice();
     assert!(rt;
         matches!(
