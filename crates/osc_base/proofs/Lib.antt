@@ -2,3 +2,4 @@ pub mod Fractions
 pub mod Integers
 pub mod Multiples
 pub mod Numbers
+pub mod Rows

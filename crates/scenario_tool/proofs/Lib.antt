@@ -9,3 +9,4 @@ pub mod Triples
 pub mod Compiled
 pub mod Outside
 pub mod Sole
+pub mod Rows
