@@ -28,8 +28,9 @@ HoldFields [] (value ∷ values) = ⊥
 HoldFields (field ∷ fields) [] = ⊥
 HoldFields (field ∷ fields) (value ∷ values) = HoldsField field value × HoldFields fields values
 
--- a run of a scenario with these fields alone: it ends at tick 0, and nothing else is in it
-pub record IsInstance (fields : List RangedField) (run : Run) : Type 0 where
+-- an instance of the first form of source: a run of a scenario with these fields alone, which ends at tick 0 and has nothing
+-- else in it
+pub record IsRangedInstance (fields : List RangedField) (run : Run) : Type 0 where
   pub choices : run.choices ≡ []
   pub ends : run.end ≡ 0
   pub phases : run.phases ≡ []

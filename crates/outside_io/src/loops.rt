@@ -1,4 +1,4 @@
-ghost use Rattle.std.specs.Prelude.{◌≡◌, ◌<◌, ◌≤◌, is_some, IfSome, IfOk, OnOk, OnErr, length};
+ghost use Rattle.std.specs.Prelude.{◌≡◌, ◌≢◌, ◌<◌, ◌≤◌, is_some, IfSome, IfOk, OnOk, OnErr, length};
 ghost use Rattle.std.specs.Io.KnownBytes.{append_known};
 ghost use Rattle.outside_io.specs.Counts.{Rises};
 ghost use Rattle.outside_io.specs.Files.{NothingLeft};
@@ -50,6 +50,7 @@ pub fn read_all<H: Shelf>(alloc: Global, shelf: &mut H, limit: usize) -> Result<
     ensures cause { result ≡ Err ReadStop.Shelf → Rises (H.faults shelf.old) (H.faults shelf.new) }
 
     ensures never_falls { H.faults shelf.old ≤ H.faults shelf.new }
+    ensures steady { result ≢ Err ReadStop.Shelf → H.faults shelf.new ≡ H.faults shelf.old }
     ensures files_kept { H.files shelf.new ≡ H.files shelf.old }
     ensures telling_kept { is_some (H.left shelf.new) ≡ is_some (H.left shelf.old) }
 {
@@ -79,6 +80,7 @@ pub fn write_all<K: Sink>(sink: &mut K, bytes: &[u8]) -> Result<(), SinkStop>
     ensures cause { OnErr result (Rises (K.faults sink.old) (K.faults sink.new)) }
 
     ensures never_falls { K.faults sink.old ≤ K.faults sink.new }
+    ensures steady { OnOk result (K.faults sink.new ≡ K.faults sink.old) }
     ensures telling_kept { is_some (K.contents sink.new) ≡ is_some (K.contents sink.old) }
 {
     let mut done = 0;

@@ -1,4 +1,4 @@
-ghost use Rattle.std.specs.Prelude.{◌≡◌, ℕ, ◌≤◌, List, Option, false, is_some, IfSome, IfOk, OnErr, length};
+ghost use Rattle.std.specs.Prelude.{◌≡◌, ℕ, ◌≤◌, List, Option, false, is_some, IfSome, IfOk, OnOk, OnErr, length};
 ghost use Rattle.outside_io.specs.Counts.{Rises};
 ghost use Rattle.outside_io.specs.Files.{Finds, NothingLeft, Takes, TellsAll};
 
@@ -18,8 +18,8 @@ pub struct ShelfFault;
 /// Files by their names, of which one at a time is fetched and then read piece by piece.
 ///
 /// Contracts see its files, where it tells them, what is left of the fetched file, where it tells that, and its count
-/// of faults. No fetched file is the same as nothing left. The count stops at the last value of a `u64`, so where a
-/// clause says that it rose, it rose or stands there.
+/// of faults. No fetched file is the same as nothing left. The count rises by one at each fault and at nothing else, so
+/// that a caller's contract can say that a shelf which failed wasn't used again. It stops at the last value of a `u64`.
 pub trait Shelf {
     ghost use Rattle.outside_io.specs.declared.shelf.NamedBytes.{NamedBytes};
 
@@ -40,6 +40,7 @@ pub trait Shelf {
         ensures fault { OnErr result (NothingLeft (left self.new)) }
 
         ensures never_falls { faults self.old ≤ faults self.new }
+        ensures steady { OnOk result (faults self.new ≡ faults self.old) }
         ensures cause { OnErr result (Rises (faults self.old) (faults self.new)) };
 
     /// Takes the front of what is left of the fetched file to the front of `piece`, and answers how many bytes it
@@ -53,6 +54,7 @@ pub trait Shelf {
         ensures fault { OnErr result (NothingLeft (left self.new)) }
 
         ensures never_falls { faults self.old ≤ faults self.new }
+        ensures steady { OnOk result (faults self.new ≡ faults self.old) }
         ensures cause { OnErr result (Rises (faults self.old) (faults self.new)) };
 
     ghost tells_all: { (shelf : Self) → TellsAll (files shelf) (left shelf) };

@@ -1,4 +1,4 @@
-ghost use Rattle.std.specs.Prelude.{◌≡◌, ℕ, ◌<◌, ◌≤◌, List, Option, is_some, IfOk, OnErr, length, take};
+ghost use Rattle.std.specs.Prelude.{◌≡◌, ℕ, ◌<◌, ◌≤◌, List, Option, is_some, IfOk, OnOk, OnErr, length, take};
 ghost use Rattle.std.specs.Io.KnownBytes.{append_known};
 ghost use Rattle.outside_io.specs.Counts.{Rises};
 ghost use Rattle.outside_io.specs.Bytes.{AppendsPart};
@@ -9,8 +9,8 @@ pub struct SinkFault;
 
 /// What bytes are written to.
 ///
-/// Contracts see what was written, where the sink tells that, and its count of faults. The count stops at the last
-/// value of a `u64`, so where a clause says that it rose, it rose or stands there.
+/// Contracts see what was written, where the sink tells that, and its count of faults. The count rises by one at each
+/// fault and at nothing else. It stops at the last value of a `u64`.
 pub trait Sink {
     ghost contents: { Self → Option (List ℕ) };
 
@@ -27,5 +27,6 @@ pub trait Sink {
         ensures part { OnErr result (AppendsPart (contents self.old) (contents self.new) piece.now) }
 
         ensures never_falls { faults self.old ≤ faults self.new }
+        ensures steady { OnOk result (faults self.new ≡ faults self.old) }
         ensures cause { OnErr result (Rises (faults self.old) (faults self.new)) };
 }

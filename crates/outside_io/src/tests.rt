@@ -138,9 +138,9 @@ fn files_are_read(rt: HostRuntime) -> Result<(), Fail> {
     for (name, want) in [
         ("/dev/null", "0 None"),
         ("/dev/zero", "TooLong"),
+        ("/no such file", "missing Ok(0)"),
         ("/dev", "Shelf"),
         ("/dev/null/a", "fetch failed"),
-        ("/no such file", "missing Ok(0)"),
         ("", "missing Ok(0)"),
     ] {
         assert_eq!(rt;

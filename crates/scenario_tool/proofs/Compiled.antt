@@ -1,6 +1,6 @@
 -- The answers of a loaded source, from what its parts ensure.
 use Rattle.std.proofs.Common.{◌≡◌, ◌∙◌, refl, sym, ap, ap₂, subst, ℕ, List, map, Result, Ok, Err, IfOk}
-use Rattle.composition.specs.Instance.{IsInstance, RangedField}
+use Rattle.composition.specs.Instance.{IsRangedInstance, RangedField}
 use Rattle.composition.specs.declared.run.Run.{Run}
 use Rattle.run_check.specs.RunText.{run_text}
 use Rattle.scenario_tool.specs.declared.replies.Reply.{Reply}
@@ -23,8 +23,8 @@ other file scenario source name fields line column (Err e) declares differ at be
 
 pub run : {E : Type 0} (file scenario source name : List ℕ) (fields : List WrittenField) (seen : List RangedField) (r : Result Reply E) →
     Declares source name fields → name ≡ scenario → seen ≡ map ranged fields → IfOk r (λ reply. reply.status ≡ 0) →
-    IfOk r (λ reply. (run : Run) × IsInstance seen run × (reply.text ≡ run_text run)) →
+    IfOk r (λ reply. (run : Run) × IsRangedInstance seen run × (reply.text ≡ run_text run)) →
     IfOk r (λ reply. Compiles file scenario source reply.status reply.text)
 run file scenario source name fields seen (Ok reply) declares same is status text =
-    runs fields text.0 (subst (λ name. Declares source name fields) same declares) (subst (λ fs. IsInstance fs text.0) is text.1) status text.2
+    runs fields text.0 (subst (λ name. Declares source name fields) same declares) (subst (λ fs. IsRangedInstance fs text.0) is text.1) status text.2
 run file scenario source name fields seen (Err e) declares same is status text = tt

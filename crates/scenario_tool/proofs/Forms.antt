@@ -6,7 +6,7 @@ use Rattle.std.proofs.lemmas.List.{map-append}
 use Rattle.std.specs.Str.{bytes_eq}
 use Rattle.composition.specs.Instance.{RangedField}
 use Rattle.scenario_tool.specs.Fields.{is_declared}
-use Rattle.scenario_tool.specs.LineForm.{WrittenField, lines_of, head_line, field_line, keep_line, lines_of_fields, ranged, number_of, IsScenarioName, IsFieldName, HasRange, IsHeadLine, IsFieldLine, IsKeepLine, NoneIs, FitsAfter, Fits, AllFitAfter, Declares, IsWholeBody, MayEnd, Breaks, BreaksAt}
+use Rattle.scenario_tool.specs.LineForm.{WrittenField, lines_of, head_line, field_line, keep_line, lines_of_fields, ranged, number_of, IsScenarioName, IsFieldName, HasRange, IsHeadLine, IsFieldLine, IsKeepLine, NoneIs, AllHaveRange, FitsAfter, Fits, AllFitAfter, Declares, IsWholeBody, MayEnd, Breaks, BreaksAt}
 use Rattle.scenario_tool.proofs.Lines.{lines_cut}
 use Rattle.scenario_tool.proofs.Pieces.{one_between, equal_bytes, other_bytes}
 
@@ -67,10 +67,15 @@ snoc before (l ∷ ls) line fit next =
 pub record Begun (source name : List ℕ) (written : List WrittenField) (rest : List ℕ) : Type 0 where
   pub split : lines_of source ≡ (head_line name ∷ lines_of_fields written) ++ lines_of rest
   pub fit : AllFitAfter [] (head_line name ∷ lines_of_fields written)
+  pub ranges : AllHaveRange written
+
+more_ranges : (written : List WrittenField) (f : WrittenField) → AllHaveRange written → HasRange f → AllHaveRange (written ++ f ∷ [])
+more_ranges [] f all one = (one, tt)
+more_ranges (g ∷ gs) f all one = (all.0, more_ranges gs f all.1 one)
 
 pub started : (source name rest : List ℕ) → IsScenarioName name → lines_of source ≡ head_line name ∷ lines_of rest → Begun source name [] rest
 started source name rest allowed split =
-    record { split = split; fit = (record { scenario = name; allowed = allowed; written = refl }, tt) }
+    record { split = split; fit = (record { scenario = name; allowed = allowed; written = refl }, tt); ranges = tt }
 
 fits_field : (written : List WrittenField) (line : List ℕ) → IsFieldLine (onto written []) line → FitsAfter [] (lines_of_fields written) line
 fits_field written line fits =
@@ -119,6 +124,7 @@ continued source name rest middle later written f begun allowed undeclared range
           (sym (more_lines written f ∙ append_assoc (lines_of_fields written) (field_line f.name ∷ []) (keep_line f ∷ [])));
       fit = subst (λ lines. AllFitAfter [] (head_line name ∷ lines)) (sym (more_lines written f))
           (fit_keep name written f (fit_field name written f.name begun.fit allowed undeclared) range);
+      ranges = more_ranges written f begun.ranges range;
     }
 
 -- ---- Where the reading ends
@@ -129,7 +135,7 @@ ended source name rest written begun empty some =
     let lines : lines_of source ≡ head_line name ∷ lines_of_fields written
     = begun.split ∙ ap (λ tail. (head_line name ∷ lines_of_fields written) ++ lines_of tail) empty
     ∙ append-nil (head_line name ∷ lines_of_fields written) in
-    record { lines = lines; some = some; fit = subst (AllFitAfter []) (sym lines) begun.fit }
+    record { lines = lines; some = some; ranges = begun.ranges; fit = subst (AllFitAfter []) (sym lines) begun.fit }
 
 count_lines : (written : List WrittenField) → length (lines_of_fields written) ≡ 2 * length written
 count_lines [] = refl

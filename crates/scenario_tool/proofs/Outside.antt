@@ -11,7 +11,7 @@ use Rattle.scenario_tool.specs.declared.replies.Reply.{Reply}
 use Rattle.scenario_tool.specs.Words.{AsksForRun, AskForNothing}
 use Rattle.std.specs.Io.KnownBytes.{append_known}
 use Rattle.outside_io.specs.Bytes.{AppendsPart}
-use Rattle.scenario_tool.specs.Answers.{SomeFiles, Ends, written, sink_failed, no_memory, Replies, answers, shelf_failed, Answers, refused_words, missing, long, compiled, Compiles, source_limit, missing_text, long_text, shelf_text}
+use Rattle.scenario_tool.specs.Answers.{SomeFiles, CountsOnce, Ends, written, sink_failed, no_memory, Replies, answers, shelf_failed, Answers, refused_words, missing, long, compiled, Compiles, source_limit, missing_text, long_text, shelf_text}
 use Rattle.scenario_tool.proofs.Pieces.{other_bytes}
 
 same_bytes : (t : Bool) (name : List ℕ) → t ≡ bytes_eq name name → t ≡ true
@@ -63,24 +63,24 @@ Replied told file scenario before after reply = (words : List (List ℕ)) → As
 
 pub exit_compiled : {E : Type 0} (told : Option (List NamedBytes)) (file scenario source : List ℕ) (before after : ℕ) (r : Result Reply E) →
     IfSome told (λ all. file_named all file ≡ Some source) → length source ≤ source_limit →
-    IfOk r (λ reply. Compiles file scenario source reply.status reply.text) → IfOk r (Replied told file scenario before after)
-exit_compiled told file scenario source before after (Ok reply) loaded short compiles = λ words asks.
-    pick_loaded told file source _ loaded (λ files named. answers (compiled file scenario source asks named short compiles))
-exit_compiled told file scenario source before after (Err e) loaded short compiles = tt
+    IfOk r (λ reply. Compiles file scenario source reply.status reply.text) → after ≡ before → IfOk r (Replied told file scenario before after)
+exit_compiled told file scenario source before after (Ok reply) loaded short compiles steady = λ words asks.
+    pick_loaded told file source _ loaded (λ files named. answers (compiled file scenario source asks named short compiles) steady)
+exit_compiled told file scenario source before after (Err e) loaded short compiles steady = tt
 
 pub exit_missing : {E : Type 0} (told : Option (List NamedBytes)) (file scenario : List ℕ) (before after : ℕ) (r : Result Reply E) →
-    IfSome told (λ all. file_named all file ≡ None) → IfOk r (λ reply. reply.status ≡ 6) → IfOk r (λ reply. reply.text ≡ missing_text file) →
+    IfSome told (λ all. file_named all file ≡ None) → IfOk r (λ reply. reply.status ≡ 6) → IfOk r (λ reply. reply.text ≡ missing_text file) → after ≡ before →
     IfOk r (Replied told file scenario before after)
-exit_missing told file scenario before after (Ok reply) absent status text = λ words asks.
-    pick_missing told file _ absent (λ files named. answers (missing file scenario asks named status text))
-exit_missing told file scenario before after (Err e) absent status text = tt
+exit_missing told file scenario before after (Ok reply) absent status text steady = λ words asks.
+    pick_missing told file _ absent (λ files named. answers (missing file scenario asks named status text) steady)
+exit_missing told file scenario before after (Err e) absent status text steady = tt
 
 pub exit_long : {E : Type 0} (told : Option (List NamedBytes)) (file scenario : List ℕ) (before after : ℕ) (r : Result Reply E) →
     IfSome told (λ all. (source : List ℕ) × (file_named all file ≡ Some source) × (source_limit < length source)) →
-    IfOk r (λ reply. reply.status ≡ 6) → IfOk r (λ reply. reply.text ≡ long_text file) → IfOk r (Replied told file scenario before after)
-exit_long told file scenario before after (Ok reply) found status text = λ words asks.
-    pick_long told file source_limit _ found (λ files source named more. answers (long file scenario source asks named more status text))
-exit_long told file scenario before after (Err e) found status text = tt
+    IfOk r (λ reply. reply.status ≡ 6) → IfOk r (λ reply. reply.text ≡ long_text file) → after ≡ before → IfOk r (Replied told file scenario before after)
+exit_long told file scenario before after (Ok reply) found status text steady = λ words asks.
+    pick_long told file source_limit _ found (λ files source named more. answers (long file scenario source asks named more status text) steady)
+exit_long told file scenario before after (Err e) found status text steady = tt
 
 pub exit_shelf : {E : Type 0} (told : Option (List NamedBytes)) (file scenario : List ℕ) (before after : ℕ) (r : Result Reply E) →
     Rises before after → IfOk r (λ reply. reply.status ≡ 6) → IfOk r (λ reply. reply.text ≡ shelf_text file) →
@@ -90,11 +90,11 @@ exit_shelf told file scenario before after (Ok reply) rose status text = λ word
 exit_shelf told file scenario before after (Err e) rose status text = tt
 
 pub exit_words : {E : Type 0} (told : Option (List NamedBytes)) (words : List (List ℕ)) (before after : ℕ) (r : Result Reply E) →
-    AskForNothing words → IfOk r (λ reply. reply.status ≡ 4) → IfOk r (λ reply. reply.text ≡ codes "words\n") →
+    AskForNothing words → IfOk r (λ reply. reply.status ≡ 4) → IfOk r (λ reply. reply.text ≡ codes "words\n") → after ≡ before →
     IfOk r (λ reply. SomeFiles told (λ files. Replies files words before after reply.status reply.text))
-exit_words told words before after (Ok reply) nothing status text =
-    pick_any told _ (λ files. answers (refused_words nothing status text))
-exit_words told words before after (Err e) nothing status text = tt
+exit_words told words before after (Ok reply) nothing status text steady =
+    pick_any told _ (λ files. answers (refused_words nothing status text) steady)
+exit_words told words before after (Err e) nothing status text steady = tt
 
 pub exit_run : {E : Type 0} (told : Option (List NamedBytes)) (words : List (List ℕ)) (file scenario : List ℕ) (before after : ℕ) (r : Result Reply E) →
     AsksForRun words file scenario → IfOk r (Replied told file scenario before after) →
@@ -105,10 +105,10 @@ exit_run told words file scenario before after (Err e) asks replied = tt
 -- ---- The ends of the call
 
 pub end_written : (told : Option (List NamedBytes)) (words : List (List ℕ)) (before after : ℕ) (out out' : Option (List ℕ)) (sink sink' status : ℕ) (text bytes : List ℕ) →
-    SomeFiles told (λ files. Replies files words before after status text) → bytes ≡ text → out' ≡ append_known out bytes →
+    SomeFiles told (λ files. Replies files words before after status text) → bytes ≡ text → out' ≡ append_known out bytes → sink' ≡ sink →
     SomeFiles told (λ files. Ends files words before after out out' sink sink' status)
-end_written told words before after out out' sink sink' status text bytes replied same whole =
-    onward told _ _ replied (λ files reply. written text reply (whole ∙ ap (append_known out) same))
+end_written told words before after out out' sink sink' status text bytes replied same whole steady =
+    onward told _ _ replied (λ files reply. written text reply (whole ∙ ap (append_known out) same) steady)
 
 pub end_sink_failed : (told : Option (List NamedBytes)) (words : List (List ℕ)) (before after : ℕ) (out out' : Option (List ℕ)) (sink sink' other : ℕ) (text bytes : List ℕ) →
     SomeFiles told (λ files. Replies files words before after other text) → bytes ≡ text → AppendsPart out out' bytes → Rises sink sink' →
@@ -116,6 +116,6 @@ pub end_sink_failed : (told : Option (List NamedBytes)) (words : List (List ℕ)
 end_sink_failed told words before after out out' sink sink' other text bytes replied same part rose =
     onward told _ _ replied (λ files reply. sink_failed other text reply (subst (AppendsPart out out') same part) rose refl)
 
-pub end_no_memory : (told : Option (List NamedBytes)) (words : List (List ℕ)) (before after : ℕ) (out : Option (List ℕ)) (sink sink' : ℕ) →
-    SomeFiles told (λ files. Ends files words before after out out sink sink' 8)
-end_no_memory told words before after out sink sink' = pick_any told _ (λ files. no_memory refl refl)
+pub end_no_memory : (told : Option (List NamedBytes)) (words : List (List ℕ)) (before after : ℕ) (out : Option (List ℕ)) (sink : ℕ) → CountsOnce before after →
+    SomeFiles told (λ files. Ends files words before after out out sink sink 8)
+end_no_memory told words before after out sink counted = pick_any told _ (λ files. no_memory refl refl counted refl)

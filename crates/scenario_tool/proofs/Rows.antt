@@ -30,13 +30,20 @@ three = record { some = lit≤ tt; few = lit≤ tt; all = refl }
 it_declares : Declares source (codes "top") (field ∷ [])
 unfolding source field words_of_the_language basic_types
 it_declares = record {
-    lines = refl;
-    some = λ none. cc;
-    fit = (record { scenario = codes "top"; allowed = record { legal = refl; no_type = refl }; written = refl },
-        (record { field = codes "x"; allowed = record { legal = refl; no_duration = λ same. cc }; fresh = tt; written = refl },
-        (record { field = field; same = refl; range = record { low = three; high = three; ordered = lit≤ tt }; written = refl },
-        tt)));
-  }
+  lines = refl;
+  some = λ none. cc;
+  ranges = (record { low = three; high = three; ordered = lit≤ tt }, tt);
+  fit = (
+    record { scenario = codes "top"; allowed = record { legal = refl; no_type = refl }; written = refl },
+    (
+      record { field = codes "x"; allowed = record { legal = refl; no_duration = λ same. cc }; fresh = tt; written = refl },
+      (
+        record { field = field; same = refl; range = record { low = three; high = three; ordered = lit≤ tt }; written = refl },
+        tt,
+      ),
+    ),
+  );
+}
 
 -- an empty source breaks at its first line
 empty_breaks : BreaksAt [] 1

@@ -1,6 +1,6 @@
--- What `command` may answer: a status and a text. A status is 0 for a run, 3 for a refused source, 4 for refused words
--- and 6 for the shelf.
-use Rattle.std.specs.Prelude.{◌≡◌, ◌<◌, ◌≤◌, ℕ, List, ◌++◌, Option, Some, None, IfSome, length, map, codes}
+-- What `command` may answer: a status and a text. A status is 0 for a run, 3 for a refused source, 4 for refused words, 6 for
+-- a file, 7 where the sink failed and 8 where memory is missing.
+use Rattle.std.specs.Prelude.{◌≡◌, ◌<◌, ◌≤◌, ℕ, List, ◌++◌, Option, Some, None, IfSome, length, map, codes, ◌⊎◌}
 use Rattle.std.specs.Fmt.{decimal}
 use Rattle.std.specs.Io.KnownBytes.{append_known}
 use Rattle.outside_io.specs.declared.shelf.NamedBytes.{NamedBytes}
@@ -8,7 +8,7 @@ use Rattle.outside_io.specs.Files.{file_named}
 use Rattle.outside_io.specs.Counts.{Rises}
 use Rattle.outside_io.specs.Bytes.{AppendsPart}
 use Rattle.composition.specs.declared.run.Run.{Run}
-use Rattle.composition.specs.Instance.{IsInstance}
+use Rattle.composition.specs.Instance.{IsRangedInstance}
 use Rattle.run_check.specs.RunText.{run_text}
 use Rattle.scenario_tool.specs.Words.{AsksForRun, AskForNothing}
 use Rattle.scenario_tool.specs.LineForm.{WrittenField, Declares, BreaksAt, ranged, end_line, end_column}
@@ -42,7 +42,7 @@ pub data Compiles (file scenario source : List ℕ) (status : ℕ) (text : List 
       Compiles file scenario source status text
   no_scenario : (name : List ℕ) (fields : List WrittenField) → Declares source name fields → (name ≡ scenario → ⊥) → status ≡ 3 →
       text ≡ fault_text 324 file (end_line source) (end_column source) → Compiles file scenario source status text
-  runs : (fields : List WrittenField) (run : Run) → Declares source scenario fields → IsInstance (map ranged fields) run → status ≡ 0 →
+  runs : (fields : List WrittenField) (run : Run) → Declares source scenario fields → IsRangedInstance (map ranged fields) run → status ≡ 0 →
       text ≡ run_text run → Compiles file scenario source status text
 
 -- the answers that words and files allow, where nothing outside fails
@@ -55,26 +55,32 @@ pub data Answers (files : List NamedBytes) (words : List (List ℕ)) (status : �
   compiled : (file scenario source : List ℕ) → AsksForRun words file scenario → file_named files file ≡ Some source →
       length source ≤ source_limit → Compiles file scenario source status text → Answers files words status text
 
--- the answers where the shelf may have failed: its line comes only where its count of faults rose, with the name of the
--- file whose turn it was
+-- the answers where the shelf may have failed: its line comes exactly where its count of faults rose, by one, with the name
+-- of the file whose turn it was. So a shelf that failed isn't used again.
 pub data Replies (files : List NamedBytes) (words : List (List ℕ)) (before after : ℕ) (status : ℕ) (text : List ℕ) : Type 0 where
-  answers : Answers files words status text → Replies files words before after status text
+  answers : Answers files words status text → after ≡ before → Replies files words before after status text
   shelf_failed : (file scenario : List ℕ) → AsksForRun words file scenario → Rises before after → status ≡ 6 → text ≡ shelf_text file →
       Replies files words before after status text
 
+-- a count stays, or rises by one
+abbrev pub CountsOnce : ℕ → ℕ → Type 0
+CountsOnce before after = (after ≡ before) ⊎ Rises before after
+
 -- how a call ends: its whole text is written; or the sink failed, and a front of such a text is written; or memory is
--- missing, and nothing is written. A sink or a shelf is given by what it told or its count before and after the call.
+-- missing, and nothing is written. A sink or a shelf is given by what it told or its count before and after the call. The
+-- sink's count rises only where the sink failed, and by one, so a sink that failed isn't used again.
 pub data Ends (files : List NamedBytes) (words : List (List ℕ)) (shelf_before shelf_after : ℕ) (out_before out_after : Option (List ℕ))
     (sink_before sink_after status : ℕ) : Type 0 where
   written : (text : List ℕ) → Replies files words shelf_before shelf_after status text → out_after ≡ append_known out_before text →
+      sink_after ≡ sink_before →
       Ends files words shelf_before shelf_after out_before out_after sink_before sink_after status
   sink_failed : (other : ℕ) (text : List ℕ) → Replies files words shelf_before shelf_after other text → AppendsPart out_before out_after text →
       Rises sink_before sink_after → status ≡ 7 →
       Ends files words shelf_before shelf_after out_before out_after sink_before sink_after status
-  no_memory : out_after ≡ out_before → status ≡ 8 →
+  no_memory : out_after ≡ out_before → sink_after ≡ sink_before → CountsOnce shelf_before shelf_after → status ≡ 8 →
       Ends files words shelf_before shelf_after out_before out_after sink_before sink_after status
 
--- there are files, those that are told where they are told, of which the fact holds
+-- the fact holds of the files that are told; where none are told, of some files
 abbrev pub SomeFiles : Option (List NamedBytes) → (List NamedBytes → Type 0) → Type 0
 SomeFiles told Fact = (files : List NamedBytes) × IfSome told (λ all. all ≡ files) × Fact files
 

@@ -115,12 +115,18 @@ abbrev pub AllFitAfter : List (List ℕ) → List (List ℕ) → Type 0
 AllFitAfter before [] = Unit {0}
 AllFitAfter before (line ∷ later) = Fits before line × AllFitAfter (before ++ line ∷ []) later
 
+-- each field has a range
+abbrev pub AllHaveRange : List WrittenField → Type 0
+AllHaveRange [] = Unit {0}
+AllHaveRange (field ∷ fields) = HasRange field × AllHaveRange fields
+
 -- ---- The two kinds of source
 
 -- a source of the form: these are its name and its fields
 pub record Declares (source name : List ℕ) (fields : List WrittenField) : Type 0 where
   pub lines : lines_of source ≡ head_line name ∷ lines_of_fields fields
   pub some : fields ≡ [] → ⊥
+  pub ranges : AllHaveRange fields
   pub fit : AllFitAfter [] (lines_of source)
 
 -- a source may end after a constraint line

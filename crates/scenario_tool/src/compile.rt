@@ -1,5 +1,5 @@
 ghost use Rattle.std.specs.Prelude.{◌≡◌, ◌≤◌, IfOk, IsTrue, ◌↔◌, length};
-ghost use Rattle.composition.specs.Instance.{IsInstance};
+ghost use Rattle.composition.specs.Instance.{IsRangedInstance};
 ghost use Rattle.run_check.specs.RunText.{run_text};
 ghost use Rattle.scenario_tool.specs.Answers.{Compiles, source_limit};
 ghost use Rattle.scenario_tool.specs.LineForm.{end_line, end_column};
@@ -46,7 +46,7 @@ pub fn compile(
 /// Writes a run in which each field holds its least number.
 fn generate(alloc: Global, fields: &Fields) -> Result<Reply, AllocError>
     ensures status { IfOk result (λ reply. reply.status ≡ 0) }
-    ensures text { IfOk result (λ reply. (run : Run) × IsInstance fields.now run × (reply.text ≡ run_text run)) }
+    ensures text { IfOk result (λ reply. (run : Run) × IsRangedInstance fields.now run × (reply.text ≡ run_text run)) }
 {
     let run = least_run(alloc, fields)?;
     let text = write_run(alloc, &run)?;
@@ -54,7 +54,7 @@ fn generate(alloc: Global, fields: &Fields) -> Result<Reply, AllocError>
 }
 
 fn least_run(alloc: Global, fields: &Fields) -> Result<Run, AllocError>
-    ensures { IfOk result (IsInstance fields.now) }
+    ensures { IfOk result (IsRangedInstance fields.now) }
 {
     let values = fields.values(alloc)?;
     Ok(Run {

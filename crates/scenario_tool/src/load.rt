@@ -1,4 +1,4 @@
-ghost use Rattle.std.specs.Prelude.{◌≡◌, ◌≤◌, ◌<◌, ℕ, List, Some, None, IfOk, IfSome, length};
+ghost use Rattle.std.specs.Prelude.{◌≡◌, ◌≢◌, ◌≤◌, ◌<◌, ℕ, List, Some, None, IfOk, IfSome, length};
 ghost use Rattle.outside_io.specs.Counts.{Rises};
 ghost use Rattle.outside_io.specs.Files.{file_named};
 ghost use Rattle.scenario_tool.specs.Answers.{source_limit};
@@ -30,6 +30,8 @@ pub fn load<H: Shelf>(alloc: Global, shelf: &mut H, name: &str) -> Result<Row<u8
     ensures missing { result ≡ Err LoadStop.Missing → IfSome (H.files shelf.old) (λ all. file_named all name.now ≡ None) }
     ensures long { result ≡ Err LoadStop.Long → IfSome (H.files shelf.old) (λ all. (source : List ℕ) × (file_named all name.now ≡ Some source) × (source_limit < length source)) }
     ensures cause { result ≡ Err LoadStop.Shelf → Rises (H.faults shelf.old) (H.faults shelf.new) }
+    ensures steady { result ≢ Err LoadStop.Shelf → H.faults shelf.new ≡ H.faults shelf.old }
+    ensures files_kept { H.files shelf.new ≡ H.files shelf.old }
 {
     match shelf.fetch(name) {
         Ok(true) => read_source(alloc, shelf),
@@ -44,6 +46,8 @@ fn read_source<H: Shelf>(alloc: Global, shelf: &mut H) -> Result<Row<u8>, LoadSt
     ensures found { result ≡ Err LoadStop.Missing → ⊥ }
     ensures long { result ≡ Err LoadStop.Long → IfSome (H.left shelf.old) (λ left. source_limit < length left) }
     ensures cause { result ≡ Err LoadStop.Shelf → Rises (H.faults shelf.old) (H.faults shelf.new) }
+    ensures steady { result ≢ Err LoadStop.Shelf → H.faults shelf.new ≡ H.faults shelf.old }
+    ensures files_kept { H.files shelf.new ≡ H.files shelf.old }
 {
     match read_all(alloc, shelf, SOURCE_LIMIT) {
         Ok(source) => Ok(source),

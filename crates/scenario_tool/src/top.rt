@@ -1,6 +1,6 @@
-ghost use Rattle.std.specs.Prelude.{IfOk, List, ℕ, map, string_bytes};
+ghost use Rattle.std.specs.Prelude.{◌≡◌, is_some, IfOk, List, ℕ, map, string_bytes};
 ghost use Rattle.scenario_tool.specs.Words.{AsksForRun};
-ghost use Rattle.scenario_tool.specs.Answers.{Ends, Replies, SomeFiles};
+ghost use Rattle.scenario_tool.specs.Answers.{CountsOnce, Ends, Replies, SomeFiles};
 
 use crate::compile::compile;
 use crate::load::{LoadStop, load};
@@ -25,9 +25,11 @@ pub fn command<H: Shelf, K: Sink>(
     shelf: &mut H,
     out: &mut K,
 ) -> u8
-    ensures { SomeFiles (H.files shelf.old) (λ files. Ends files (map string_bytes words.now.items)
+    ensures ends { SomeFiles (H.files shelf.old) (λ files. Ends files (map string_bytes words.now.items)
         (H.faults shelf.old) (H.faults shelf.new) (K.contents out.old) (K.contents out.new)
         (K.faults out.old) (K.faults out.new) result) }
+    ensures files_kept { H.files shelf.new ≡ H.files shelf.old }
+    ensures telling_kept { is_some (K.contents out.new) ≡ is_some (K.contents out.old) }
 {
     let Ok(reply) = reply_to(alloc, words, shelf) else {
         return NO_MEMORY;
@@ -40,8 +42,10 @@ pub fn command<H: Shelf, K: Sink>(
 
 /// The status and the text with which the words are answered.
 fn reply_to<H: Shelf>(alloc: Global, words: &[String], shelf: &mut H) -> Result<Reply, AllocError>
-    ensures { IfOk result (λ reply. SomeFiles (H.files shelf.old) (λ files. Replies files (map string_bytes words.now)
+    ensures reply { IfOk result (λ reply. SomeFiles (H.files shelf.old) (λ files. Replies files (map string_bytes words.now)
         (H.faults shelf.old) (H.faults shelf.new) reply.status reply.text)) }
+    ensures counted { CountsOnce (H.faults shelf.old) (H.faults shelf.new) }
+    ensures files_kept { H.files shelf.new ≡ H.files shelf.old }
 {
     match read_words(words) {
         Some(asked) => reply_to_run(alloc, asked.file, asked.scenario, shelf),
@@ -56,8 +60,10 @@ fn reply_to_run<H: Shelf>(
     scenario: &str,
     shelf: &mut H,
 ) -> Result<Reply, AllocError>
-    ensures { IfOk result (λ reply. (words : List (List ℕ)) → AsksForRun words file.now scenario.now →
+    ensures reply { IfOk result (λ reply. (words : List (List ℕ)) → AsksForRun words file.now scenario.now →
         SomeFiles (H.files shelf.old) (λ files. Replies files words (H.faults shelf.old) (H.faults shelf.new) reply.status reply.text)) }
+    ensures counted { CountsOnce (H.faults shelf.old) (H.faults shelf.new) }
+    ensures files_kept { H.files shelf.new ≡ H.files shelf.old }
 {
     match load(alloc, shelf, file) {
         Ok(source) => compile(alloc, file, scenario, source.as_slice()),

@@ -60,7 +60,7 @@ const GENERATE: [&str; 3] = ["generate", "main.osc", "top"];
 
 #[test]
 fn sources(rt: HostRuntime) -> Result<(), Fail> {
-    let rows: [(&str, &str); 12] = [
+    let rows: [(&str, &str); 19] = [
         (
             SOURCE,
             "0 {\"choices\":[],\"end\":0,\"form\":1,\"phases\":[],\"traces\":[],\"values\":[[\"x\",3]]}\n",
@@ -69,7 +69,35 @@ fn sources(rt: HostRuntime) -> Result<(), Fail> {
             "scenario top:\n    x: int\n    keep(x in [3..3])\n    y: int\n    keep(y in [0..0])\n",
             "0 {\"choices\":[],\"end\":0,\"form\":1,\"phases\":[],\"traces\":[],\"values\":[[\"x\",3],[\"y\",0]]}\n",
         ),
+        (
+            "scenario top:\n    int: int\n    keep(int in [012..12])\n    n: int\n    keep(n in [999999999..999999999])\n",
+            "0 {\"choices\":[],\"end\":0,\"form\":1,\"phases\":[],\"traces\":[],\"values\":[[\"int\",12],[\"n\",999999999]]}\n",
+        ),
         ("", "3 fault 298 main.osc:1:1\n"),
+        (
+            "scenario top:\n    x: int\n    keep(x in [1..1000000000])\n",
+            "3 fault 298 main.osc:3:1\n",
+        ),
+        (
+            "scenario top:\n    x: int\n    keep(x in [..3])\n",
+            "3 fault 298 main.osc:3:1\n",
+        ),
+        (
+            "scenario top:\n    x: int\n    keep(x in [0x3..3])\n",
+            "3 fault 298 main.osc:3:1\n",
+        ),
+        (
+            "scenario top:\r\n    x: int\r\n    keep(x in [3..3])\r\n",
+            "3 fault 298 main.osc:1:1\n",
+        ),
+        (
+            "scenario other:\n    9x: int\n",
+            "3 fault 298 main.osc:2:1\n",
+        ),
+        (
+            "scenario top:\n    cover: int\n    keep(cover in [3..3])\n",
+            "3 fault 298 main.osc:2:1\n",
+        ),
         (
             "scenario top:\n    y: float\n",
             "3 fault 298 main.osc:2:1\n",
@@ -124,6 +152,8 @@ fn words_and_files(rt: HostRuntime) -> Result<(), Fail> {
         "4 words\n"
     );
     assert_eq!(rt; words(&["check", "main.osc", "top"])?.as_str(), "4 words\n");
+    assert_eq!(rt; words(&["gen", "main.osc", "top"])?.as_str(), "4 words\n");
+    assert_eq!(rt; words(&["", "main.osc", "top"])?.as_str(), "4 words\n");
     assert_eq!(rt;
         words(&["generate", "none.osc", "top"])?.as_str(),
         "6 missing none.osc\n"
