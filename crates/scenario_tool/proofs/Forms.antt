@@ -16,7 +16,7 @@ pub field_name_is : (a b : List ℕ) → field_line a ≡ field_line b → a ≡
 field_name_is a b same = one_between (codes "    ") (codes ": int\n") a b (field_line a) refl same
 
 -- the field lines of these fields, the latest first, before others
-abbrev onto : List WrittenField → List (List ℕ) → List (List ℕ)
+abbrev pub onto : List WrittenField → List (List ℕ) → List (List ℕ)
 onto [] fields = fields
 onto (f ∷ fs) fields = onto fs (field_line f.name ∷ fields)
 
@@ -51,14 +51,14 @@ not_declared (f ∷ fs) name others none =
 
 -- ---- Which line fits behind whole fields
 
-behind_fields : (written : List WrittenField) (fields later : List (List ℕ)) (line : List ℕ) →
+pub behind_fields : (written : List WrittenField) (fields later : List (List ℕ)) (line : List ℕ) →
     FitsAfter fields (lines_of_fields written ++ later) line ≡ FitsAfter (onto written fields) later line
 behind_fields [] fields later line = refl
 behind_fields (f ∷ fs) fields later line = behind_fields fs (field_line f.name ∷ fields) later line
 
 -- ---- Reading on
 
-snoc : (before lines : List (List ℕ)) (line : List ℕ) → AllFitAfter before lines → Fits (before ++ lines) line → AllFitAfter before (lines ++ line ∷ [])
+pub snoc : (before lines : List (List ℕ)) (line : List ℕ) → AllFitAfter before lines → Fits (before ++ lines) line → AllFitAfter before (lines ++ line ∷ [])
 snoc before [] line fit next = (subst (λ b. Fits b line) (append-nil before) next, tt)
 snoc before (l ∷ ls) line fit next =
     (fit.0, snoc (before ++ l ∷ []) ls line fit.1 (subst (λ b. Fits b line) (sym (append_assoc before (l ∷ []) ls)) next))
@@ -69,7 +69,7 @@ pub record Begun (source name : List ℕ) (written : List WrittenField) (rest : 
   pub fit : AllFitAfter [] (head_line name ∷ lines_of_fields written)
   pub ranges : AllHaveRange written
 
-more_ranges : (written : List WrittenField) (f : WrittenField) → AllHaveRange written → HasRange f → AllHaveRange (written ++ f ∷ [])
+pub more_ranges : (written : List WrittenField) (f : WrittenField) → AllHaveRange written → HasRange f → AllHaveRange (written ++ f ∷ [])
 more_ranges [] f all one = (one, tt)
 more_ranges (g ∷ gs) f all one = (all.0, more_ranges gs f all.1 one)
 
@@ -81,7 +81,7 @@ fits_field : (written : List WrittenField) (line : List ℕ) → IsFieldLine (on
 fits_field written line fits =
     subst (λ lines. FitsAfter [] lines line) (append-nil (lines_of_fields written)) (rw (behind_fields written [] [] line) fits)
 
-field_fits : (written : List WrittenField) (line : List ℕ) → FitsAfter [] (lines_of_fields written) line → IsFieldLine (onto written []) line
+pub field_fits : (written : List WrittenField) (line : List ℕ) → FitsAfter [] (lines_of_fields written) line → IsFieldLine (onto written []) line
 field_fits written line fits =
     let behind : FitsAfter [] (lines_of_fields written ++ []) line
     = subst (λ lines. FitsAfter [] lines line) (sym (append-nil (lines_of_fields written))) fits in
@@ -105,7 +105,7 @@ fit_keep name written f fit range =
     (rw (behind_fields written [] (field_line f.name ∷ []) (keep_line f))
     (record { field = f; same = refl; range = range; written = refl }))
 
-more_lines : (written : List WrittenField) (f : WrittenField) →
+pub more_lines : (written : List WrittenField) (f : WrittenField) →
     lines_of_fields (written ++ f ∷ []) ≡ (lines_of_fields written ++ field_line f.name ∷ []) ++ keep_line f ∷ []
 more_lines written f =
     flat_map-append (λ f. field_line f.name ∷ keep_line f ∷ []) written (f ∷ [])

@@ -10,3 +10,4 @@ pub mod Compiled
 pub mod Outside
 pub mod Sole
 pub mod Rows
+pub mod Total

@@ -1,7 +1,7 @@
 -- Worked sources and answers, by computation.
 use Rattle.std.proofs.Common.{◌≡◌, refl, ℕ, List, [], ◌∷◌, codes, true, false, lit≤}
 use Rattle.std.specs.Fmt.{digits}
-use Rattle.scenario_tool.specs.LineForm.{lines_of, end_line, end_column, head_line, WrittenField, lines_of_fields, Declares, BreaksAt, IsScenarioName, IsFieldName, HasRange, IsNumber}
+use Rattle.scenario_tool.specs.LineForm.{lines_of, end_line, end_column, head_line, WrittenField, lines_of_fields, Declares, BreaksAt, IsNumber, number_of}
 use Rattle.scenario_tool.specs.Names.{is_name, is_among, words_of_the_language, basic_types}
 use Rattle.scenario_tool.specs.Answers.{fault_text}
 
@@ -62,6 +62,10 @@ odd_end_line = refl
 
 odd_end_column : end_column (codes "a\n\nbc") ≡ 3
 odd_end_column = refl
+
+-- numbers
+leading_zeros : number_of (codes "0120") ≡ 120
+leading_zeros = refl
 
 -- names
 plain_name : is_name (codes "_a9") ≡ true

@@ -86,6 +86,11 @@ SomeFiles told Fact = (files : List NamedBytes) × IfSome told (λ all. all ≡ 
 
 -- ---- One answer
 
+-- words and files allow some answer: it can't be that they allow none
+abbrev pub SomeAnswer : Type 0
+SomeAnswer = (files : List NamedBytes) (words : List (List ℕ)) →
+    ((status : ℕ) (text : List ℕ) → Answers files words status text → ⊥) → ⊥
+
 -- words and files allow one status, and one text unless it is a run
 abbrev pub OneAnswer : Type 0
 OneAnswer = (files : List NamedBytes) (words : List (List ℕ)) (status status' : ℕ) (text text' : List ℕ) →

@@ -9,5 +9,5 @@ mod replies;
 mod top;
 mod words;
 
-pub use laws::one_answer;
+pub use laws::{one_answer, some_answer};
 pub use top::command;

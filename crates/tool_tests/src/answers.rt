@@ -1,6 +1,6 @@
 use osc_base::{Row, Text};
 use outside_io::{MemoryShelf, MemorySink, NamedBytes};
-use scenario_tool::{command, one_answer};
+use scenario_tool::{command, one_answer, some_answer};
 use std::alloc::{AllocError, Global};
 use std::test::Fail;
 
@@ -164,6 +164,7 @@ fn words_and_files(rt: HostRuntime) -> Result<(), Fail> {
     let got = answer(alloc, &GENERATE, Some(&long[1..]), SOUND)?;
     assert_eq!(rt; got.as_str(), "3 fault 298 main.osc:1:1\n");
     one_answer();
+    some_answer();
     Ok(())
 }
 
