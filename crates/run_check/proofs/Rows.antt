@@ -10,9 +10,12 @@ use Rattle.run_check.specs.RunText.{run_text}
 
 one_field : Run
 one_field = record {
-    choices = []; end = 0; phases = []; traces = [];
-    values = record { path = record { steps = Name (codes "x") ∷ [] }; held = Number (pos 3) } ∷ [];
-  }
+  choices = [];
+  end = 0;
+  phases = [];
+  traces = [];
+  values = record { path = record { steps = Name (codes "x") ∷ [] }; held = Number (pos 3) } ∷ [];
+}
 
 one_field_text : run_text one_field ≡ codes "{\"choices\":[],\"end\":0,\"form\":1,\"phases\":[],\"traces\":[],\"values\":[[\"x\",3]]}\n"
 unfolding run_text one_field digits serde_json_on_literals
@@ -21,12 +24,12 @@ one_field_text = refl
 -- something in each list
 full : Run
 full = record {
-    choices = record { path = record { steps = Name (codes "do") ∷ [] }; member = 1 } ∷ [];
-    end = 2;
-    phases = record { path = record { steps = Name (codes "do") ∷ Member 1 ∷ [] }; start = 0; end = 2 } ∷ [];
-    traces = record { path = record { steps = Name (codes "ego") ∷ [] }; samples = record { lane = pos 1; position = pos 100; speed = negsuc 0 } ∷ [] } ∷ [];
-    values = record { path = record { steps = Name (codes "s") ∷ [] }; held = Chars (codes "a\"b") } ∷ [];
-  }
+  choices = record { path = record { steps = Name (codes "do") ∷ [] }; member = 1 } ∷ [];
+  end = 2;
+  phases = record { path = record { steps = Name (codes "do") ∷ Member 1 ∷ [] }; start = 0; end = 2 } ∷ [];
+  traces = record { path = record { steps = Name (codes "ego") ∷ [] }; samples = record { lane = pos 1; position = pos 100; speed = negsuc 0 } ∷ [] } ∷ [];
+  values = record { path = record { steps = Name (codes "s") ∷ [] }; held = Chars (codes "a\"b") } ∷ [];
+}
 
 full_text : run_text full ≡ codes "{\"choices\":[[\"do\",1]],\"end\":2,\"form\":1,\"phases\":[[\"do[1]\",0,2]],\"traces\":[[\"ego\",[[1,100,-1]]]],\"values\":[[\"s\",\"a\\\"b\"]]}\n"
 unfolding run_text full digits serde_json_on_literals
