@@ -3,6 +3,7 @@ pub mod Equations
 pub mod Fits
 pub mod Folds
 pub mod Looks
+pub mod Narrowings
 pub mod Numbers
 pub mod Parts
 pub mod Points

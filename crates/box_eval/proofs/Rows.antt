@@ -16,6 +16,7 @@ use Rattle.box_eval.specs.Rules.{CanJudge}
 use Rattle.box_eval.specs.Truth.{true_at}
 use Rattle.box_eval.specs.Verdict.{verdict_of, span_of}
 use Rattle.box_eval.specs.Reach.{slots_of, Judged, Seen, rule_judged, term_seen}
+use Rattle.box_eval.specs.Guided.{decisions, Guided, drawn, at_low, at_high}
 use Rattle.box_eval.specs.Record.{Tree, cut_low, cut_high, close, lines_of, accepts, IsFirstFalse, marks, IsRefutation}
 use Rattle.box_eval.proofs.Equations.{folds}
 use Rattle.box_eval.proofs.Parts.{inside_self, inside_both}
@@ -150,3 +151,25 @@ row_room = fifth (accepts flat.rules 2 flat.bounds.pairs 0 tree) (true ∷ true 
 -- nor is a cut at the greatest value of a slot, which is the fifth line of the record as it is written
 row_upper : IsFirstFalse (marks flat claim (cut_low 0 (pos 1000000000) (close 0) (close 0))) 4
 row_upper = fifth (marks flat claim (cut_low 0 (pos 1000000000) (close 0) (close 0))) (false ∷ true ∷ []) (simp folds)
+
+-- ---- how it is guided
+
+-- each of its cuts takes away as much as its rule allows, so none of them is a decision
+row_decisions : decisions flat.rules flat.bounds.pairs tree ≡ 0
+row_decisions = simp folds
+
+row_guided : (draws : ℕ → ℕ) → Guided draws flat.rules flat.bounds.pairs 0 tree
+row_guided draws = simp folds tt
+
+-- cuts that numbers pick of a slot from 0 to 9
+row_drawn_low : drawn 4 (pos 0) (pos 9) ≡ at_low (pos 0)
+row_drawn_low = refl
+
+row_drawn_high : drawn 5 (pos 0) (pos 9) ≡ at_high (pos 8)
+row_drawn_high = refl
+
+row_drawn_up_to : drawn 46 (pos 0) (pos 9) ≡ at_low (pos 2)
+row_drawn_up_to = refl
+
+row_drawn_from : drawn 47 (pos 0) (pos 9) ≡ at_high (pos 2)
+row_drawn_from = refl

@@ -1,4 +1,5 @@
 pub mod Box
+pub mod Guided
 pub mod Reach
 pub mod Record
 pub mod Rules

@@ -27,10 +27,18 @@ fn below() -> Rule
     Rule::Below(Term::Slot(0), Term::Whole(3))
 }
 
-fn bounds(alloc: Global, low: i64, high: i64) -> Result<Bounds, AllocError> {
+fn flat(alloc: Global) -> Result<Flat, AllocError> {
     let mut pairs = Row::new(alloc);
-    pairs.push(Pair { low, high })?;
-    Ok(Bounds { pairs })
+    pairs.push(Pair {
+        low: -1_000_000_000,
+        high: 1_000_000_000,
+    })?;
+    let mut rules = Row::new(alloc);
+    rules.push(within(alloc)?)?;
+    rules.push(above())?;
+    rules.push(below())?;
+    let bounds = Bounds { pairs };
+    Ok(Flat { bounds, rules })
 }
 
 fn record(alloc: Global) -> Result<Record, AllocError> {
@@ -112,40 +120,22 @@ fn verdicts_and_truths(rt: HostRuntime) {
 
 #[test]
 fn copies(rt: HostRuntime) {
-    let mut rules = Row::new(rt.alloc());
-    rules
-        .push(within(rt.alloc()).expect(&rt, "memory"))
-        .expect(&rt, "memory");
-    rules.push(above()).expect(&rt, "memory");
-    rules.push(below()).expect(&rt, "memory");
-    let bounds = bounds(rt.alloc(), -1_000_000_000, 1_000_000_000).expect(&rt, "memory");
-    let copy = Flat { bounds, rules }
-        .copy(rt.alloc())
-        .expect(&rt, "memory");
-    let pairs = copy.bounds.pairs.as_slice();
-    assert!(rt;
-        matches!(
-            pairs,
-            [Pair {
-                low: -1_000_000_000,
-                high: 1_000_000_000
-            }]
-        )
-    );
-    refuted(&copy, &record(rt.alloc()).expect(&rt, "memory"));
-    let rules = copy.rules.as_slice();
-    assert!(rt;
-        matches!(
-            rules,
-            [
-                Rule::Both(_, _),
-                Rule::Below(Term::Whole(3), Term::Slot(0)),
-                Rule::Below(Term::Slot(0), Term::Whole(3))
-            ]
-        )
-    );
-    if let Rule::Both(low, high) = &rules[0] {
-        assert!(rt; matches!(low.get(), Rule::AtMost(Term::Whole(0), Term::Slot(0))));
-        assert!(rt; matches!(high.get(), Rule::AtMost(Term::Slot(0), Term::Whole(5))));
+    let flat = flat(rt.alloc()).expect(&rt, "memory");
+    let copy = flat.copy(rt.alloc()).expect(&rt, "memory");
+    assert!(rt; copy.bounds == flat.bounds);
+    assert!(rt; is_row(copy.rules.as_slice()));
+    let record = record(rt.alloc()).expect(&rt, "memory");
+    refuted(&copy, &record);
+}
+
+fn is_row(rules: &[Rule]) -> bool {
+    match rules {
+        [Rule::Both(low, high), above, below] => {
+            matches!(low.get(), Rule::AtMost(Term::Whole(0), Term::Slot(0)))
+                && matches!(high.get(), Rule::AtMost(Term::Slot(0), Term::Whole(5)))
+                && matches!(above, Rule::Below(Term::Whole(3), Term::Slot(0)))
+                && matches!(below, Rule::Below(Term::Slot(0), Term::Whole(3)))
+        }
+        _ => false,
     }
 }
