@@ -1,0 +1,7 @@
+pub mod Bytes
+pub mod Shapes
+pub mod Kinds
+pub mod Pieces
+pub mod Layout
+pub mod Language
+pub mod Examples

@@ -1,0 +1,8 @@
+//! From the bytes of a source file to its tokens, or to its first lexical fault.
+#![tactic(auto)]
+
+mod shape;
+mod stop;
+
+pub use shape::Shape;
+pub use stop::LexStop;
