@@ -47,10 +47,10 @@ abbrev pub IsDigits : List ℕ → Type 0
 IsDigits [] = ⊥
 IsDigits (b ∷ more) = IsTrue (is_digit b) × IsTrue (list_all is_digit more)
 
--- a number with what stands directly behind it, with a point between digits or without one. Not each such text is
+-- a number with what stands directly behind it, with a point (46) between digits or without one. Not each such text is
 -- a number or a physical literal: `number_kind` says which
 abbrev pub IsNumber : List ℕ → Type 0
-IsNumber text = IsDigitRun text ⊎ ((whole more : List ℕ) × (text ≡ whole ++ codes "." ++ more) × IsDigits whole × IsDigitRun more)
+IsNumber text = IsDigitRun text ⊎ ((whole more : List ℕ) × (text ≡ whole ++ 46 ∷ more) × IsDigits whole × IsDigitRun more)
 
 -- what may stand between two such quotes: any byte but that quote, a backslash and a line feed, or a backslash and an
 -- escapable byte. `escaped` says whether a backslash stands directly before

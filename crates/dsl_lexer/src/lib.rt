@@ -1,6 +1,7 @@
 //! From the bytes of a source file to its tokens, or to its first lexical fault.
 #![tactic(auto)]
 
+mod scan;
 mod shape;
 mod stop;
 

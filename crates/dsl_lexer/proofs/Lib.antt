@@ -1,0 +1,5 @@
+pub mod Runs
+pub mod Walks
+pub mod Tables
+pub mod Fitting
+pub mod Fronts
