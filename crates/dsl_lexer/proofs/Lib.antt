@@ -3,3 +3,4 @@ pub mod Walks
 pub mod Tables
 pub mod Fitting
 pub mod Fronts
+pub mod Numbers

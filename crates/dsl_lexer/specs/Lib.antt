@@ -3,6 +3,7 @@ pub mod Shapes
 pub mod Kinds
 pub mod Pieces
 pub mod Layout
+pub mod Values
 pub mod Scan
 pub mod Language
 pub mod Examples

@@ -1,9 +1,12 @@
 //! From the bytes of a source file to its tokens, or to its first lexical fault.
 #![tactic(auto)]
 
+mod kinds;
+mod marks;
 mod scan;
 mod shape;
 mod stop;
+mod words;
 
 pub use shape::Shape;
 pub use stop::LexStop;
