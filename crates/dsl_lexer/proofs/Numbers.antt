@@ -8,6 +8,14 @@ use Rattle.std.proofs.lemmas.Bool.Decides.{nat_tests}
 use Rattle.std.proofs.lemmas.List.{length-take, take-append-drop}
 use Rattle.std.proofs.lemmas.List.Folds.{list_all-append}
 use Rattle.std.proofs.lemmas.List.Sums.{fold_more, fold-append}
+use Rattle.std.specs.Prelude.{◌==◌}
+use Rattle.std.specs.List.{prefix_len}
+use Rattle.std.specs.Str.{IsUtf8, IsAscii}
+use Rattle.std.proofs.lemmas.Bool.{cond_both}
+use Rattle.std.proofs.lemmas.List.{take_at}
+use Rattle.std.proofs.lemmas.Str.{IsAscii-drop, IsUtf8-from_ascii}
+use Rattle.dsl_lexer.specs.Kinds.{fraction, unit_name}
+use Rattle.dsl_lexer.proofs.Fronts.{run_of}
 use Rattle.dsl_lexer.specs.Bytes.{is_digit, is_hexadecimal_digit}
 use Rattle.dsl_lexer.specs.Values.{value_from, Fits}
 
@@ -55,3 +63,22 @@ small_part whole part start e all all' room h =
     let g = grows 10 is_digit digit_below 0 1 whole all (omega arith) in
     let t : start < 10 ^ length whole = rw (e, ← one-mul (10 ^ length whole)) g in
     small 10 is_digit digit_below start (length whole) 18 part (omega arith) all' t (omega arith) (omega arith)
+
+-- the parts of a number's text
+
+pub run_taken : (p : ℕ → Bool) (xs : List ℕ) → list_all p (take (prefix_len p xs) xs) ≡ true
+run_taken p xs =
+    let run = run_of p xs in
+    let e : take (prefix_len p xs) xs ≡ run.text = ap (take (prefix_len p xs)) run.split ∙ take_at run.text run.behind (prefix_len p xs) run.size in
+    ap (list_all p) e ∙ run.all
+
+pub fraction_digits : (behind : List ℕ) → list_all is_digit (fraction behind) ≡ true
+fraction_digits [] = refl
+fraction_digits (b ∷ more) = cond_both (b == 46) (take (prefix_len is_digit more) more) [] (λ t. list_all is_digit t ≡ true) (λ _. run_taken is_digit more) (λ _. refl)
+
+unit_ascii : (behind : List ℕ) → IsAscii behind → IsAscii (unit_name behind)
+unit_ascii [] h = h
+unit_ascii (b ∷ more) h = cond_both (b == 46) (drop (prefix_len is_digit more) more) (b ∷ more) IsAscii (λ _. IsAscii-drop more (prefix_len is_digit more) (IsAscii-drop (b ∷ more) 1 h)) (λ _. h)
+
+pub unit_utf8 : (text : List ℕ) (n : ℕ) → IsAscii text → IsUtf8 (unit_name (drop n text))
+unit_utf8 text n h = IsUtf8-from_ascii (unit_name (drop n text)) (unit_ascii (drop n text) (IsAscii-drop text n h))

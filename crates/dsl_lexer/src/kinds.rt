@@ -1,8 +1,8 @@
 //! Which token a text of a shape is. What is computed is a definition of `specs/Kinds.antt`.
 
-ghost use Rattle.std.specs.Prelude.{◌≡◌, ◌+◌, ◌≤◌, ◌<◌, ◌^◌, ℕ, false, true, length, take, fold, IsTrue, IfOk};
+ghost use Rattle.std.specs.Prelude.{◌≡◌, ◌+◌, ◌≤◌, ◌<◌, ◌^◌, ℕ, false, true, length, take, drop, codes, IfNone, IfSome, OnSome, IfOk};
 ghost use Rattle.std.specs.List.{list_all};
-ghost use Rattle.std.specs.Str.{IsUtf8};
+ghost use Rattle.std.specs.Str.{IsUtf8, IsAscii, bytes_eq};
 ghost use Rattle.std.specs.Char.{digit_value as digit_value_of};
 ghost use Rattle.dsl_lexer.specs.Bytes as bytes;
 ghost use Rattle.dsl_lexer.specs.Kinds as kinds;
@@ -115,4 +115,67 @@ fn decimal_kind(alloc: Global, whole: &[u8], part: &[u8], unit: &[u8]) -> Result
     }
     let unit = text_of(alloc, unit)?;
     Ok(Some(TokenKind::Physical { digits, places, unit }))
+}
+
+/// The digits behind a point, and what stands behind them.
+fn fraction_and_unit(behind: &[u8]) -> (&[u8], &[u8])
+    ensures part { result.0.now ≡ kinds.fraction behind.now }
+    ensures unit { result.1.now ≡ kinds.unit_name behind.now }
+{
+    match behind {
+        [b'.', more @ ..] => more.split_at(scan::digit_run(more)),
+        _ => (&behind[..0], behind),
+    }
+}
+
+/// What stands behind `0x`, where a text begins so.
+fn hexadecimal_digits(text: &[u8]) -> Option<&[u8]>
+    ensures none { IfNone result (bytes_eq (take 2 text.now) (codes "0x") ≡ false) }
+    ensures zero { OnSome result (bytes_eq (take 2 text.now) (codes "0x") ≡ true) }
+    ensures digits { IfSome result (λ digits. digits.now ≡ drop 2 text.now) }
+{
+    match text {
+        [b'0', b'x', digits @ ..] => Some(digits),
+        _ => None,
+    }
+}
+
+/// The number or physical literal that a text of a number's shape is.
+pub fn number_kind(alloc: Global, text: &[u8]) -> Result<Option<TokenKind>, AllocError>
+    requires { IsAscii text.now }
+    ensures { IfOk result (λ kind. kind ≡ kinds.number_kind text.now) }
+{
+    if let Some(digits) = hexadecimal_digits(text) {
+        return Ok(hexadecimal_kind(digits));
+    }
+    let (whole, behind) = text.split_at(scan::digit_run(text));
+    let (part, unit) = fraction_and_unit(behind);
+    decimal_kind(alloc, whole, part, unit)
+}
+
+/// What stands between two quotes, with its escapes read.
+fn unescaped(alloc: Global, inside: &[u8]) -> Result<Vec<u8>, AllocError>
+    ensures { IfOk result (λ v. v.items ≡ kinds.unescaped false inside.now) }
+{
+    let mut read = Vec::with_capacity(alloc, inside.len())?;
+    let mut escaped = false;
+    for b in inside {
+        if !escaped && *b == b'\\' {
+            escaped = true;
+        } else {
+            read.push(*b)?;
+            escaped = false;
+        }
+    }
+    Ok(read)
+}
+
+/// The text of a string.
+pub fn string_chars(alloc: Global, text: &[u8]) -> Result<Text, AllocError>
+    requires quotes { 2 ≤ length text.now }
+    requires utf8 { IsUtf8 (kinds.string_chars text.now) }
+    ensures { IfOk result (λ chars. chars ≡ kinds.string_chars text.now) }
+{
+    let read = unescaped(alloc, &text[1..text.len() - 1])?;
+    text_of(alloc, read.as_slice())
 }
