@@ -2,10 +2,13 @@
 #![tactic(auto)]
 
 mod kinds;
+mod layout;
 mod marks;
 mod scan;
 mod shape;
+mod spot;
 mod stop;
+mod widths;
 mod words;
 
 pub use shape::Shape;
