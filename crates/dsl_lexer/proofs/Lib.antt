@@ -4,3 +4,4 @@ pub mod Tables
 pub mod Fitting
 pub mod Fronts
 pub mod Numbers
+pub mod Stamps

@@ -7,7 +7,7 @@ use Rattle.dsl_lexer.specs.Bytes.{is_quote, begins_control, place_at}
 use Rattle.dsl_lexer.specs.Shapes.{NumberShape, StringShape, is_lexeme}
 use Rattle.dsl_lexer.specs.Kinds.{kind_of}
 use Rattle.dsl_lexer.specs.Pieces.{Piece, reach, Stands, Cut, IsStuck, IsContent}
-use Rattle.dsl_lexer.specs.Layout.{line, width, widths, fits, has_lexeme, begins_line, first_tab, depth, tokens, last_tokens, placed}
+use Rattle.dsl_lexer.specs.Layout.{line, width, widths, opened, fits, has_lexeme, begins_line, first_tab, depth, tokens, last_tokens, placed}
 
 -- a control character stands at index i of the text
 pub record HasControl (text : List ℕ) (i : ℕ) : Type 0 where
@@ -19,7 +19,7 @@ pub record HasControl (text : List ℕ) (i : ℕ) : Type 0 where
 -- the first token of a line has no tab before it in the line, and the line's width fits
 pub record IsLaidOut (before : List Piece) : Type 0 where
   pub no_tab : first_tab (line before) ≡ None
-  pub fitting : IsTrue (fits (width (line before)) (widths before))
+  pub fitting : IsTrue (fits (width (line before)) (opened (widths before)))
 
 -- what the rules ask of a piece behind those before it
 pub record IsSound (p : Piece) (before : List Piece) : Type 0 where
@@ -63,7 +63,7 @@ pub data FaultBehind (bytes : List ℕ) (before : List Piece) (rest : List ℕ) 
   -- the first tab in the white space before the first token of a logical line
   tab : code ≡ 102 → BeginsContent before rest → first_tab (line before) ≡ Some n → FaultBehind bytes before rest n code
   -- a width that is neither opened nor greater than all opened ones
-  indent : code ≡ 103 → n ≡ reach before → BeginsContent before rest → fits (width (line before)) (widths before) ≡ false → FaultBehind bytes before rest n code
+  indent : code ≡ 103 → n ≡ reach before → BeginsContent before rest → fits (width (line before)) (opened (widths before)) ≡ false → FaultBehind bytes before rest n code
   -- what is no token, and neither a number nor a string that could be one
   character : code ≡ 104 → n ≡ reach before → IsStuck rest → begins_with is_quote rest ≡ false → FaultBehind bytes before rest n code
   -- a control character in a string

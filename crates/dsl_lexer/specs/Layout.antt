@@ -80,20 +80,25 @@ IsOpened widths w = (w ≡ 0) ⊎ ((since earlier : List ℕ) × (widths ≡ sin
 abbrev pub with_width : ℕ → List ℕ → List ℕ
 with_width w narrower = if w == 0 then narrower else w ∷ narrower
 
+abbrev pub opened_behind : ℕ → List ℕ → List ℕ
+opened_behind w before = with_width w (filter (λ v. nat_lt v w) before)
+
 abbrev pub opened : List ℕ → List ℕ
 opened [] = []
-opened (w ∷ earlier) = with_width w (filter (λ v. nat_lt v w) (opened earlier))
+opened (w ∷ earlier) = opened_behind w (opened earlier)
+
+-- The rest is said of the opened widths above 0.
 
 abbrev pub is_widest : ℕ → List ℕ → Bool
-is_widest w earlier = nat_lt 0 w && list_all (λ v. nat_lt v w) (opened earlier)
+is_widest w ws = nat_lt 0 w && list_all (λ v. nat_lt v w) ws
 
 -- whether a line may have the width w: wider than all that is opened, or opened itself
 abbrev pub fits : ℕ → List ℕ → Bool
-fits w earlier = is_widest w earlier || w == 0 || list_any (λ v. v == w) (opened earlier)
+fits w ws = is_widest w ws || w == 0 || list_any (λ v. v == w) ws
 
 -- the tokens that open or close blocks at a line of width w: one INDENT, or one DEDENT for each greater opened width
 abbrev pub blocks : ℕ → List ℕ → List TokenKind
-blocks w earlier = if is_widest w earlier then Indent ∷ [] else map (λ v. Dedent) (filter (λ v. nat_lt w v) (opened earlier))
+blocks w ws = if is_widest w ws then Indent ∷ [] else map (λ v. Dedent) (filter (λ v. nat_lt w v) ws)
 
 -- open brackets and opened blocks behind these pieces
 abbrev pub depth : List Piece → ℕ
@@ -119,7 +124,7 @@ own_token at (Some kind) = (at, kind) ∷ []
 -- the tokens that p brings behind the pieces before it
 abbrev pub brought : Piece → List Piece → List Standing
 brought p before =
-    (if begins_line p before then map (λ kind. (p.at, kind)) (blocks (width (line before)) (widths before)) else [])
+    (if begins_line p before then map (λ kind. (p.at, kind)) (blocks (width (line before)) (opened (widths before))) else [])
     ++ (own_token p.at (kind_of p.shape p.text) ++ (if ends_line p before then newline before else []))
 
 abbrev pub tokens : List Piece → List Standing

@@ -5,5 +5,7 @@ pub mod Pieces
 pub mod Layout
 pub mod Values
 pub mod Scan
+pub mod Room
+pub mod Steps
 pub mod Language
 pub mod Examples

@@ -1,6 +1,7 @@
-ghost use Rattle.std.specs.Prelude.{◌≡◌, ◌<◌, ◌^◌, ◌&&◌, ◌==◌, [], nat_lt, length, filter, OnOk};
+ghost use Rattle.std.specs.Prelude.{◌≡◌, ◌≤◌, ◌<◌, ◌^◌, ◌&&◌, ◌==◌, [], nat_lt, length, filter, OnOk};
 ghost use Rattle.std.specs.List.{list_all, list_any};
-ghost use Rattle.dsl_lexer.specs.Layout.{with_width};
+ghost use Rattle.dsl_lexer.specs.Layout.{opened_behind};
+ghost use Rattle.dsl_lexer.specs.Layout as layout;
 
 use std::alloc::{AllocError, Global};
 use std::marker::Model;
@@ -37,7 +38,7 @@ impl Widths {
 
     /// Whether a width is above 0 and wider than all.
     pub fn is_widest(&self, width: u32) -> bool
-        ensures { result ≡ (nat_lt 0 width && list_all (λ v. nat_lt v width) self.now) }
+        ensures { result ≡ layout.is_widest width self.now }
     {
         0 < width && self.all_below(width)
     }
@@ -48,7 +49,14 @@ impl Widths {
         self.widths.iter().all(|v| *v < width)
     }
 
-    pub fn contains(&self, width: u32) -> bool
+    /// Whether a line may have this width.
+    pub fn fits(&self, width: u32) -> bool
+        ensures { result ≡ layout.fits width self.now }
+    {
+        self.is_widest(width) || width == 0 || self.contains(width)
+    }
+
+    fn contains(&self, width: u32) -> bool
         ensures { result ≡ list_any (λ v. v == width) self.now }
     {
         self.widths.iter().any(|v| *v == width)
@@ -56,7 +64,8 @@ impl Widths {
 
     /// How many are wider.
     pub fn count_wider(&self, width: u32) -> usize
-        ensures { result ≡ length (filter (λ v. nat_lt width v) self.now) }
+        ensures count { result ≡ length (filter (λ v. nat_lt width v) self.now) }
+        ensures within { result ≤ length self.now }
     {
         self.widths.iter().filter(|v| width < **v).count()
     }
@@ -70,7 +79,7 @@ impl Widths {
     /// How many there are once a line of this width has begun.
     pub fn len_behind(&self, width: u32) -> usize
         requires { length self.now < 2 ^ 32 }
-        ensures { result ≡ length (with_width width (filter (λ v. nat_lt v width) self.now)) }
+        ensures { result ≡ length (opened_behind width self.now) }
     {
         let narrower = self.count_narrower(width);
         if width == 0 { narrower } else { narrower + 1 }
@@ -84,7 +93,7 @@ impl Widths {
 
     /// A line of this width begins.
     pub fn begin(&mut self, width: u32) -> Result<(), AllocError>
-        ensures { OnOk result (self.new ≡ with_width width (filter (λ v. nat_lt v width) self.old)) }
+        ensures { OnOk result (self.new ≡ opened_behind width self.old) }
     {
         self.keep_narrower(width);
         if width > 0 {

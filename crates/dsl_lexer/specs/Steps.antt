@@ -1,0 +1,115 @@
+-- What the steps of the lexer make of what it knows, as its functions compute it.
+use Rattle.std.specs.Prelude.{ℕ, ◌+◌, ◌-◌, ◌==◌, Bool, true, false, nat_lt, if◌then◌else◌, List, [], ◌∷◌, ◌++◌, length, Option, Some, None}
+use Rattle.osc_base.specs.declared.fault.Place.{Place}
+use Rattle.dsl_tree.specs.declared.token.Token.{Token}
+use Rattle.dsl_tree.specs.declared.token.TokenKind.{TokenKind}
+use Rattle.dsl_tree.specs.declared.token.TokenKind.TheVariants.{Newline, Dedent, End}
+use Rattle.dsl_lexer.specs.declared.spot.Spot.{Spot}
+use Rattle.dsl_lexer.specs.declared.layout.Layout.{Layout}
+use Rattle.dsl_lexer.specs.declared.shape.Shape.{Shape}
+use Rattle.dsl_lexer.specs.Shapes.{StringShape}
+use Rattle.dsl_lexer.specs.Layout.{brackets_behind, opened_behind, fits, blocks}
+use Rattle.dsl_lexer.specs.Scan.{control_at}
+
+abbrev pub moved : Spot → ℕ → Spot
+moved s len = record s { at = s.at + len; column = s.column + len }
+
+abbrev pub on_next_line : Spot → ℕ → Spot
+on_next_line s len = record { at = s.at + len; line = s.line + 1; column = 1 }
+
+abbrev pub place_of : ℕ → Spot → ℕ → Place
+place_of file s count = record { file = file; line = s.line; column = s.column; token = count }
+
+-- tokens at one spot, behind so many
+abbrev pub stamped : ℕ → Spot → ℕ → List TokenKind → List Token
+stamped file s count [] = []
+stamped file s count (kind ∷ more) = record { place = place_of file s count; kind = kind } ∷ stamped file s (count + 1) more
+
+abbrev pub first_spot : Option Spot → Spot → Option Spot
+first_spot None s = Some s
+first_spot (Some t) s = Some t
+
+abbrev pub at_start : Layout
+at_start = record {
+  spot = record { at = 0; line = 1; column = 1 };
+  started = false;
+  spaces = 0;
+  tab = None;
+  brackets = 0;
+  widths = [];
+  behind = record { at = 0; line = 1; column = 1 };
+  tokens = [];
+}
+
+abbrev pub after_space : Layout → Layout
+after_space l = record l { spot = moved l.spot 1; spaces = l.spaces + 1 }
+
+abbrev pub after_tab : Layout → Layout
+after_tab l = record l { spot = moved l.spot 1; tab = first_spot l.tab l.spot }
+
+abbrev pub after_comment : Layout → ℕ → Layout
+after_comment l len = record l { spot = moved l.spot len }
+
+abbrev pub after_joint : Layout → ℕ → Layout
+after_joint l len = record l { spot = on_next_line l.spot len }
+
+abbrev pub with_newline : ℕ → Layout → List Token
+with_newline file l = if l.started then l.tokens ++ stamped file l.behind (length l.tokens) (Newline ∷ []) else l.tokens
+
+abbrev pub after_line_end : ℕ → Layout → ℕ → Layout
+after_line_end file l len =
+    if l.brackets == 0 then record l { spot = on_next_line l.spot len; started = false; spaces = 0; tab = None; tokens = with_newline file l } else after_joint l len
+
+-- the opened widths behind a token
+abbrev pub widths_behind : Layout → List ℕ
+widths_behind l = if l.started then l.widths else opened_behind l.spaces l.widths
+
+-- the tokens that stand before the token itself at its place
+abbrev pub with_blocks : ℕ → Layout → List Token
+with_blocks file l = if l.started then l.tokens else l.tokens ++ stamped file l.spot (length l.tokens) (blocks l.spaces l.widths)
+
+abbrev pub after_blocks : ℕ → Layout → Layout
+after_blocks file l = record l { widths = widths_behind l; tokens = with_blocks file l }
+
+abbrev pub after_lexeme : ℕ → Layout → ℕ → TokenKind → Layout
+after_lexeme file l len kind = record l {
+  spot = moved l.spot len;
+  started = true;
+  brackets = brackets_behind (Some kind) l.brackets;
+  widths = widths_behind l;
+  behind = moved l.spot len;
+  tokens = with_blocks file l ++ stamped file l.spot (length (with_blocks file l)) (kind ∷ []);
+}
+
+-- faults: the spot and the code
+
+abbrev pub SpottedFault : Type 0
+SpottedFault = Spot × ℕ
+
+-- a tab before the first token, a byte that begins no character, or a width that doesn't fit
+abbrev pub bad_byte_or : Layout → ℕ → Option SpottedFault → Option SpottedFault
+bad_byte_or l valid other = if valid == l.spot.at then Some (l.spot, 101) else other
+
+abbrev pub first_white_fault : Layout → ℕ → Option Spot → Option SpottedFault
+first_white_fault l valid (Some tab) = Some (tab, 102)
+first_white_fault l valid None = bad_byte_or l valid (if fits l.spaces l.widths then None else Some (l.spot, 103))
+
+abbrev pub white_fault : Layout → ℕ → Option SpottedFault
+white_fault l valid = if l.started then bad_byte_or l valid None else first_white_fault l valid l.tab
+
+-- a byte of the piece that begins no character
+abbrev pub end_fault : Layout → ℕ → ℕ → Option SpottedFault
+end_fault l valid len = if nat_lt valid (l.spot.at + len) then Some (moved l.spot (valid - l.spot.at), 101) else None
+
+-- a control character that stands before such a byte
+abbrev pub control_or_end : Layout → ℕ → ℕ → Option ℕ → Option SpottedFault
+control_or_end l valid len None = end_fault l valid len
+control_or_end l valid len (Some i) = if nat_lt (l.spot.at + i) valid then Some (moved l.spot i, 104) else end_fault l valid len
+
+abbrev pub controls : Shape → List ℕ → Option ℕ
+controls StringShape text = control_at text
+controls _ text = None
+
+-- too deep a nesting, a control character, or a byte that begins no character
+abbrev pub lexeme_fault : Layout → ℕ → Shape → List ℕ → ℕ → Option SpottedFault
+lexeme_fault l valid shape text brackets = if nat_lt 64 (brackets + length (widths_behind l)) then Some (l.spot, 107) else control_or_end l valid (length text) (controls shape text)
