@@ -7,14 +7,14 @@ use Rattle.dsl_tree.specs.declared.token.WordKind.TheVariants.{ScenarioWord, Kee
 use Rattle.dsl_lexer.specs.declared.shape.Shape.{Shape}
 use Rattle.dsl_lexer.specs.Shapes.{Space, Comment, LineEnd, Joint, MarkShape, NameShape, NumberShape, StringShape}
 use Rattle.dsl_lexer.specs.Pieces.{Piece, reach}
-use Rattle.dsl_lexer.specs.Layout.{Standing, tokens, last_tokens}
+use Rattle.dsl_lexer.specs.Layout.{OffsetToken, tokens, last_tokens}
 
 -- pieces in reading order behind those before them
 abbrev pub behind : List Piece → List (Shape × List ℕ) → List Piece
 behind before [] = before
 behind before ((shape, text) ∷ more) = behind (record { at = reach before; shape = shape; text = text } ∷ before) more
 
-abbrev pub all_tokens : List (Shape × List ℕ) → List Standing
+abbrev pub all_tokens : List (Shape × List ℕ) → List OffsetToken
 all_tokens pieces = tokens (behind [] pieces) ++ last_tokens (behind [] pieces)
 
 abbrev sp : Shape × List ℕ

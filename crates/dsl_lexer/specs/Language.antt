@@ -33,14 +33,14 @@ AreSound [] = Unit {0}
 AreSound (p ∷ before) = IsSound p before × AreSound before
 
 -- The token list cuts the bytes: they are UTF-8 and a sequence of sound pieces, and these are its tokens.
-pub record Cuts (file : ℕ) (bytes : List ℕ) (found : List Token) : Type 0 where
+pub record TokensCut (file : ℕ) (bytes : List ℕ) (found : List Token) : Type 0 where
   pub pieces : List Piece
   pub utf8 : IsUtf8 bytes
   pub cut : Cut bytes pieces []
   pub sound : AreSound pieces
   pub tokens : found ≡ placed file bytes 0 (tokens pieces ++ last_tokens pieces)
 
--- rest begins with the content of a logical line
+-- rest begins with the content of a logical line: its first byte that is no space, tab, comment, line end or joined line end
 pub record BeginsContent (before : List Piece) (rest : List ℕ) : Type 0 where
   pub first : has_lexeme (line before) ≡ false
   pub content : IsContent rest
@@ -60,22 +60,25 @@ pub data FaultBehind (bytes : List ℕ) (before : List Piece) (rest : List ℕ) 
   -- the first byte that begins no whole character
   utf8 : code ≡ 101 → IsValidUpTo bytes n → reach before ≤ n
       → ((p : Piece) → IsNext before rest p → n < reach before + length p.text) → FaultBehind bytes before rest n code
-  -- the first tab in the white space before the first token of a logical line
+  -- the first tab in the white space before the content of a logical line
   tab : code ≡ 102 → BeginsContent before rest → first_tab (line before) ≡ Some n → FaultBehind bytes before rest n code
   -- a width that is neither opened nor greater than all opened ones
   indent : code ≡ 103 → n ≡ reach before → BeginsContent before rest → fits (width (line before)) (opened (widths before)) ≡ false → FaultBehind bytes before rest n code
-  -- what is no token, and neither a number nor a string that could be one
+  -- a byte at which no piece begins, and no quote
   character : code ≡ 104 → n ≡ reach before → IsStuck rest → begins_with is_quote rest ≡ false → FaultBehind bytes before rest n code
   -- a control character in a string
   control : (p : Piece) (i : ℕ) → code ≡ 104 → IsNext before rest p → p.shape ≡ StringShape → HasControl p.text i → n ≡ reach before + i → FaultBehind bytes before rest n code
   -- a quote that no string begins with
   text : code ≡ 105 → n ≡ reach before → IsStuck rest → begins_with is_quote rest ≡ true → FaultBehind bytes before rest n code
-  -- a number with too many digits, without digits, or with a word or a name directly behind it
+  -- a number with too many digits, `0x` without a digit, a word directly behind a decimal number, or another name
+  -- character directly behind a hexadecimal one
   number : (p : Piece) → code ≡ 106 → n ≡ reach before → IsNext before rest p → p.shape ≡ NumberShape → kind_of p.shape p.text ≡ None → FaultBehind bytes before rest n code
   -- an opening bracket or INDENT that makes more than 64 open brackets and opened blocks together
   deep : (p : Piece) → code ≡ 107 → n ≡ reach before → IsNext before rest p → depth before < depth (p ∷ before) → 64 < depth (p ∷ before) → FaultBehind bytes before rest n code
 
--- a fault at offset n, behind so many tokens
+-- A fault at offset n, behind so many tokens: those that the pieces before it bring, without the INDENT, DEDENTs and
+-- NEWLINE of its own line that are still to come. The faults are those up to the first byte at which no piece begins:
+-- what stands behind it isn't cut.
 pub record FaultAt (bytes : List ℕ) (n code count : ℕ) : Type 0 where
   pub before : List Piece
   pub rest : List ℕ

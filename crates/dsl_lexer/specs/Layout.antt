@@ -52,11 +52,11 @@ is_tab _ = false
 abbrev pub width : List Piece → ℕ
 width pieces = length (filter (λ p. is_space p.shape) pieces)
 
--- where the first tab of a line stands
 abbrev pub or_else : Option ℕ → Option ℕ → Option ℕ
 or_else (Some n) other = Some n
 or_else None other = other
 
+-- where the first tab of a line stands
 abbrev pub first_tab : List Piece → Option ℕ
 first_tab [] = None
 first_tab (p ∷ before) = or_else (first_tab before) (if is_tab p.shape then Some p.at else None)
@@ -75,17 +75,14 @@ widths (p ∷ before) = if begins_line p before then width (line before) ∷ wid
 abbrev pub IsOpened : List ℕ → ℕ → Type 0
 IsOpened widths w = (w ≡ 0) ⊎ ((since earlier : List ℕ) × (widths ≡ since ++ w ∷ earlier) × AllByRecursion (λ v. w ≤ v) since)
 
--- Those above 0 as a list, the greatest first: behind a line they are its width, and the narrower ones that were
--- opened before it. `opened_widths` proves that this list has exactly the opened widths above 0.
-abbrev pub with_width : ℕ → List ℕ → List ℕ
-with_width w narrower = if w == 0 then narrower else w ∷ narrower
-
-abbrev pub opened_behind : ℕ → List ℕ → List ℕ
-opened_behind w before = with_width w (filter (λ v. nat_lt v w) before)
+-- Those above 0 as a list, each once, where since are the widths of later lines: the width of each line such that all
+-- lines since are wider. The law `OpenedLaw` says that the list falls and has exactly the opened widths above 0.
+abbrev pub opened_since : List ℕ → List ℕ → List ℕ
+opened_since since [] = []
+opened_since since (w ∷ earlier) = if nat_lt 0 w && list_all (λ v. nat_lt w v) since then w ∷ opened_since (w ∷ since) earlier else opened_since (w ∷ since) earlier
 
 abbrev pub opened : List ℕ → List ℕ
-opened [] = []
-opened (w ∷ earlier) = opened_behind w (opened earlier)
+opened widths = opened_since [] widths
 
 -- The rest is said of the opened widths above 0.
 
@@ -104,9 +101,9 @@ blocks w ws = if is_widest w ws then Indent ∷ [] else map (λ v. Dedent) (filt
 abbrev pub depth : List Piece → ℕ
 depth pieces = brackets pieces + length (opened (widths pieces))
 
--- a token's kind, and the offset of its place
-abbrev pub Standing : Type 0
-Standing = ℕ × TokenKind
+-- a token's kind, and before it the offset of its place
+abbrev pub OffsetToken : Type 0
+OffsetToken = ℕ × TokenKind
 
 -- the offset behind the last token
 abbrev pub behind_last : List Piece → ℕ
@@ -114,30 +111,30 @@ behind_last [] = 0
 behind_last (p ∷ before) = if is_lexeme p.shape then p.at + length p.text else behind_last before
 
 -- the NEWLINE behind a logical line with a token
-abbrev pub newline : List Piece → List Standing
+abbrev pub newline : List Piece → List OffsetToken
 newline pieces = if has_lexeme (line pieces) then (behind_last pieces, Newline) ∷ [] else []
 
-abbrev pub own_token : ℕ → Option TokenKind → List Standing
+abbrev pub own_token : ℕ → Option TokenKind → List OffsetToken
 own_token at None = []
 own_token at (Some kind) = (at, kind) ∷ []
 
 -- the tokens that p brings behind the pieces before it
-abbrev pub brought : Piece → List Piece → List Standing
+abbrev pub brought : Piece → List Piece → List OffsetToken
 brought p before =
     (if begins_line p before then map (λ kind. (p.at, kind)) (blocks (width (line before)) (opened (widths before))) else [])
     ++ (own_token p.at (kind_of p.shape p.text) ++ (if ends_line p before then newline before else []))
 
-abbrev pub tokens : List Piece → List Standing
+abbrev pub tokens : List Piece → List OffsetToken
 tokens [] = []
 tokens (p ∷ before) = tokens before ++ brought p before
 
 -- the tokens that the end of the file brings: a last NEWLINE unless a bracket is open, one DEDENT for each opened
 -- width above 0, and END
-abbrev pub last_tokens : List Piece → List Standing
+abbrev pub last_tokens : List Piece → List OffsetToken
 last_tokens pieces = (if brackets pieces == 0 then newline pieces else [])
     ++ (map (λ v. (reach pieces, Dedent)) (opened (widths pieces)) ++ (reach pieces, End) ∷ [])
 
 -- the tokens with their places; n tokens stand before them
-abbrev pub placed : ℕ → List ℕ → ℕ → List Standing → List Token
+abbrev pub placed : ℕ → List ℕ → ℕ → List OffsetToken → List Token
 placed file bytes n [] = []
 placed file bytes n ((at, kind) ∷ more) = record { place = place_at file bytes at n; kind = kind } ∷ placed file bytes (n + 1) more

@@ -25,7 +25,7 @@ pub record Stands (before : List Piece) (p : Piece) (rest : List ℕ) : Type 0 w
   pub shape : IsShape p.shape p.text
   pub longest : IsLongest p.text rest
 
--- the bytes are these pieces, one after another, and then rest
+-- the bytes are these pieces (the latest first), one after another, and then rest
 abbrev pub Cut : List ℕ → List Piece → List ℕ → Type 0
 Cut bytes [] rest = bytes ≡ rest
 Cut bytes (p ∷ before) rest = Stands before p rest × Cut bytes before (p.text ++ rest)

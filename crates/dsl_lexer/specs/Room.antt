@@ -1,4 +1,4 @@
--- What is counted stays small: a file has at most 1,048,576 bytes.
+-- What is counted stays small: a file has at most 1,048,576 bytes. This is no part of the meaning of a source.
 use Rattle.std.specs.Prelude.{ℕ, ◌+◌, ◌*◌, ◌≤◌, length}
 use Rattle.dsl_lexer.specs.declared.layout.Layout.{Layout}
 

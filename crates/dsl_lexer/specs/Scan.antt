@@ -1,5 +1,5 @@
--- How long the piece at the front of a source is, as the functions of `scan` compute it. The lemmas of
--- proofs/Fitting.antt tie this to `IsShape`: the piece has its shape, and no longer front has any.
+-- How long the piece at the front of a source is, as the functions of `scan` compute it. This is no part of the
+-- meaning: the lemmas of proofs/Fitting.antt and proofs/Fronts.antt tie it to `IsShape`: the piece has its shape, and no longer front has any.
 use Rattle.std.specs.Prelude.{ℕ, suc, ◌+◌, ◌==◌, Bool, true, false, ◌||◌, ◌&&◌, not, if◌then◌else◌, is_some, List, [], ◌∷◌, length, take, drop, Option, Some, None}
 use Rattle.std.specs.List.{prefix_len}
 use Rattle.std.specs.Option.{option_map}

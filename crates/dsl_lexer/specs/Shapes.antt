@@ -63,7 +63,7 @@ is_inside quote false (b ∷ more) = if is_backslash b then is_inside quote true
 abbrev pub IsString : List ℕ → Type 0
 IsString text = (quote : ℕ) × (inside : List ℕ) × (text ≡ quote ∷ inside ++ quote ∷ []) × IsTrue (is_quote quote) × IsTrue (is_inside quote false inside)
 
--- A comment has no line feed. Of a line end with a carriage return it may take the return: no token and no place tells.
+-- A comment has no line feed. Of a line end with a carriage return it takes the return: no token and no place tells.
 abbrev pub IsShape : Shape → List ℕ → Type 0
 IsShape Space text = text ≡ codes " "
 IsShape Tab text = text ≡ 9 ∷ []

@@ -1,5 +1,6 @@
--- What the steps of the lexer make of what it knows, as its functions compute it.
-use Rattle.std.specs.Prelude.{ℕ, ◌+◌, ◌-◌, ◌==◌, Bool, true, false, nat_lt, if◌then◌else◌, List, [], ◌∷◌, ◌++◌, length, Option, Some, None}
+-- What the steps of the lexer make of what it knows, as its functions compute it. This is no part of the meaning: the
+-- lemmas of proofs/ tie it to `TokensCut` and `IsFirstFault`.
+use Rattle.std.specs.Prelude.{ℕ, ◌+◌, ◌-◌, ◌==◌, ◌&&◌, replicate, Bool, true, false, nat_lt, if◌then◌else◌, List, [], ◌∷◌, ◌++◌, filter, length, Option, Some, None}
 use Rattle.osc_base.specs.declared.fault.Place.{Place}
 use Rattle.dsl_tree.specs.declared.token.Token.{Token}
 use Rattle.dsl_tree.specs.declared.token.TokenKind.{TokenKind}
@@ -8,8 +9,15 @@ use Rattle.dsl_lexer.specs.declared.spot.Spot.{Spot}
 use Rattle.dsl_lexer.specs.declared.layout.Layout.{Layout}
 use Rattle.dsl_lexer.specs.declared.shape.Shape.{Shape}
 use Rattle.dsl_lexer.specs.Shapes.{StringShape}
-use Rattle.dsl_lexer.specs.Layout.{brackets_behind, opened_behind, fits, blocks}
+use Rattle.dsl_lexer.specs.Layout.{brackets_behind, fits, blocks}
 use Rattle.dsl_lexer.specs.Scan.{control_at}
+
+-- the opened widths above 0 behind a line of width w
+abbrev pub with_width : ℕ → List ℕ → List ℕ
+with_width w narrower = if w == 0 then narrower else w ∷ narrower
+
+abbrev pub opened_behind : ℕ → List ℕ → List ℕ
+opened_behind w before = with_width w (filter (λ v. nat_lt v w) before)
 
 abbrev pub moved : Spot → ℕ → Spot
 moved s len = record s { at = s.at + len; column = s.column + len }
@@ -80,6 +88,16 @@ after_lexeme file l len kind = record l {
   behind = moved l.spot len;
   tokens = with_blocks file l ++ stamped file l.spot (length (with_blocks file l)) (kind ∷ []);
 }
+
+-- the tokens of the file at its end
+abbrev pub with_last_newline : ℕ → Layout → List Token
+with_last_newline file l = if l.brackets == 0 && l.started then l.tokens ++ stamped file l.behind (length l.tokens) (Newline ∷ []) else l.tokens
+
+abbrev pub with_dedents : ℕ → Layout → List Token
+with_dedents file l = with_last_newline file l ++ stamped file l.spot (length (with_last_newline file l)) (replicate (length l.widths) Dedent)
+
+abbrev pub all_tokens : ℕ → Layout → List Token
+all_tokens file l = with_dedents file l ++ stamped file l.spot (length (with_dedents file l)) (End ∷ [])
 
 -- faults: the spot and the code
 

@@ -1,4 +1,5 @@
--- The number that digits stand for, as a walk over them computes it.
+-- The number that digits stand for, as a walk over them computes it. This is no part of the meaning of a source, which
+-- is `value` of Kinds.antt.
 use Rattle.std.specs.Prelude.{ℕ, ◌+◌, ◌*◌, ◌^◌, ◌<◌, ◌≤◌, List, length, take, fold}
 use Rattle.std.specs.Char.{digit_value}
 

@@ -1,6 +1,6 @@
 //! What a lexer knows at a place: the logical line, the brackets, the opened widths and the tokens so far.
 
-ghost use Rattle.std.specs.Prelude.{◌≡◌, ◌+◌, ◌*◌, ◌^◌, ◌<◌, ◌≤◌, [], ◌∷◌, ◌++◌, Option, None, Some, length, replicate, option_map, OnOk};
+ghost use Rattle.std.specs.Prelude.{◌≡◌, ◌+◌, ◌*◌, ◌^◌, ◌<◌, ◌≤◌, [], ◌∷◌, ◌++◌, Option, None, Some, length, replicate, OnOk, IfOk};
 ghost use Rattle.dsl_tree.specs.declared.token.TokenKind.TheVariants.{Dedent};
 ghost use Rattle.dsl_lexer.specs.Layout.{brackets_behind, blocks};
 ghost use Rattle.dsl_lexer.specs.Steps as steps;
@@ -175,5 +175,19 @@ impl Layout {
         self.spot = spot.past(len);
         self.behind = self.spot;
         push(&mut self.tokens, file, spot, kind)
+    }
+
+    /// The tokens of the file, with those that its end brings.
+    pub fn finish(self, file: u32) -> Result<Row<Token>, AllocError>
+        requires { HasRoom self 0 }
+        ensures { IfOk result (λ tokens. tokens ≡ steps.all_tokens file self) }
+    {
+        let mut tokens = self.tokens;
+        if self.brackets == 0 && self.started {
+            push(&mut tokens, file, self.behind, TokenKind::Newline)?;
+        }
+        push_dedents(&mut tokens, file, self.spot, self.widths.len())?;
+        push(&mut tokens, file, self.spot, TokenKind::End)?;
+        Ok(tokens)
     }
 }

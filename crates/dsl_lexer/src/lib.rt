@@ -1,8 +1,10 @@
 //! From the bytes of a source file to its tokens, or to its first lexical fault.
 #![tactic(auto)]
 
+mod faults;
 mod kinds;
 mod layout;
+mod lexer;
 mod marks;
 mod scan;
 mod shape;
@@ -11,5 +13,5 @@ mod stop;
 mod widths;
 mod words;
 
-pub use shape::Shape;
+pub use lexer::lex;
 pub use stop::LexStop;

@@ -1,3 +1,5 @@
+use std::alloc::AllocError;
+
 use osc_base::Fault;
 
 /// Why a file has no tokens.
@@ -7,4 +9,15 @@ pub enum LexStop {
     At(Fault),
     /// Memory was missing.
     Memory,
+}
+
+impl From<AllocError> for LexStop {
+    ghost use Rattle.dsl_lexer.specs.declared.stop.LexStop.TheVariants.{Memory};
+    ghost use Rattle.std.specs.Prelude.{◌≡◌};
+
+    ghost from_gives = { λ _ e. e ≡ Memory };
+
+    fn from(_error: AllocError) -> LexStop {
+        LexStop::Memory
+    }
 }

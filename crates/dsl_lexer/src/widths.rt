@@ -1,6 +1,6 @@
 ghost use Rattle.std.specs.Prelude.{◌≡◌, ◌≤◌, ◌<◌, ◌^◌, ◌&&◌, ◌==◌, [], nat_lt, length, filter, OnOk};
 ghost use Rattle.std.specs.List.{list_all, list_any};
-ghost use Rattle.dsl_lexer.specs.Layout.{opened_behind};
+ghost use Rattle.dsl_lexer.specs.Steps.{opened_behind};
 ghost use Rattle.dsl_lexer.specs.Layout as layout;
 
 use std::alloc::{AllocError, Global};

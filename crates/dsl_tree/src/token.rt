@@ -7,7 +7,7 @@ pub struct Token {
     pub kind: TokenKind,
 }
 
-/// The tokens of a file, in order. The last one, and no other, is `End`.
+/// The tokens of a file, in order. As the lexer gives them, the last one, and no other, is `End`.
 pub type Tokens = Row<Token>;
 
 /// What a token is.
@@ -17,16 +17,27 @@ pub type Tokens = Row<Token>;
 /// `Chars` is a string, with the text between its quotes once its escapes are read.
 #[derive(Drop)]
 pub enum TokenKind {
+    /// The end of a logical line, behind its last token.
     Newline,
+    /// A line that is wider than all that is opened, before its first token.
     Indent,
+    /// The end of a block, before the first token of the narrower line or at the end of the file.
     Dedent,
+    /// The end of the file.
     End,
     Mark(MarkKind),
     Word(WordKind),
     LeftOut(LeftKind),
     Name(Text),
-    Number { digits: u64, places: u8 },
-    Physical { digits: u64, places: u8, unit: Text },
+    Number {
+        digits: u64,
+        places: u8,
+    },
+    Physical {
+        digits: u64,
+        places: u8,
+        unit: Text,
+    },
     Chars(Text),
 }
 
