@@ -118,7 +118,7 @@ line_end_fits text rest (inr e) = subst (λ t. AtMost (length t) (line_end_len (
 joint_fits : (text rest end : List ℕ) → text ≡ 92 ∷ end → IsLineEnd end → AtMost (length text) (option_map suc (line_end_len (drop 1 (text ++ rest))))
 joint_fits text rest end e h = subst (λ t. AtMost (length t) (option_map suc (line_end_len (drop 1 (t ++ rest))))) (sym e) (AtMost-suc (length end) (line_end_len (end ++ rest)) (line_end_fits end rest h))
 
-name_passes : (text : List ℕ) → IsName text → list_all is_name_byte text ≡ true
+pub name_passes : (text : List ℕ) → IsName text → list_all is_name_byte text ≡ true
 name_passes [] h = absurd h
 name_passes (b ∷ more) h = and_from (is_name_byte b) (list_all is_name_byte more) (start_is_name_byte b h.0) h.1
 

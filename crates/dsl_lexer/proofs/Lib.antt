@@ -5,3 +5,8 @@ pub mod Fitting
 pub mod Fronts
 pub mod Numbers
 pub mod Stamps
+pub mod Cutting
+pub mod Opened
+pub mod Spots
+pub mod Bounds
+pub mod Matching

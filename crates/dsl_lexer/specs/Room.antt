@@ -9,4 +9,4 @@ pub record HasRoom (l : Layout) (len : ℕ) : Type 0 where
   pub column : l.spot.column ≤ l.spot.at + 1
   pub spaces : l.spaces ≤ l.spot.at
   pub brackets : l.brackets ≤ l.spot.at
-  pub tokens : length l.tokens + length l.widths ≤ 3 * l.spot.at
+  pub tokens : length l.tokens + length l.widths ≤ 4 * l.spot.at

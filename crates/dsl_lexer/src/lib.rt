@@ -4,7 +4,6 @@
 mod faults;
 mod kinds;
 mod layout;
-mod lexer;
 mod marks;
 mod scan;
 mod shape;
@@ -13,5 +12,4 @@ mod stop;
 mod widths;
 mod words;
 
-pub use lexer::lex;
 pub use stop::LexStop;

@@ -1,4 +1,4 @@
-ghost use Rattle.std.specs.Prelude.{◌≡◌, ◌≤◌, ◌<◌, ◌^◌, ◌&&◌, ◌==◌, [], nat_lt, length, filter, OnOk};
+ghost use Rattle.std.specs.Prelude.{◌≡◌, ◌+◌, ◌≤◌, ◌<◌, ◌^◌, ◌&&◌, ◌==◌, [], nat_lt, length, filter, OnOk};
 ghost use Rattle.std.specs.List.{list_all, list_any};
 ghost use Rattle.dsl_lexer.specs.Steps.{opened_behind};
 ghost use Rattle.dsl_lexer.specs.Layout as layout;
@@ -71,7 +71,8 @@ impl Widths {
     }
 
     fn count_narrower(&self, width: u32) -> usize
-        ensures { result ≡ length (filter (λ v. nat_lt v width) self.now) }
+        ensures count { result ≡ length (filter (λ v. nat_lt v width) self.now) }
+        ensures within { result ≤ length self.now }
     {
         self.widths.iter().filter(|v| **v < width).count()
     }
@@ -79,7 +80,8 @@ impl Widths {
     /// How many there are once a line of this width has begun.
     pub fn len_behind(&self, width: u32) -> usize
         requires { length self.now < 2 ^ 32 }
-        ensures { result ≡ length (opened_behind width self.now) }
+        ensures len { result ≡ length (opened_behind width self.now) }
+        ensures within { result ≤ length self.now + 1 }
     {
         let narrower = self.count_narrower(width);
         if width == 0 { narrower } else { narrower + 1 }
