@@ -10,3 +10,4 @@ pub mod Opened
 pub mod Spots
 pub mod Bounds
 pub mod Matching
+pub mod Firsts

@@ -58,23 +58,23 @@ begins_with test (b ∷ more) = test b
 -- a fault at offset n: the pieces are those before it, and rest is what stands behind them
 pub data FaultBehind (bytes : List ℕ) (before : List Piece) (rest : List ℕ) (n code : ℕ) : Type 0 where
   -- the first byte that begins no whole character
-  utf8 : code ≡ 101 → IsValidUpTo bytes n → reach before ≤ n
+  bad_byte : code ≡ 101 → IsValidUpTo bytes n → reach before ≤ n
       → ((p : Piece) → IsNext before rest p → n < reach before + length p.text) → FaultBehind bytes before rest n code
   -- the first tab in the white space before the content of a logical line
-  tab : code ≡ 102 → BeginsContent before rest → first_tab (line before) ≡ Some n → FaultBehind bytes before rest n code
+  early_tab : code ≡ 102 → BeginsContent before rest → first_tab (line before) ≡ Some n → FaultBehind bytes before rest n code
   -- a width that is neither opened nor greater than all opened ones
-  indent : code ≡ 103 → n ≡ reach before → BeginsContent before rest → fits (width (line before)) (opened (widths before)) ≡ false → FaultBehind bytes before rest n code
+  bad_width : code ≡ 103 → n ≡ reach before → BeginsContent before rest → fits (width (line before)) (opened (widths before)) ≡ false → FaultBehind bytes before rest n code
   -- a byte at which no piece begins, and no quote
-  character : code ≡ 104 → n ≡ reach before → IsStuck rest → begins_with is_quote rest ≡ false → FaultBehind bytes before rest n code
+  no_piece : code ≡ 104 → n ≡ reach before → IsStuck rest → begins_with is_quote rest ≡ false → FaultBehind bytes before rest n code
   -- a control character in a string
-  control : (p : Piece) (i : ℕ) → code ≡ 104 → IsNext before rest p → p.shape ≡ StringShape → HasControl p.text i → n ≡ reach before + i → FaultBehind bytes before rest n code
+  bad_control : (p : Piece) (i : ℕ) → code ≡ 104 → IsNext before rest p → p.shape ≡ StringShape → HasControl p.text i → n ≡ reach before + i → FaultBehind bytes before rest n code
   -- a quote that no string begins with
-  text : code ≡ 105 → n ≡ reach before → IsStuck rest → begins_with is_quote rest ≡ true → FaultBehind bytes before rest n code
+  no_string : code ≡ 105 → n ≡ reach before → IsStuck rest → begins_with is_quote rest ≡ true → FaultBehind bytes before rest n code
   -- a number with too many digits, `0x` without a digit, a word directly behind a decimal number, or another name
   -- character directly behind a hexadecimal one
-  number : (p : Piece) → code ≡ 106 → n ≡ reach before → IsNext before rest p → p.shape ≡ NumberShape → kind_of p.shape p.text ≡ None → FaultBehind bytes before rest n code
+  no_number : (p : Piece) → code ≡ 106 → n ≡ reach before → IsNext before rest p → p.shape ≡ NumberShape → kind_of p.shape p.text ≡ None → FaultBehind bytes before rest n code
   -- an opening bracket or INDENT that makes more than 64 open brackets and opened blocks together
-  deep : (p : Piece) → code ≡ 107 → n ≡ reach before → IsNext before rest p → depth before < depth (p ∷ before) → 64 < depth (p ∷ before) → FaultBehind bytes before rest n code
+  too_deep : (p : Piece) → code ≡ 107 → n ≡ reach before → IsNext before rest p → depth before < depth (p ∷ before) → 64 < depth (p ∷ before) → FaultBehind bytes before rest n code
 
 -- A fault at offset n, behind so many tokens: those that the pieces before it bring, without the INDENT, DEDENTs and
 -- NEWLINE of its own line that are still to come. The faults are those up to the first byte at which no piece begins:
