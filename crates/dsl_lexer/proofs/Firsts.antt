@@ -36,7 +36,7 @@ pub record IsBad (bytes : List ℕ) (reached n : ℕ) : Type 0 where
 begins_first : (p : Piece) (before : List Piece) → is_lexeme p.shape ≡ true → has_lexeme (line before) ≡ false → begins_line p before ≡ true
 begins_first p before lex first = rw (lex, first) refl
 
-some_not_none : {A : Type 0} (o : Option A) → IsSome o → o ≡ None → ⊥
+pub some_not_none : {A : Type 0} (o : Option A) → IsSome o → o ≡ None → ⊥
 some_not_none o h e = false≢true (sym (ap is_some e) ∙ h)
 
 first_content : (before : List Piece) (rest : List ℕ) (p : Piece) → IsNext before rest p → BeginsContent before rest → IsSound p before → IsLaidOut before
@@ -71,7 +71,7 @@ abbrev AllFrom : ℕ → List Piece → Type 0
 AllFrom k [] = Unit {0}
 AllFrom k (p ∷ before) = (k ≤ p.at) × AllFrom k before
 
-some_is : (m n : ℕ) → Some m ≡ Some n → m ≡ n
+pub some_is : (m n : ℕ) → Some m ≡ Some n → m ≡ n
 some_is m n e = cc
 
 tab_go : (k n at : ℕ) (o : Option ℕ) (t : Bool) → k ≤ at → ((m : ℕ) → o ≡ Some m → k ≤ m) → or_else o (cond t (Some at) None) ≡ Some n → k ≤ n
@@ -213,7 +213,7 @@ pub record IsFirstHere (bytes : List ℕ) (valid : ℕ) (before : List Piece) (r
   pub inside : (p : Piece) → IsNext before rest p → n < reach before + length p.text
   pub next : (p : Piece) → IsNext before rest p → (is_lexeme p.shape ≡ true) ⊎ (p.shape ≡ Comment)
 
-bad_later : (n code valid m c : ℕ) → (n < valid) ⊎ ((n ≡ valid) × (code ≡ 101)) → m ≡ valid → c ≡ 101 → NotBefore n code m c
+pub bad_later : (n code valid m c : ℕ) → (n < valid) ⊎ ((n ≡ valid) × (code ≡ 101)) → m ≡ valid → c ≡ 101 → NotBefore n code m c
 bad_later n code valid m c (inl h) e f = inl (omega arith)
 bad_later n code valid m c (inr (h, k)) e f = inr (omega arith, omega arith)
 

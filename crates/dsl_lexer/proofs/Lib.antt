@@ -11,3 +11,5 @@ pub mod Spots
 pub mod Bounds
 pub mod Matching
 pub mod Firsts
+pub mod Ascii
+pub mod Stepping

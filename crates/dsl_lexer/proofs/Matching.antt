@@ -53,7 +53,7 @@ placed-append file bytes n ((at, kind) ∷ xs) ys =
       placed-append file bytes (n + 1) xs ys ∙ ap (λ k. placed file bytes (n + 1) xs ++ placed file bytes k ys) e in
     ap (λ t. record { place = place_at file bytes at n; kind = kind } ∷ t) rest
 
-place_same : (file : ℕ) (bytes : List ℕ) (at : ℕ) (s : Spot) (n : ℕ) → IsSpot bytes at s → steps.place_of file s n ≡ place_at file bytes at n
+pub place_same : (file : ℕ) (bytes : List ℕ) (at : ℕ) (s : Spot) (n : ℕ) → IsSpot bytes at s → steps.place_of file s n ≡ place_at file bytes at n
 place_same file bytes at s n is =
     ap (λ x. record { file = file; line = x; column = s.column; token = n }) is.line ∙ ap (λ x. record { file = file; line = line_at bytes at; column = x; token = n }) is.column
 

@@ -1,6 +1,6 @@
 -- What the steps of the lexer make of what it knows, as its functions compute it. This is no part of the meaning: the
 -- lemmas of proofs/ tie it to `TokensCut` and `IsFirstFault`.
-use Rattle.std.specs.Prelude.{ℕ, ◌+◌, ◌-◌, ◌==◌, ◌&&◌, replicate, Bool, true, false, nat_lt, if◌then◌else◌, List, [], ◌∷◌, ◌++◌, filter, length, Option, Some, None}
+use Rattle.std.specs.Prelude.{ℕ, ◌+◌, ◌-◌, ◌==◌, ◌&&◌, replicate, Bool, true, false, nat_lt, if◌then◌else◌, List, [], ◌∷◌, ◌++◌, filter, length, take, Option, Some, None}
 use Rattle.osc_base.specs.declared.fault.Place.{Place}
 use Rattle.dsl_tree.specs.declared.token.Token.{Token}
 use Rattle.dsl_tree.specs.declared.token.TokenKind.{TokenKind}
@@ -8,9 +8,12 @@ use Rattle.dsl_tree.specs.declared.token.TokenKind.TheVariants.{Newline, Dedent,
 use Rattle.dsl_lexer.specs.declared.spot.Spot.{Spot}
 use Rattle.dsl_lexer.specs.declared.layout.Layout.{Layout}
 use Rattle.dsl_lexer.specs.declared.shape.Shape.{Shape}
-use Rattle.dsl_lexer.specs.Shapes.{StringShape}
+use Rattle.dsl_lexer.specs.Bytes.{is_quote}
+use Rattle.dsl_lexer.specs.Shapes.{Space, Tab, Comment, LineEnd, Joint, MarkShape, NameShape, NumberShape, StringShape, is_lexeme}
+use Rattle.dsl_lexer.specs.Kinds.{kind_of}
+use Rattle.dsl_lexer.specs.Language.{begins_with}
 use Rattle.dsl_lexer.specs.Layout.{brackets_behind, fits, blocks}
-use Rattle.dsl_lexer.specs.Scan.{control_at}
+use Rattle.dsl_lexer.specs.Scan.{first_shape, piece_len, control_at}
 
 -- the opened widths above 0 behind a line of width w
 abbrev pub with_width : ℕ → List ℕ → List ℕ
@@ -131,3 +134,40 @@ controls _ text = None
 -- too deep a nesting, a control character, or a byte that begins no character
 abbrev pub lexeme_fault : Layout → ℕ → Shape → List ℕ → ℕ → Option SpottedFault
 lexeme_fault l valid shape text brackets = if nat_lt 64 (brackets + length (widths_behind l)) then Some (l.spot, 107) else control_or_end l valid (length text) (controls shape text)
+
+-- a step: either the lexer goes on, or it stops at a fault
+
+pub data Outcome : Type 0 where
+  Goes : Layout → Outcome
+  Stops : Spot → (code : ℕ) → Outcome
+
+abbrev pub or_stop : Option SpottedFault → Outcome → Outcome
+or_stop None next = next
+or_stop (Some fault) next = Stops fault.0 fault.1
+
+abbrev pub after_separator : ℕ → Layout → Shape → ℕ → Layout
+after_separator file l Space len = after_space l
+after_separator file l Tab len = after_tab l
+after_separator file l Comment len = after_comment l len
+after_separator file l Joint len = after_joint l len
+after_separator file l _ len = after_line_end file l len
+
+abbrev pub separator_of : ℕ → ℕ → Layout → Shape → ℕ → Outcome
+separator_of file valid l shape len = or_stop (end_fault l valid len) (Goes (after_separator file l shape len))
+
+abbrev pub lexeme_of : ℕ → ℕ → Layout → Shape → List ℕ → Option TokenKind → Outcome
+lexeme_of file valid l shape text None = Stops l.spot 106
+lexeme_of file valid l shape text (Some kind) =
+    or_stop (lexeme_fault l valid shape text (brackets_behind (Some kind) l.brackets)) (Goes (after_lexeme file l (length text) kind))
+
+abbrev pub content_of : ℕ → ℕ → Layout → Shape → List ℕ → Option ℕ → Outcome
+content_of file valid l shape rest None = Stops l.spot (if begins_with is_quote rest then 105 else 104)
+content_of file valid l shape rest (Some len) = lexeme_of file valid l shape (take len rest) (kind_of shape (take len rest))
+
+abbrev pub piece_of : ℕ → ℕ → Layout → Shape → List ℕ → Bool → Option ℕ → Outcome
+piece_of file valid l shape rest false (Some len) = separator_of file valid l shape len
+piece_of file valid l shape rest lexeme len = or_stop (white_fault l valid) (content_of file valid l shape rest len)
+
+abbrev pub step_of : ℕ → ℕ → Layout → List ℕ → Outcome
+step_of file valid l [] = Goes l
+step_of file valid l (b ∷ more) = piece_of file valid l (first_shape b) (b ∷ more) (is_lexeme (first_shape b)) (piece_len (first_shape b) (b ∷ more))
