@@ -13,3 +13,4 @@ pub mod Matching
 pub mod Firsts
 pub mod Ascii
 pub mod Stepping
+pub mod StepLaw

@@ -4,7 +4,8 @@ use Rattle.std.specs.Prelude.{filter, nat_lt, ◌==◌, ◌≢◌, IsTrue, IsSom
 use Rattle.std.specs.List.{list_all, list_any}
 use Rattle.std.specs.Str.{IsUtf8, IsValidUpTo}
 use Rattle.std.proofs.lemmas.Bool.{cond_both, cond-true, cond-false, and_from, and_parts, or_parts, or_right, or_left, eqb-true, eqb-false, eq-eqb, ne_eqb, cases_order, cases_Bool, false≢true, true≢false, not_from_false, not-true, ltb-true, ltb-false, lt-ltb, le-ltb}
-use Rattle.std.proofs.lemmas.List.{append_assoc, length-append, append-nil, take_at}
+use Rattle.std.proofs.lemmas.List.{append_assoc, length-append, append-nil, take_at, take-append-drop, length-take-le}
+use Rattle.std.proofs.lemmas.List.Folds.{list_all-append}
 use Rattle.dsl_tree.specs.declared.token.TokenKind.{TokenKind}
 use Rattle.dsl_tree.specs.declared.token.TokenKind.TheVariants.{Mark, Name, Chars}
 use Rattle.dsl_tree.specs.declared.token.MarkKind.{MarkKind}
@@ -32,7 +33,7 @@ use Rattle.dsl_lexer.proofs.Cutting.{some_text, is_next_same, spelled, cut_rest}
 -- the faults at one place, each with its offset and code
 
 module _ (bytes : List ℕ) (valid : ℕ) (before : List Piece) (rest : List ℕ) (v : Valid bytes valid) (n code : ℕ) where
-  least_of : ((n < valid) ⊎ ((n ≡ valid) × (code ≡ 101)))
+  pub least_of : ((n < valid) ⊎ ((n ≡ valid) × (code ≡ 101)))
       → ((m : ℕ) → BeginsContent before rest → first_tab (line before) ≡ Some m → NotBefore n code m 102)
       → (BeginsContent before rest → fits (width (line before)) (opened (widths before)) ≡ false → NotBefore n code (reach before) 103)
       → (IsStuck rest → (t : Bool) → begins_with is_quote rest ≡ t → NotBefore n code (reach before) (cond t 105 104))
@@ -51,7 +52,7 @@ module _ (bytes : List ℕ) (valid : ℕ) (before : List Piece) (rest : List ℕ
 
 -- how deep it is
 
-depth_ok : (before : List Piece) → AreSound before → depth before ≤ 64
+pub depth_ok : (before : List Piece) → AreSound before → depth before ≤ 64
 depth_ok [] h = omega arith
 depth_ok (p ∷ before) h = h.0.shallow
 
@@ -66,7 +67,7 @@ separator_brackets NameShape text n h = absurd (true≢false h)
 separator_brackets NumberShape text n h = absurd (true≢false h)
 separator_brackets StringShape text n h = absurd (true≢false h)
 
-separator_depth : (p : Piece) (before : List Piece) → is_lexeme p.shape ≡ false → depth (p ∷ before) ≡ depth before
+pub separator_depth : (p : Piece) (before : List Piece) → is_lexeme p.shape ≡ false → depth (p ∷ before) ≡ depth before
 separator_depth p before h = rw (h, separator_brackets p.shape p.text (brackets before) h) refl
 
 -- a tab stands before the place
@@ -79,7 +80,7 @@ tab_line : (p : Piece) (lb : List Piece) (n k : ℕ) (t : Bool) → p.at < k →
 tab_line p lb n k true h earlier e = absurd (cc)
 tab_line p lb n k false h earlier e = tab_or k n p.at (first_tab lb) (is_tab p.shape) h earlier e
 
-tab_before : (bytes : List ℕ) (before : List Piece) (rest : List ℕ) (n : ℕ) → Cut bytes before rest → first_tab (line before) ≡ Some n → n < reach before
+pub tab_before : (bytes : List ℕ) (before : List Piece) (rest : List ℕ) (n : ℕ) → Cut bytes before rest → first_tab (line before) ≡ Some n → n < reach before
 tab_before bytes [] rest n cut e = absurd (cc)
 tab_before bytes (p ∷ before) rest n cut e =
     let at = cut.0.at in
@@ -107,7 +108,7 @@ Follows file bytes valid l (Stops s code) = IsStop file bytes l s code
 
 -- from the first fault at the pieces to the first at all
 module _ (file : ℕ) (bytes : List ℕ) (valid : ℕ) (l : Layout) (v : Valid bytes valid) (before : List Piece) (rest : List ℕ) (cut : Cut bytes before rest) (sound : AreSound before) (m : Matches file bytes before l) (within : reach before ≤ valid) where
-  stop_here : (n code : ℕ) (s : Spot) → IsSpot bytes n s → IsFirstHere bytes valid before rest n code → IsStop file bytes l s code
+  pub stop_here : (n code : ℕ) (s : Spot) → IsSpot bytes n s → IsFirstHere bytes valid before rest n code → IsStop file bytes l s code
   stop_here n code s is first = record {
     first = λ fault place same.
       let count : length l.tokens ≡ length (tokens before) = ap length m.tokens ∙ length-placed file bytes 0 (tokens before) in
@@ -119,3 +120,65 @@ module _ (file : ℕ) (bytes : List ℕ) (valid : ℕ) (l : Layout) (v : Valid b
         first = λ k c tokens x. rw same (first_of_all bytes valid before rest n code v first cut sound within k c tokens x);
       };
   }
+
+-- spots inside and behind a piece
+
+take_flat : (k : ℕ) (xs : List ℕ) → list_all no_feed xs ≡ true → list_all no_feed (take k xs) ≡ true
+take_flat k xs all = (and_parts (list_all no_feed (take k xs)) (list_all no_feed (drop k xs)) (sym (list_all-append no_feed (take k xs) (drop k xs)) ∙ ap (list_all no_feed) (take-append-drop k xs) ∙ all)).0
+
+module _ (bytes : List ℕ) (before : List Piece) (pieces_text behind : List ℕ) (cut : Cut bytes before (pieces_text ++ behind)) (s : Spot) (is : IsSpot bytes (reach before) s) where
+  pub inner_spot : (k : ℕ) → k ≤ length pieces_text → list_all no_feed pieces_text ≡ true → IsSpot bytes (reach before + k) (moved s k)
+  inner_spot k h all =
+      let x = spelled bytes before (pieces_text ++ behind) cut in
+      let cut_text : pieces_text ++ behind ≡ take k pieces_text ++ (drop k pieces_text ++ behind) = ap (λ t. t ++ behind) (sym (take-append-drop k pieces_text)) ∙ append_assoc (take k pieces_text) (drop k pieces_text) behind in
+      let size : length (take k pieces_text) ≡ k = length-take-le k pieces_text h in
+      let is' : IsSpot bytes (length x.front) s = rw x.size is in
+      let over = spot_over bytes x.front (take k pieces_text) (drop k pieces_text ++ behind) (x.split ∙ ap (λ t. x.front ++ t) cut_text) s is' (take_flat k pieces_text all) in
+      subst (λ n. IsSpot bytes (n + k) (moved s k)) x.size (subst (λ n. IsSpot bytes (length x.front + n) (moved s n)) size over)
+
+  pub flat_spot : (n : ℕ) → length pieces_text ≡ n → list_all no_feed pieces_text ≡ true → IsSpot bytes (reach before + length pieces_text) (moved s n)
+  flat_spot n size all = subst (λ k. IsSpot bytes (reach before + length pieces_text) (moved s k)) size (inner_spot (length pieces_text) (omega arith) all)
+
+  below_spot : (n : ℕ) → length pieces_text ≡ n → Ends pieces_text → IsSpot bytes (reach before + length pieces_text) (on_next_line s n)
+  below_spot n size ends =
+      let x = spelled bytes before (pieces_text ++ behind) cut in
+      let is' : IsSpot bytes (length x.front) s = rw x.size is in
+      let whole : bytes ≡ x.front ++ (ends.inner ++ 10 ∷ behind) = x.split ∙ ap (λ t. x.front ++ (t ++ behind)) ends.split ∙ ap (λ t. x.front ++ t) (append_assoc ends.inner (10 ∷ []) behind) in
+      let below = spot_below bytes x.front ends.inner behind s whole is' ends.flat in
+      let len : length ends.inner + 1 ≡ length pieces_text = sym (ap length ends.split ∙ length-append ends.inner (10 ∷ [])) in
+      let at : IsSpot bytes (length x.front + length pieces_text) (on_next_line s (length pieces_text)) = subst (λ n. IsSpot bytes (length x.front + n) (on_next_line s n)) len below in
+      subst (λ k. IsSpot bytes (reach before + length pieces_text) (on_next_line s k)) size (subst (λ n. IsSpot bytes (n + length pieces_text) (on_next_line s (length pieces_text))) x.size at)
+
+-- one separator more
+
+module _ (file : ℕ) (bytes : List ℕ) (before : List Piece) (l : Layout) (m : Matches file bytes before l) (piece_text behind : List ℕ) (cut : Cut bytes before (piece_text ++ behind)) where
+  pub separator_matches : (s : Shape) (n : ℕ) → is_lexeme s ≡ false → IsShape s piece_text → length piece_text ≡ n
+      → Matches file bytes (record { at = reach before; shape = s; text = piece_text } ∷ before) (after_separator file l s n)
+  separator_matches Space n off e size =
+      space_matches file bytes before l (reach before) piece_text m (moved l.spot n) (flat_spot bytes before piece_text behind cut l.spot m.spot n size (rw e refl)) (ap (moved l.spot) (sym size ∙ ap length e))
+  separator_matches Tab n off e size =
+      tab_matches file bytes before l (reach before) piece_text m (moved l.spot n) (flat_spot bytes before piece_text behind cut l.spot m.spot n size (rw e refl)) (ap (moved l.spot) (sym size ∙ ap length e)) refl
+  separator_matches Comment n off e size =
+      comment_matches file bytes before l (reach before) piece_text m n (moved l.spot n) (flat_spot bytes before piece_text behind cut l.spot m.spot n size (flat Comment piece_text refl e)) refl
+  separator_matches Joint n off (end, e, h) size =
+      joint_matches file bytes before l (reach before) piece_text m n (on_next_line l.spot n) (below_spot bytes before piece_text behind cut l.spot m.spot n size (joint_ends piece_text end e h)) refl
+  separator_matches LineEnd n off h size =
+      line_end_matches file bytes before l (reach before) piece_text m n (on_next_line l.spot n) (below_spot bytes before piece_text behind cut l.spot m.spot n size (line_end_ends piece_text h)) refl
+  separator_matches MarkShape n off h size = absurd (true≢false off)
+  separator_matches NameShape n off h size = absurd (true≢false off)
+  separator_matches NumberShape n off h size = absurd (true≢false off)
+  separator_matches StringShape n off h size = absurd (true≢false off)
+
+-- one piece more is reached
+
+pub reached_more : (file : ℕ) (bytes : List ℕ) (valid : ℕ) (l next : Layout) (before : List Piece) (rest : List ℕ) (p : Piece) → Matches file bytes before l → Cut bytes before rest → AreSound before → (n : IsNext before rest p) → IsSound p before
+    → Matches file bytes (p ∷ before) next → reach before + length p.text ≤ valid → Reached file bytes valid next × (l.spot.at < next.spot.at)
+reached_more file bytes valid l next before rest p m cut sound n good mm within =
+    let some = some_text p.shape p.text n.stands.shape in
+    let a = m.spot.at in let b = mm.spot.at in
+    (record { before = p ∷ before; rest = n.behind; cut = (n.stands, subst (Cut bytes before) n.split cut); sound = (good, sound); matches = mm; within = within }, omega arith)
+
+-- a byte in a separator that begins no character stands in a comment
+pub bad_comment : (bytes : List ℕ) (valid : ℕ) (before : List Piece) (s : Shape) (piece_text behind : List ℕ) → Cut bytes before (piece_text ++ behind) → IsShape s piece_text → is_lexeme s ≡ false → IsValidUpTo bytes valid → reach before ≤ valid → valid < reach before + length piece_text → s ≡ Comment
+bad_comment bytes valid before s piece_text behind cut shape off bad low high =
+    elim (separator_ascii s piece_text shape off) [ inl e ↦ e | inr ascii ↦ absurd (ascii_piece bytes before piece_text behind valid cut ascii bad low high) ]
