@@ -30,15 +30,74 @@ use Rattle.dsl_lexer.proofs.Matching.{IsTab, Matches, length-placed, place_same,
 use Rattle.dsl_lexer.proofs.Firsts.{Valid, some_not_none, no_brackets, NotBefore, IsFirstHere, some_is, bad_later, first_of_all}
 use Rattle.dsl_lexer.proofs.Cutting.{some_text, is_next_same, spelled, cut_rest, cut_length}
 
+use Rattle.std.specs.Option.{option_map}
 use Rattle.dsl_lexer.proofs.Stepping.{least_of, depth_ok, separator_depth, tab_before, inner_spot, flat_spot, separator_matches, reached_more, bad_comment, Reached, IsStop, Follows, stop_here}
 
 -- what is known of a place behind its white space
-record Clear (valid : ℕ) (before : List Piece) : Type 0 where
+pub record Clear (valid : ℕ) (before : List Piece) : Type 0 where
   pub early : reach before < valid
   pub laid : has_lexeme (line before) ≡ false → IsLaidOut before
 
 abbrev piece_of_text : List Piece → Shape → List ℕ → Piece
 piece_of_text before s t = record { at = reach before; shape = s; text = t }
+
+none_number : (s : Shape) (piece_text : List ℕ) → is_lexeme s ≡ true → IsShape s piece_text → kind_of s piece_text ≡ None → s ≡ NumberShape
+none_number MarkShape t lex shape e = mark_none (entry t marks) shape e
+  where
+  mark_none : (o : Option MarkKind) → IsSome o → option_map Mark o ≡ None → MarkShape ≡ NumberShape
+  mark_none None h e = absurd (false≢true h)
+  mark_none (Some k) h e = absurd (cc)
+none_number NameShape t lex shape e = absurd (cc)
+none_number NumberShape t lex shape e = refl
+none_number StringShape t lex shape e = absurd (cc)
+none_number Space t lex shape e = absurd (false≢true lex)
+none_number Tab t lex shape e = absurd (false≢true lex)
+none_number Comment t lex shape e = absurd (false≢true lex)
+none_number LineEnd t lex shape e = absurd (false≢true lex)
+none_number Joint t lex shape e = absurd (false≢true lex)
+
+lexeme_is_flat : (s : Shape) → is_lexeme s ≡ true → is_flat s ≡ true
+lexeme_is_flat MarkShape lex = refl
+lexeme_is_flat NameShape lex = refl
+lexeme_is_flat NumberShape lex = refl
+lexeme_is_flat StringShape lex = refl
+lexeme_is_flat Space lex = absurd (false≢true lex)
+lexeme_is_flat Tab lex = absurd (false≢true lex)
+lexeme_is_flat Comment lex = absurd (false≢true lex)
+lexeme_is_flat LineEnd lex = absurd (false≢true lex)
+lexeme_is_flat Joint lex = absurd (false≢true lex)
+
+-- where the first control character of a string stands
+abbrev ControlsAre : Shape → List ℕ → Option ℕ → Type 0
+ControlsAre s t None = s ≡ StringShape → (i : ℕ) → HasControl t i → ⊥
+ControlsAre s t (Some i) = (s ≡ StringShape) × FirstControl t i
+
+string_controls : (t : List ℕ) (o : Option ℕ) → control_at t ≡ o → ControlsAre StringShape t o
+string_controls t None e = λ h. control_none t e
+string_controls t (Some i) e = (refl, control_some t i e)
+
+number_no_string : NumberShape ≡ StringShape → ⊥
+number_no_string e = cc
+
+controls_are : (s : Shape) (t : List ℕ) → is_lexeme s ≡ true → ControlsAre s t (controls s t)
+controls_are MarkShape t lex = λ e i h. mark_no_string e
+  where
+  mark_no_string : MarkShape ≡ StringShape → ⊥
+  mark_no_string e = cc
+controls_are NameShape t lex = λ e i h. name_no_string e
+  where
+  name_no_string : NameShape ≡ StringShape → ⊥
+  name_no_string e = cc
+controls_are NumberShape t lex = λ e i h. number_no_string e
+controls_are StringShape t lex = string_controls t (control_at t) refl
+controls_are Space t lex = absurd (false≢true lex)
+controls_are Tab t lex = absurd (false≢true lex)
+controls_are Comment t lex = absurd (false≢true lex)
+controls_are LineEnd t lex = absurd (false≢true lex)
+controls_are Joint t lex = absurd (false≢true lex)
+
+not_before : (a b c d : ℕ) → a ≤ b → c ≤ d → NotBefore a c b d
+not_before a b c d h k = elim (cases_order a b) [ inl e ↦ inr (e, k) | inr (inl lt) ↦ inl lt | inr (inr gt) ↦ absurd (omega arith) ]
 
 module _ (file : ℕ) (bytes : List ℕ) (valid : ℕ) (l : Layout) (v : Valid bytes valid) (before : List Piece) (b : ℕ) (more : List ℕ)
     (cut : Cut bytes before (b ∷ more)) (sound : AreSound before) (m : Matches file bytes before l) (within : reach before ≤ valid) where
@@ -231,3 +290,171 @@ module _ (file : ℕ) (bytes : List ℕ) (valid : ℕ) (l : Layout) (v : Valid b
 
   pub stuck_step : IsStuck (b ∷ more) → Clear valid before → Follows file bytes valid l (Stops l.spot (cond (is_quote b) 105 104))
   stuck_step k clear = stops (reach before) (cond (is_quote b) 105 104) l.spot m.spot (stuck_first clear k (is_quote b) refl)
+
+  -- a token
+
+  laid_or : Clear valid before → BeginsContent before (b ∷ more) → IsLaidOut before
+  laid_or clear c = clear.laid c.first
+
+  -- the faults at a token, but for those of the token itself
+  token_least : (s : Shape) (n : ℕ) (x : Next s (b ∷ more) n) → is_lexeme s ≡ true → Clear valid before → (at code : ℕ) → (at < valid) ⊎ ((at ≡ valid) × (code ≡ 101))
+      → ((i : ℕ) → s ≡ StringShape → HasControl x.text i → NotBefore at code (reach before + i) 104)
+      → (kind_of s x.text ≡ None → NotBefore at code (reach before) 106)
+      → (64 < depth (piece_of_text before s x.text ∷ before) → NotBefore at code (reach before) 107)
+      → (k c : ℕ) → FaultBehind bytes before (b ∷ more) k c → NotBefore at code k c
+  token_least s n x lex clear at code early control number deep =
+      let p = piece_of_text before s x.text in
+      let same : (q : Piece) → IsNext before (b ∷ more) q → q ≡ p = λ q nq. is_next_same before (b ∷ more) q p nq (is_next s n x) in
+      least_of bytes valid before (b ∷ more) v at code early
+        (λ k d f. absurd (some_not_none (first_tab (line before)) (ap is_some f) (laid_or clear d).no_tab))
+        (λ d f. absurd (false≢true (sym f ∙ (laid_or clear d).fitting)))
+        (λ k t f. absurd (k.none s x.text x.behind x.shape x.split))
+        (λ q i nq f h. control i (ap (λ (r : Piece). r.shape) (sym (same q nq)) ∙ f) (subst (λ (r : Piece). HasControl r.text i) (same q nq) h))
+        (λ q nq f h. number (ap (λ (r : Piece). kind_of r.shape r.text) (sym (same q nq)) ∙ h))
+        (λ q nq rises over. deep (subst (λ (r : Piece). 64 < depth (r ∷ before)) (same q nq) over))
+
+  token_inside : (s : Shape) (n : ℕ) (x : Next s (b ∷ more) n) (at : ℕ) → at < reach before + length x.text → (q : Piece) → IsNext before (b ∷ more) q → at < reach before + length q.text
+  token_inside s n x at h q nq = subst (λ (r : Piece). at < reach before + length r.text) (sym (is_next_same before (b ∷ more) q (piece_of_text before s x.text) nq (is_next s n x))) h
+
+  token_next : (s : Shape) (n : ℕ) (x : Next s (b ∷ more) n) → is_lexeme s ≡ true → (q : Piece) → IsNext before (b ∷ more) q → (is_lexeme q.shape ≡ true) ⊎ (q.shape ≡ Comment)
+  token_next s n x lex q nq = inl (ap (λ (r : Piece). is_lexeme r.shape) (is_next_same before (b ∷ more) q (piece_of_text before s x.text) nq (is_next s n x)) ∙ lex)
+
+  number_first : (s : Shape) (n : ℕ) (x : Next s (b ∷ more) n) → is_lexeme s ≡ true → Clear valid before → kind_of s x.text ≡ None → IsFirstHere bytes valid before (b ∷ more) (reach before) 106
+  number_first s n x lex clear none =
+      let shape = none_number s x.text lex x.shape none in
+      let some = some_text s x.text x.shape in
+      record {
+        fault = no_number (piece_of_text before s x.text) refl refl (is_next s n x) shape none;
+        early = inl clear.early;
+        least = token_least s n x lex clear (reach before) 106 (inl clear.early) (λ i e h. absurd (number_no_string (sym shape ∙ e))) (λ e. inr (refl, omega arith)) (λ over. inr (refl, omega arith));
+        inside = token_inside s n x (reach before) (omega arith);
+        next = token_next s n x lex;
+      }
+
+  deep_first : (s : Shape) (n : ℕ) (x : Next s (b ∷ more) n) → is_lexeme s ≡ true → Clear valid before → IsSome (kind_of s x.text) → 64 < depth (piece_of_text before s x.text ∷ before) → IsFirstHere bytes valid before (b ∷ more) (reach before) 107
+  deep_first s n x lex clear known over =
+      let some = some_text s x.text x.shape in
+      let ok = depth_ok before sound in
+      record {
+        fault = too_deep (piece_of_text before s x.text) refl refl (is_next s n x) (omega arith) over;
+        early = inl clear.early;
+        least = token_least s n x lex clear (reach before) 107 (inl clear.early)
+          (λ i e h. let far = string_control x.text i (subst (λ u. IsShape u x.text) e x.shape) h in inl (omega arith))
+          (λ e. absurd (some_not_none (kind_of s x.text) known e)) (λ o. inr (refl, omega arith));
+        inside = token_inside s n x (reach before) (omega arith);
+        next = token_next s n x lex;
+      }
+
+  control_first : (s : Shape) (n : ℕ) (x : Next s (b ∷ more) n) → is_lexeme s ≡ true → Clear valid before → IsSome (kind_of s x.text) → depth (piece_of_text before s x.text ∷ before) ≤ 64
+      → (i : ℕ) → s ≡ StringShape → FirstControl x.text i → reach before + i < valid → IsFirstHere bytes valid before (b ∷ more) (reach before + i) 104
+  control_first s n x lex clear known shallow i string c early =
+      let inside = c.within in
+      record {
+        fault = bad_control (piece_of_text before s x.text) i refl (is_next s n x) string c.there refl;
+        early = inl early;
+        least = token_least s n x lex clear (reach before + i) 104 (inl early)
+          (λ j e h. let far = c.least j h in not_before (reach before + i) (reach before + j) 104 104 (omega arith) (omega arith))
+          (λ e. absurd (some_not_none (kind_of s x.text) known e)) (λ o. absurd (omega arith));
+        inside = token_inside s n x (reach before + i) (omega arith);
+        next = token_next s n x lex;
+      }
+
+  end_first : (s : Shape) (n : ℕ) (x : Next s (b ∷ more) n) → is_lexeme s ≡ true → Clear valid before → IsSome (kind_of s x.text) → depth (piece_of_text before s x.text ∷ before) ≤ 64
+      → valid < reach before + length x.text → ((i : ℕ) → s ≡ StringShape → HasControl x.text i → valid ≤ reach before + i) → IsFirstHere bytes valid before (b ∷ more) valid 101
+  end_first s n x lex clear known shallow inside controls' =
+      let end = inside_bytes s n x in
+      record {
+        fault = bad_byte refl (v.bad (omega arith)) within (token_inside s n x valid inside);
+        early = inr (refl, refl);
+        least = token_least s n x lex clear valid 101 (inr (refl, refl))
+          (λ j e h. let far = controls' j e h in not_before valid (reach before + j) 101 104 far (omega arith))
+          (λ e. absurd (some_not_none (kind_of s x.text) known e)) (λ o. absurd (omega arith));
+        inside = token_inside s n x valid inside;
+        next = token_next s n x lex;
+      }
+
+  cut_text : (s : Shape) (n : ℕ) (x : Next s (b ∷ more) n) → Cut bytes before (x.text ++ x.behind)
+  cut_text s n x = subst (Cut bytes before) x.split cut
+
+  token_spot : (s : Shape) (n : ℕ) (x : Next s (b ∷ more) n) → is_lexeme s ≡ true → (k : ℕ) → k ≤ length x.text → IsSpot bytes (reach before + k) (moved l.spot k)
+  token_spot s n x lex k h = inner_spot bytes before x.text x.behind (cut_text s n x) l.spot m.spot k h (flat s x.text (lexeme_is_flat s lex) x.shape)
+
+  token_matches : (s : Shape) (n : ℕ) (x : Next s (b ∷ more) n) → is_lexeme s ≡ true → (kind : TokenKind) → kind_of s x.text ≡ Some kind → Matches file bytes (piece_of_text before s x.text ∷ before) (after_lexeme file l (length x.text) kind)
+  token_matches s n x lex kind e =
+      lexeme_matches file bytes before l (reach before) x.text m s kind (length x.text) (moved l.spot (length x.text)) lex e (token_spot s n x lex (length x.text) (omega arith)) refl refl
+
+  -- the end of a token
+  end_by : (s : Shape) (n : ℕ) (x : Next s (b ∷ more) n) → is_lexeme s ≡ true → Clear valid before → (kind : TokenKind) → kind_of s x.text ≡ Some kind → depth (piece_of_text before s x.text ∷ before) ≤ 64
+      → ((i : ℕ) → s ≡ StringShape → HasControl x.text i → valid ≤ reach before + i) → (t : Bool) → nat_lt valid (l.spot.at + length x.text) ≡ t
+      → Follows file bytes valid l (or_stop (cond t (Some (moved l.spot (valid - l.spot.at), 101)) None) (Goes (after_lexeme file l (length x.text) kind)))
+  end_by s n x lex clear kind e shallow controls' true f =
+      let at = m.spot.at in
+      let low = ltb-true valid (l.spot.at + length x.text) f in
+      let here : reach before + (valid - l.spot.at) ≡ valid = omega arith in
+      stops valid 101 (moved l.spot (valid - l.spot.at)) (subst (λ k. IsSpot bytes k (moved l.spot (valid - l.spot.at))) here (token_spot s n x lex (valid - l.spot.at) (omega arith)))
+        (end_first s n x lex clear (ap is_some e) shallow (omega arith) controls')
+  end_by s n x lex clear kind e shallow controls' false f =
+      let at = m.spot.at in
+      let high = ltb-false valid (l.spot.at + length x.text) f in
+      let good : IsSound (piece_of_text before s x.text) before = record {
+        laid_out = λ h. clear.laid (not-true (has_lexeme (line before)) (and_parts (is_lexeme s) (not (has_lexeme (line before))) h).1);
+        token = λ h. ap is_some e;
+        no_control = λ g i h. let far = controls' i g h in let inside = control_within x.text i h in absurd (omega arith);
+        shallow = shallow;
+      } in
+      reached_more file bytes valid l (after_lexeme file l (length x.text) kind) before (b ∷ more) (piece_of_text before s x.text) m cut sound (is_next s n x) good (token_matches s n x lex kind e) (omega arith)
+
+  control_by : (s : Shape) (n : ℕ) (x : Next s (b ∷ more) n) → is_lexeme s ≡ true → Clear valid before → (kind : TokenKind) → kind_of s x.text ≡ Some kind → depth (piece_of_text before s x.text ∷ before) ≤ 64
+      → (o : Option ℕ) → ControlsAre s x.text o → Follows file bytes valid l (or_stop (control_or_end l valid (length x.text) o) (Goes (after_lexeme file l (length x.text) kind)))
+  control_by s n x lex clear kind e shallow None none =
+      end_by s n x lex clear kind e shallow (λ i g h. absurd (none g i h)) (nat_lt valid (l.spot.at + length x.text)) refl
+  control_by s n x lex clear kind e shallow (Some i) (string, c) = here (nat_lt (l.spot.at + i) valid) refl
+    where
+    here : (t : Bool) → nat_lt (l.spot.at + i) valid ≡ t
+        → Follows file bytes valid l (or_stop (cond t (Some (moved l.spot i, 104)) (end_fault l valid (length x.text))) (Goes (after_lexeme file l (length x.text) kind)))
+    here true f =
+        let at = m.spot.at in
+        let low = ltb-true (l.spot.at + i) valid f in
+        let inside = c.within in
+        stops (reach before + i) 104 (moved l.spot i) (token_spot s n x lex i (omega arith)) (control_first s n x lex clear (ap is_some e) shallow i string c (omega arith))
+    here false f =
+        let at = m.spot.at in
+        let high = ltb-false (l.spot.at + i) valid f in
+        end_by s n x lex clear kind e shallow (λ j g h. let far = c.least j h in omega arith) (nat_lt valid (l.spot.at + length x.text)) refl
+
+  deep_by : (s : Shape) (n : ℕ) (x : Next s (b ∷ more) n) → is_lexeme s ≡ true → Clear valid before → (kind : TokenKind) → kind_of s x.text ≡ Some kind
+      → (t : Bool) → nat_lt 64 (brackets_behind (Some kind) l.brackets + length (widths_behind l)) ≡ t
+      → Follows file bytes valid l (or_stop (cond t (Some (l.spot, 107)) (control_or_end l valid (length x.text) (controls s x.text))) (Goes (after_lexeme file l (length x.text) kind)))
+  deep_by s n x lex clear kind e t f =
+      let mm = token_matches s n x lex kind e in
+      let same : brackets_behind (Some kind) l.brackets + length (widths_behind l) ≡ depth (piece_of_text before s x.text ∷ before) =
+        ap (λ k. k + length (widths_behind l)) mm.brackets ∙ ap (λ ws. brackets (piece_of_text before s x.text ∷ before) + length ws) mm.widths in
+      deep_go s n x lex clear kind e t (ap (λ k. nat_lt 64 k) (sym same) ∙ f)
+    where
+    deep_go : (s : Shape) (n : ℕ) (x : Next s (b ∷ more) n) → is_lexeme s ≡ true → Clear valid before → (kind : TokenKind) → kind_of s x.text ≡ Some kind
+        → (t : Bool) → nat_lt 64 (depth (piece_of_text before s x.text ∷ before)) ≡ t
+        → Follows file bytes valid l (or_stop (cond t (Some (l.spot, 107)) (control_or_end l valid (length x.text) (controls s x.text))) (Goes (after_lexeme file l (length x.text) kind)))
+    deep_go s n x lex clear kind e true f = stops (reach before) 107 l.spot m.spot (deep_first s n x lex clear (ap is_some e) (ltb-true 64 (depth (piece_of_text before s x.text ∷ before)) f))
+    deep_go s n x lex clear kind e false f = control_by s n x lex clear kind e (ltb-false 64 (depth (piece_of_text before s x.text ∷ before)) f) (controls s x.text) (controls_are s x.text lex)
+
+  lexeme_by : (s : Shape) (n : ℕ) (x : Next s (b ∷ more) n) → is_lexeme s ≡ true → Clear valid before → (k : Option TokenKind) → kind_of s x.text ≡ k → Follows file bytes valid l (lexeme_of file valid l s x.text k)
+  lexeme_by s n x lex clear None e = stops (reach before) 106 l.spot m.spot (number_first s n x lex clear e)
+  lexeme_by s n x lex clear (Some kind) e = deep_by s n x lex clear kind e (nat_lt 64 (brackets_behind (Some kind) l.brackets + length (widths_behind l))) refl
+
+  pub lexeme_step : (n : ℕ) → piece_len (first_shape b) (b ∷ more) ≡ Some n → is_lexeme (first_shape b) ≡ true → Clear valid before
+      → Follows file bytes valid l (lexeme_of file valid l (first_shape b) (take n (b ∷ more)) (kind_of (first_shape b) (take n (b ∷ more))))
+  lexeme_step n found lex clear =
+      let x = next_found b more n found in
+      let text' : take n (b ∷ more) ≡ x.text = ap (take n) x.split ∙ take_at x.text x.behind n x.size in
+      subst (λ t. Follows file bytes valid l (lexeme_of file valid l (first_shape b) t (kind_of (first_shape b) t))) (sym text') (lexeme_by (first_shape b) n x lex clear (kind_of (first_shape b) x.text) refl)
+
+  -- a whole step
+
+  step_by : (t : Bool) (o : Option ℕ) → is_lexeme (first_shape b) ≡ t → piece_len (first_shape b) (b ∷ more) ≡ o → Follows file bytes valid l (piece_of file valid l (first_shape b) (b ∷ more) t o)
+  step_by false (Some n) e f = separator_step n f e
+  step_by false None e f = white_step (content_of file valid l (first_shape b) (b ∷ more) None) (stuck_content (b ∷ more) (stuck b more f)) (λ clear. stuck_step (stuck b more f) clear)
+  step_by true None e f = white_step (content_of file valid l (first_shape b) (b ∷ more) None) (stuck_content (b ∷ more) (stuck b more f)) (λ clear. stuck_step (stuck b more f) clear)
+  step_by true (Some n) e f = white_step (content_of file valid l (first_shape b) (b ∷ more) (Some n)) (content b more e) (λ clear. lexeme_step n f e clear)
+
+  pub step_law : Follows file bytes valid l (step_of file valid l (b ∷ more))
+  step_law = step_by (is_lexeme (first_shape b)) (piece_len (first_shape b) (b ∷ more)) refl refl
