@@ -7,6 +7,7 @@ use Rattle.std.proofs.lemmas.Bool.{cond_both, cond-true, cond-false, and_from, a
 use Rattle.std.proofs.lemmas.List.{append_assoc, length-append, append-nil}
 use Rattle.std.proofs.lemmas.List.Folds.{list_all-append}
 use Rattle.dsl_tree.specs.declared.token.TokenKind.{TokenKind}
+use Rattle.dsl_lexer.specs.Progress.{Valid}
 use Rattle.dsl_lexer.specs.declared.shape.Shape.{Shape}
 use Rattle.dsl_lexer.specs.Bytes.{is_line_feed, is_quote}
 use Rattle.dsl_lexer.specs.Shapes.{Space, Tab, Comment, LineEnd, Joint, MarkShape, NameShape, NumberShape, StringShape, is_lexeme, IsShape}
@@ -19,13 +20,6 @@ use Rattle.dsl_lexer.proofs.Spots.{no_feed}
 use Rattle.dsl_lexer.proofs.Fitting.{begins}
 use Rattle.dsl_lexer.proofs.Matching.{lexeme_is}
 use Rattle.dsl_lexer.proofs.Cutting.{is_next_same, same_cut, extends, sound_there, reach_there}
-
--- the length of the longest front that is UTF-8
-pub record Valid (bytes : List ℕ) (valid : ℕ) : Type 0 where
-  pub within : valid ≤ length bytes
-  pub bad : valid < length bytes → IsValidUpTo bytes valid
-  pub only : (n : ℕ) → IsValidUpTo bytes n → n ≡ valid
-  pub good : valid ≡ length bytes → IsUtf8 bytes
 
 -- behind sound pieces there is no fault but a byte that begins no character
 

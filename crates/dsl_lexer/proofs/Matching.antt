@@ -7,6 +7,7 @@ use Rattle.std.proofs.lemmas.List.{append_assoc, length-append, append-nil}
 use Rattle.dsl_tree.specs.declared.token.Token.{Token}
 use Rattle.dsl_tree.specs.declared.token.TokenKind.{TokenKind}
 use Rattle.dsl_tree.specs.declared.token.TokenKind.TheVariants.{Indent, Dedent, Newline, End}
+use Rattle.dsl_lexer.specs.Progress.{IsSpot, IsTab, Matches}
 use Rattle.dsl_lexer.specs.declared.spot.Spot.{Spot}
 use Rattle.dsl_lexer.specs.declared.layout.Layout.{Layout}
 use Rattle.dsl_lexer.specs.declared.shape.Shape.{Shape}
@@ -18,26 +19,8 @@ use Rattle.dsl_lexer.specs.Layout.{OffsetToken, brackets_behind, brackets, is_li
 use Rattle.dsl_lexer.specs.Steps as steps
 use Rattle.dsl_lexer.specs.Steps.{moved, on_next_line, stamped, first_spot, opened_behind, at_start, after_space, after_tab, after_comment, after_joint, after_line_end, after_lexeme, with_newline, with_blocks, widths_behind, with_last_newline, with_dedents, all_tokens}
 use Rattle.dsl_lexer.proofs.Opened.{opened-cons}
-use Rattle.dsl_lexer.proofs.Spots.{IsSpot}
 use Rattle.dsl_lexer.proofs.Stamps.{length-stamped, map_same}
 use Rattle.dsl_lexer.proofs.Bounds.{length-at}
-
--- a tab's spot
-abbrev pub IsTab : List ℕ → Option ℕ → Option Spot → Type 0
-IsTab bytes None None = Unit {0}
-IsTab bytes (Some n) (Some s) = IsSpot bytes n s
-IsTab bytes None (Some s) = ⊥
-IsTab bytes (Some n) None = ⊥
-
-pub record Matches (file : ℕ) (bytes : List ℕ) (before : List Piece) (l : Layout) : Type 0 where
-  pub spot : IsSpot bytes (reach before) l.spot
-  pub started : l.started ≡ has_lexeme (line before)
-  pub spaces : l.spaces ≡ width (line before)
-  pub tab : IsTab bytes (first_tab (line before)) l.tab
-  pub brackets : l.brackets ≡ brackets before
-  pub widths : l.widths ≡ opened (widths before)
-  pub behind : IsSpot bytes (behind_last before) l.behind
-  pub tokens : l.tokens ≡ placed file bytes 0 (tokens before)
 
 -- tokens with places
 

@@ -6,6 +6,7 @@ use Rattle.std.proofs.lemmas.Bool.{and_parts, and_from, or_cases, not-true, not_
 use Rattle.std.proofs.lemmas.List.{append_assoc, length-append, length-take, take_at, drop_at, take-append-drop, append-nil, length-drop, reverse-append, length-reverse}
 use Rattle.std.proofs.lemmas.List.Folds.{list_all-append}
 use Rattle.std.proofs.lemmas.List.Sums.{prefix_len-le-length, suffix_len-le-length, length-filter, count_by-le-length}
+use Rattle.dsl_lexer.specs.Progress.{IsSpot}
 use Rattle.dsl_lexer.specs.declared.spot.Spot.{Spot}
 use Rattle.dsl_lexer.specs.declared.shape.Shape.{Shape}
 use Rattle.dsl_lexer.specs.Bytes.{is_digit, is_name_byte, is_quote, is_line_feed, is_backslash, is_escapable, line_at, column_at}
@@ -16,12 +17,6 @@ use Rattle.dsl_lexer.proofs.Fitting.{name_passes, run_passes, digits_pass, digit
 
 abbrev pub no_feed : ℕ → Bool
 no_feed b = not (is_line_feed b)
-
--- the spot of the byte at offset n
-pub record IsSpot (bytes : List ℕ) (n : ℕ) (s : Spot) : Type 0 where
-  pub at : s.at ≡ n
-  pub line : s.line ≡ line_at bytes n
-  pub column : s.column ≡ column_at bytes n
 
 -- the length of the last line
 

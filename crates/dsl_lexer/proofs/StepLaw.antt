@@ -10,6 +10,7 @@ use Rattle.dsl_tree.specs.declared.token.TokenKind.{TokenKind}
 use Rattle.dsl_tree.specs.declared.token.TokenKind.TheVariants.{Mark, Name, Chars}
 use Rattle.dsl_tree.specs.declared.token.MarkKind.{MarkKind}
 use Rattle.osc_base.specs.declared.fault.Fault.{Fault}
+use Rattle.dsl_lexer.specs.Progress.{IsSpot, IsTab, Matches, Valid, Reached, IsStop, Follows}
 use Rattle.dsl_lexer.specs.declared.spot.Spot.{Spot}
 use Rattle.dsl_lexer.specs.declared.layout.Layout.{Layout}
 use Rattle.dsl_lexer.specs.declared.shape.Shape.{Shape}
@@ -22,16 +23,16 @@ use Rattle.dsl_lexer.specs.Layout.{brackets_behind, brackets, is_line_end, ends_
 use Rattle.dsl_lexer.specs.Language.{HasControl, IsLaidOut, IsSound, AreSound, BeginsContent, IsNext, begins_with, FaultBehind, bad_byte, early_tab, bad_width, no_piece, bad_control, no_string, no_number, too_deep, FaultAt, IsFirstFault}
 use Rattle.dsl_lexer.specs.Steps.{place_of, moved, on_next_line, opened_behind, widths_behind, bad_byte_or, first_white_fault, white_fault, end_fault, control_or_end, controls, lexeme_fault, SpottedFault, Outcome, Goes, Stops, or_stop, after_separator, after_lexeme, separator_of, lexeme_of, content_of, piece_of, step_of}
 use Rattle.dsl_lexer.proofs.Opened.{opened-cons}
-use Rattle.dsl_lexer.proofs.Spots.{no_feed, IsSpot, spot_over, spot_below, is_flat, flat, Ends, line_end_ends, joint_ends}
+use Rattle.dsl_lexer.proofs.Spots.{no_feed, spot_over, spot_below, is_flat, flat, Ends, line_end_ends, joint_ends}
 use Rattle.dsl_lexer.proofs.Fitting.{begins}
 use Rattle.dsl_lexer.proofs.Fronts.{Next, next_found, stuck, content, stuck_content}
 use Rattle.dsl_lexer.proofs.Ascii.{separator_ascii, ascii_piece, FirstControl, control_none, control_some, control_within, string_control}
-use Rattle.dsl_lexer.proofs.Matching.{IsTab, Matches, length-placed, place_same, lexeme_is, space_matches, tab_matches, comment_matches, joint_matches, line_end_matches, lexeme_matches}
-use Rattle.dsl_lexer.proofs.Firsts.{Valid, some_not_none, no_brackets, NotBefore, IsFirstHere, some_is, bad_later, first_of_all}
+use Rattle.dsl_lexer.proofs.Matching.{length-placed, place_same, lexeme_is, space_matches, tab_matches, comment_matches, joint_matches, line_end_matches, lexeme_matches}
+use Rattle.dsl_lexer.proofs.Firsts.{some_not_none, no_brackets, NotBefore, IsFirstHere, some_is, bad_later, first_of_all}
 use Rattle.dsl_lexer.proofs.Cutting.{some_text, is_next_same, spelled, cut_rest, cut_length}
 
 use Rattle.std.specs.Option.{option_map}
-use Rattle.dsl_lexer.proofs.Stepping.{least_of, depth_ok, separator_depth, tab_before, inner_spot, flat_spot, separator_matches, reached_more, bad_comment, Reached, IsStop, Follows, stop_here}
+use Rattle.dsl_lexer.proofs.Stepping.{least_of, depth_ok, separator_depth, tab_before, inner_spot, flat_spot, separator_matches, reached_more, bad_comment, stop_here}
 
 -- what is known of a place behind its white space
 pub record Clear (valid : ℕ) (before : List Piece) : Type 0 where

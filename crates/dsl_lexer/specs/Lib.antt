@@ -8,4 +8,5 @@ pub mod Scan
 pub mod Room
 pub mod Steps
 pub mod Language
+pub mod Progress
 pub mod Examples
