@@ -15,7 +15,7 @@ use Rattle.dsl_lexer.specs.Scan.{control_at}
 use Rattle.dsl_lexer.proofs.Fitting.{quote_is}
 use Rattle.dsl_lexer.proofs.Cutting.{spelled}
 
-one_ascii : (b : ℕ) → b < 128 → IsAscii (b ∷ [])
+pub one_ascii : (b : ℕ) → b < 128 → IsAscii (b ∷ [])
 one_ascii b h zero = h
 one_ascii b h (suc i) = omega arith
 

@@ -14,3 +14,4 @@ pub mod Firsts
 pub mod Ascii
 pub mod Stepping
 pub mod StepLaw
+pub mod Texts

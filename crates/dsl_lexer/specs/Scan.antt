@@ -46,18 +46,24 @@ unfoldable pub mark_len : List ℕ → Option ℕ
 mark_len rest = if is_some (entry (take 2 rest) marks) then Some (length (take 2 rest))
     else (if is_some (entry (take 1 rest) marks) then Some (length (take 1 rest)) else None)
 
+abbrev pub joint_len : List ℕ → Option ℕ
+joint_len rest = option_map suc (line_end_len (drop 1 rest))
+
+abbrev pub string_len : List ℕ → Option ℕ
+string_len [] = None
+string_len (quote ∷ more) = option_map suc (closing quote false more)
+
 -- the length of the piece of this shape at the front of rest, whose first byte is of the shape
 abbrev pub piece_len : Shape → List ℕ → Option ℕ
 piece_len Space rest = Some 1
 piece_len Tab rest = Some 1
 piece_len Comment rest = Some (prefix_len (λ b. not (is_line_feed b)) rest)
 piece_len LineEnd rest = line_end_len rest
-piece_len Joint rest = option_map suc (line_end_len (drop 1 rest))
+piece_len Joint rest = joint_len rest
 piece_len MarkShape rest = mark_len rest
 piece_len NameShape rest = Some (name_run rest)
 piece_len NumberShape rest = Some (number_len rest)
-piece_len StringShape [] = None
-piece_len StringShape (quote ∷ more) = option_map suc (closing quote false more)
+piece_len StringShape rest = string_len rest
 
 -- where the first control character stands
 unfoldable pub control_at : List ℕ → Option ℕ

@@ -4,7 +4,9 @@
 mod faults;
 mod kinds;
 mod layout;
+mod lexer;
 mod marks;
+mod pieces;
 mod scan;
 mod shape;
 mod spot;

@@ -1,6 +1,6 @@
 //! The marks.
 
-ghost use Rattle.std.specs.Prelude.{◌≡◌, ◌≤◌, [], ◌∷◌, Option, Some, None, length, take, IfNone, IfSome};
+ghost use Rattle.std.specs.Prelude.{◌≡◌, ◌≤◌, [], ◌∷◌, Option, Some, None, length, take, IsSome, IfNone, IfSome};
 ghost use Rattle.dsl_lexer.specs.Shapes as shapes;
 ghost use Rattle.dsl_lexer.specs.Scan as scan;
 
@@ -62,4 +62,16 @@ pub fn mark(rest: &[u8]) -> Option<(MarkKind, usize)>
     };
     let kind = mark_of_one(b)?;
     Some((kind, 1))
+}
+
+/// The mark that a whole text is.
+pub fn mark_kind(text: &[u8]) -> Option<MarkKind>
+    requires { IsSome (shapes.entry text.now shapes.marks) }
+    ensures { result ≡ shapes.entry text.now shapes.marks }
+{
+    match text {
+        [b] => mark_of_one(*b),
+        [b, c] => mark_of_two(*b, *c),
+        _ => None,
+    }
 }

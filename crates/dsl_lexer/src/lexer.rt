@@ -1,0 +1,94 @@
+ghost use Rattle.std.specs.Prelude.{◌≡◌, ◌+◌, ◌^◌, ◌<◌, ◌≤◌, ◌≢◌, length, take, drop, OnOk, IfOk, IfErr, IsTrue, false};
+ghost use Rattle.std.specs.Str.{IsUtf8};
+ghost use Rattle.dsl_lexer.specs.declared.shape.Shape.TheVariants.{StringShape};
+ghost use Rattle.dsl_lexer.specs.Shapes as shapes;
+ghost use Rattle.dsl_lexer.specs.Kinds as kinds_of;
+ghost use Rattle.dsl_lexer.specs.Room.{HasRoom};
+ghost use Rattle.dsl_lexer.specs.Steps as steps;
+ghost use Rattle.dsl_lexer.specs.Progress.{Valid, Reached, Gives, GivesStop, OnFault};
+ghost use Rattle.dsl_lexer.specs.Language.{TokensCut, IsFirstFault};
+
+use std::alloc::{AllocError, Global};
+
+use dsl_tree::{TokenKind, Tokens};
+use osc_base::Fault;
+
+use crate::faults;
+use crate::kinds;
+use crate::layout::{self, Layout};
+use crate::pieces;
+use crate::scan;
+use crate::shape::Shape;
+use crate::spot::Spot;
+use crate::stop::LexStop;
+
+/// The length of the longest front that is UTF-8.
+fn valid_len(bytes: &[u8]) -> usize
+    ensures { Valid bytes.now result }
+{
+    match str::from_utf8(bytes) {
+        Ok(_) => bytes.len(),
+        Err(e) => e.valid_up_to(),
+    }
+}
+
+fn stop_at(file: u32, layout: &Layout, fault: (Spot, u16)) -> LexStop
+    requires { length layout.now.tokens < 2 ^ 32 }
+    ensures { GivesStop file layout.now (steps.Stops fault.0 fault.1) result }
+{
+    LexStop::At(Fault {
+        place: fault.0.place(file, layout.tokens.as_slice().len()),
+        code: fault.1,
+    })
+}
+
+fn take_separator(file: u32, layout: &mut Layout, shape: Shape, len: usize) -> Result<(), AllocError>
+    requires room { HasRoom layout.old len }
+    requires some { 1 ≤ len }
+    requires separator { shapes.is_lexeme shape ≡ false }
+    ensures { OnOk result (layout.new ≡ steps.after_separator file layout.old shape len) }
+{
+    match shape {
+        Shape::Space => layout.take_space(),
+        Shape::Tab => layout.take_tab(),
+        Shape::Comment => layout.take_comment(len),
+        Shape::Joint => layout.take_joint(len),
+        _ => layout.take_line_end(file, len)?,
+    }
+    Ok(())
+}
+
+fn take_plain(alloc: Global, file: u32, layout: &mut Layout, valid: usize, shape: Shape, text: &[u8]) -> Result<(), LexStop>
+    requires room { HasRoom layout.old (length text.now) }
+    requires some { 1 ≤ length text.now }
+    requires behind { layout.old.spot.at ≤ valid }
+    requires shape { shapes.IsShape shape text.now }
+    requires lexeme { IsTrue (shapes.is_lexeme shape) }
+    requires plain { shape ≢ StringShape }
+    ensures { Gives file layout.old (steps.lexeme_of file valid layout.old shape text.now (kinds_of.kind_of shape text.now)) result layout.new }
+{
+    let Some(kind) = pieces::plain_kind(alloc, shape, text)? else {
+        return Err(stop_at(file, layout, (layout.spot, 106)));
+    };
+    let brackets = layout::brackets_behind_token(&kind, layout.brackets);
+    if let Some(fault) = faults::lexeme_fault(layout, valid, shape, text, brackets) {
+        return Err(stop_at(file, layout, fault));
+    }
+    layout.take_lexeme(file, text.len(), kind)?;
+    Ok(())
+}
+
+fn take_string(alloc: Global, file: u32, layout: &mut Layout, valid: usize, text: &[u8]) -> Result<(), LexStop>
+    requires room { HasRoom layout.old (length text.now) }
+    requires behind { layout.old.spot.at ≤ valid }
+    requires quotes { 2 ≤ length text.now }
+    requires utf8 { layout.old.spot.at + length text.now ≤ valid → IsUtf8 (kinds_of.string_chars text.now) }
+    ensures { Gives file layout.old (steps.lexeme_of file valid layout.old StringShape text.now (kinds_of.kind_of StringShape text.now)) result layout.new }
+{
+    if let Some(fault) = faults::lexeme_fault(layout, valid, Shape::StringShape, text, layout.brackets) {
+        return Err(stop_at(file, layout, fault));
+    }
+    let chars = kinds::string_chars(alloc, text)?;
+    layout.take_lexeme(file, text.len(), TokenKind::Chars(chars))?;
+    Ok(())
+}
