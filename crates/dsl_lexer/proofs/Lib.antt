@@ -15,3 +15,4 @@ pub mod Ascii
 pub mod Stepping
 pub mod StepLaw
 pub mod Texts
+pub mod Taking

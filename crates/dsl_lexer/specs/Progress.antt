@@ -1,17 +1,22 @@
 -- What the lexer knows at a place, and what its steps give. This is no part of the meaning: the lemmas of proofs/ tie it
 -- to `TokensCut` and `IsFirstFault`.
-use Rattle.std.specs.Prelude.{ℕ, ◌+◌, ◌<◌, ◌≤◌, ◌≡◌, List, [], ◌∷◌, length, Option, Some, None, Result, Ok, Err}
+use Rattle.std.specs.Prelude.{ℕ, ◌+◌, ◌<◌, ◌≤◌, ◌≡◌, List, [], ◌∷◌, length, take, drop, Option, Some, None, Result, Ok, Err}
 use Rattle.std.specs.Str.{IsUtf8, IsValidUpTo}
 use Rattle.osc_base.specs.declared.fault.Fault.{Fault}
 use Rattle.dsl_lexer.specs.declared.spot.Spot.{Spot}
 use Rattle.dsl_lexer.specs.declared.layout.Layout.{Layout}
 use Rattle.dsl_lexer.specs.declared.stop.LexStop.{LexStop}
 use Rattle.dsl_lexer.specs.declared.stop.LexStop.TheVariants.{At, Memory}
+use Rattle.dsl_lexer.specs.declared.shape.Shape.{Shape}
+use Rattle.dsl_lexer.specs.Shapes.{StringShape, IsShape}
+use Rattle.dsl_lexer.specs.Kinds.{string_chars}
+use Rattle.dsl_lexer.specs.Scan.{piece_len}
+use Rattle.dsl_lexer.specs.Room.{HasRoom}
 use Rattle.dsl_lexer.specs.Bytes.{line_at, column_at}
 use Rattle.dsl_lexer.specs.Pieces.{Piece, reach, Cut}
 use Rattle.dsl_lexer.specs.Layout.{brackets, line, width, first_tab, widths, opened, has_lexeme, behind_last, tokens, placed}
 use Rattle.dsl_lexer.specs.Language.{AreSound, IsFirstFault}
-use Rattle.dsl_lexer.specs.Steps.{place_of, Outcome, Goes, Stops}
+use Rattle.dsl_lexer.specs.Steps.{front_shape, place_of, Outcome, Goes, Stops}
 
 -- the spot of the byte at offset n
 pub record IsSpot (bytes : List ℕ) (n : ℕ) (s : Spot) : Type 0 where
@@ -74,3 +79,15 @@ Gives file old outcome (Err stop) next = GivesStop file old outcome stop
 abbrev pub OnFault : LexStop → (Fault → Type 0) → Type 0
 OnFault Memory P = Unit {0}
 OnFault (At fault) P = P fault
+
+-- the piece of the first n bytes of rest can be taken
+pub record CanTake (l : Layout) (valid : ℕ) (shape : Shape) (rest : List ℕ) (n : ℕ) : Type 0 where
+  pub room : HasRoom l n
+  pub some : 1 ≤ n
+  pub within : n ≤ length rest
+  pub is_shape : IsShape shape (take n rest)
+  pub utf8 : shape ≡ StringShape → l.spot.at + n ≤ valid → IsUtf8 (string_chars (take n rest))
+
+-- whatever piece is found at the front can be taken
+abbrev pub CanTakeFront : Layout → ℕ → List ℕ → Type 0
+CanTakeFront l valid rest = (n : ℕ) → piece_len (front_shape rest) rest ≡ Some n → CanTake l valid (front_shape rest) rest n

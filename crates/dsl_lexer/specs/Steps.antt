@@ -1,6 +1,6 @@
 -- What the steps of the lexer make of what it knows, as its functions compute it. This is no part of the meaning: the
 -- lemmas of proofs/ tie it to `TokensCut` and `IsFirstFault`.
-use Rattle.std.specs.Prelude.{ℕ, ◌+◌, ◌-◌, ◌==◌, ◌&&◌, replicate, Bool, true, false, nat_lt, if◌then◌else◌, List, [], ◌∷◌, ◌++◌, filter, length, take, Option, Some, None}
+use Rattle.std.specs.Prelude.{ℕ, ◌+◌, ◌-◌, ◌==◌, ◌&&◌, replicate, Bool, true, false, nat_lt, if◌then◌else◌, List, [], ◌∷◌, ◌++◌, filter, length, take, slice_index, Option, Some, None}
 use Rattle.osc_base.specs.declared.fault.Place.{Place}
 use Rattle.dsl_tree.specs.declared.token.Token.{Token}
 use Rattle.dsl_tree.specs.declared.token.TokenKind.{TokenKind}
@@ -168,6 +168,9 @@ abbrev pub piece_of : ℕ → ℕ → Layout → Shape → List ℕ → Bool →
 piece_of file valid l shape rest false (Some len) = separator_of file valid l shape len
 piece_of file valid l shape rest lexeme len = or_stop (white_fault l valid) (content_of file valid l shape rest len)
 
+-- the shape of the piece at the front
+abbrev pub front_shape : List ℕ → Shape
+front_shape rest = first_shape (slice_index rest 0)
+
 abbrev pub step_of : ℕ → ℕ → Layout → List ℕ → Outcome
-step_of file valid l [] = Goes l
-step_of file valid l (b ∷ more) = piece_of file valid l (first_shape b) (b ∷ more) (is_lexeme (first_shape b)) (piece_len (first_shape b) (b ∷ more))
+step_of file valid l rest = piece_of file valid l (front_shape rest) rest (is_lexeme (front_shape rest)) (piece_len (front_shape rest) rest)

@@ -1,11 +1,11 @@
-ghost use Rattle.std.specs.Prelude.{◌≡◌, ◌+◌, ◌^◌, ◌<◌, ◌≤◌, ◌≢◌, length, take, drop, OnOk, IfOk, IfErr, IsTrue, false};
+ghost use Rattle.std.specs.Prelude.{◌≡◌, ◌+◌, ◌^◌, ◌<◌, ◌≤◌, ◌≢◌, length, take, drop, IsSome, IfSome, OnOk, IfOk, IfErr, IsTrue, false};
 ghost use Rattle.std.specs.Str.{IsUtf8};
 ghost use Rattle.dsl_lexer.specs.declared.shape.Shape.TheVariants.{StringShape};
 ghost use Rattle.dsl_lexer.specs.Shapes as shapes;
 ghost use Rattle.dsl_lexer.specs.Kinds as kinds_of;
 ghost use Rattle.dsl_lexer.specs.Room.{HasRoom};
 ghost use Rattle.dsl_lexer.specs.Steps as steps;
-ghost use Rattle.dsl_lexer.specs.Progress.{Valid, Reached, Gives, GivesStop, OnFault};
+ghost use Rattle.dsl_lexer.specs.Progress.{CanTake, CanTakeFront, Valid, Reached, Gives, GivesStop, OnFault};
 ghost use Rattle.dsl_lexer.specs.Language.{TokensCut, IsFirstFault};
 
 use std::alloc::{AllocError, Global};
@@ -91,4 +91,81 @@ fn take_string(alloc: Global, file: u32, layout: &mut Layout, valid: usize, text
     let chars = kinds::string_chars(alloc, text)?;
     layout.take_lexeme(file, text.len(), TokenKind::Chars(chars))?;
     Ok(())
+}
+
+/// Takes a separator.
+fn separate(file: u32, layout: &mut Layout, valid: usize, shape: Shape, len: usize) -> Result<(), LexStop>
+    requires room { HasRoom layout.old len }
+    requires some { 1 ≤ len }
+    requires behind { layout.old.spot.at ≤ valid }
+    requires separator { shapes.is_lexeme shape ≡ false }
+    ensures { Gives file layout.old (steps.separator_of file valid layout.old shape len) result layout.new }
+{
+    if let Some(fault) = faults::end_fault(layout, valid, len) {
+        return Err(stop_at(file, layout, fault));
+    }
+    take_separator(file, layout, shape, len)?;
+    Ok(())
+}
+
+/// Takes the token of the first `len` bytes.
+fn take_token(alloc: Global, file: u32, layout: &mut Layout, valid: usize, shape: Shape, text: &[u8]) -> Result<(), LexStop>
+    requires can { CanTake layout.old valid shape text.now (length text.now) }
+    requires behind { layout.old.spot.at ≤ valid }
+    requires lexeme { IsTrue (shapes.is_lexeme shape) }
+    ensures { Gives file layout.old (steps.lexeme_of file valid layout.old shape text.now (kinds_of.kind_of shape text.now)) result layout.new }
+{
+    match shape {
+        Shape::StringShape => take_string(alloc, file, layout, valid, text),
+        _ => take_plain(alloc, file, layout, valid, shape, text),
+    }
+}
+
+/// Takes the content at the front: a token of `len` bytes, or nothing that fits.
+fn take_content(alloc: Global, file: u32, layout: &mut Layout, valid: usize, shape: Shape, rest: &[u8], len: Option<usize>) -> Result<(), LexStop>
+    requires can { IfSome len (CanTake layout.old valid shape rest.now) }
+    requires few { length layout.old.tokens < 2 ^ 32 }
+    requires more { 0 < length rest.now }
+    requires behind { layout.old.spot.at ≤ valid }
+    requires lexeme { IsSome len → IsTrue (shapes.is_lexeme shape) }
+    ensures { Gives file layout.old (steps.or_stop (steps.white_fault layout.old valid) (steps.content_of file valid layout.old shape rest.now len)) result layout.new }
+{
+    if let Some(fault) = faults::white_fault(layout, valid) {
+        return Err(stop_at(file, layout, fault));
+    }
+    let Some(len) = len else {
+        let code = if scan::is_quote(rest[0]) { 105 } else { 104 };
+        return Err(stop_at(file, layout, (layout.spot, code)));
+    };
+    take_token(alloc, file, layout, valid, shape, &rest[..len])
+}
+
+/// Takes the piece at the front of what is left.
+fn take_front(alloc: Global, file: u32, layout: &mut Layout, valid: usize, rest: &[u8]) -> Result<(), LexStop>
+    requires can { CanTakeFront layout.old valid rest.now }
+    requires few { length layout.old.tokens < 2 ^ 32 }
+    requires more { 0 < length rest.now }
+    requires behind { layout.old.spot.at ≤ valid }
+    ensures { Gives file layout.old (steps.step_of file valid layout.old rest.now) result layout.new }
+{
+    let shape = scan::first_shape(rest[0]);
+    let len = pieces::piece_len(shape, rest);
+    if pieces::is_lexeme(shape) {
+        return take_content(alloc, file, layout, valid, shape, rest, len);
+    }
+    match len {
+        Some(len) => separate(file, layout, valid, shape, len),
+        None => take_content(alloc, file, layout, valid, shape, rest, None),
+    }
+}
+
+/// Takes the piece at the layout's spot.
+fn step(alloc: Global, file: u32, bytes: &[u8], valid: usize, layout: &mut Layout) -> Result<(), LexStop>
+    requires reached { Reached file bytes.now valid layout.old }
+    requires valid { Valid bytes.now valid }
+    requires more { layout.old.spot.at < length bytes.now }
+    requires small { length bytes.now ≤ 1048576 }
+    ensures { Gives file layout.old (steps.step_of file valid layout.old (drop layout.old.spot.at bytes.now)) result layout.new }
+{
+    take_front(alloc, file, layout, valid, &bytes[layout.spot.at..])
 }
