@@ -9,8 +9,13 @@ use Rattle.dsl_lexer.specs.Scan.{first_shape, piece_len}
 use Rattle.dsl_lexer.specs.Pieces.{Piece, reach, Cut}
 use Rattle.dsl_lexer.specs.Layout.{tokens}
 use Rattle.dsl_lexer.specs.Room.{HasRoom}
-use Rattle.dsl_lexer.specs.Steps.{front_shape}
-use Rattle.dsl_lexer.specs.Progress.{Matches, Valid, Reached, CanTake, CanTakeFront}
+use Rattle.dsl_lexer.specs.Steps.{front_shape, step_of}
+use Rattle.dsl_lexer.specs.Language.{IsFirstFault}
+use Rattle.dsl_lexer.specs.declared.stop.LexStop.{LexStop}
+use Rattle.dsl_lexer.specs.declared.stop.LexStop.TheVariants.{At, Memory}
+use Rattle.std.specs.Prelude.{Result, Ok, Err, OnOk, IfErr}
+use Rattle.dsl_lexer.proofs.StepLaw.{step_law}
+use Rattle.dsl_lexer.specs.Progress.{Matches, Valid, Reached, IsStop, Follows, Gives, OnFault, CanTake, CanTakeFront}
 use Rattle.dsl_lexer.proofs.Fronts.{next_found}
 use Rattle.dsl_lexer.proofs.Bounds.{bounded, line_le, column_le}
 use Rattle.dsl_lexer.proofs.Matching.{length-placed}
@@ -58,3 +63,27 @@ pub can_take : (file : ℕ) (bytes : List ℕ) (valid : ℕ) (l : Layout) → Re
 can_take file bytes valid l r v small more =
     let here : r.rest ≡ drop l.spot.at bytes = sym (cut_rest bytes r.before r.rest r.cut) ∙ ap (λ n. drop n bytes) (sym r.matches.spot.at) in
     can_front file bytes valid l (drop l.spot.at bytes) r v small here (omega (arith, length-drop l.spot.at bytes))
+
+-- what a step of the code gave, by the law
+
+law_go : (file : ℕ) (bytes : List ℕ) (valid : ℕ) (l : Layout) (r : Reached file bytes valid l) → Valid bytes valid → (rest : List ℕ) → r.rest ≡ rest → 0 < length rest → Follows file bytes valid l (step_of file valid l rest)
+law_go file bytes valid l r v [] e more = absurd (omega arith)
+law_go file bytes valid l r v (b ∷ more) e some = step_law file bytes valid l v r.before b more (subst (Cut bytes r.before) e r.cut) r.sound r.matches r.within
+
+law_at : (file : ℕ) (bytes : List ℕ) (valid : ℕ) (l : Layout) → Reached file bytes valid l → Valid bytes valid → l.spot.at < length bytes → Follows file bytes valid l (step_of file valid l (drop l.spot.at bytes))
+law_at file bytes valid l r v more =
+    let here : r.rest ≡ drop l.spot.at bytes = sym (cut_rest bytes r.before r.rest r.cut) ∙ ap (λ n. drop n bytes) (sym r.matches.spot.at) in
+    law_go file bytes valid l r v (drop l.spot.at bytes) here (omega (arith, length-drop l.spot.at bytes))
+
+pub step_goes : (file : ℕ) (bytes : List ℕ) (valid : ℕ) (l next : Layout) (result : Result (Unit {0}) LexStop) → Reached file bytes valid l → Valid bytes valid → l.spot.at < length bytes
+    → Gives file l (step_of file valid l (drop l.spot.at bytes)) result next → OnOk result (Reached file bytes valid next × (l.spot.at < next.spot.at))
+step_goes file bytes valid l next (Ok done) r v more gives = subst (Follows file bytes valid l) gives (law_at file bytes valid l r v more)
+step_goes file bytes valid l next (Err stop) r v more gives = tt
+
+pub step_stops : (file : ℕ) (bytes : List ℕ) (valid : ℕ) (l next : Layout) (result : Result (Unit {0}) LexStop) → Reached file bytes valid l → Valid bytes valid → l.spot.at < length bytes
+    → Gives file l (step_of file valid l (drop l.spot.at bytes)) result next → IfErr result (λ stop. OnFault stop (IsFirstFault file bytes))
+step_stops file bytes valid l next (Ok done) r v more gives = tt
+step_stops file bytes valid l next (Err Memory) r v more gives = tt
+step_stops file bytes valid l next (Err (At fault)) r v more (s, e, place) =
+    let stop : IsStop file bytes l s fault.code = subst (Follows file bytes valid l) e (law_at file bytes valid l r v more) in
+    stop.first fault place refl

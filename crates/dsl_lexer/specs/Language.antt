@@ -1,8 +1,9 @@
 -- Which tokens a source has, and which faults.
-use Rattle.std.specs.Prelude.{ℕ, ◌+◌, ◌<◌, ◌≤◌, ◌≡◌, Bool, true, false, IsTrue, IsSome, List, [], ◌∷◌, ◌++◌, length, drop, Some, None, ◌⊎◌}
+use Rattle.std.specs.Prelude.{ℕ, ◌+◌, ◌<◌, ◌≤◌, ◌≢◌, ◌≡◌, Bool, true, false, IsTrue, IsSome, List, [], ◌∷◌, ◌++◌, length, drop, Some, None, ◌⊎◌}
 use Rattle.std.specs.Str.{IsUtf8, IsValidUpTo}
 use Rattle.osc_base.specs.declared.fault.Fault.{Fault}
 use Rattle.dsl_tree.specs.declared.token.Token.{Token}
+use Rattle.dsl_tree.specs.declared.token.TokenKind.TheVariants.{End}
 use Rattle.dsl_lexer.specs.Bytes.{is_quote, begins_control, place_at}
 use Rattle.dsl_lexer.specs.Shapes.{NumberShape, StringShape, is_lexeme}
 use Rattle.dsl_lexer.specs.Kinds.{kind_of}
@@ -93,3 +94,13 @@ pub record IsFirstFault (file : ℕ) (bytes : List ℕ) (fault : Fault) : Type 0
   pub is_fault : FaultAt bytes at fault.code count
   pub place : fault.place ≡ place_at file bytes at count
   pub first : (n code tokens : ℕ) → FaultAt bytes n code tokens → (at < n) ⊎ ((at ≡ n) × (fault.code ≤ code))
+
+-- no token list cuts the bytes
+abbrev pub IsUncut : ℕ → List ℕ → Type 0
+IsUncut file bytes = (found : List Token) → TokensCut file bytes found → ⊥
+
+-- the last token, and no other, is END
+abbrev pub EndsOnce : List Token → Type 0
+EndsOnce [] = ⊥
+EndsOnce (t ∷ []) = t.kind ≡ End
+EndsOnce (t ∷ u ∷ more) = (t.kind ≢ End) × EndsOnce (u ∷ more)

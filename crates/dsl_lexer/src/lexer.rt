@@ -6,7 +6,7 @@ ghost use Rattle.dsl_lexer.specs.Kinds as kinds_of;
 ghost use Rattle.dsl_lexer.specs.Room.{HasRoom};
 ghost use Rattle.dsl_lexer.specs.Steps as steps;
 ghost use Rattle.dsl_lexer.specs.Progress.{CanTake, CanTakeFront, Valid, Reached, Gives, GivesStop, OnFault};
-ghost use Rattle.dsl_lexer.specs.Language.{TokensCut, IsFirstFault};
+ghost use Rattle.dsl_lexer.specs.Language.{TokensCut, IsFirstFault, IsUncut, EndsOnce};
 
 use std::alloc::{AllocError, Global};
 
@@ -165,7 +165,27 @@ fn step(alloc: Global, file: u32, bytes: &[u8], valid: usize, layout: &mut Layou
     requires valid { Valid bytes.now valid }
     requires more { layout.old.spot.at < length bytes.now }
     requires small { length bytes.now ≤ 1048576 }
-    ensures { Gives file layout.old (steps.step_of file valid layout.old (drop layout.old.spot.at bytes.now)) result layout.new }
+    ensures on { OnOk result (Reached file bytes.now valid layout.new × (layout.old.spot.at < layout.new.spot.at)) }
+    ensures fault { IfErr result (λ stop. OnFault stop (IsFirstFault file bytes.now)) }
 {
     take_front(alloc, file, layout, valid, &bytes[layout.spot.at..])
+}
+
+/// The tokens of the bytes, which are those of file number `file`, or the first fault.
+///
+/// `At` comes exactly where no token list cuts the bytes. Lines and columns count from 1, and a place's token number is
+/// the number of tokens before it. The bytes are any: they need not be UTF-8.
+pub fn lex(alloc: Global, file: u32, bytes: &[u8]) -> Result<Tokens, LexStop>
+    requires { length bytes.now ≤ 1048576 }
+    ensures tokens { IfOk result (TokensCut file bytes.now) }
+    ensures end { IfOk result EndsOnce }
+    ensures fault { IfErr result (λ stop. OnFault stop (IsFirstFault file bytes.now)) }
+    ensures uncut { IfErr result (λ stop. OnFault stop (λ _. IsUncut file bytes.now)) }
+{
+    let valid = valid_len(bytes);
+    let mut layout = Layout::new(alloc);
+    while layout.spot.at < bytes.len() {
+        step(alloc, file, bytes, valid, &mut layout)?;
+    }
+    Ok(layout.finish(file)?)
 }

@@ -14,4 +14,5 @@ mod stop;
 mod widths;
 mod words;
 
+pub use lexer::lex;
 pub use stop::LexStop;
