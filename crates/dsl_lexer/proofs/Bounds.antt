@@ -1,18 +1,18 @@
 -- What is counted is bounded by the bytes so far.
-use Rattle.std.proofs.Common.{◌≡◌, ℕ, suc, ◌+◌, ◌-◌, ◌*◌, ◌<◌, ◌≤◌, Bool, true, false, cond, ◌&&◌, not, Option, Some, None, List, [], ◌∷◌, ◌++◌, length, take, map, refl, ap, sym, ◌∙◌, arith}
+use Rattle.std.proofs.Common.{◌≡◌, ℕ, suc, ◌+◌, ◌-◌, ◌*◌, ◌≤◌, Bool, true, false, cond, not, Option, Some, None, List, [], ◌∷◌, ◌++◌, length, take, map, refl, ap, arith}
 use Rattle.std.specs.Prelude.{filter, nat_lt, ◌==◌}
-use Rattle.std.specs.List.{list_all, suffix_len, after_last}
+use Rattle.std.specs.List.{suffix_len}
 use Rattle.std.proofs.lemmas.Bool.{cond_both, ltb-true}
 use Rattle.std.proofs.lemmas.List.{length-append, length-take, length-drop, length-map}
 use Rattle.std.proofs.lemmas.List.Sums.{length-filter, count_by-le-length}
 use Rattle.dsl_tree.specs.declared.token.TokenKind.{TokenKind}
-use Rattle.dsl_tree.specs.declared.token.TokenKind.TheVariants.{Indent, Dedent, Newline, Mark}
+use Rattle.dsl_tree.specs.declared.token.TokenKind.TheVariants.{Indent, Dedent, Mark}
 use Rattle.dsl_tree.specs.declared.token.MarkKind.TheVariants.{OpenRound, CloseRound, OpenSquare, CloseSquare}
 use Rattle.dsl_lexer.specs.Bytes.{is_line_feed, line_at, column_at}
 use Rattle.dsl_lexer.specs.Kinds.{kind_of}
 use Rattle.dsl_lexer.specs.Pieces.{Piece, reach, Cut}
 use Rattle.dsl_lexer.specs.Layout.{OffsetToken, brackets_behind, brackets, ends_line, is_space, line, width, begins_line, widths, opened, is_widest, blocks, newline, has_lexeme, own_token, brought, tokens}
-use Rattle.dsl_lexer.specs.Steps.{with_width, opened_behind}
+use Rattle.dsl_lexer.specs.Steps.{opened_behind}
 use Rattle.dsl_lexer.proofs.Opened.{opened-cons}
 use Rattle.dsl_lexer.proofs.Cutting.{some_text}
 

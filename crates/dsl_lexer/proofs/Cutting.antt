@@ -1,14 +1,13 @@
 -- The pieces in front of a rest are unique.
-use Rattle.std.proofs.Common.{◌≡◌, ℕ, suc, ◌+◌, ◌<◌, ◌≤◌, Bool, true, false, ◌⊎◌, inl, inr, List, [], ◌∷◌, ◌++◌, length, take, drop, refl, ap, sym, ◌∙◌, subst, arith}
-use Rattle.std.specs.Prelude.{IsTrue}
+use Rattle.std.proofs.Common.{◌≡◌, ℕ, suc, ◌+◌, ◌<◌, ◌≤◌, inl, inr, List, [], ◌∷◌, ◌++◌, length, take, drop, refl, ap, sym, ◌∙◌, arith}
 use Rattle.std.proofs.lemmas.List.{append_assoc, length-append, take_at, drop_at}
 use Rattle.std.proofs.lemmas.Bool.{cases_eq}
 use Rattle.dsl_lexer.specs.declared.shape.Shape.{Shape}
 use Rattle.dsl_lexer.specs.Shapes.{IsShape}
 use Rattle.dsl_lexer.specs.Scan.{first_shape}
-use Rattle.dsl_lexer.specs.Pieces.{Piece, reach, IsLongest, Stands, Cut}
+use Rattle.dsl_lexer.specs.Pieces.{Piece, reach, Stands, Cut}
 use Rattle.dsl_lexer.specs.Language.{AreSound, IsSound, IsNext}
-use Rattle.dsl_lexer.proofs.Fitting.{Begins, begins}
+use Rattle.dsl_lexer.proofs.Fitting.{begins}
 use Rattle.dsl_lexer.proofs.Fronts.{same_front}
 
 abbrev piece_at : ℕ → Shape → List ℕ → Piece

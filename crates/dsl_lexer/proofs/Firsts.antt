@@ -1,21 +1,20 @@
 -- Which fault is the first.
-use Rattle.std.proofs.Common.{◌≡◌, ℕ, suc, ◌+◌, ◌-◌, ◌*◌, ◌<◌, ◌≤◌, Bool, true, false, cond, ◌&&◌, ◌||◌, not, ◌⊎◌, inl, inr, Option, Some, None, List, [], ◌∷◌, ◌++◌, length, take, drop, refl, ap, sym, ◌∙◌, subst, arith}
-use Rattle.std.specs.Prelude.{filter, nat_lt, ◌==◌, ◌≢◌, IsTrue, IsSome, is_some, codes}
-use Rattle.std.specs.List.{list_all, list_any}
-use Rattle.std.specs.Str.{IsUtf8, IsValidUpTo}
-use Rattle.std.proofs.lemmas.Bool.{cond_both, cond-true, cond-false, and_from, and_parts, or_parts, or_right, or_left, eqb-true, eq-eqb, cases_order, cases_Bool, false≢true, true≢false, not_from_false, not-true}
-use Rattle.std.proofs.lemmas.List.{append_assoc, length-append, append-nil}
+use Rattle.std.proofs.Common.{◌≡◌, ℕ, ◌+◌, ◌<◌, ◌≤◌, Bool, true, false, cond, ◌&&◌, ◌⊎◌, inl, inr, Option, Some, None, List, [], ◌∷◌, ◌++◌, length, refl, ap, sym, ◌∙◌, subst, arith}
+use Rattle.std.specs.Prelude.{◌==◌, IsSome, is_some}
+use Rattle.std.specs.List.{list_all}
+use Rattle.std.specs.Str.{IsValidUpTo}
+use Rattle.std.proofs.lemmas.Bool.{and_from, and_parts, or_parts, or_right, eqb-true, eq-eqb, cases_order, false≢true, true≢false}
+use Rattle.std.proofs.lemmas.List.{append_assoc, length-append}
 use Rattle.std.proofs.lemmas.List.Folds.{list_all-append}
-use Rattle.dsl_tree.specs.declared.token.TokenKind.{TokenKind}
 use Rattle.dsl_lexer.specs.Progress.{Valid}
 use Rattle.dsl_lexer.specs.declared.shape.Shape.{Shape}
-use Rattle.dsl_lexer.specs.Bytes.{is_line_feed, is_quote}
+use Rattle.dsl_lexer.specs.Bytes.{is_line_feed}
 use Rattle.dsl_lexer.specs.Shapes.{Space, Tab, Comment, LineEnd, Joint, MarkShape, NameShape, NumberShape, StringShape, is_lexeme, IsShape}
 use Rattle.dsl_lexer.specs.Kinds.{kind_of}
 use Rattle.dsl_lexer.specs.Scan.{first_shape}
-use Rattle.dsl_lexer.specs.Pieces.{Piece, reach, IsLongest, Stands, Cut, IsStuck, IsContent}
-use Rattle.dsl_lexer.specs.Layout.{brackets_behind, brackets, is_line_end, ends_line, is_tab, line, width, or_else, first_tab, begins_line, widths, opened, fits, has_lexeme, depth, tokens}
-use Rattle.dsl_lexer.specs.Language.{HasControl, IsLaidOut, IsSound, AreSound, BeginsContent, IsNext, begins_with, FaultBehind, bad_byte, early_tab, bad_width, no_piece, bad_control, no_string, no_number, too_deep, FaultAt}
+use Rattle.dsl_lexer.specs.Pieces.{Piece, reach, IsLongest, Cut, IsContent}
+use Rattle.dsl_lexer.specs.Layout.{brackets, is_line_end, ends_line, is_tab, line, or_else, first_tab, begins_line, has_lexeme, depth}
+use Rattle.dsl_lexer.specs.Language.{HasControl, IsLaidOut, IsSound, AreSound, BeginsContent, IsNext, FaultBehind, bad_byte, early_tab, bad_width, no_piece, bad_control, no_string, no_number, too_deep, FaultAt}
 use Rattle.dsl_lexer.proofs.Spots.{no_feed}
 use Rattle.dsl_lexer.proofs.Fitting.{begins}
 use Rattle.dsl_lexer.proofs.Matching.{lexeme_is}
@@ -187,7 +186,7 @@ tab_claim k n pieces (inr all) first e = tab_from k (line pieces) n all e
 lexeme_flat : (s : Shape) → is_lexeme s ≡ true → is_line_end s ≡ false
 lexeme_flat s h = (lexeme_is s h).0
 
-later_tab : (bytes : List ℕ) (more : List Piece) (p : Piece) (before : List Piece) (rest : List ℕ) (n : ℕ) → Cut bytes (more ++ p ∷ before) rest → ((is_lexeme p.shape ≡ true) ⊎ (p.shape ≡ Comment))
+pub later_tab : (bytes : List ℕ) (more : List Piece) (p : Piece) (before : List Piece) (rest : List ℕ) (n : ℕ) → Cut bytes (more ++ p ∷ before) rest → ((is_lexeme p.shape ≡ true) ⊎ (p.shape ≡ Comment))
     → BeginsContent (more ++ p ∷ before) rest → first_tab (line (more ++ p ∷ before)) ≡ Some n → reach before + length p.text ≤ n
 later_tab bytes more p before rest n cut (inl lex) c e = tab_claim (reach before + length p.text) n (more ++ p ∷ before) (claim_lexeme bytes more p before rest cut lex (lexeme_flat p.shape lex)) c.first e
 later_tab bytes [] p before rest n cut (inr comment) c e =

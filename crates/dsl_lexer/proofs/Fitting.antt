@@ -1,15 +1,15 @@
 -- A text of a shape begins with a byte of the shape, and is no longer than the piece that is found where it stands.
-use Rattle.std.proofs.Common.{◌≡◌, ℕ, suc, ◌+◌, ◌<◌, ◌≤◌, Bool, true, false, cond, ◌&&◌, ◌||◌, not, ◌⊎◌, inl, inr, Option, Some, None, List, [], ◌∷◌, ◌++◌, length, take, drop, refl, ap, sym, ◌∙◌, subst, arith}
-use Rattle.std.specs.Prelude.{IsSome, is_some, IsTrue, codes, ◌==◌}
+use Rattle.std.proofs.Common.{◌≡◌, ℕ, suc, ◌+◌, ◌≤◌, Bool, true, false, cond, ◌&&◌, not, ◌⊎◌, inl, inr, Option, Some, None, List, [], ◌∷◌, ◌++◌, length, take, drop, refl, ap, sym, ◌∙◌, subst, arith}
+use Rattle.std.specs.Prelude.{IsSome, is_some, ◌==◌}
 use Rattle.std.specs.List.{list_all, prefix_len}
 use Rattle.std.specs.Option.{option_map}
-use Rattle.std.proofs.lemmas.Bool.{and_parts, and_from, or_cases, or_left, or_right, or_from, cond_both, cond-true, cond-false, false≢true, true≢false, eqb-true, eq-eqb, ne_eqb, leb-true, leb-false, cases_Bool, false_from_ne_true, not-true}
+use Rattle.std.proofs.lemmas.Bool.{and_parts, and_from, or_cases, or_left, or_right, cond_both, cond-true, false≢true, eqb-true, eq-eqb, false_from_ne_true, not-true}
 use Rattle.std.proofs.lemmas.Bool.Decides.{nat_tests}
 use Rattle.std.proofs.lemmas.List.{append_assoc, length-append, length-take, drop_at, drop-drop}
 use Rattle.dsl_tree.specs.declared.token.MarkKind.{MarkKind}
 use Rattle.dsl_lexer.specs.declared.shape.Shape.{Shape}
 use Rattle.dsl_lexer.specs.Bytes.{is_digit, is_name_start, is_name_byte, is_line_feed, is_backslash, is_quote, is_escapable}
-use Rattle.dsl_lexer.specs.Shapes.{Space, Tab, Comment, LineEnd, Joint, MarkShape, NameShape, NumberShape, StringShape, entry, marks, IsLineEnd, IsName, IsDigitRun, IsDigits, IsNumber, IsString, is_inside, IsShape}
+use Rattle.dsl_lexer.specs.Shapes.{Space, Tab, Comment, LineEnd, Joint, MarkShape, NameShape, NumberShape, StringShape, entry, marks, IsLineEnd, IsName, IsDigitRun, IsDigits, IsNumber, is_inside, IsShape}
 use Rattle.dsl_lexer.specs.Scan.{first_shape, line_end_len, begins_fraction, name_run, number_len, closing, mark_len, piece_len}
 use Rattle.dsl_lexer.proofs.Tables.{passes, is_mark_like, marks_are_like, mark_shape_is}
 

@@ -1,18 +1,17 @@
 -- The piece that is found stands at the front and has its shape; it is the longest, and where none is found none fits.
-use Rattle.std.proofs.Common.{◌≡◌, ℕ, suc, ◌+◌, ◌<◌, ◌≤◌, Bool, true, false, cond, ◌&&◌, ◌||◌, not, ◌⊎◌, inl, inr, Option, Some, None, List, [], ◌∷◌, ◌++◌, length, take, drop, refl, ap, sym, ◌∙◌, subst, arith}
-use Rattle.std.specs.Prelude.{IsSome, is_some, IsTrue, codes, ◌==◌}
+use Rattle.std.proofs.Common.{◌≡◌, ℕ, suc, ◌+◌, ◌≤◌, Bool, true, false, cond, ◌&&◌, ◌||◌, not, inl, inr, Option, Some, None, List, [], ◌∷◌, ◌++◌, length, take, drop, refl, ap, sym, ◌∙◌, arith}
+use Rattle.std.specs.Prelude.{is_some, ◌==◌}
 use Rattle.std.specs.List.{list_all, prefix_len}
 use Rattle.std.specs.Option.{option_map}
-use Rattle.std.proofs.lemmas.Bool.{and_parts, and_from, or_cases, or_left, or_right, or_from, cond_both, cond-true, cond-false, false≢true, true≢false, eqb-true, eq-eqb, ne_eqb, leb-true, leb-false, cases_Bool, false_from_ne_true, not-true, not_from_false}
-use Rattle.std.proofs.lemmas.List.{append_assoc, length-append, length-take, take_at, drop_at, drop-drop, take-append-drop, length-drop}
-use Rattle.std.proofs.lemmas.List.Sums.{prefix_len-le-length}
+use Rattle.std.proofs.lemmas.Bool.{and_parts, and_from, cond_both, false≢true, eqb-true}
+use Rattle.std.proofs.lemmas.List.{append_assoc, length-append, take_at, drop_at, drop-drop, take-append-drop}
 use Rattle.dsl_tree.specs.declared.token.MarkKind.{MarkKind}
 use Rattle.dsl_lexer.specs.declared.shape.Shape.{Shape}
 use Rattle.dsl_lexer.specs.Bytes.{is_digit, is_name_start, is_name_byte, is_line_feed, is_backslash, is_quote, is_escapable}
-use Rattle.dsl_lexer.specs.Shapes.{Space, Tab, Comment, LineEnd, Joint, MarkShape, NameShape, NumberShape, StringShape, is_lexeme, entry, marks, IsLineEnd, IsName, IsDigitRun, IsDigits, IsNumber, IsString, is_inside, IsShape}
+use Rattle.dsl_lexer.specs.Shapes.{Space, Tab, Comment, LineEnd, Joint, MarkShape, NameShape, NumberShape, StringShape, is_lexeme, entry, marks, is_inside, IsShape}
 use Rattle.dsl_lexer.specs.Pieces.{IsLongest, IsStuck, IsContent}
 use Rattle.dsl_lexer.specs.Scan.{first_shape, begins_line_feed, line_end_len, begins_fraction, name_run, number_len, closing, mark_len, piece_len}
-use Rattle.dsl_lexer.proofs.Fitting.{Begins, begins, AtMost, fit, digit_is_name_byte, start_is_name_byte}
+use Rattle.dsl_lexer.proofs.Fitting.{begins, AtMost, fit, digit_is_name_byte, start_is_name_byte}
 
 -- what the first byte of a shape is
 

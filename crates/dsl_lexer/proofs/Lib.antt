@@ -16,3 +16,5 @@ pub mod Stepping
 pub mod StepLaw
 pub mod Texts
 pub mod Taking
+pub mod LawProofs
+pub mod Ending

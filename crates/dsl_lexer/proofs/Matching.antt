@@ -1,12 +1,11 @@
 -- What the lexer knows matches the pieces so far, and each step keeps that.
-use Rattle.std.proofs.Common.{◌≡◌, ℕ, suc, ◌+◌, ◌-◌, ◌*◌, ◌<◌, ◌≤◌, Bool, true, false, cond, ◌&&◌, ◌||◌, not, Option, Some, None, List, [], ◌∷◌, ◌++◌, length, take, drop, map, replicate, refl, ap, sym, ◌∙◌, arith, zero-add}
-use Rattle.std.specs.Prelude.{filter, nat_lt, ◌==◌, IsTrue, MatchOption}
-use Rattle.std.specs.List.{list_all, list_any}
-use Rattle.std.proofs.lemmas.Bool.{cond_both, cond-true, cond-false, and_from, false≢true}
-use Rattle.std.proofs.lemmas.List.{append_assoc, length-append, append-nil}
+use Rattle.std.proofs.Common.{◌≡◌, ℕ, suc, ◌+◌, Bool, true, false, cond, not, Option, Some, None, List, [], ◌∷◌, ◌++◌, length, map, replicate, refl, ap, sym, ◌∙◌, arith, zero-add}
+use Rattle.std.specs.Prelude.{◌==◌}
+use Rattle.std.proofs.lemmas.Bool.{false≢true}
+use Rattle.std.proofs.lemmas.List.{append_assoc, append-nil}
 use Rattle.dsl_tree.specs.declared.token.Token.{Token}
 use Rattle.dsl_tree.specs.declared.token.TokenKind.{TokenKind}
-use Rattle.dsl_tree.specs.declared.token.TokenKind.TheVariants.{Indent, Dedent, Newline, End}
+use Rattle.dsl_tree.specs.declared.token.TokenKind.TheVariants.{Dedent, Newline, End}
 use Rattle.dsl_lexer.specs.Progress.{IsSpot, IsTab, Matches}
 use Rattle.dsl_lexer.specs.declared.spot.Spot.{Spot}
 use Rattle.dsl_lexer.specs.declared.layout.Layout.{Layout}
@@ -15,12 +14,10 @@ use Rattle.dsl_lexer.specs.Bytes.{place_at, line_at}
 use Rattle.dsl_lexer.specs.Shapes.{Space, Tab, Comment, LineEnd, Joint, MarkShape, NameShape, NumberShape, StringShape, is_lexeme}
 use Rattle.dsl_lexer.specs.Kinds.{kind_of}
 use Rattle.dsl_lexer.specs.Pieces.{Piece, reach}
-use Rattle.dsl_lexer.specs.Layout.{OffsetToken, brackets_behind, brackets, is_line_end, ends_line, is_space, is_tab, line, width, or_else, first_tab, begins_line, widths, opened, blocks, newline, has_lexeme, behind_last, own_token, brought, tokens, last_tokens, placed}
+use Rattle.dsl_lexer.specs.Layout.{OffsetToken, brackets, is_line_end, is_space, is_tab, line, width, or_else, first_tab, widths, opened, blocks, newline, has_lexeme, behind_last, tokens, last_tokens, placed}
 use Rattle.dsl_lexer.specs.Steps as steps
 use Rattle.dsl_lexer.specs.Steps.{moved, on_next_line, stamped, first_spot, opened_behind, at_start, after_space, after_tab, after_comment, after_joint, after_line_end, after_lexeme, with_newline, with_blocks, widths_behind, with_last_newline, with_dedents, all_tokens}
 use Rattle.dsl_lexer.proofs.Opened.{opened-cons}
-use Rattle.dsl_lexer.proofs.Stamps.{length-stamped, map_same}
-use Rattle.dsl_lexer.proofs.Bounds.{length-at}
 
 -- tokens with places
 

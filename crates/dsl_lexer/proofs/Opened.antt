@@ -1,9 +1,9 @@
 -- The opened widths, line by line.
-use Rattle.std.proofs.Common.{◌≡◌, ℕ, suc, ◌+◌, ◌<◌, ◌≤◌, Bool, true, false, cond, ◌&&◌, ◌⊎◌, inl, inr, List, [], ◌∷◌, ◌++◌, length, zero, refl, ap, sym, ◌∙◌, arith}
-use Rattle.std.specs.Prelude.{nat_lt, nat_le, ◌==◌, filter}
-use Rattle.std.specs.List.{list_all, AllByRecursion}
-use Rattle.std.proofs.lemmas.Bool.{and_parts, and_from, cases_Bool, cond_both, ltb-true, lt-ltb, le-ltb, ltb-false, ne_eqb}
-use Rattle.dsl_lexer.specs.Layout.{IsOpened, opened_since, opened}
+use Rattle.std.proofs.Common.{◌≡◌, ℕ, suc, Bool, true, false, cond, ◌&&◌, List, [], ◌∷◌, zero, refl, ap, ◌∙◌, arith}
+use Rattle.std.specs.Prelude.{nat_lt, filter}
+use Rattle.std.specs.List.{list_all}
+use Rattle.std.proofs.lemmas.Bool.{lt-ltb, ne_eqb}
+use Rattle.dsl_lexer.specs.Layout.{opened_since, opened}
 use Rattle.dsl_lexer.specs.Steps.{with_width, opened_behind}
 
 -- the later lines are those, and one of width w

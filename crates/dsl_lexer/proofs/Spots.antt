@@ -1,19 +1,19 @@
 -- Lines and columns from one offset to a later one.
-use Rattle.std.proofs.Common.{◌≡◌, ℕ, suc, ◌+◌, ◌-◌, ◌<◌, ◌≤◌, Bool, true, false, cond, ◌&&◌, not, ◌⊎◌, inl, inr, List, [], ◌∷◌, ◌++◌, length, take, drop, reverse, refl, ap, sym, ◌∙◌, subst, arith}
-use Rattle.std.specs.Prelude.{filter, IsSome, IsTrue, codes, ◌==◌, is_some}
+use Rattle.std.proofs.Common.{◌≡◌, ℕ, ◌+◌, ◌-◌, Bool, true, false, cond, ◌&&◌, not, inl, inr, List, [], ◌∷◌, ◌++◌, length, take, reverse, refl, ap, sym, ◌∙◌, arith}
+use Rattle.std.specs.Prelude.{filter, ◌==◌}
 use Rattle.std.specs.List.{list_all, prefix_len, suffix_len, after_last}
-use Rattle.std.proofs.lemmas.Bool.{and_parts, and_from, or_cases, not-true, not_from_false, false≢true, cond_both, eqb-true}
-use Rattle.std.proofs.lemmas.List.{append_assoc, length-append, length-take, take_at, drop_at, take-append-drop, append-nil, length-drop, reverse-append, length-reverse}
+use Rattle.std.proofs.lemmas.Bool.{and_parts, and_from, not-true, false≢true, eqb-true}
+use Rattle.std.proofs.lemmas.List.{append_assoc, length-append, take_at, length-drop, reverse-append, length-reverse}
 use Rattle.std.proofs.lemmas.List.Folds.{list_all-append}
-use Rattle.std.proofs.lemmas.List.Sums.{prefix_len-le-length, suffix_len-le-length, length-filter, count_by-le-length}
+use Rattle.std.proofs.lemmas.List.Sums.{suffix_len-le-length}
 use Rattle.dsl_lexer.specs.Progress.{IsSpot}
 use Rattle.dsl_lexer.specs.declared.spot.Spot.{Spot}
 use Rattle.dsl_lexer.specs.declared.shape.Shape.{Shape}
-use Rattle.dsl_lexer.specs.Bytes.{is_digit, is_name_byte, is_quote, is_line_feed, is_backslash, is_escapable, line_at, column_at}
-use Rattle.dsl_lexer.specs.Shapes.{Space, Tab, Comment, LineEnd, Joint, MarkShape, NameShape, NumberShape, StringShape, entry, marks, is_inside, IsDigitRun, IsDigits, IsNumber, IsName, IsLineEnd, IsShape}
+use Rattle.dsl_lexer.specs.Bytes.{is_name_byte, is_quote, is_line_feed, is_backslash, is_escapable, line_at, column_at}
+use Rattle.dsl_lexer.specs.Shapes.{Space, Tab, Comment, LineEnd, Joint, MarkShape, NameShape, NumberShape, StringShape, marks, is_inside, IsLineEnd, IsShape}
 use Rattle.dsl_lexer.specs.Steps.{moved, on_next_line}
 use Rattle.dsl_lexer.proofs.Tables.{passes}
-use Rattle.dsl_lexer.proofs.Fitting.{name_passes, run_passes, digits_pass, digits_are_name_bytes, quote_is}
+use Rattle.dsl_lexer.proofs.Fitting.{name_passes, run_passes, digits_pass, digits_are_name_bytes}
 
 abbrev pub no_feed : ℕ → Bool
 no_feed b = not (is_line_feed b)

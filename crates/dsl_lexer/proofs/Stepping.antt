@@ -1,35 +1,26 @@
 -- A step of the lexer goes on behind one sound piece more, or stops at the first fault.
-use Rattle.std.proofs.Common.{◌≡◌, ℕ, suc, ◌+◌, ◌-◌, ◌*◌, ◌<◌, ◌≤◌, Bool, true, false, cond, ◌&&◌, ◌||◌, not, ◌⊎◌, inl, inr, Option, Some, None, List, [], ◌∷◌, ◌++◌, length, take, drop, get_or, refl, ap, sym, ◌∙◌, subst, arith}
-use Rattle.std.specs.Prelude.{filter, nat_lt, ◌==◌, ◌≢◌, IsTrue, IsSome, is_some, codes}
-use Rattle.std.specs.List.{list_all, list_any}
-use Rattle.std.specs.Str.{IsUtf8, IsValidUpTo}
-use Rattle.std.proofs.lemmas.Bool.{cond_both, cond-true, cond-false, and_from, and_parts, or_parts, or_right, or_left, eqb-true, eqb-false, eq-eqb, ne_eqb, cases_order, cases_Bool, false≢true, true≢false, not_from_false, not-true, ltb-true, ltb-false, lt-ltb, le-ltb}
-use Rattle.std.proofs.lemmas.List.{append_assoc, length-append, append-nil, take_at, take-append-drop, length-take-le}
+use Rattle.std.proofs.Common.{◌≡◌, ℕ, ◌+◌, ◌<◌, ◌≤◌, Bool, true, false, cond, ◌⊎◌, inl, inr, Option, Some, None, List, [], ◌∷◌, ◌++◌, length, take, drop, refl, ap, sym, ◌∙◌, subst, arith}
+use Rattle.std.specs.List.{list_all}
+use Rattle.std.specs.Str.{IsValidUpTo}
+use Rattle.std.proofs.lemmas.Bool.{and_parts, true≢false}
+use Rattle.std.proofs.lemmas.List.{append_assoc, length-append, take-append-drop, length-take-le}
 use Rattle.std.proofs.lemmas.List.Folds.{list_all-append}
-use Rattle.dsl_tree.specs.declared.token.TokenKind.{TokenKind}
-use Rattle.dsl_tree.specs.declared.token.TokenKind.TheVariants.{Mark, Name, Chars}
-use Rattle.dsl_tree.specs.declared.token.MarkKind.{MarkKind}
-use Rattle.osc_base.specs.declared.fault.Fault.{Fault}
-use Rattle.dsl_lexer.specs.Progress.{IsSpot, IsTab, Matches, Valid, Reached, IsStop, Follows}
+use Rattle.dsl_lexer.specs.Progress.{IsSpot, Matches, Valid, Reached, IsStop}
 use Rattle.dsl_lexer.specs.declared.spot.Spot.{Spot}
 use Rattle.dsl_lexer.specs.declared.layout.Layout.{Layout}
 use Rattle.dsl_lexer.specs.declared.shape.Shape.{Shape}
-use Rattle.dsl_lexer.specs.Bytes.{is_line_feed, is_quote, place_at}
-use Rattle.dsl_lexer.specs.Shapes.{Space, Tab, Comment, LineEnd, Joint, MarkShape, NameShape, NumberShape, StringShape, is_lexeme, IsShape, entry, marks}
+use Rattle.dsl_lexer.specs.Bytes.{is_quote}
+use Rattle.dsl_lexer.specs.Shapes.{Space, Tab, Comment, LineEnd, Joint, MarkShape, NameShape, NumberShape, StringShape, is_lexeme, IsShape}
 use Rattle.dsl_lexer.specs.Kinds.{kind_of}
-use Rattle.dsl_lexer.specs.Scan.{first_shape, piece_len, control_at}
-use Rattle.dsl_lexer.specs.Pieces.{Piece, reach, IsLongest, Stands, Cut, IsStuck, IsContent}
-use Rattle.dsl_lexer.specs.Layout.{brackets_behind, brackets, is_line_end, ends_line, is_tab, line, width, or_else, first_tab, begins_line, widths, opened, fits, has_lexeme, depth, tokens}
-use Rattle.dsl_lexer.specs.Language.{HasControl, IsLaidOut, IsSound, AreSound, BeginsContent, IsNext, begins_with, FaultBehind, bad_byte, early_tab, bad_width, no_piece, bad_control, no_string, no_number, too_deep, FaultAt, IsFirstFault}
-use Rattle.dsl_lexer.specs.Steps.{place_of, moved, on_next_line, opened_behind, widths_behind, bad_byte_or, first_white_fault, white_fault, end_fault, control_or_end, controls, lexeme_fault, SpottedFault, Outcome, Goes, Stops, or_stop, after_separator, after_lexeme, separator_of, lexeme_of, content_of, piece_of, step_of}
-use Rattle.dsl_lexer.proofs.Opened.{opened-cons}
-use Rattle.dsl_lexer.proofs.Spots.{no_feed, spot_over, spot_below, is_flat, flat, Ends, line_end_ends, joint_ends}
-use Rattle.dsl_lexer.proofs.Fitting.{begins}
-use Rattle.dsl_lexer.proofs.Fronts.{Next, next_found, stuck, content, stuck_content}
-use Rattle.dsl_lexer.proofs.Ascii.{separator_ascii, ascii_piece, FirstControl, control_none, control_some, control_within, string_control}
-use Rattle.dsl_lexer.proofs.Matching.{length-placed, place_same, lexeme_is, space_matches, tab_matches, comment_matches, joint_matches, line_end_matches, lexeme_matches}
-use Rattle.dsl_lexer.proofs.Firsts.{some_not_none, no_brackets, NotBefore, IsFirstHere, some_is, bad_later, first_of_all}
-use Rattle.dsl_lexer.proofs.Cutting.{some_text, is_next_same, spelled, cut_rest}
+use Rattle.dsl_lexer.specs.Pieces.{Piece, reach, Cut, IsStuck}
+use Rattle.dsl_lexer.specs.Layout.{brackets_behind, brackets, ends_line, is_tab, line, width, or_else, first_tab, widths, opened, fits, depth, tokens}
+use Rattle.dsl_lexer.specs.Language.{HasControl, IsSound, AreSound, BeginsContent, IsNext, begins_with, FaultBehind, bad_byte, early_tab, bad_width, no_piece, bad_control, no_string, no_number, too_deep}
+use Rattle.dsl_lexer.specs.Steps.{moved, on_next_line, after_separator}
+use Rattle.dsl_lexer.proofs.Spots.{no_feed, spot_over, spot_below, flat, Ends, line_end_ends, joint_ends}
+use Rattle.dsl_lexer.proofs.Ascii.{separator_ascii, ascii_piece}
+use Rattle.dsl_lexer.proofs.Matching.{length-placed, place_same, space_matches, tab_matches, comment_matches, joint_matches, line_end_matches}
+use Rattle.dsl_lexer.proofs.Firsts.{NotBefore, IsFirstHere, some_is, bad_later, first_of_all}
+use Rattle.dsl_lexer.proofs.Cutting.{some_text, spelled}
 
 -- the faults at one place, each with its offset and code
 

@@ -1,21 +1,21 @@
 -- Where the lexer stands, the piece at the front can be taken.
-use Rattle.std.proofs.Common.{◌≡◌, ℕ, suc, ◌+◌, ◌-◌, ◌*◌, ◌<◌, ◌≤◌, Bool, true, false, Option, Some, None, List, [], ◌∷◌, ◌++◌, length, take, drop, refl, ap, sym, ◌∙◌, subst, arith}
+use Rattle.std.proofs.Common.{◌≡◌, ℕ, ◌+◌, ◌<◌, ◌≤◌, List, [], ◌∷◌, ◌++◌, length, take, drop, refl, ap, sym, ◌∙◌, subst, arith}
 use Rattle.std.specs.Str.{IsUtf8}
 use Rattle.std.proofs.lemmas.List.{length-append, take_at, length-drop}
 use Rattle.dsl_lexer.specs.declared.layout.Layout.{Layout}
-use Rattle.dsl_lexer.specs.Shapes.{StringShape, IsShape}
+use Rattle.dsl_lexer.specs.Shapes.{IsShape}
 use Rattle.dsl_lexer.specs.Kinds.{string_chars}
-use Rattle.dsl_lexer.specs.Scan.{first_shape, piece_len}
-use Rattle.dsl_lexer.specs.Pieces.{Piece, reach, Cut}
+use Rattle.dsl_lexer.specs.Scan.{first_shape}
+use Rattle.dsl_lexer.specs.Pieces.{reach, Cut}
 use Rattle.dsl_lexer.specs.Layout.{tokens}
 use Rattle.dsl_lexer.specs.Room.{HasRoom}
-use Rattle.dsl_lexer.specs.Steps.{front_shape, step_of}
+use Rattle.dsl_lexer.specs.Steps.{step_of}
 use Rattle.dsl_lexer.specs.Language.{IsFirstFault}
 use Rattle.dsl_lexer.specs.declared.stop.LexStop.{LexStop}
 use Rattle.dsl_lexer.specs.declared.stop.LexStop.TheVariants.{At, Memory}
 use Rattle.std.specs.Prelude.{Result, Ok, Err, OnOk, IfErr}
 use Rattle.dsl_lexer.proofs.StepLaw.{step_law}
-use Rattle.dsl_lexer.specs.Progress.{Matches, Valid, Reached, IsStop, Follows, Gives, OnFault, CanTake, CanTakeFront}
+use Rattle.dsl_lexer.specs.Progress.{Valid, Reached, IsStop, Follows, Gives, OnFault, CanTakeFront}
 use Rattle.dsl_lexer.proofs.Fronts.{next_found}
 use Rattle.dsl_lexer.proofs.Bounds.{bounded, line_le, column_le}
 use Rattle.dsl_lexer.proofs.Matching.{length-placed}
@@ -87,3 +87,6 @@ step_stops file bytes valid l next (Err Memory) r v more gives = tt
 step_stops file bytes valid l next (Err (At fault)) r v more (s, e, place) =
     let stop : IsStop file bytes l s fault.code = subst (Follows file bytes valid l) e (law_at file bytes valid l r v more) in
     stop.first fault place refl
+
+pub reached_within : (file : ℕ) (bytes : List ℕ) (valid : ℕ) (l : Layout) → Reached file bytes valid l → l.spot.at ≤ length bytes
+reached_within file bytes valid l r = let at = r.matches.spot.at in omega (arith, cut_length bytes r.before r.rest r.cut)

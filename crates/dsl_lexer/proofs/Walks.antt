@@ -1,11 +1,11 @@
 -- The steps of the walks over a string: what is found from index i on is what is found at all, moved by i.
-use Rattle.std.proofs.Common.{◌≡◌, ℕ, suc, ◌+◌, ◌<◌, ◌≤◌, Bool, true, false, cond, Option, Some, None, List, [], ◌∷◌, ◌++◌, length, get_or, take, drop, refl, ap, sym, ◌∙◌, arith, add-one}
+use Rattle.std.proofs.Common.{◌≡◌, ℕ, suc, ◌+◌, ◌<◌, ◌≤◌, Bool, true, false, Option, Some, None, List, ◌∷◌, length, get_or, drop, refl, ap, sym, ◌∙◌, arith}
 use Rattle.std.specs.Prelude.{◌==◌}
 use Rattle.std.specs.Option.{option_map}
 use Rattle.std.specs.List.{between}
 use Rattle.std.proofs.lemmas.List.{drop_more, drop_all}
 use Rattle.std.proofs.lemmas.Slice.{between_to_end}
-use Rattle.dsl_lexer.specs.Bytes.{is_line_feed, is_backslash, is_quote, is_escapable, begins_control}
+use Rattle.dsl_lexer.specs.Bytes.{is_line_feed, is_backslash, is_escapable, begins_control}
 use Rattle.dsl_lexer.specs.Scan.{closing, control_at}
 
 -- a number found, moved

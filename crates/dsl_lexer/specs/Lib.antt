@@ -9,4 +9,5 @@ pub mod Room
 pub mod Steps
 pub mod Language
 pub mod Progress
+pub mod Laws
 pub mod Examples

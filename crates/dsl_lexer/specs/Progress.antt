@@ -1,6 +1,6 @@
 -- What the lexer knows at a place, and what its steps give. This is no part of the meaning: the lemmas of proofs/ tie it
 -- to `TokensCut` and `IsFirstFault`.
-use Rattle.std.specs.Prelude.{ℕ, ◌+◌, ◌<◌, ◌≤◌, ◌≡◌, List, [], ◌∷◌, length, take, drop, Option, Some, None, Result, Ok, Err}
+use Rattle.std.specs.Prelude.{ℕ, ◌+◌, ◌<◌, ◌≤◌, ◌≡◌, List, length, take, Option, Some, None, Result, Ok, Err}
 use Rattle.std.specs.Str.{IsUtf8, IsValidUpTo}
 use Rattle.osc_base.specs.declared.fault.Fault.{Fault}
 use Rattle.dsl_lexer.specs.declared.spot.Spot.{Spot}

@@ -9,7 +9,7 @@ use Rattle.dsl_lexer.specs.declared.spot.Spot.{Spot}
 use Rattle.dsl_lexer.specs.declared.layout.Layout.{Layout}
 use Rattle.dsl_lexer.specs.declared.shape.Shape.{Shape}
 use Rattle.dsl_lexer.specs.Bytes.{is_quote}
-use Rattle.dsl_lexer.specs.Shapes.{Space, Tab, Comment, LineEnd, Joint, MarkShape, NameShape, NumberShape, StringShape, is_lexeme}
+use Rattle.dsl_lexer.specs.Shapes.{Space, Tab, Comment, Joint, StringShape, is_lexeme}
 use Rattle.dsl_lexer.specs.Kinds.{kind_of}
 use Rattle.dsl_lexer.specs.Language.{begins_with}
 use Rattle.dsl_lexer.specs.Layout.{brackets_behind, fits, blocks}

@@ -6,6 +6,7 @@ ghost use Rattle.dsl_lexer.specs.Kinds as kinds_of;
 ghost use Rattle.dsl_lexer.specs.Room.{HasRoom};
 ghost use Rattle.dsl_lexer.specs.Steps as steps;
 ghost use Rattle.dsl_lexer.specs.Progress.{CanTake, CanTakeFront, Valid, Reached, Gives, GivesStop, OnFault};
+ghost use Rattle.dsl_lexer.specs.Laws.{OneList, CutOrFault, OneFault, EndIsLast, OpenedLaw};
 ghost use Rattle.dsl_lexer.specs.Language.{TokensCut, IsFirstFault, IsUncut, EndsOnce};
 
 use std::alloc::{AllocError, Global};
@@ -167,6 +168,7 @@ fn step(alloc: Global, file: u32, bytes: &[u8], valid: usize, layout: &mut Layou
     requires small { length bytes.now ≤ 1048576 }
     ensures on { OnOk result (Reached file bytes.now valid layout.new × (layout.old.spot.at < layout.new.spot.at)) }
     ensures fault { IfErr result (λ stop. OnFault stop (IsFirstFault file bytes.now)) }
+    ensures uncut { IfErr result (λ stop. OnFault stop (λ _. IsUncut file bytes.now)) }
 {
     take_front(alloc, file, layout, valid, &bytes[layout.spot.at..])
 }
@@ -188,4 +190,15 @@ pub fn lex(alloc: Global, file: u32, bytes: &[u8]) -> Result<Tokens, LexStop>
         step(alloc, file, bytes, valid, &mut layout)?;
     }
     Ok(layout.finish(file)?)
+}
+
+/// At most one token list cuts some bytes, and where one does there is no fault; there is at most one first fault; END
+/// is the last token; and the list of the opened widths is what it is said to be.
+pub fn laws()
+    ensures one_list { OneList }
+    ensures cut_or_fault { CutOrFault }
+    ensures one_fault { OneFault }
+    ensures end_is_last { EndIsLast }
+    ensures opened_widths { OpenedLaw }
+{
 }

@@ -14,5 +14,5 @@ mod stop;
 mod widths;
 mod words;
 
-pub use lexer::lex;
+pub use lexer::{laws, lex};
 pub use stop::LexStop;

@@ -1,5 +1,3 @@
-use Rattle.std.proofs.Common.{arith, ◌≡◌, take, drop, List, ℕ, sym, ◌∙◌, ap, refl}
-use Rattle.std.specs.List.{prefix_len}
 use Rattle.dsl_lexer.specs.Bytes.{is_digit}
 use Rattle.dsl_lexer.proofs.Numbers.{run_taken, fraction_digits, unit_utf8}
 use Rattle.dsl_lexer.proofs.kinds.number_kind.Goals as goal

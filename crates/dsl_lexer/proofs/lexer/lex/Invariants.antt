@@ -1,5 +1,5 @@
 use Rattle.std.proofs.Common.{length, ◌-◌}
-use Rattle.dsl_lexer.specs.Progress.{Valid, Reached}
+use Rattle.dsl_lexer.specs.Progress.{Reached}
 use Rattle.dsl_lexer.proofs.lexer.lex.Given as goal
 
 abbrev pub invariant-loop-layout : goal.invariant-loop-layout

@@ -1,6 +1,7 @@
-use Rattle.std.proofs.Common.{sym, ◌∙◌, ap, arith, length, drop}
+use Rattle.std.proofs.Common.{arith}
 use Rattle.std.proofs.lemmas.List.{take_rest}
 use Rattle.dsl_lexer.proofs.Taking.{has_room, can_take, step_goes, step_stops}
+use Rattle.dsl_lexer.proofs.Ending.{stop_uncut}
 use Rattle.dsl_lexer.proofs.lexer.step.Goals as goal
 
 pub take_front-requires-clause-can : goal.take_front-requires-clause-can
@@ -23,3 +24,9 @@ pub returns-clause-fault : goal.returns-clause-fault
 returns-clause-fault c =
     let gives = rw (take_rest c.args.bytes.now c.args.layout.now.spot.at) at c.take_front.ensures in
     step_stops c.args.file c.args.bytes.now c.args.valid c.args.layout.now _ c.take_front.result c.requires.reached c.requires.valid c.requires.more gives
+
+pub returns-clause-uncut : goal.returns-clause-uncut
+returns-clause-uncut c =
+    let gives = rw (take_rest c.args.bytes.now c.args.layout.now.spot.at) at c.take_front.ensures in
+    stop_uncut c.args.file c.args.bytes.now c.take_front.result
+      (step_stops c.args.file c.args.bytes.now c.args.valid c.args.layout.now _ c.take_front.result c.requires.reached c.requires.valid c.requires.more gives)

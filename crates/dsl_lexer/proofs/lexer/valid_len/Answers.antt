@@ -1,4 +1,3 @@
-use Rattle.std.proofs.Common.{sym, ◌∙◌}
 use Rattle.dsl_lexer.proofs.Texts.{valid_all, valid_part}
 use Rattle.dsl_lexer.proofs.lexer.valid_len.Goals as goal
 

@@ -1,9 +1,3 @@
-use Rattle.std.proofs.Common.{sym, ◌∙◌, ◌≡◌, true, false, ◌⊎◌, inl, inr}
-use Rattle.std.specs.Prelude.{◌≢◌, IsTrue}
-use Rattle.std.specs.Str.{IsAscii}
-use Rattle.std.proofs.lemmas.Bool.{false≢true}
-use Rattle.dsl_lexer.specs.declared.shape.Shape.{Shape}
-use Rattle.dsl_lexer.specs.Shapes.{IsShape, is_lexeme, MarkShape, NameShape, NumberShape, StringShape, Space, Tab, Comment, LineEnd, Joint}
 use Rattle.dsl_lexer.proofs.Texts.{name_utf8, number_left}
 use Rattle.dsl_lexer.proofs.pieces.plain_kind.Goals as goal
 

@@ -1,7 +1,6 @@
-use Rattle.std.proofs.Common.{arith, sym, ◌∙◌, ◌≡◌, Bool, true, false, Option, ℕ, length, drop}
+use Rattle.std.proofs.Common.{arith, sym, ◌∙◌}
 use Rattle.std.proofs.lemmas.Bool.{eq-eqb, ne_eqb}
-use Rattle.dsl_lexer.specs.Scan.{closing}
-use Rattle.dsl_lexer.proofs.Walks.{moved, escape_read, escape_unknown, backslash_read, quote_read, line_feed_read, plain_read, unclosed}
+use Rattle.dsl_lexer.proofs.Walks.{escape_read, escape_unknown, backslash_read, quote_read, line_feed_read, plain_read, unclosed}
 use Rattle.dsl_lexer.proofs.scan.closing.Goals as goal
 use Rattle.dsl_lexer.proofs.scan.closing.Goals.{then-escaped+else-not-is_escapable, else-escaped+then-b-eq92, else-escaped+else-b-eq92+else-b-quote+else-b-eq10}
 

@@ -1,4 +1,4 @@
-use Rattle.std.proofs.Common.{◌≡◌, ◌+◌, ◌≤◌, length, drop, false}
+use Rattle.std.proofs.Common.{◌≡◌, ◌+◌, drop, false}
 use Rattle.std.specs.Option.{option_map}
 use Rattle.dsl_lexer.specs.Scan as scan
 use Rattle.dsl_lexer.proofs.scan.closing.Given as goal

@@ -1,4 +1,4 @@
-use Rattle.std.proofs.Common.{◌≡◌, ◌+◌, ◌≤◌, length, drop, false}
+use Rattle.std.proofs.Common.{◌≡◌, ◌+◌, drop}
 use Rattle.std.specs.Option.{option_map}
 use Rattle.dsl_lexer.specs.Scan as scan
 use Rattle.dsl_lexer.proofs.scan.control_at.Given as goal

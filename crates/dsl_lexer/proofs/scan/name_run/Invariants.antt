@@ -1,4 +1,4 @@
-use Rattle.std.proofs.Common.{length, drop, ◌-◌, ◌≡◌, ◌≤◌, ◌+◌, not}
+use Rattle.std.proofs.Common.{length, drop, ◌-◌, ◌≡◌, ◌≤◌, ◌+◌}
 use Rattle.std.specs.List.{prefix_len}
 use Rattle.dsl_lexer.specs.Bytes as bytes
 use Rattle.dsl_lexer.proofs.scan.name_run.Given as goal

@@ -1,4 +1,4 @@
-use Rattle.std.proofs.Common.{rules, ltb}
+use Rattle.std.proofs.Common.{rules}
 use Rattle.std.proofs.lemmas.Fn.{filter_same}
 use Rattle.dsl_lexer.proofs.widths.Widths.keep_narrower.Goals as goal
 
