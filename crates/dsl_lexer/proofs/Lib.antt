@@ -18,3 +18,5 @@ pub mod Texts
 pub mod Taking
 pub mod LawProofs
 pub mod Ending
+pub mod Running
+pub mod Worked

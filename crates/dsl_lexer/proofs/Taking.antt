@@ -70,7 +70,7 @@ law_go : (file : ℕ) (bytes : List ℕ) (valid : ℕ) (l : Layout) (r : Reached
 law_go file bytes valid l r v [] e more = absurd (omega arith)
 law_go file bytes valid l r v (b ∷ more) e some = step_law file bytes valid l v r.before b more (subst (Cut bytes r.before) e r.cut) r.sound r.matches r.within
 
-law_at : (file : ℕ) (bytes : List ℕ) (valid : ℕ) (l : Layout) → Reached file bytes valid l → Valid bytes valid → l.spot.at < length bytes → Follows file bytes valid l (step_of file valid l (drop l.spot.at bytes))
+pub law_at : (file : ℕ) (bytes : List ℕ) (valid : ℕ) (l : Layout) → Reached file bytes valid l → Valid bytes valid → l.spot.at < length bytes → Follows file bytes valid l (step_of file valid l (drop l.spot.at bytes))
 law_at file bytes valid l r v more =
     let here : r.rest ≡ drop l.spot.at bytes = sym (cut_rest bytes r.before r.rest r.cut) ∙ ap (λ n. drop n bytes) (sym r.matches.spot.at) in
     law_go file bytes valid l r v (drop l.spot.at bytes) here (omega (arith, length-drop l.spot.at bytes))
