@@ -10,4 +10,3 @@ pub mod Steps
 pub mod Language
 pub mod Progress
 pub mod Laws
-pub mod Examples
