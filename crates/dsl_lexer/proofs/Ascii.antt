@@ -135,6 +135,6 @@ quote_go b (c ∷ more) (inr e) = rw e refl
 
 -- a string doesn't begin with a control character
 pub string_control : (text : List ℕ) (i : ℕ) → IsShape StringShape text → HasControl text i → 0 < i
-string_control text zero (quote, inside, e, q, good) h =
+string_control text zero (quote, inside, chars, e, q, good) h =
     absurd (false≢true (sym (quote_go quote (inside ++ quote ∷ []) (quote_is quote q)) ∙ control_first quote (inside ++ quote ∷ []) (subst (λ t. HasControl t 0) e h)))
 string_control text (suc i) shape h = omega arith

@@ -7,10 +7,12 @@ use Rattle.std.proofs.lemmas.Bool.{and_parts, and_from, or_cases, or_left, or_ri
 use Rattle.std.proofs.lemmas.Bool.Decides.{nat_tests}
 use Rattle.std.proofs.lemmas.List.{append_assoc, length-append, length-take, drop_at, drop-drop}
 use Rattle.dsl_tree.specs.declared.token.MarkKind.{MarkKind}
+use Rattle.dsl_lexer.specs.Scan.{is_inside}
 use Rattle.dsl_lexer.specs.declared.shape.Shape.{Shape}
 use Rattle.dsl_lexer.specs.Bytes.{is_digit, is_name_start, is_name_byte, is_line_feed, is_backslash, is_quote, is_escapable}
-use Rattle.dsl_lexer.specs.Shapes.{Space, Tab, Comment, LineEnd, Joint, MarkShape, NameShape, NumberShape, StringShape, entry, marks, IsLineEnd, IsName, IsDigitRun, IsDigits, IsNumber, is_inside, IsShape}
+use Rattle.dsl_lexer.specs.Shapes.{Space, Tab, Comment, LineEnd, Joint, MarkShape, NameShape, NumberShape, StringShape, entry, marks, IsLineEnd, IsName, IsDigitRun, IsDigits, IsNumber, IsShape}
 use Rattle.dsl_lexer.specs.Scan.{first_shape, line_end_len, begins_fraction, name_run, number_len, closing, mark_len, piece_len}
+use Rattle.dsl_lexer.proofs.Inside.{inside_test}
 use Rattle.dsl_lexer.proofs.Tables.{passes, is_mark_like, marks_are_like, mark_shape_is}
 
 -- kinds of bytes
@@ -76,7 +78,7 @@ begins MarkShape text h = mark_begins text (passes is_mark_like marks text marks
 begins NameShape text h = name_begins text h
 begins NumberShape text (inl h) = run_begins text h
 begins NumberShape text (inr (whole, more, e, digits, h)) = point_begins whole (46 ∷ more) text digits e
-begins StringShape text (quote, inside, e, h, i) = record { head = quote; tail = inside ++ quote ∷ []; split = e; first = first_quote quote h }
+begins StringShape text (quote, inside, chars, e, h, i) = record { head = quote; tail = inside ++ quote ∷ []; split = e; first = first_quote quote h }
 
 -- runs
 
@@ -212,4 +214,4 @@ fit Joint text rest (end, e, h) = joint_fits text rest end e h
 fit MarkShape text rest h = mark_fits text rest h (passes is_mark_like marks text marks_are_like h)
 fit NameShape text rest h = run_covers is_name_byte text rest (name_passes text h)
 fit NumberShape text rest h = number_fits text rest h
-fit StringShape text rest (quote, inside, e, q, h) = string_fits quote inside text rest e q h
+fit StringShape text rest (quote, inside, chars, e, q, h) = string_fits quote inside text rest e q (inside_test quote inside chars h)

@@ -6,11 +6,14 @@ use Rattle.std.specs.Option.{option_map}
 use Rattle.std.proofs.lemmas.Bool.{and_parts, and_from, cond_both, false≢true, eqb-true}
 use Rattle.std.proofs.lemmas.List.{append_assoc, length-append, take_at, drop_at, drop-drop, take-append-drop}
 use Rattle.dsl_tree.specs.declared.token.MarkKind.{MarkKind}
+use Rattle.dsl_lexer.specs.Scan.{is_inside}
 use Rattle.dsl_lexer.specs.declared.shape.Shape.{Shape}
 use Rattle.dsl_lexer.specs.Bytes.{is_digit, is_name_start, is_name_byte, is_line_feed, is_backslash, is_quote, is_escapable}
-use Rattle.dsl_lexer.specs.Shapes.{Space, Tab, Comment, LineEnd, Joint, MarkShape, NameShape, NumberShape, StringShape, is_lexeme, entry, marks, is_inside, IsShape}
+use Rattle.dsl_lexer.specs.Shapes.{Space, Tab, Comment, LineEnd, Joint, MarkShape, NameShape, NumberShape, StringShape, is_lexeme, entry, marks, IsShape}
 use Rattle.dsl_lexer.specs.Pieces.{IsLongest, IsStuck, IsContent}
 use Rattle.dsl_lexer.specs.Scan.{first_shape, begins_line_feed, line_end_len, begins_fraction, name_run, number_len, closing, mark_len, piece_len}
+use Rattle.dsl_lexer.proofs.Inside.{test_inside}
+use Rattle.dsl_lexer.specs.Kinds.{unescaped}
 use Rattle.dsl_lexer.proofs.Fitting.{begins, AtMost, fit, digit_is_name_byte, start_is_name_byte}
 
 -- what the first byte of a shape is
@@ -251,7 +254,7 @@ string_found b more n q h =
       behind = c.behind;
       split = ap (λ t. b ∷ t) (c.split ∙ sym (append_assoc c.inside (b ∷ []) c.behind));
       size = ap suc (length-append c.inside (b ∷ []) ∙ c.size) ∙ size;
-      shape = (b, c.inside, refl, q, c.good);
+      shape = (b, c.inside, unescaped false c.inside, refl, q, test_inside b c.inside c.good);
     }
 
 found : (s : Shape) (b : ℕ) (more : List ℕ) (n : ℕ) → FirstOf s b → piece_len s (b ∷ more) ≡ Some n → Front s (b ∷ more) n

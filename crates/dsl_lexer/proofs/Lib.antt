@@ -1,5 +1,6 @@
 pub mod Runs
 pub mod Walks
+pub mod Inside
 pub mod Tables
 pub mod Fitting
 pub mod Fronts

@@ -1,17 +1,15 @@
 -- The steps of the lexer one after another, as a function: what it gives for a source is what the source has.
-use Rattle.std.proofs.Common.{◌≡◌, ℕ, suc, zero, ◌+◌, ◌<◌, ◌≤◌, Bool, true, false, ◌&&◌, List, [], ◌∷◌, ◌++◌, length, drop, get_or, refl, ap, sym, ◌∙◌, subst, arith}
+use Rattle.std.proofs.Common.{◌≡◌, ℕ, suc, zero, Bool, true, false, List, [], ◌∷◌, length, drop, refl, subst, arith}
 use Rattle.std.specs.Prelude.{nat_lt}
 use Rattle.std.specs.List.{list_all}
-use Rattle.std.specs.Str.{IsUtf8, IsAscii}
+use Rattle.std.specs.Str.{IsAscii}
 use Rattle.std.proofs.lemmas.Bool.{and_parts, ltb-true, ltb-false}
 use Rattle.std.proofs.lemmas.Str.{IsUtf8-from_ascii}
-use Rattle.osc_base.specs.declared.fault.Fault.{Fault}
 use Rattle.dsl_tree.specs.declared.token.Token.{Token}
 use Rattle.dsl_lexer.specs.declared.spot.Spot.{Spot}
 use Rattle.dsl_lexer.specs.declared.layout.Layout.{Layout}
-use Rattle.dsl_lexer.specs.Pieces.{reach, Cut}
 use Rattle.dsl_lexer.specs.Steps.{place_of, at_start, all_tokens, Outcome, Goes, Stops, step_of}
-use Rattle.dsl_lexer.specs.Progress.{Valid, Reached, IsStop, Follows}
+use Rattle.dsl_lexer.specs.Progress.{Valid, Reached, Follows}
 use Rattle.dsl_lexer.specs.Language.{TokensCut, IsFirstFault}
 use Rattle.dsl_lexer.proofs.Matching.{start_matches}
 use Rattle.dsl_lexer.proofs.Texts.{valid_all}

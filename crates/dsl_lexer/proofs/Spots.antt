@@ -6,13 +6,15 @@ use Rattle.std.proofs.lemmas.Bool.{and_parts, and_from, not-true, false≢true, 
 use Rattle.std.proofs.lemmas.List.{append_assoc, length-append, take_at, length-drop, reverse-append, length-reverse}
 use Rattle.std.proofs.lemmas.List.Folds.{list_all-append}
 use Rattle.std.proofs.lemmas.List.Sums.{suffix_len-le-length}
+use Rattle.dsl_lexer.specs.Scan.{is_inside}
 use Rattle.dsl_lexer.specs.Progress.{IsSpot}
 use Rattle.dsl_lexer.specs.declared.spot.Spot.{Spot}
 use Rattle.dsl_lexer.specs.declared.shape.Shape.{Shape}
 use Rattle.dsl_lexer.specs.Bytes.{is_name_byte, is_quote, is_line_feed, is_backslash, is_escapable, line_at, column_at}
-use Rattle.dsl_lexer.specs.Shapes.{Space, Tab, Comment, LineEnd, Joint, MarkShape, NameShape, NumberShape, StringShape, marks, is_inside, IsLineEnd, IsShape}
+use Rattle.dsl_lexer.specs.Shapes.{Space, Tab, Comment, LineEnd, Joint, MarkShape, NameShape, NumberShape, StringShape, marks, IsLineEnd, IsShape}
 use Rattle.dsl_lexer.specs.Steps.{moved, on_next_line}
 use Rattle.dsl_lexer.proofs.Tables.{passes}
+use Rattle.dsl_lexer.proofs.Inside.{inside_test}
 use Rattle.dsl_lexer.proofs.Fitting.{name_passes, run_passes, digits_pass, digits_are_name_bytes}
 
 abbrev pub no_feed : ℕ → Bool
@@ -147,9 +149,9 @@ flat NameShape text f h = name_bytes_flat text (name_passes text h)
 flat NumberShape text f (inl h) = name_bytes_flat text (run_passes text h)
 flat NumberShape text f (inr (whole, more, e, digits, run)) =
     rw (e, list_all-append no_feed whole (46 ∷ more)) (and_from (list_all no_feed whole) (list_all no_feed more) (name_bytes_flat whole (digits_are_name_bytes whole (digits_pass whole digits))) (name_bytes_flat more (run_passes more run)))
-flat StringShape text f (quote, inside, e, q, i) =
+flat StringShape text f (quote, inside, chars, e, q, i) =
     rw e (and_from (no_feed quote) (list_all no_feed (inside ++ quote ∷ [])) (quote_no_feed quote q)
-      (list_all-append no_feed inside (quote ∷ []) ∙ and_from (list_all no_feed inside) (no_feed quote && true) (inside_no_feed quote false inside i) (and_from (no_feed quote) true (quote_no_feed quote q) refl)))
+      (list_all-append no_feed inside (quote ∷ []) ∙ and_from (list_all no_feed inside) (no_feed quote && true) (inside_no_feed quote false inside (inside_test quote inside chars i)) (and_from (no_feed quote) true (quote_no_feed quote q) refl)))
 
 -- a piece with a line feed has it at its end
 pub record Ends (text : List ℕ) : Type 0 where

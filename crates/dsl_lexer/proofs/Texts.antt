@@ -148,7 +148,7 @@ quoted front quote inside tail small u =
     subst IsUtf8 same between'
 
 pub string_utf8 : (bytes : List ℕ) (before : List Piece) (text behind : List ℕ) (valid : ℕ) → Cut bytes before (text ++ behind) → Valid bytes valid → reach before + length text ≤ valid → IsShape StringShape text → IsUtf8 (string_chars text)
-string_utf8 bytes before text behind valid cut v within (quote, inside, e, q, good) =
+string_utf8 bytes before text behind valid cut v within (quote, inside, chars, e, q, good) =
     let x = spelled bytes before (text ++ behind) cut in
     let k = valid - (reach before + length text) in
     let size : length text ≡ suc (length inside + 1) = ap length e ∙ ap suc (length-append inside (quote ∷ [])) in

@@ -1,15 +1,14 @@
 -- Worked sources: their tokens with their places, and their first faults.
-use Rattle.std.specs.Prelude.{ℕ, ◌≡◌, List, [], ◌∷◌, ◌++◌, length, replicate, codes, refl}
-use Rattle.osc_base.specs.declared.fault.Place.{Place}
+use Rattle.std.specs.Prelude.{ℕ, List, [], ◌∷◌, ◌++◌, replicate, codes, refl}
 use Rattle.osc_base.specs.declared.fault.Fault.{Fault}
 use Rattle.dsl_tree.specs.declared.token.Token.{Token}
 use Rattle.dsl_tree.specs.declared.token.TokenKind.{TokenKind}
-use Rattle.dsl_tree.specs.declared.token.TokenKind.TheVariants.{Newline, Indent, Dedent, End, Mark, Word, LeftOut, Name, Number, Physical, Chars}
-use Rattle.dsl_tree.specs.declared.token.MarkKind.TheVariants.{OpenRound, CloseRound, OpenSquare, CloseSquare, Colon, Comma, Dot, TwoDots, Assign, Equal, Differ, Below, AtMost, Above, AtLeast, Arrow, Plus, Dash, Star, Slash, Bang}
+use Rattle.dsl_tree.specs.declared.token.TokenKind.TheVariants.{Newline, Indent, Dedent, End, Mark, Word, Name, Number, Physical, Chars}
+use Rattle.dsl_tree.specs.declared.token.MarkKind.TheVariants.{OpenRound, CloseRound, OpenSquare, CloseSquare, Colon, Dot, TwoDots}
 use Rattle.dsl_tree.specs.declared.token.WordKind.TheVariants.{ScenarioWord, KeepWord, InWord, ImportWord, DoWord, SerialWord, ParallelWord, WithWord}
 use Rattle.dsl_lexer.specs.Language.{TokensCut, IsFirstFault}
 use Rattle.dsl_lexer.specs.Scan.{number_len, closing, mark_len, line_end_len, control_at}
-use Rattle.std.proofs.Common.{subst, suc, zero, ◌<◌, take, arith, true, false}
+use Rattle.std.proofs.Common.{subst, suc, zero, ◌<◌, take, arith}
 use Rattle.std.specs.Str.{IsUtf8, IsValidUpTo, is_utf8, chars}
 use Rattle.std.proofs.lemmas.Bool.{false≢true}
 use Rattle.std.proofs.lemmas.Str.{is_utf8-from_IsUtf8}

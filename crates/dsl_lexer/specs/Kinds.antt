@@ -74,7 +74,8 @@ abbrev pub number_kind : List ℕ → Option TokenKind
 number_kind text = if bytes_eq (take 2 text) (codes "0x") then hexadecimal_kind (drop 2 text)
     else (let behind = drop (prefix_len is_digit text) text in decimal_kind (take_while is_digit text) (fraction behind) (unit_name behind))
 
--- the text between quotes with its escapes read: a backslash falls away, and the byte behind it stands for itself
+-- The text between quotes with its escapes read: a backslash falls away, and the byte behind it stands for itself.
+-- `CharsLaw` says that this is the text of `IsInside`.
 abbrev pub unescaped : Bool → List ℕ → List ℕ
 unescaped escaped [] = []
 unescaped true (b ∷ more) = b ∷ unescaped false more

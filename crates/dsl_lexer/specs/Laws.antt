@@ -1,8 +1,10 @@
 -- Laws of the tokens and faults of a source, which `laws` proves.
-use Rattle.std.specs.Prelude.{ℕ, ◌<◌, ◌≡◌, ◌↔◌, List, [], ◌∷◌, ◌⊎◌}
+use Rattle.std.specs.Prelude.{ℕ, ◌<◌, ◌≡◌, ◌↔◌, List, [], ◌∷◌, ◌++◌, ◌⊎◌}
 use Rattle.std.specs.List.{AllByRecursion}
 use Rattle.osc_base.specs.declared.fault.Fault.{Fault}
 use Rattle.dsl_tree.specs.declared.token.Token.{Token}
+use Rattle.dsl_lexer.specs.Shapes.{IsInside}
+use Rattle.dsl_lexer.specs.Kinds.{string_chars}
 use Rattle.dsl_lexer.specs.Layout.{IsOpened, opened}
 use Rattle.dsl_lexer.specs.Language.{TokensCut, FaultAt, IsFirstFault, EndsOnce}
 
@@ -34,3 +36,7 @@ IsFalling (x ∷ xs) = AllByRecursion (λ y. y < x) xs × IsFalling xs
 -- the list of the opened widths above 0 falls, and has exactly these
 abbrev pub OpenedLaw : Type 0
 OpenedLaw = (widths : List ℕ) → IsFalling (opened widths) × ((w : ℕ) → 0 < w → (Among (opened widths) w ↔ IsOpened widths w))
+
+-- the text of a string is what stands between its quotes
+abbrev pub CharsLaw : Type 0
+CharsLaw = (quote : ℕ) (inside chars : List ℕ) → IsInside quote inside chars → string_chars (quote ∷ inside ++ quote ∷ []) ≡ chars

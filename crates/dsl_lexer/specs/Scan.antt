@@ -34,6 +34,14 @@ unfoldable pub number_len : List ℕ → ℕ
 number_len rest = if prefix_len is_digit rest == name_run rest && begins_fraction (drop (name_run rest) rest)
     then name_run rest + 1 + name_run (drop (name_run rest + 1) rest) else name_run rest
 
+-- whether a string may go on so behind its opening quote, up to the closing one: `escaped` says whether a backslash
+-- stands directly before
+abbrev pub is_inside : ℕ → Bool → List ℕ → Bool
+is_inside quote escaped [] = not escaped
+is_inside quote true (b ∷ more) = is_escapable b && is_inside quote false more
+is_inside quote false (b ∷ more) = if is_backslash b then is_inside quote true more
+    else not (b == quote) && not (is_line_feed b) && is_inside quote false more
+
 -- up to the closing quote and with it
 unfoldable pub closing : ℕ → Bool → List ℕ → Option ℕ
 closing quote escaped [] = None

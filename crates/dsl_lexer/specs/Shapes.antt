@@ -52,16 +52,19 @@ IsDigits (b ∷ more) = IsTrue (is_digit b) × IsTrue (list_all is_digit more)
 abbrev pub IsNumber : List ℕ → Type 0
 IsNumber text = IsDigitRun text ⊎ ((whole more : List ℕ) × (text ≡ whole ++ 46 ∷ more) × IsDigits whole × IsDigitRun more)
 
--- what may stand between two such quotes: any byte but that quote, a backslash and a line feed, or a backslash and an
--- escapable byte. `escaped` says whether a backslash stands directly before
-abbrev pub is_inside : ℕ → Bool → List ℕ → Bool
-is_inside quote escaped [] = not escaped
-is_inside quote true (b ∷ more) = is_escapable b && is_inside quote false more
-is_inside quote false (b ∷ more) = if is_backslash b then is_inside quote true more
-    else not (b == quote) && not (is_line_feed b) && is_inside quote false more
+-- a byte that stands for itself between two such quotes
+abbrev pub is_plain : ℕ → ℕ → Bool
+is_plain quote b = not (b == quote) && not (is_backslash b) && not (is_line_feed b)
+
+-- What stands between two such quotes, and the text that it stands for: a plain byte for itself, and a backslash with an
+-- escapable byte behind it for that byte.
+abbrev pub IsInside : ℕ → List ℕ → List ℕ → Type 0
+IsInside quote inside [] = inside ≡ []
+IsInside quote inside (c ∷ chars) = (rest : List ℕ)
+    × (((inside ≡ c ∷ rest) × IsTrue (is_plain quote c)) ⊎ ((inside ≡ 92 ∷ c ∷ rest) × IsTrue (is_escapable c))) × IsInside quote rest chars
 
 abbrev pub IsString : List ℕ → Type 0
-IsString text = (quote : ℕ) × (inside : List ℕ) × (text ≡ quote ∷ inside ++ quote ∷ []) × IsTrue (is_quote quote) × IsTrue (is_inside quote false inside)
+IsString text = (quote : ℕ) × (inside : List ℕ) × (chars : List ℕ) × (text ≡ quote ∷ inside ++ quote ∷ []) × IsTrue (is_quote quote) × IsInside quote inside chars
 
 -- A comment has no line feed. Of a line end with a carriage return it takes the return: no token and no place tells.
 abbrev pub IsShape : Shape → List ℕ → Type 0

@@ -1,4 +1,5 @@
 use Rattle.dsl_lexer.proofs.LawProofs as laws
+use Rattle.dsl_lexer.proofs.Inside.{chars_law}
 use Rattle.dsl_lexer.proofs.lexer.laws.Goals as goal
 
 pub returns-clause-one_list : goal.returns-clause-one_list
@@ -15,3 +16,6 @@ returns-clause-end_is_last c = laws.end_is_last
 
 pub returns-clause-opened_widths : goal.returns-clause-opened_widths
 returns-clause-opened_widths c = laws.opened_law
+
+pub returns-clause-chars : goal.returns-clause-chars
+returns-clause-chars c = chars_law
