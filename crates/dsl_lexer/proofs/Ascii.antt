@@ -112,9 +112,9 @@ some_go b more false (Some m) i f e later =
       least = λ j h. least_go m i z f x j h;
     }
   where
-  least_go : (m i : ℕ) → suc m ≡ i → begins_control b more ≡ false → FirstControl more m → (j : ℕ) → HasControl (b ∷ more) j → i ≤ j
-  least_go m i z f x zero h = absurd (false≢true (sym f ∙ control_first b more h))
-  least_go m i z f x (suc j) h = let y = x.least j (control_later b more j h) in omega arith
+    least_go : (m i : ℕ) → suc m ≡ i → begins_control b more ≡ false → FirstControl more m → (j : ℕ) → HasControl (b ∷ more) j → i ≤ j
+    least_go m i z f x zero h = absurd (false≢true (sym f ∙ control_first b more h))
+    least_go m i z f x (suc j) h = let y = x.least j (control_later b more j h) in omega arith
 
 pub control_some : (text : List ℕ) (i : ℕ) → control_at text ≡ Some i → FirstControl text i
 unfolding control_at

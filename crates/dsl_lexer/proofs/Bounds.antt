@@ -47,19 +47,19 @@ two_filters : (w : ℕ) (ws : List ℕ) → length (filter (λ v. nat_lt v w) ws
 two_filters w [] = omega arith
 two_filters w (v ∷ ws) = go (nat_lt v w) (nat_lt w v) refl refl (two_filters w ws)
   where
-  go : (a b : Bool) → nat_lt v w ≡ a → nat_lt w v ≡ b → length (filter (λ u. nat_lt u w) ws) + length (filter (λ u. nat_lt w u) ws) ≤ length ws
-      → length (cond a (v ∷ filter (λ u. nat_lt u w) ws) (filter (λ u. nat_lt u w) ws)) + length (cond b (v ∷ filter (λ u. nat_lt w u) ws) (filter (λ u. nat_lt w u) ws)) ≤ suc (length ws)
-  go true true e f h = let x = ltb-true v w e in let y = ltb-true w v f in absurd (omega arith)
-  go true false e f h = omega arith
-  go false true e f h = omega arith
-  go false false e f h = omega arith
+    go : (a b : Bool) → nat_lt v w ≡ a → nat_lt w v ≡ b → length (filter (λ u. nat_lt u w) ws) + length (filter (λ u. nat_lt w u) ws) ≤ length ws
+        → length (cond a (v ∷ filter (λ u. nat_lt u w) ws) (filter (λ u. nat_lt u w) ws)) + length (cond b (v ∷ filter (λ u. nat_lt w u) ws) (filter (λ u. nat_lt w u) ws)) ≤ suc (length ws)
+    go true true e f h = let x = ltb-true v w e in let y = ltb-true w v f in absurd (omega arith)
+    go true false e f h = omega arith
+    go false true e f h = omega arith
+    go false false e f h = omega arith
 
 -- blocks and the widths that are left
 blocks_le : (w : ℕ) (ws : List ℕ) → length (blocks w ws) + length (opened_behind w ws) ≤ length ws + 2
 blocks_le w ws =
     let b = opened_behind_le w ws in let f = two_filters w ws in let g = filter_le (λ v. nat_lt v w) ws in
     cond_both (is_widest w ws) (Indent ∷ []) (map (λ v. Dedent) (filter (λ v. nat_lt w v) ws)) (λ r. length r + length (opened_behind w ws) ≤ length ws + 2)
-      (λ _. omega arith) (λ _. omega (arith, length-map (filter (λ v. nat_lt w v) ws) (λ (v : ℕ). Dedent)))
+    (λ _. omega arith) (λ _. omega (arith, length-map (filter (λ v. nat_lt w v) ws) (λ (v : ℕ). Dedent)))
 
 pub length-at : (at : ℕ) (kinds : List TokenKind) → length (map {A = TokenKind} {B = OffsetToken} (λ k. (at, k)) kinds) ≡ length kinds
 length-at at [] = refl

@@ -73,10 +73,10 @@ pub extends : (bytes : List ℕ) (fewer : List Piece) (rest : List ℕ) (all : L
 extends bytes fewer rest [] end n a b = absurd (omega arith)
 extends bytes fewer rest (q ∷ qs) end n a b =
     elim (cases_eq (length fewer) (length qs)) [
-      inl e ↦ step_on bytes fewer rest q qs end a b.0 b.1 e
-    | inr ne ↦
-        let x = extends bytes fewer rest qs (q.text ++ end) (omega arith) a b.1 in
-        record { next = x.next; more = q ∷ x.more; split = ap (λ ps. q ∷ ps) x.split; is_next = x.is_next; later = refl }
+      | inl e ↦ step_on bytes fewer rest q qs end a b.0 b.1 e
+      | inr ne ↦
+          let x = extends bytes fewer rest qs (q.text ++ end) (omega arith) a b.1 in
+          record { next = x.next; more = q ∷ x.more; split = ap (λ ps. q ∷ ps) x.split; is_next = x.is_next; later = refl }
     ]
 
 pub sound_there : (more before : List Piece) (p : Piece) → AreSound (more ++ p ∷ before) → IsSound p before

@@ -83,10 +83,10 @@ Claim k pieces = (has_lexeme (line pieces) ≡ true) ⊎ AllFrom k (line pieces)
 claim_step : (k : ℕ) (q : Piece) (pieces : List Piece) → k ≤ q.at → Claim k pieces → Claim k (q ∷ pieces)
 claim_step k q pieces h c = go (ends_line q pieces) refl c
   where
-  go : (t : Bool) → ends_line q pieces ≡ t → Claim k pieces → Claim k (q ∷ pieces)
-  go true e c = inr (rw e tt)
-  go false e (inl lex) = inl (rw e (or_right (is_lexeme q.shape) (has_lexeme (line pieces)) lex))
-  go false e (inr all) = inr (rw e (h, all))
+    go : (t : Bool) → ends_line q pieces ≡ t → Claim k pieces → Claim k (q ∷ pieces)
+    go true e c = inr (rw e tt)
+    go false e (inl lex) = inl (rw e (or_right (is_lexeme q.shape) (has_lexeme (line pieces)) lex))
+    go false e (inr all) = inr (rw e (h, all))
 
 -- behind a token
 
@@ -126,24 +126,24 @@ pub no_brackets : (pieces : List Piece) → has_lexeme (line pieces) ≡ false �
 no_brackets [] h = refl
 no_brackets (p ∷ before) h = brackets_go p before (ends_line p before) refl h (λ e. no_brackets before e)
   where
-  brackets_go : (p : Piece) (before : List Piece) (t : Bool) → ends_line p before ≡ t → has_lexeme (cond t [] (p ∷ line before)) ≡ false → (has_lexeme (line before) ≡ false → brackets before ≡ 0) → brackets (p ∷ before) ≡ 0
-  brackets_go p before true e h earlier =
-      let parts = and_parts (is_line_end p.shape) (brackets before == 0) e in
-      rw (line_end_none p.shape parts.0 p.text) (eqb-true (brackets before) 0 parts.1)
-  brackets_go p before false e h earlier =
-      let parts = or_parts (is_lexeme p.shape) (has_lexeme (line before)) h in
-      rw (lexeme_line_end p.shape parts.0 p.text) (earlier parts.1)
+    brackets_go : (p : Piece) (before : List Piece) (t : Bool) → ends_line p before ≡ t → has_lexeme (cond t [] (p ∷ line before)) ≡ false → (has_lexeme (line before) ≡ false → brackets before ≡ 0) → brackets (p ∷ before) ≡ 0
+    brackets_go p before true e h earlier =
+        let parts = and_parts (is_line_end p.shape) (brackets before == 0) e in
+        rw (line_end_none p.shape parts.0 p.text) (eqb-true (brackets before) 0 parts.1)
+    brackets_go p before false e h earlier =
+        let parts = or_parts (is_lexeme p.shape) (has_lexeme (line before)) h in
+        rw (lexeme_line_end p.shape parts.0 p.text) (earlier parts.1)
 
 -- what follows a comment is a line feed or nothing
 after_comment : (text : List ℕ) (b : ℕ) (more : List ℕ) → IsShape Comment text → IsLongest text (b ∷ more) → b ≡ 10
 after_comment text b more (inner, e, all) longest = comment_go (is_line_feed b) refl
   where
-  comment_go : (t : Bool) → is_line_feed b ≡ t → b ≡ 10
-  comment_go true f = eqb-true b 10 f
-  comment_go false f =
-      let longer : list_all no_feed (inner ++ b ∷ []) ≡ true = list_all-append no_feed inner (b ∷ []) ∙ and_from (list_all no_feed inner) (no_feed b && true) all (and_from (no_feed b) true (rw f refl) refl) in
-      let size = longest Comment (text ++ b ∷ []) more (inner ++ b ∷ [], ap (λ t. t ++ b ∷ []) e, longer) (sym (append_assoc text (b ∷ []) more)) in
-      absurd (omega (arith, length-append text (b ∷ [])))
+    comment_go : (t : Bool) → is_line_feed b ≡ t → b ≡ 10
+    comment_go true f = eqb-true b 10 f
+    comment_go false f =
+        let longer : list_all no_feed (inner ++ b ∷ []) ≡ true = list_all-append no_feed inner (b ∷ []) ∙ and_from (list_all no_feed inner) (no_feed b && true) all (and_from (no_feed b) true (rw f refl) refl) in
+        let size = longest Comment (text ++ b ∷ []) more (inner ++ b ∷ [], ap (λ t. t ++ b ∷ []) e, longer) (sym (append_assoc text (b ∷ []) more)) in
+        absurd (omega (arith, length-append text (b ∷ [])))
 
 comment_content : (text rest : List ℕ) → IsShape Comment text → IsLongest text rest → IsContent rest → ⊥
 comment_content text [] shape longest c = c.more refl
@@ -227,19 +227,19 @@ module _ (bytes : List ℕ) (valid : ℕ) (before : List Piece) (rest : List ℕ
   pub first_of_all : Cut bytes before rest → AreSound before → reach before ≤ valid → (m c count : ℕ) → FaultAt bytes m c count → NotBefore n code m c
   first_of_all cut sound within m c count x =
       elim (cases_order (length x.before) (length before)) [
-        inl e ↦
-          let same = same_cut bytes x.before before x.rest rest e x.cut cut in
-          let there : FaultBehind bytes before x.rest m c = subst (λ ps. FaultBehind bytes ps x.rest m c) same.0 x.fault in
-          first.least m c (subst (λ r. FaultBehind bytes before r m c) same.1 there)
-      | inr (inl shorter) ↦
-          let e = extends bytes x.before x.rest before rest shorter x.cut cut in
-          let bad = clean bytes x.before x.rest e.next m c e.is_next (sound_there e.more x.before e.next (subst AreSound e.split sound)) x.fault in
-          let at = v.only m bad.bad in
-          let far = reach_there e.more x.before e.next in
-          let whole : reach before ≡ reach (e.more ++ e.next ∷ x.before) = ap reach e.split in
-          let inside = bad.before in
-          absurd (omega arith)
-      | inr (inr longer) ↦
-          let e = extends bytes before rest x.before x.rest longer cut x.cut in
-          later e.more e.next x.rest m c e.is_next (subst (λ ps. Cut bytes ps x.rest) e.split x.cut) (subst (λ ps. FaultBehind bytes ps x.rest m c) e.split x.fault)
+        | inl e ↦
+            let same = same_cut bytes x.before before x.rest rest e x.cut cut in
+            let there : FaultBehind bytes before x.rest m c = subst (λ ps. FaultBehind bytes ps x.rest m c) same.0 x.fault in
+            first.least m c (subst (λ r. FaultBehind bytes before r m c) same.1 there)
+        | inr (inl shorter) ↦
+            let e = extends bytes x.before x.rest before rest shorter x.cut cut in
+            let bad = clean bytes x.before x.rest e.next m c e.is_next (sound_there e.more x.before e.next (subst AreSound e.split sound)) x.fault in
+            let at = v.only m bad.bad in
+            let far = reach_there e.more x.before e.next in
+            let whole : reach before ≡ reach (e.more ++ e.next ∷ x.before) = ap reach e.split in
+            let inside = bad.before in
+            absurd (omega arith)
+        | inr (inr longer) ↦
+            let e = extends bytes before rest x.before x.rest longer cut x.cut in
+            later e.more e.next x.rest m c e.is_next (subst (λ ps. Cut bytes ps x.rest) e.split x.cut) (subst (λ ps. FaultBehind bytes ps x.rest m c) e.split x.fault)
       ]

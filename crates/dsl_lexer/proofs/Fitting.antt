@@ -110,12 +110,12 @@ line_end_fits : (text rest : List ℕ) → IsLineEnd text → AtMost (length tex
 unfolding line_end_len
 line_end_fits text rest (inl e) = subst (λ t. AtMost (length t) (line_end_len (t ++ rest))) (sym e) (lit1 1)
   where
-  lit1 : (n : ℕ) → n ≤ n
-  lit1 n = omega arith
+    lit1 : (n : ℕ) → n ≤ n
+    lit1 n = omega arith
 line_end_fits text rest (inr e) = subst (λ t. AtMost (length t) (line_end_len (t ++ rest))) (sym e) (lit2 2)
   where
-  lit2 : (n : ℕ) → n ≤ n
-  lit2 n = omega arith
+    lit2 : (n : ℕ) → n ≤ n
+    lit2 n = omega arith
 
 joint_fits : (text rest end : List ℕ) → text ≡ 92 ∷ end → IsLineEnd end → AtMost (length text) (option_map suc (line_end_len (drop 1 (text ++ rest))))
 joint_fits text rest end e h = subst (λ t. AtMost (length t) (option_map suc (line_end_len (drop 1 (t ++ rest))))) (sym e) (AtMost-suc (length end) (line_end_len (end ++ rest)) (line_end_fits end rest h))
@@ -163,7 +163,7 @@ number_fits text rest (inr (whole, more, e, digits, run)) =
     let covered = run_covers is_name_byte more rest (run_passes more run) in
     let size : length text ≡ length whole + suc (length more) = ap length e ∙ length-append whole (46 ∷ more) in
     point_fits (text ++ rest) (length whole) names numbers (ap begins_fraction behind ∙ run_fraction more rest run) (λ k. (length text ≤ k))
-        (rw later (omega arith))
+    (rw later (omega arith))
 
 inside_fits : (quote b : ℕ) (escape plain : Option ℕ) (i j : Bool) (n : ℕ) (backslash : Bool) → cond backslash i (not (b == quote) && not (is_line_feed b) && j) ≡ true
     → (i ≡ true → escape ≡ Some (n + 1)) → (j ≡ true → plain ≡ Some (n + 1))
@@ -185,7 +185,7 @@ closing_fits quote true (b ∷ more) rest q h =
     rw (parts.0, closing_fits quote false more rest q parts.1) (let e : suc (length more + 1) ≡ suc (length more) + 1 = omega arith in ap Some e)
 closing_fits quote false (b ∷ more) rest q h =
     inside_fits quote b (closing quote true (more ++ quote ∷ rest)) (closing quote false (more ++ quote ∷ rest)) (is_inside quote true more) (is_inside quote false more) (length more) (is_backslash b) h
-        (λ i. closing_fits quote true more rest q i) (λ i. closing_fits quote false more rest q i)
+    (λ i. closing_fits quote true more rest q i) (λ i. closing_fits quote false more rest q i)
 
 first_or_one : (two : Option MarkKind) (n : ℕ) (one : Option MarkKind) → 1 ≤ n → IsSome one → AtMost 1 (cond (is_some two) (Some n) (cond (is_some one) (Some 1) None))
 first_or_one None n one h found = rw found (omega arith)

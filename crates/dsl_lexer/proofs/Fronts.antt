@@ -147,9 +147,10 @@ comment_found b more n e h =
     }
 
 pub same_front : (xs ys us vs : List ℕ) → xs ++ ys ≡ us ++ vs → length xs ≡ length us → (xs ≡ us) × (ys ≡ vs)
-same_front xs ys us vs e n =
-    (sym (take_at xs ys (length xs) refl) ∙ ap (take (length xs)) e ∙ take_at us vs (length xs) (sym n),
-     sym (drop_at xs ys (length xs) refl) ∙ ap (drop (length xs)) e ∙ drop_at us vs (length xs) (sym n))
+same_front xs ys us vs e n = (
+  sym (take_at xs ys (length xs) refl) ∙ ap (take (length xs)) e ∙ take_at us vs (length xs) (sym n),
+  sym (drop_at xs ys (length xs) refl) ∙ ap (drop (length xs)) e ∙ drop_at us vs (length xs) (sym n),
+)
 
 -- a point and a digit
 record Fraction (rest : List ℕ) : Type 0 where
@@ -243,7 +244,7 @@ closed quote false [] n h = absurd (cc)
 closed quote true (b ∷ more) n h = escape_closed quote b more (closing quote false more) n (is_escapable b) refl (λ m f. closed quote false more m f) h
 closed quote false (b ∷ more) n h =
     plain_closed quote b more (closing quote true more) (closing quote false more) n (is_backslash b) (b == quote) (is_line_feed b) refl refl refl
-      (λ m f. closed quote true more m f) (λ m f. closed quote false more m f) h
+    (λ m f. closed quote true more m f) (λ m f. closed quote false more m f) h
 
 string_found : (b : ℕ) (more : List ℕ) (n : ℕ) → is_quote b ≡ true → option_map suc (closing b false more) ≡ Some n → Front StringShape (b ∷ more) n
 string_found b more n q h =
@@ -303,8 +304,8 @@ next_found b more n h =
       size = front.size;
       shape = front.shape;
       longest = λ shape other behind fits split.
-        let size = at_most_some (length other) n (piece_len (first_shape b) (b ∷ more)) h (fits_at shape other behind b more fits (front.split ∙ split)).1 in
-        rw front.size size;
+          let size = at_most_some (length other) n (piece_len (first_shape b) (b ∷ more)) h (fits_at shape other behind b more fits (front.split ∙ split)).1 in
+          rw front.size size;
     }
 
 pub stuck : (b : ℕ) (more : List ℕ) → piece_len (first_shape b) (b ∷ more) ≡ None → IsStuck (b ∷ more)

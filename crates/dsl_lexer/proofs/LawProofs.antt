@@ -52,26 +52,26 @@ nothing_left bytes before n code u (too_deep p e at next rises over) = nothing_n
 pub cut_or_fault : CutOrFault
 cut_or_fault file bytes xs n code count t x =
     elim (cases_order (length x.before) (length t.pieces)) [
-      inl e ↦
-        let same = same_cut bytes x.before t.pieces x.rest [] e x.cut t.cut in
-        nothing_left bytes x.before n code t.utf8 (subst (λ r. FaultBehind bytes x.before r n code) same.1 x.fault)
-    | inr (inl shorter) ↦
-        let e = extends bytes x.before x.rest t.pieces [] shorter x.cut t.cut in
-        let bad = clean bytes x.before x.rest e.next n code e.is_next (sound_there e.more x.before e.next (subst AreSound e.split t.sound)) x.fault in
-        whole_utf8 bytes n t.utf8 bad.bad
-    | inr (inr longer) ↦
-        let e = extends bytes t.pieces [] x.before x.rest longer t.cut x.cut in
-        nothing_next t.pieces e.next e.is_next
+      | inl e ↦
+          let same = same_cut bytes x.before t.pieces x.rest [] e x.cut t.cut in
+          nothing_left bytes x.before n code t.utf8 (subst (λ r. FaultBehind bytes x.before r n code) same.1 x.fault)
+      | inr (inl shorter) ↦
+          let e = extends bytes x.before x.rest t.pieces [] shorter x.cut t.cut in
+          let bad = clean bytes x.before x.rest e.next n code e.is_next (sound_there e.more x.before e.next (subst AreSound e.split t.sound)) x.fault in
+          whole_utf8 bytes n t.utf8 bad.bad
+      | inr (inr longer) ↦
+          let e = extends bytes t.pieces [] x.before x.rest longer t.cut x.cut in
+          nothing_next t.pieces e.next e.is_next
     ]
 
 pub one_list : OneList
 one_list file bytes xs ys a b =
     elim (cases_order (length a.pieces) (length b.pieces)) [
-      inl e ↦
-        let same = same_cut bytes a.pieces b.pieces [] [] e a.cut b.cut in
-        a.tokens ∙ ap (λ ps. placed file bytes 0 (tokens ps ++ last_tokens ps)) same.0 ∙ sym b.tokens
-    | inr (inl shorter) ↦ let e = extends bytes a.pieces [] b.pieces [] shorter a.cut b.cut in absurd (nothing_next a.pieces e.next e.is_next)
-    | inr (inr longer) ↦ let e = extends bytes b.pieces [] a.pieces [] longer b.cut a.cut in absurd (nothing_next b.pieces e.next e.is_next)
+      | inl e ↦
+          let same = same_cut bytes a.pieces b.pieces [] [] e a.cut b.cut in
+          a.tokens ∙ ap (λ ps. placed file bytes 0 (tokens ps ++ last_tokens ps)) same.0 ∙ sym b.tokens
+      | inr (inl shorter) ↦ let e = extends bytes a.pieces [] b.pieces [] shorter a.cut b.cut in absurd (nothing_next a.pieces e.next e.is_next)
+      | inr (inr longer) ↦ let e = extends bytes b.pieces [] a.pieces [] longer b.cut a.cut in absurd (nothing_next b.pieces e.next e.is_next)
     ]
 
 -- one first fault
@@ -124,9 +124,9 @@ apart bytes before rest after end n code shorter cut cut' x y =
 same_count : (bytes : List ℕ) (n code i j : ℕ) → FaultAt bytes n code i → FaultAt bytes n code j → i ≡ j
 same_count bytes n code i j x y =
     elim (cases_order (length x.before) (length y.before)) [
-      inl e ↦ x.counted ∙ ap (λ ps. length (tokens ps)) (same_cut bytes x.before y.before x.rest y.rest e x.cut y.cut).0 ∙ sym y.counted
-    | inr (inl shorter) ↦ absurd (apart bytes x.before x.rest y.before y.rest n code shorter x.cut y.cut x.fault y.fault)
-    | inr (inr longer) ↦ absurd (apart bytes y.before y.rest x.before x.rest n code longer y.cut x.cut y.fault x.fault)
+      | inl e ↦ x.counted ∙ ap (λ ps. length (tokens ps)) (same_cut bytes x.before y.before x.rest y.rest e x.cut y.cut).0 ∙ sym y.counted
+      | inr (inl shorter) ↦ absurd (apart bytes x.before x.rest y.before y.rest n code shorter x.cut y.cut x.fault y.fault)
+      | inr (inr longer) ↦ absurd (apart bytes y.before y.rest x.before x.rest n code longer y.cut x.cut y.fault x.fault)
     ]
 
 fault_same : (x y : Fault) → x.place ≡ y.place → x.code ≡ y.code → x ≡ y
@@ -210,8 +210,8 @@ newline_no_end pieces = cond_both (has_lexeme (line pieces)) _ [] NoEnd (λ _. (
 brought_no_end : (p : Piece) (before : List Piece) → NoEnd (brought p before)
 brought_no_end p before =
     NoEnd-append _ _
-      (cond_both (begins_line p before) _ [] NoEnd (λ _. blocks_no_end p.at (width (line before)) (opened (widths before))) (λ _. tt))
-      (NoEnd-append _ _ (own_no_end p.at (kind_of p.shape p.text) (kind_no_end p.shape p.text)) (cond_both (ends_line p before) (newline before) [] NoEnd (λ _. newline_no_end before) (λ _. tt)))
+    (cond_both (begins_line p before) _ [] NoEnd (λ _. blocks_no_end p.at (width (line before)) (opened (widths before))) (λ _. tt))
+    (NoEnd-append _ _ (own_no_end p.at (kind_of p.shape p.text) (kind_no_end p.shape p.text)) (cond_both (ends_line p before) (newline before) [] NoEnd (λ _. newline_no_end before) (λ _. tt)))
 
 tokens_no_end : (pieces : List Piece) → NoEnd (tokens pieces)
 tokens_no_end [] = tt
@@ -231,9 +231,9 @@ end_is_last file bytes xs t =
     let last : List OffsetToken = cond (brackets ps == 0) (newline ps) [] in
     let dedents : List OffsetToken = map (λ v. (reach ps, Dedent)) (opened (widths ps)) in
     let whole : tokens ps ++ last_tokens ps ≡ (tokens ps ++ (last ++ dedents)) ++ (reach ps, End) ∷ [] =
-      ap (λ ts. tokens ps ++ ts) (sym (append_assoc last dedents ((reach ps, End) ∷ []))) ∙ sym (append_assoc (tokens ps) (last ++ dedents) ((reach ps, End) ∷ [])) in
+    ap (λ ts. tokens ps ++ ts) (sym (append_assoc last dedents ((reach ps, End) ∷ []))) ∙ sym (append_assoc (tokens ps) (last ++ dedents) ((reach ps, End) ∷ [])) in
     let none : NoEnd (tokens ps ++ (last ++ dedents)) =
-      NoEnd-append (tokens ps) (last ++ dedents) (tokens_no_end ps) (NoEnd-append last dedents (cond_both (brackets ps == 0) (newline ps) [] NoEnd (λ _. newline_no_end ps) (λ _. tt)) (closing_no_end (reach ps) (opened (widths ps)))) in
+    NoEnd-append (tokens ps) (last ++ dedents) (tokens_no_end ps) (NoEnd-append last dedents (cond_both (brackets ps == 0) (newline ps) [] NoEnd (λ _. newline_no_end ps) (λ _. tt)) (closing_no_end (reach ps) (opened (widths ps)))) in
     subst EndsOnce (sym (t.tokens ∙ ap (placed file bytes 0) whole)) (ends_placed file bytes 0 (tokens ps ++ (last ++ dedents)) (reach ps) none)
 
 -- the opened widths
@@ -293,13 +293,13 @@ opened_there : (ws : List ℕ) (w : ℕ) → 0 < w → Among (opened ws) w → I
 opened_there [] w some h = absurd h
 opened_there (u ∷ ws) w some h =
     elim (behind_go u w (opened ws) (u == 0) refl some (subst (λ xs. Among xs w) (opened-cons u ws) h)) [
-      inl here ↦ inr ([], ws, ap (λ x. x ∷ ws) here, tt)
-    | inr later ↦ there_go u w ws some later.0 (opened_there ws w some later.1)
+      | inl here ↦ inr ([], ws, ap (λ x. x ∷ ws) here, tt)
+      | inr later ↦ there_go u w ws some later.0 (opened_there ws w some later.1)
     ]
   where
-  there_go : (u w : ℕ) (ws : List ℕ) → 0 < w → w < u → IsOpened ws w → IsOpened (u ∷ ws) w
-  there_go u w ws some low (inl zero') = absurd (omega arith)
-  there_go u w ws some low (inr (since, earlier, e, all)) = inr (u ∷ since, earlier, ap (λ t. u ∷ t) e, (omega arith, all))
+    there_go : (u w : ℕ) (ws : List ℕ) → 0 < w → w < u → IsOpened ws w → IsOpened (u ∷ ws) w
+    there_go u w ws some low (inl zero') = absurd (omega arith)
+    there_go u w ws some low (inr (since, earlier, e, all)) = inr (u ∷ since, earlier, ap (λ t. u ∷ t) e, (omega arith, all))
 
 cons_same : (b c : ℕ) (xs ys : List ℕ) → b ∷ xs ≡ c ∷ ys → (b ≡ c) × (xs ≡ ys)
 cons_same b c xs ys e = (cc, cc)
@@ -316,7 +316,7 @@ opened_back (u ∷ ws) w some (inr (s ∷ since, earlier, e, (low, all))) =
     let rest = opened_back ws w some (inr (since, earlier, parts.1, all)) in
     let first = parts.0 in
     subst (λ xs. Among xs w) (sym (opened-cons u ws)) (back_go u w (opened ws) (u == 0) refl some
-      (elim (cases_order u w) [ inl same ↦ inl same | inr (inl less) ↦ absurd (omega arith) | inr (inr more) ↦ inr (more, rest) ]))
+    (elim (cases_order u w) [ inl same ↦ inl same | inr (inl less) ↦ absurd (omega arith) | inr (inr more) ↦ inr (more, rest) ]))
 
 pub opened_law : OpenedLaw
 opened_law ws = (falls ws, (λ w some. ((λ h. opened_there ws w some h), (λ h. opened_back ws w some h))))

@@ -30,7 +30,7 @@ placed-append file bytes n [] ys = let e : n ≡ n + 0 = omega arith in ap (λ k
 placed-append file bytes n ((at, kind) ∷ xs) ys =
     let e : n + 1 + length xs ≡ n + suc (length xs) = omega arith in
     let rest : placed file bytes (n + 1) (xs ++ ys) ≡ placed file bytes (n + 1) xs ++ placed file bytes (n + suc (length xs)) ys =
-      placed-append file bytes (n + 1) xs ys ∙ ap (λ k. placed file bytes (n + 1) xs ++ placed file bytes k ys) e in
+    placed-append file bytes (n + 1) xs ys ∙ ap (λ k. placed file bytes (n + 1) xs ++ placed file bytes k ys) e in
     ap (λ t. record { place = place_at file bytes at n; kind = kind } ∷ t) rest
 
 pub place_same : (file : ℕ) (bytes : List ℕ) (at : ℕ) (s : Spot) (n : ℕ) → IsSpot bytes at s → steps.place_of file s n ≡ place_at file bytes at n
@@ -41,7 +41,7 @@ pub stamped_placed : (file : ℕ) (bytes : List ℕ) (at : ℕ) (s : Spot) (n : 
 stamped_placed file bytes at s n [] is = refl
 stamped_placed file bytes at s n (kind ∷ more) is =
     ap (λ p. record { place = p; kind = kind } ∷ stamped file s (n + 1) more) (place_same file bytes at s n is)
-      ∙ ap (λ t. record { place = place_at file bytes at n; kind = kind } ∷ t) (stamped_placed file bytes at s (n + 1) more is)
+    ∙ ap (λ t. record { place = place_at file bytes at n; kind = kind } ∷ t) (stamped_placed file bytes at s (n + 1) more is)
 
 -- tokens at one spot behind those so far
 pub stamp_on : (file : ℕ) (bytes : List ℕ) (now : List Token) (so_far : List OffsetToken) (at : ℕ) (s : Spot) (kinds : List TokenKind) → now ≡ placed file bytes 0 so_far → IsSpot bytes at s
@@ -49,7 +49,7 @@ pub stamp_on : (file : ℕ) (bytes : List ℕ) (now : List Token) (so_far : List
 stamp_on file bytes now so_far at s kinds e is =
     let size : length now ≡ 0 + length so_far = ap length e ∙ length-placed file bytes 0 so_far ∙ sym (zero-add (length so_far)) in
     ap (λ k. now ++ stamped file s k kinds) size ∙ ap (λ t. now ++ t) (stamped_placed file bytes at s (0 + length so_far) kinds is)
-      ∙ ap (λ t. t ++ placed file bytes (0 + length so_far) (map (λ k. (at, k)) kinds)) e ∙ sym (placed-append file bytes 0 so_far (map (λ k. (at, k)) kinds))
+    ∙ ap (λ t. t ++ placed file bytes (0 + length so_far) (map (λ k. (at, k)) kinds)) e ∙ sym (placed-append file bytes 0 so_far (map (λ k. (at, k)) kinds))
 
 or_else-none : (o : Option ℕ) → or_else o None ≡ o
 or_else-none None = refl
@@ -140,7 +140,7 @@ module _ (file : ℕ) (bytes : List ℕ) (before : List Piece) (l : Layout) (at 
 
   line_end_by : (len : ℕ) (s : Spot) (t : Bool) → IsSpot bytes (reach before + length text) s → s ≡ on_next_line l.spot len → (brackets before == 0) ≡ t
       → Matches file bytes (record { at = at; shape = LineEnd; text = text } ∷ before)
-          (cond t (record l { spot = on_next_line l.spot len; started = false; spaces = 0; tab = None; tokens = with_newline file l }) (after_joint l len))
+      (cond t (record l { spot = on_next_line l.spot len; started = false; spaces = 0; tab = None; tokens = with_newline file l }) (after_joint l len))
   line_end_by len s true is e z = record {
     spot = rw (← e) is;
     started = rw z refl;
@@ -177,23 +177,23 @@ module _ (file : ℕ) (bytes : List ℕ) (before : List Piece) (l : Layout) (at 
   pub lexeme_matches : (shape : Shape) (kind : TokenKind) (len : ℕ) (s : Spot) → is_lexeme shape ≡ true → kind_of shape text ≡ Some kind → IsSpot bytes (reach before + length text) s → s ≡ moved l.spot len → at ≡ reach before
       → Matches file bytes (record { at = at; shape = shape; text = text } ∷ before) (after_lexeme file l len kind)
   lexeme_matches shape kind len s lex k is e here =
-    let others = lexeme_is shape lex in
-    let spot : IsSpot bytes (reach before + length text) (moved l.spot len) = rw (← e) is in
-    let blocks' = blocks_by l.started refl (sym m.started) (rw here m.spot) in
-    let widths' = widths_by l.started refl (sym m.started) in
-    let opening = cond (not (has_lexeme (line before))) (map {A = TokenKind} {B = OffsetToken} (λ kind. (at, kind)) (blocks (width (line before)) (opened (widths before)))) [] in
-    let stamped' : with_blocks file l ++ stamped file l.spot (length (with_blocks file l)) (kind ∷ []) ≡ placed file bytes 0 ((tokens before ++ opening) ++ (at, kind) ∷ []) =
+      let others = lexeme_is shape lex in
+      let spot : IsSpot bytes (reach before + length text) (moved l.spot len) = rw (← e) is in
+      let blocks' = blocks_by l.started refl (sym m.started) (rw here m.spot) in
+      let widths' = widths_by l.started refl (sym m.started) in
+      let opening = cond (not (has_lexeme (line before))) (map {A = TokenKind} {B = OffsetToken} (λ kind. (at, kind)) (blocks (width (line before)) (opened (widths before)))) [] in
+      let stamped' : with_blocks file l ++ stamped file l.spot (length (with_blocks file l)) (kind ∷ []) ≡ placed file bytes 0 ((tokens before ++ opening) ++ (at, kind) ∷ []) =
       stamp_on file bytes (with_blocks file l) (tokens before ++ opening) at l.spot (kind ∷ []) blocks' (rw here m.spot) in
-    record {
-      spot = spot;
-      started = rw (others.0, lex) refl;
-      spaces = rw (others.0, others.1) m.spaces;
-      tab = rw (others.0, others.2, or_else-none (first_tab (line before))) m.tab;
-      brackets = rw (k, m.brackets) refl;
-      widths = rw lex widths';
-      behind = rw (lex, here) spot;
-      tokens = rw (lex, others.0, k) (stamped' ∙ ap (placed file bytes 0) (append_assoc (tokens before) opening ((at, kind) ∷ [])));
-    }
+      record {
+        spot = spot;
+        started = rw (others.0, lex) refl;
+        spaces = rw (others.0, others.1) m.spaces;
+        tab = rw (others.0, others.2, or_else-none (first_tab (line before))) m.tab;
+        brackets = rw (k, m.brackets) refl;
+        widths = rw lex widths';
+        behind = rw (lex, here) spot;
+        tokens = rw (lex, others.0, k) (stamped' ∙ ap (placed file bytes 0) (append_assoc (tokens before) opening ((at, kind) ∷ [])));
+      }
 
   last_by : (t u : Bool) → (l.brackets == 0) ≡ t → (brackets before == 0) ≡ t → l.started ≡ u → has_lexeme (line before) ≡ u
       → with_last_newline file l ≡ placed file bytes 0 (tokens before ++ cond (brackets before == 0) (newline before) [])
@@ -203,12 +203,12 @@ module _ (file : ℕ) (bytes : List ℕ) (before : List Piece) (l : Layout) (at 
 
   pub all_tokens-is : all_tokens file l ≡ placed file bytes 0 (tokens before ++ last_tokens before)
   all_tokens-is =
-    let newline' = last_by (l.brackets == 0) l.started refl (ap (λ n. n == 0) (sym m.brackets)) refl (sym m.started) in
-    let last : List OffsetToken = cond (brackets before == 0) (newline before) [] in
-    let ws = opened (widths before) in
-    let closing : with_dedents file l ≡ placed file bytes 0 ((tokens before ++ last) ++ map (λ v. (reach before, Dedent)) ws) =
+      let newline' = last_by (l.brackets == 0) l.started refl (ap (λ n. n == 0) (sym m.brackets)) refl (sym m.started) in
+      let last : List OffsetToken = cond (brackets before == 0) (newline before) [] in
+      let ws = opened (widths before) in
+      let closing : with_dedents file l ≡ placed file bytes 0 ((tokens before ++ last) ++ map (λ v. (reach before, Dedent)) ws) =
       stamp_on file bytes (with_last_newline file l) (tokens before ++ last) (reach before) l.spot (replicate (length l.widths) Dedent) newline' m.spot
-        ∙ ap (λ t. placed file bytes 0 ((tokens before ++ last) ++ t)) (ap (λ ws. map (λ k. (reach before, k)) (replicate (length ws) Dedent)) m.widths ∙ all_at (reach before) Dedent ws) in
-    stamp_on file bytes (with_dedents file l) ((tokens before ++ last) ++ map (λ v. (reach before, Dedent)) ws) (reach before) l.spot (End ∷ []) closing m.spot
+      ∙ ap (λ t. placed file bytes 0 ((tokens before ++ last) ++ t)) (ap (λ ws. map (λ k. (reach before, k)) (replicate (length ws) Dedent)) m.widths ∙ all_at (reach before) Dedent ws) in
+      stamp_on file bytes (with_dedents file l) ((tokens before ++ last) ++ map (λ v. (reach before, Dedent)) ws) (reach before) l.spot (End ∷ []) closing m.spot
       ∙ ap (placed file bytes 0) (append_assoc (tokens before ++ last) (map (λ v. (reach before, Dedent)) ws) ((reach before, End) ∷ [])
-          ∙ append_assoc (tokens before) last (map (λ v. (reach before, Dedent)) ws ++ (reach before, End) ∷ []))
+      ∙ append_assoc (tokens before) last (map (λ v. (reach before, Dedent)) ws ++ (reach before, End) ∷ []))

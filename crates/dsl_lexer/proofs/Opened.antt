@@ -25,28 +25,28 @@ put_filter : (p : ℕ → Bool) (a b : Bool) (u : ℕ) (rest : List ℕ) → put
 put_filter p false b u rest = refl
 put_filter p true true u rest = elim_it (p u) refl
   where
-  elim_it : (t : Bool) → p u ≡ t → put (p u && true) u (filter p rest) ≡ filter p (u ∷ rest)
-  elim_it true e = rw e refl
-  elim_it false e = rw e refl
+    elim_it : (t : Bool) → p u ≡ t → put (p u && true) u (filter p rest) ≡ filter p (u ∷ rest)
+    elim_it true e = rw e refl
+    elim_it false e = rw e refl
 put_filter p true false u rest = elim_it (p u)
   where
-  elim_it : (t : Bool) → put (t && false) u (filter p rest) ≡ filter p rest
-  elim_it true = refl
-  elim_it false = refl
+    elim_it : (t : Bool) → put (t && false) u (filter p rest) ≡ filter p rest
+    elim_it true = refl
+    elim_it false = refl
 
 added : (w : ℕ) (since more earlier : List ℕ) → Adds w since more → opened_since more earlier ≡ filter (λ v. nat_lt v w) (opened_since since earlier)
 added w since more [] h = refl
 added w since more (u ∷ earlier) h =
     let rest = added w (u ∷ since) (u ∷ more) earlier (Adds-cons u w since more h) in
     ap (λ t. put (nat_lt 0 u && t) u (opened_since (u ∷ more) earlier)) (h u)
-      ∙ ap (λ r. put (nat_lt 0 u && (nat_lt u w && list_all (λ v. nat_lt u v) since)) u r) rest
-      ∙ put_filter (λ v. nat_lt v w) (nat_lt 0 u) (list_all (λ v. nat_lt u v) since) u (opened_since (u ∷ since) earlier)
+    ∙ ap (λ r. put (nat_lt 0 u && (nat_lt u w && list_all (λ v. nat_lt u v) since)) u r) rest
+    ∙ put_filter (λ v. nat_lt v w) (nat_lt 0 u) (list_all (λ v. nat_lt u v) since) u (opened_since (u ∷ since) earlier)
 
 -- behind a line the opened widths are its own, and the narrower ones
 pub opened-cons : (w : ℕ) (earlier : List ℕ) → opened (w ∷ earlier) ≡ opened_behind w (opened earlier)
 opened-cons w earlier =
     ap (λ r. put (nat_lt 0 w && true) w r) (added w [] (w ∷ []) earlier (λ v. refl)) ∙ go w (filter (λ v. nat_lt v w) (opened earlier))
   where
-  go : (w : ℕ) (rest : List ℕ) → put (nat_lt 0 w && true) w rest ≡ with_width w rest
-  go zero rest = refl
-  go (suc n) rest = rw (lt-ltb 0 (suc n) (omega arith), ne_eqb (suc n) 0 (λ e. absurd (omega arith))) refl
+    go : (w : ℕ) (rest : List ℕ) → put (nat_lt 0 w && true) w rest ≡ with_width w rest
+    go zero rest = refl
+    go (suc n) rest = rw (lt-ltb 0 (suc n) (omega arith), ne_eqb (suc n) 0 (λ e. absurd (omega arith))) refl

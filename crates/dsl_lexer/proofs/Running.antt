@@ -21,7 +21,6 @@ pub data Ran : Type 0 where
   StopsAt : Layout → Spot → (code : ℕ) → Ran
   Tires : Ran
 
-
 abbrev pub run : ℕ → ℕ → ℕ → List ℕ → Layout → Ran
 run zero file valid bytes l = Tires
 run (suc k) file valid bytes l = elim (nat_lt l.spot.at (length bytes)) [ true ↦ elim (step_of file valid l (drop l.spot.at bytes)) [ Goes next ↦ run k file valid bytes next | Stops s code ↦ StopsAt l s code ] | false ↦ Ends l ]

@@ -51,10 +51,10 @@ feeds_over : (xs ys : List ℕ) → length (filter is_line_feed (xs ++ ys)) ≡ 
 feeds_over [] ys = omega arith
 feeds_over (x ∷ xs) ys = go (is_line_feed x) (feeds_over xs ys)
   where
-  go : (t : Bool) → length (filter is_line_feed (xs ++ ys)) ≡ length (filter is_line_feed xs) + length (filter is_line_feed ys)
-      → length (cond t (x ∷ filter is_line_feed (xs ++ ys)) (filter is_line_feed (xs ++ ys))) ≡ length (cond t (x ∷ filter is_line_feed xs) (filter is_line_feed xs)) + length (filter is_line_feed ys)
-  go true e = omega arith
-  go false e = e
+    go : (t : Bool) → length (filter is_line_feed (xs ++ ys)) ≡ length (filter is_line_feed xs) + length (filter is_line_feed ys)
+        → length (cond t (x ∷ filter is_line_feed (xs ++ ys)) (filter is_line_feed (xs ++ ys))) ≡ length (cond t (x ∷ filter is_line_feed xs) (filter is_line_feed xs)) + length (filter is_line_feed ys)
+    go true e = omega arith
+    go false e = e
 
 no_feeds : (xs : List ℕ) → list_all no_feed xs ≡ true → length (filter is_line_feed xs) ≡ 0
 no_feeds [] h = refl
@@ -91,12 +91,12 @@ spot_below bytes front inner behind s split is h =
     let one : length (filter is_line_feed (inner ++ 10 ∷ [])) ≡ 1 = feeds_over inner (10 ∷ []) ∙ ap (λ n. n + 1) (no_feeds inner h) in
     let whole : take (length front + length (inner ++ 10 ∷ [])) bytes ≡ front ++ (inner ++ 10 ∷ []) = taken bytes front (inner ++ 10 ∷ []) behind all in
     let columns : column_at bytes (length front + length (inner ++ 10 ∷ [])) ≡ 1 =
-      ap (λ t. 1 + length (after_last is_line_feed t)) (whole ∙ sym (append_assoc front inner (10 ∷ []))) ∙ ap (λ n. 1 + n) (length-after_last ((front ++ inner) ++ 10 ∷ []) ∙ suffix_new (front ++ inner)) in
+    ap (λ t. 1 + length (after_last is_line_feed t)) (whole ∙ sym (append_assoc front inner (10 ∷ []))) ∙ ap (λ n. 1 + n) (length-after_last ((front ++ inner) ++ 10 ∷ []) ∙ suffix_new (front ++ inner)) in
     rw (← size) (record { at = rw size (omega arith); line = l' l lines one; column = sym columns })
   where
-  l' : (l : s.line ≡ line_at bytes (length front)) → line_at bytes (length front + length (inner ++ 10 ∷ [])) ≡ line_at bytes (length front) + length (filter is_line_feed (inner ++ 10 ∷ [])) → length (filter is_line_feed (inner ++ 10 ∷ [])) ≡ 1
-      → s.line + 1 ≡ line_at bytes (length front + length (inner ++ 10 ∷ []))
-  l' l lines one = omega arith
+    l' : (l : s.line ≡ line_at bytes (length front)) → line_at bytes (length front + length (inner ++ 10 ∷ [])) ≡ line_at bytes (length front) + length (filter is_line_feed (inner ++ 10 ∷ [])) → length (filter is_line_feed (inner ++ 10 ∷ [])) ≡ 1
+        → s.line + 1 ≡ line_at bytes (length front + length (inner ++ 10 ∷ []))
+    l' l lines one = omega arith
 
 -- line feeds in pieces
 
@@ -107,9 +107,9 @@ all_by p q (x ∷ xs) h all = let parts = and_parts (p x) (list_all p xs) all in
 not_ten : (p : ℕ → Bool) (b : ℕ) → p 10 ≡ false → p b ≡ true → no_feed b ≡ true
 not_ten p b off on = go (is_line_feed b) refl
   where
-  go : (t : Bool) → is_line_feed b ≡ t → not t ≡ true
-  go false e = refl
-  go true e = absurd (false≢true (sym off ∙ ap p (sym (eqb-true b 10 e)) ∙ on))
+    go : (t : Bool) → is_line_feed b ≡ t → not t ≡ true
+    go false e = refl
+    go true e = absurd (false≢true (sym off ∙ ap p (sym (eqb-true b 10 e)) ∙ on))
 
 inside_no_feed : (quote : ℕ) (escaped : Bool) (inside : List ℕ) → is_inside quote escaped inside ≡ true → list_all no_feed inside ≡ true
 inside_no_feed quote escaped [] h = refl
@@ -119,12 +119,12 @@ inside_no_feed quote true (b ∷ more) h =
 inside_no_feed quote false (b ∷ more) h =
     go (is_backslash b) refl h (λ i. inside_no_feed quote true more i) (λ i. inside_no_feed quote false more i)
   where
-  go : (t : Bool) → is_backslash b ≡ t → cond t (is_inside quote true more) (not (b == quote) && not (is_line_feed b) && is_inside quote false more) ≡ true
-      → (is_inside quote true more ≡ true → list_all no_feed more ≡ true) → (is_inside quote false more ≡ true → list_all no_feed more ≡ true) → list_all no_feed (b ∷ more) ≡ true
-  go true e h x y = and_from (no_feed b) (list_all no_feed more) (not_ten is_backslash b refl e) (x h)
-  go false e h x y =
-      let parts = and_parts (not (b == quote) && not (is_line_feed b)) (is_inside quote false more) h in
-      and_from (no_feed b) (list_all no_feed more) (and_parts (not (b == quote)) (not (is_line_feed b)) parts.0).1 (y parts.1)
+    go : (t : Bool) → is_backslash b ≡ t → cond t (is_inside quote true more) (not (b == quote) && not (is_line_feed b) && is_inside quote false more) ≡ true
+        → (is_inside quote true more ≡ true → list_all no_feed more ≡ true) → (is_inside quote false more ≡ true → list_all no_feed more ≡ true) → list_all no_feed (b ∷ more) ≡ true
+    go true e h x y = and_from (no_feed b) (list_all no_feed more) (not_ten is_backslash b refl e) (x h)
+    go false e h x y =
+        let parts = and_parts (not (b == quote) && not (is_line_feed b)) (is_inside quote false more) h in
+        and_from (no_feed b) (list_all no_feed more) (and_parts (not (b == quote)) (not (is_line_feed b)) parts.0).1 (y parts.1)
 
 quote_no_feed : (quote : ℕ) → is_quote quote ≡ true → no_feed quote ≡ true
 quote_no_feed quote h = not_ten is_quote quote refl h
@@ -151,7 +151,7 @@ flat NumberShape text f (inr (whole, more, e, digits, run)) =
     rw (e, list_all-append no_feed whole (46 ∷ more)) (and_from (list_all no_feed whole) (list_all no_feed more) (name_bytes_flat whole (digits_are_name_bytes whole (digits_pass whole digits))) (name_bytes_flat more (run_passes more run)))
 flat StringShape text f (quote, inside, chars, e, q, i) =
     rw e (and_from (no_feed quote) (list_all no_feed (inside ++ quote ∷ [])) (quote_no_feed quote q)
-      (list_all-append no_feed inside (quote ∷ []) ∙ and_from (list_all no_feed inside) (no_feed quote && true) (inside_no_feed quote false inside (inside_test quote inside chars i)) (and_from (no_feed quote) true (quote_no_feed quote q) refl)))
+    (list_all-append no_feed inside (quote ∷ []) ∙ and_from (list_all no_feed inside) (no_feed quote && true) (inside_no_feed quote false inside (inside_test quote inside chars i)) (and_from (no_feed quote) true (quote_no_feed quote q) refl)))
 
 -- a piece with a line feed has it at its end
 pub record Ends (text : List ℕ) : Type 0 where

@@ -20,7 +20,7 @@ stamped-append file s n [] ys = let e : n ≡ n + 0 = omega arith in ap (λ k. s
 stamped-append file s n (x ∷ xs) ys =
     let e : n + 1 + length xs ≡ n + suc (length xs) = omega arith in
     let rest : stamped file s (n + 1) (xs ++ ys) ≡ stamped file s (n + 1) xs ++ stamped file s (n + suc (length xs)) ys =
-      stamped-append file s (n + 1) xs ys ∙ ap (λ k. stamped file s (n + 1) xs ++ stamped file s k ys) e in
+    stamped-append file s (n + 1) xs ys ∙ ap (λ k. stamped file s (n + 1) xs ++ stamped file s k ys) e in
     ap (λ t. record { place = place_of file s n; kind = x } ∷ t) rest
 
 pub map_same : {A : Type 0} (kind : TokenKind) (xs : List A) → map (λ v. kind) xs ≡ replicate (length xs) kind
@@ -36,7 +36,7 @@ dedent_step file s start now next i count so_far e =
     let joined : stamped file s (length start) (replicate i Dedent ++ Dedent ∷ []) ≡ stamped file s (length start) (replicate i Dedent) ++ stamped file s (length start + length (replicate i Dedent)) (Dedent ∷ []) = stamped-append file s (length start) (replicate i Dedent) (Dedent ∷ []) in
     let more : stamped file s (length start) (replicate i Dedent ++ Dedent ∷ []) ≡ stamped file s (length start) (replicate (i + 1) Dedent) = ap (stamped file s (length start)) (replicate_more i Dedent) in
     e ∙ ap (λ t. t ++ stamped file s (length now) (Dedent ∷ [])) so_far ∙ append_assoc start (stamped file s (length start) (replicate i Dedent)) (stamped file s (length now) (Dedent ∷ []))
-      ∙ ap (λ t. start ++ t) (ap (λ t. stamped file s (length start) (replicate i Dedent) ++ t) one ∙ sym joined ∙ more)
+    ∙ ap (λ t. start ++ t) (ap (λ t. stamped file s (length start) (replicate i Dedent) ++ t) one ∙ sym joined ∙ more)
 
 pub blocks_closed : (w : ℕ) (ws : List ℕ) (n : ℕ) → is_widest w ws ≡ false → n ≡ length (filter (λ v. nat_lt w v) ws) → replicate n Dedent ≡ blocks w ws
 blocks_closed w ws n test e =

@@ -26,7 +26,6 @@ use Rattle.dsl_lexer.proofs.Ascii.{FirstControl, control_none, control_some, con
 use Rattle.dsl_lexer.proofs.Matching.{lexeme_matches}
 use Rattle.dsl_lexer.proofs.Firsts.{some_not_none, NotBefore, IsFirstHere, some_is}
 use Rattle.dsl_lexer.proofs.Cutting.{some_text, is_next_same, cut_length}
-
 use Rattle.std.specs.Option.{option_map}
 use Rattle.dsl_lexer.proofs.Stepping.{least_of, depth_ok, separator_depth, tab_before, inner_spot, separator_matches, reached_more, bad_comment, stop_here}
 
@@ -41,9 +40,9 @@ piece_of_text before s t = record { at = reach before; shape = s; text = t }
 none_number : (s : Shape) (piece_text : List ℕ) → is_lexeme s ≡ true → IsShape s piece_text → kind_of s piece_text ≡ None → s ≡ NumberShape
 none_number MarkShape t lex shape e = mark_none (entry t marks) shape e
   where
-  mark_none : (o : Option MarkKind) → IsSome o → option_map Mark o ≡ None → MarkShape ≡ NumberShape
-  mark_none None h e = absurd (false≢true h)
-  mark_none (Some k) h e = absurd (cc)
+    mark_none : (o : Option MarkKind) → IsSome o → option_map Mark o ≡ None → MarkShape ≡ NumberShape
+    mark_none None h e = absurd (false≢true h)
+    mark_none (Some k) h e = absurd (cc)
 none_number NameShape t lex shape e = absurd (cc)
 none_number NumberShape t lex shape e = refl
 none_number StringShape t lex shape e = absurd (cc)
@@ -79,12 +78,12 @@ number_no_string e = cc
 controls_are : (s : Shape) (t : List ℕ) → is_lexeme s ≡ true → ControlsAre s t (controls s t)
 controls_are MarkShape t lex = λ e i h. mark_no_string e
   where
-  mark_no_string : MarkShape ≡ StringShape → ⊥
-  mark_no_string e = cc
+    mark_no_string : MarkShape ≡ StringShape → ⊥
+    mark_no_string e = cc
 controls_are NameShape t lex = λ e i h. name_no_string e
   where
-  name_no_string : NameShape ≡ StringShape → ⊥
-  name_no_string e = cc
+    name_no_string : NameShape ≡ StringShape → ⊥
+    name_no_string e = cc
 controls_are NumberShape t lex = λ e i h. number_no_string e
 controls_are StringShape t lex = string_controls t (control_at t) refl
 controls_are Space t lex = absurd (false≢true lex)
@@ -98,7 +97,6 @@ not_before a b c d h k = elim (cases_order a b) [ inl e ↦ inr (e, k) | inr (in
 
 module _ (file : ℕ) (bytes : List ℕ) (valid : ℕ) (l : Layout) (v : Valid bytes valid) (before : List Piece) (b : ℕ) (more : List ℕ)
     (cut : Cut bytes before (b ∷ more)) (sound : AreSound before) (m : Matches file bytes before l) (within : reach before ≤ valid) where
-
   room : reach before < length bytes
   room = omega (arith, cut_length bytes before (b ∷ more) cut)
 
@@ -127,9 +125,9 @@ module _ (file : ℕ) (bytes : List ℕ) (valid : ℕ) (l : Layout) (v : Valid b
         fault = bad_byte refl (v.bad (omega arith)) within inside';
         early = inr (refl, refl);
         least = least_of bytes valid before (b ∷ more) v valid 101 (inr (refl, refl)) (λ k c e. absurd (content c)) (λ c e. absurd (content c)) (λ k t e. absurd (stuck k))
-          (λ q i nq e h. absurd (false≢true (sym off ∙ ap is_lexeme (sym (shape q nq) ∙ e))))
-          (λ q nq e h. absurd (false≢true (sym off ∙ ap is_lexeme (sym (shape q nq) ∙ e))))
-          (λ q nq rises over. let flat' = separator_depth q before (ap is_lexeme (shape q nq) ∙ off) in absurd (omega arith));
+            (λ q i nq e h. absurd (false≢true (sym off ∙ ap is_lexeme (sym (shape q nq) ∙ e))))
+            (λ q nq e h. absurd (false≢true (sym off ∙ ap is_lexeme (sym (shape q nq) ∙ e))))
+            (λ q nq rises over. let flat' = separator_depth q before (ap is_lexeme (shape q nq) ∙ off) in absurd (omega arith));
         inside = inside';
         next = λ q nq. inr (shape q nq ∙ comment);
       }
@@ -179,7 +177,7 @@ module _ (file : ℕ) (bytes : List ℕ) (valid : ℕ) (l : Layout) (v : Valid b
         fault = early_tab refl c e;
         early = inl (omega arith);
         least = least_of bytes valid before (b ∷ more) v n 102 (inl (omega arith)) (λ k d f. inr (some_is n k (sym e ∙ f), omega arith)) (λ d f. inl low) (λ k t f. inl low)
-          (λ q i nq f h. inl (omega arith)) (λ q nq f h. inl low) (λ q nq rises over. inl low);
+            (λ q i nq f h. inl (omega arith)) (λ q nq f h. inl low) (λ q nq rises over. inl low);
         inside = λ q nq. omega arith;
         next = λ q nq. inl (content_next c.content q nq);
       }
@@ -190,17 +188,18 @@ module _ (file : ℕ) (bytes : List ℕ) (valid : ℕ) (l : Layout) (v : Valid b
         fault = bad_byte refl (subst (IsValidUpTo bytes) at (v.bad (let r = room in omega arith))) (omega arith) (λ q nq. let some = some_text q.shape q.text nq.stands.shape in omega arith);
         early = inr (sym at, refl);
         least = least_of bytes valid before (b ∷ more) v (reach before) 101 (inr (sym at, refl)) (λ k d f. absurd (no_tab k d f)) (λ d f. inr (refl, omega arith)) (λ k t f. stuck_after t)
-          (λ q i nq f h. control_after i) (λ q nq f h. inr (refl, omega arith)) (λ q nq rises over. inr (refl, omega arith));
+            (λ q i nq f h. control_after i) (λ q nq f h. inr (refl, omega arith)) (λ q nq rises over. inr (refl, omega arith));
         inside = λ q nq. let some = some_text q.shape q.text nq.stands.shape in omega arith;
         next = λ q nq. inl (content_next c q nq);
       }
     where
-    stuck_after : (t : Bool) → NotBefore (reach before) 101 (reach before) (cond t 105 104)
-    stuck_after true = inr (refl, omega arith)
-    stuck_after false = inr (refl, omega arith)
-    control_after : (i : ℕ) → NotBefore (reach before) 101 (reach before + i) 104
-    control_after zero = inr (omega arith, omega arith)
-    control_after (suc i) = inl (omega arith)
+      stuck_after : (t : Bool) → NotBefore (reach before) 101 (reach before) (cond t 105 104)
+      stuck_after true = inr (refl, omega arith)
+      stuck_after false = inr (refl, omega arith)
+
+      control_after : (i : ℕ) → NotBefore (reach before) 101 (reach before + i) 104
+      control_after zero = inr (omega arith, omega arith)
+      control_after (suc i) = inl (omega arith)
 
   width_first : BeginsContent before (b ∷ more) → reach before < valid → ((k : ℕ) → first_tab (line before) ≡ Some k → ⊥) → fits (width (line before)) (opened (widths before)) ≡ false → IsFirstHere bytes valid before (b ∷ more) (reach before) 103
   width_first c early no_tab off =
@@ -208,17 +207,18 @@ module _ (file : ℕ) (bytes : List ℕ) (valid : ℕ) (l : Layout) (v : Valid b
         fault = bad_width refl refl c off;
         early = inl early;
         least = least_of bytes valid before (b ∷ more) v (reach before) 103 (inl early) (λ k d f. absurd (no_tab k f)) (λ d f. inr (refl, omega arith)) (λ k t f. stuck_after t)
-          (λ q i nq f h. control_after i) (λ q nq f h. inr (refl, omega arith)) (λ q nq rises over. inr (refl, omega arith));
+            (λ q i nq f h. control_after i) (λ q nq f h. inr (refl, omega arith)) (λ q nq rises over. inr (refl, omega arith));
         inside = λ q nq. let some = some_text q.shape q.text nq.stands.shape in omega arith;
         next = λ q nq. inl (content_next c.content q nq);
       }
     where
-    stuck_after : (t : Bool) → NotBefore (reach before) 103 (reach before) (cond t 105 104)
-    stuck_after true = inr (refl, omega arith)
-    stuck_after false = inr (refl, omega arith)
-    control_after : (i : ℕ) → NotBefore (reach before) 103 (reach before + i) 104
-    control_after zero = inr (omega arith, omega arith)
-    control_after (suc i) = inl (omega arith)
+      stuck_after : (t : Bool) → NotBefore (reach before) 103 (reach before) (cond t 105 104)
+      stuck_after true = inr (refl, omega arith)
+      stuck_after false = inr (refl, omega arith)
+
+      control_after : (i : ℕ) → NotBefore (reach before) 103 (reach before + i) 104
+      control_after zero = inr (omega arith, omega arith)
+      control_after (suc i) = inl (omega arith)
 
   -- the byte at the place begins a character, or not
   byte_by : (next : Outcome) (other : Option SpottedFault) (t : Bool) → IsContent (b ∷ more) → (valid == l.spot.at) ≡ t → ((k : ℕ) → BeginsContent before (b ∷ more) → first_tab (line before) ≡ Some k → ⊥)
@@ -228,25 +228,25 @@ module _ (file : ℕ) (bytes : List ℕ) (valid : ℕ) (l : Layout) (v : Valid b
       stops (reach before) 101 l.spot m.spot (bad_first c (omega arith) no_tab)
   byte_by next other false c e no_tab go = let at = m.spot.at in let other' = eqb-false valid l.spot.at e in go (early_go at other' within)
     where
-    early_go : l.spot.at ≡ reach before → (valid ≡ l.spot.at → ⊥) → reach before ≤ valid → reach before < valid
-    early_go at ne h = elim (cases_order (reach before) valid) [ inl e ↦ absurd (ne (sym e ∙ sym at)) | inr (inl lt) ↦ lt | inr (inr gt) ↦ absurd (omega arith) ]
+      early_go : l.spot.at ≡ reach before → (valid ≡ l.spot.at → ⊥) → reach before ≤ valid → reach before < valid
+      early_go at ne h = elim (cases_order (reach before) valid) [ inl e ↦ absurd (ne (sym e ∙ sym at)) | inr (inl lt) ↦ lt | inr (inr gt) ↦ absurd (omega arith) ]
 
   width_by : (next : Outcome) (t : Bool) → BeginsContent before (b ∷ more) → reach before < valid → first_tab (line before) ≡ None → fits l.spaces l.widths ≡ t
       → (Clear valid before → Follows file bytes valid l next) → Follows file bytes valid l (or_stop (cond t None (Some (l.spot, 103))) next)
   width_by next true c early none e go = go (record { early = early; laid = λ h. record { no_tab = none; fitting = rw (← m.spaces, ← m.widths) e } })
   width_by next false c early none e go = stops (reach before) 103 l.spot m.spot (width_first c early (λ k f. none_some k (sym none ∙ f)) (rw (← m.spaces, ← m.widths) e))
     where
-    none_some : (k : ℕ) → None ≡ Some k → ⊥
-    none_some k e = cc
+      none_some : (k : ℕ) → None ≡ Some k → ⊥
+      none_some k e = cc
 
   tab_by : (next : Outcome) (o : Option ℕ) (t : Option Spot) → BeginsContent before (b ∷ more) → first_tab (line before) ≡ o → IsTab bytes o t
       → (Clear valid before → Follows file bytes valid l next) → Follows file bytes valid l (or_stop (first_white_fault l valid t) next)
   tab_by next None None c e is go =
       byte_by next (cond (fits l.spaces l.widths) None (Some (l.spot, 103))) (valid == l.spot.at) c.content refl (λ k d f. none_some k (sym e ∙ f))
-        (λ early. width_by next (fits l.spaces l.widths) c early e refl go)
+      (λ early. width_by next (fits l.spaces l.widths) c early e refl go)
     where
-    none_some : (k : ℕ) → None ≡ Some k → ⊥
-    none_some k e = cc
+      none_some : (k : ℕ) → None ≡ Some k → ⊥
+      none_some k e = cc
   tab_by next (Some n) (Some s) c e is go = stops n 102 s is (tab_first n c e)
   tab_by next None (Some s) c e is go = absurd is
   tab_by next (Some n) None c e is go = absurd is
@@ -270,20 +270,21 @@ module _ (file : ℕ) (bytes : List ℕ) (valid : ℕ) (l : Layout) (v : Valid b
         fault = fault_go k t e;
         early = inl clear.early;
         least = least_of bytes valid before (b ∷ more) v (reach before) (cond t 105 104) (inl clear.early)
-          (λ j d f. absurd (some_not_none (first_tab (line before)) (ap is_some f) (laid d).no_tab)) (λ d f. absurd (false≢true (sym f ∙ (laid d).fitting)))
-          (λ k' u f. same_go t u (sym e ∙ f)) (λ q i nq f h. absurd (no_piece' q nq)) (λ q nq f h. absurd (no_piece' q nq)) (λ q nq rises over. absurd (no_piece' q nq));
+            (λ j d f. absurd (some_not_none (first_tab (line before)) (ap is_some f) (laid d).no_tab)) (λ d f. absurd (false≢true (sym f ∙ (laid d).fitting)))
+            (λ k' u f. same_go t u (sym e ∙ f)) (λ q i nq f h. absurd (no_piece' q nq)) (λ q nq f h. absurd (no_piece' q nq)) (λ q nq rises over. absurd (no_piece' q nq));
         inside = λ q nq. absurd (no_piece' q nq);
         next = λ q nq. absurd (no_piece' q nq);
       }
     where
-    fault_go : IsStuck (b ∷ more) → (t : Bool) → is_quote b ≡ t → FaultBehind bytes before (b ∷ more) (reach before) (cond t 105 104)
-    fault_go k true e = no_string refl refl k e
-    fault_go k false e = no_piece refl refl k e
-    same_go : (t u : Bool) → t ≡ u → NotBefore (reach before) (cond t 105 104) (reach before) (cond u 105 104)
-    same_go t u e = inr (refl, subst (λ w. cond t 105 104 ≤ cond w 105 104) e (le_same (cond t 105 104)))
-      where
-      le_same : (n : ℕ) → n ≤ n
-      le_same n = omega arith
+      fault_go : IsStuck (b ∷ more) → (t : Bool) → is_quote b ≡ t → FaultBehind bytes before (b ∷ more) (reach before) (cond t 105 104)
+      fault_go k true e = no_string refl refl k e
+      fault_go k false e = no_piece refl refl k e
+
+      same_go : (t u : Bool) → t ≡ u → NotBefore (reach before) (cond t 105 104) (reach before) (cond u 105 104)
+      same_go t u e = inr (refl, subst (λ w. cond t 105 104 ≤ cond w 105 104) e (le_same (cond t 105 104)))
+        where
+          le_same : (n : ℕ) → n ≤ n
+          le_same n = omega arith
 
   pub stuck_step : IsStuck (b ∷ more) → Clear valid before → Follows file bytes valid l (Stops l.spot (cond (is_quote b) 105 104))
   stuck_step k clear = stops (reach before) (cond (is_quote b) 105 104) l.spot m.spot (stuck_first clear k (is_quote b) refl)
@@ -303,12 +304,12 @@ module _ (file : ℕ) (bytes : List ℕ) (valid : ℕ) (l : Layout) (v : Valid b
       let p = piece_of_text before s x.text in
       let same : (q : Piece) → IsNext before (b ∷ more) q → q ≡ p = λ q nq. is_next_same before (b ∷ more) q p nq (is_next s n x) in
       least_of bytes valid before (b ∷ more) v at code early
-        (λ k d f. absurd (some_not_none (first_tab (line before)) (ap is_some f) (laid_or clear d).no_tab))
-        (λ d f. absurd (false≢true (sym f ∙ (laid_or clear d).fitting)))
-        (λ k t f. absurd (k.none s x.text x.behind x.shape x.split))
-        (λ q i nq f h. control i (ap (λ (r : Piece). r.shape) (sym (same q nq)) ∙ f) (subst (λ (r : Piece). HasControl r.text i) (same q nq) h))
-        (λ q nq f h. number (ap (λ (r : Piece). kind_of r.shape r.text) (sym (same q nq)) ∙ h))
-        (λ q nq rises over. deep (subst (λ (r : Piece). 64 < depth (r ∷ before)) (same q nq) over))
+      (λ k d f. absurd (some_not_none (first_tab (line before)) (ap is_some f) (laid_or clear d).no_tab))
+      (λ d f. absurd (false≢true (sym f ∙ (laid_or clear d).fitting)))
+      (λ k t f. absurd (k.none s x.text x.behind x.shape x.split))
+      (λ q i nq f h. control i (ap (λ (r : Piece). r.shape) (sym (same q nq)) ∙ f) (subst (λ (r : Piece). HasControl r.text i) (same q nq) h))
+      (λ q nq f h. number (ap (λ (r : Piece). kind_of r.shape r.text) (sym (same q nq)) ∙ h))
+      (λ q nq rises over. deep (subst (λ (r : Piece). 64 < depth (r ∷ before)) (same q nq) over))
 
   token_inside : (s : Shape) (n : ℕ) (x : Next s (b ∷ more) n) (at : ℕ) → at < reach before + length x.text → (q : Piece) → IsNext before (b ∷ more) q → at < reach before + length q.text
   token_inside s n x at h q nq = subst (λ (r : Piece). at < reach before + length r.text) (sym (is_next_same before (b ∷ more) q (piece_of_text before s x.text) nq (is_next s n x))) h
@@ -336,8 +337,8 @@ module _ (file : ℕ) (bytes : List ℕ) (valid : ℕ) (l : Layout) (v : Valid b
         fault = too_deep (piece_of_text before s x.text) refl refl (is_next s n x) (omega arith) over;
         early = inl clear.early;
         least = token_least s n x lex clear (reach before) 107 (inl clear.early)
-          (λ i e h. let far = string_control x.text i (subst (λ u. IsShape u x.text) e x.shape) h in inl (omega arith))
-          (λ e. absurd (some_not_none (kind_of s x.text) known e)) (λ o. inr (refl, omega arith));
+            (λ i e h. let far = string_control x.text i (subst (λ u. IsShape u x.text) e x.shape) h in inl (omega arith))
+            (λ e. absurd (some_not_none (kind_of s x.text) known e)) (λ o. inr (refl, omega arith));
         inside = token_inside s n x (reach before) (omega arith);
         next = token_next s n x lex;
       }
@@ -350,8 +351,8 @@ module _ (file : ℕ) (bytes : List ℕ) (valid : ℕ) (l : Layout) (v : Valid b
         fault = bad_control (piece_of_text before s x.text) i refl (is_next s n x) string c.there refl;
         early = inl early;
         least = token_least s n x lex clear (reach before + i) 104 (inl early)
-          (λ j e h. let far = c.least j h in not_before (reach before + i) (reach before + j) 104 104 (omega arith) (omega arith))
-          (λ e. absurd (some_not_none (kind_of s x.text) known e)) (λ o. absurd (omega arith));
+            (λ j e h. let far = c.least j h in not_before (reach before + i) (reach before + j) 104 104 (omega arith) (omega arith))
+            (λ e. absurd (some_not_none (kind_of s x.text) known e)) (λ o. absurd (omega arith));
         inside = token_inside s n x (reach before + i) (omega arith);
         next = token_next s n x lex;
       }
@@ -364,8 +365,8 @@ module _ (file : ℕ) (bytes : List ℕ) (valid : ℕ) (l : Layout) (v : Valid b
         fault = bad_byte refl (v.bad (omega arith)) within (token_inside s n x valid inside);
         early = inr (refl, refl);
         least = token_least s n x lex clear valid 101 (inr (refl, refl))
-          (λ j e h. let far = controls' j e h in not_before valid (reach before + j) 101 104 far (omega arith))
-          (λ e. absurd (some_not_none (kind_of s x.text) known e)) (λ o. absurd (omega arith));
+            (λ j e h. let far = controls' j e h in not_before valid (reach before + j) 101 104 far (omega arith))
+            (λ e. absurd (some_not_none (kind_of s x.text) known e)) (λ o. absurd (omega arith));
         inside = token_inside s n x valid inside;
         next = token_next s n x lex;
       }
@@ -389,7 +390,7 @@ module _ (file : ℕ) (bytes : List ℕ) (valid : ℕ) (l : Layout) (v : Valid b
       let low = ltb-true valid (l.spot.at + length x.text) f in
       let here : reach before + (valid - l.spot.at) ≡ valid = omega arith in
       stops valid 101 (moved l.spot (valid - l.spot.at)) (subst (λ k. IsSpot bytes k (moved l.spot (valid - l.spot.at))) here (token_spot s n x lex (valid - l.spot.at) (omega arith)))
-        (end_first s n x lex clear (ap is_some e) shallow (omega arith) controls')
+      (end_first s n x lex clear (ap is_some e) shallow (omega arith) controls')
   end_by s n x lex clear kind e shallow controls' false f =
       let at = m.spot.at in
       let high = ltb-false valid (l.spot.at + length x.text) f in
@@ -407,17 +408,17 @@ module _ (file : ℕ) (bytes : List ℕ) (valid : ℕ) (l : Layout) (v : Valid b
       end_by s n x lex clear kind e shallow (λ i g h. absurd (none g i h)) (nat_lt valid (l.spot.at + length x.text)) refl
   control_by s n x lex clear kind e shallow (Some i) (string, c) = here (nat_lt (l.spot.at + i) valid) refl
     where
-    here : (t : Bool) → nat_lt (l.spot.at + i) valid ≡ t
-        → Follows file bytes valid l (or_stop (cond t (Some (moved l.spot i, 104)) (end_fault l valid (length x.text))) (Goes (after_lexeme file l (length x.text) kind)))
-    here true f =
-        let at = m.spot.at in
-        let low = ltb-true (l.spot.at + i) valid f in
-        let inside = c.within in
-        stops (reach before + i) 104 (moved l.spot i) (token_spot s n x lex i (omega arith)) (control_first s n x lex clear (ap is_some e) shallow i string c (omega arith))
-    here false f =
-        let at = m.spot.at in
-        let high = ltb-false (l.spot.at + i) valid f in
-        end_by s n x lex clear kind e shallow (λ j g h. let far = c.least j h in omega arith) (nat_lt valid (l.spot.at + length x.text)) refl
+      here : (t : Bool) → nat_lt (l.spot.at + i) valid ≡ t
+          → Follows file bytes valid l (or_stop (cond t (Some (moved l.spot i, 104)) (end_fault l valid (length x.text))) (Goes (after_lexeme file l (length x.text) kind)))
+      here true f =
+          let at = m.spot.at in
+          let low = ltb-true (l.spot.at + i) valid f in
+          let inside = c.within in
+          stops (reach before + i) 104 (moved l.spot i) (token_spot s n x lex i (omega arith)) (control_first s n x lex clear (ap is_some e) shallow i string c (omega arith))
+      here false f =
+          let at = m.spot.at in
+          let high = ltb-false (l.spot.at + i) valid f in
+          end_by s n x lex clear kind e shallow (λ j g h. let far = c.least j h in omega arith) (nat_lt valid (l.spot.at + length x.text)) refl
 
   deep_by : (s : Shape) (n : ℕ) (x : Next s (b ∷ more) n) → is_lexeme s ≡ true → Clear valid before → (kind : TokenKind) → kind_of s x.text ≡ Some kind
       → (t : Bool) → nat_lt 64 (brackets_behind (Some kind) l.brackets + length (widths_behind l)) ≡ t
@@ -425,14 +426,14 @@ module _ (file : ℕ) (bytes : List ℕ) (valid : ℕ) (l : Layout) (v : Valid b
   deep_by s n x lex clear kind e t f =
       let mm = token_matches s n x lex kind e in
       let same : brackets_behind (Some kind) l.brackets + length (widths_behind l) ≡ depth (piece_of_text before s x.text ∷ before) =
-        ap (λ k. k + length (widths_behind l)) mm.brackets ∙ ap (λ ws. brackets (piece_of_text before s x.text ∷ before) + length ws) mm.widths in
+      ap (λ k. k + length (widths_behind l)) mm.brackets ∙ ap (λ ws. brackets (piece_of_text before s x.text ∷ before) + length ws) mm.widths in
       deep_go s n x lex clear kind e t (ap (λ k. nat_lt 64 k) (sym same) ∙ f)
     where
-    deep_go : (s : Shape) (n : ℕ) (x : Next s (b ∷ more) n) → is_lexeme s ≡ true → Clear valid before → (kind : TokenKind) → kind_of s x.text ≡ Some kind
-        → (t : Bool) → nat_lt 64 (depth (piece_of_text before s x.text ∷ before)) ≡ t
-        → Follows file bytes valid l (or_stop (cond t (Some (l.spot, 107)) (control_or_end l valid (length x.text) (controls s x.text))) (Goes (after_lexeme file l (length x.text) kind)))
-    deep_go s n x lex clear kind e true f = stops (reach before) 107 l.spot m.spot (deep_first s n x lex clear (ap is_some e) (ltb-true 64 (depth (piece_of_text before s x.text ∷ before)) f))
-    deep_go s n x lex clear kind e false f = control_by s n x lex clear kind e (ltb-false 64 (depth (piece_of_text before s x.text ∷ before)) f) (controls s x.text) (controls_are s x.text lex)
+      deep_go : (s : Shape) (n : ℕ) (x : Next s (b ∷ more) n) → is_lexeme s ≡ true → Clear valid before → (kind : TokenKind) → kind_of s x.text ≡ Some kind
+          → (t : Bool) → nat_lt 64 (depth (piece_of_text before s x.text ∷ before)) ≡ t
+          → Follows file bytes valid l (or_stop (cond t (Some (l.spot, 107)) (control_or_end l valid (length x.text) (controls s x.text))) (Goes (after_lexeme file l (length x.text) kind)))
+      deep_go s n x lex clear kind e true f = stops (reach before) 107 l.spot m.spot (deep_first s n x lex clear (ap is_some e) (ltb-true 64 (depth (piece_of_text before s x.text ∷ before)) f))
+      deep_go s n x lex clear kind e false f = control_by s n x lex clear kind e (ltb-false 64 (depth (piece_of_text before s x.text ∷ before)) f) (controls s x.text) (controls_are s x.text lex)
 
   lexeme_by : (s : Shape) (n : ℕ) (x : Next s (b ∷ more) n) → is_lexeme s ≡ true → Clear valid before → (k : Option TokenKind) → kind_of s x.text ≡ k → Follows file bytes valid l (lexeme_of file valid l s x.text k)
   lexeme_by s n x lex clear None e = stops (reach before) 106 l.spot m.spot (number_first s n x lex clear e)

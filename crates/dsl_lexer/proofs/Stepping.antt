@@ -78,21 +78,21 @@ tab_before bytes (p ∷ before) rest n cut e =
     let at = cut.0.at in
     let some = some_text p.shape p.text cut.0.shape in
     tab_line p (line before) n (reach before + length p.text) (ends_line p before) (omega arith)
-      (λ m f. let x = tab_before bytes before (p.text ++ rest) m cut.1 f in omega arith) e
+    (λ m f. let x = tab_before bytes before (p.text ++ rest) m cut.1 f in omega arith) e
 
 -- from the first fault at the pieces to the first at all
 module _ (file : ℕ) (bytes : List ℕ) (valid : ℕ) (l : Layout) (v : Valid bytes valid) (before : List Piece) (rest : List ℕ) (cut : Cut bytes before rest) (sound : AreSound before) (m : Matches file bytes before l) (within : reach before ≤ valid) where
   pub stop_here : (n code : ℕ) (s : Spot) → IsSpot bytes n s → IsFirstHere bytes valid before rest n code → IsStop file bytes l s code
   stop_here n code s is first = record {
     first = λ fault place same.
-      let count : length l.tokens ≡ length (tokens before) = ap length m.tokens ∙ length-placed file bytes 0 (tokens before) in
-      record {
-        at = n;
-        count = length l.tokens;
-        is_fault = record { before = before; rest = rest; cut = cut; fault = rw same first.fault; counted = count };
-        place = place ∙ place_same file bytes n s (length l.tokens) is;
-        first = λ k c tokens x. rw same (first_of_all bytes valid before rest n code v first cut sound within k c tokens x);
-      };
+        let count : length l.tokens ≡ length (tokens before) = ap length m.tokens ∙ length-placed file bytes 0 (tokens before) in
+        record {
+          at = n;
+          count = length l.tokens;
+          is_fault = record { before = before; rest = rest; cut = cut; fault = rw same first.fault; counted = count };
+          place = place ∙ place_same file bytes n s (length l.tokens) is;
+          first = λ k c tokens x. rw same (first_of_all bytes valid before rest n code v first cut sound within k c tokens x);
+        };
   }
 
 -- spots inside and behind a piece

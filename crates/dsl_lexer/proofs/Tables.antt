@@ -44,13 +44,12 @@ mark_shape_is NameShape h = absurd (false≢true h)
 mark_shape_is NumberShape h = absurd (false≢true h)
 mark_shape_is StringShape h = absurd (false≢true h)
 
-
 -- only the words of a text's own length matter
 skip : {K : Type 0} (text word : List ℕ) (kind : K) (rest : Option K) (n : ℕ) → length text ≡ n → (length word == n) ≡ false → cond (bytes_eq text word) (Some kind) rest ≡ rest
 skip text word kind rest n size other =
     cond-false (bytes_eq text word) (Some kind) rest (false_from_ne_true (bytes_eq text word) (λ e.
-      let same = (bytes_eq-Decides text word).0 e in
-      false≢true (sym other ∙ eq-eqb (length word) n (sym (ap length same) ∙ size))))
+    let same = (bytes_eq-Decides text word).0 e in
+    false≢true (sym other ∙ eq-eqb (length word) n (sym (ap length same) ∙ size))))
 
 keep : {K : Type 0} (text word : List ℕ) (kind : K) (more short : List (List ℕ × K)) (n : ℕ) (t : Bool) → length text ≡ n → (length word == n) ≡ t → entry text more ≡ entry text short
     → entry text ((word, kind) ∷ more) ≡ entry text (cond t ((word, kind) ∷ short) short)

@@ -44,9 +44,9 @@ valid_part bytes n bad =
 pub valid_front : (bytes : List ℕ) (valid : ℕ) → Valid bytes valid → IsUtf8 (take valid bytes)
 valid_front bytes valid v =
     elim (cases_order valid (length bytes)) [
-      inl e ↦ rw (take_all valid bytes (omega arith)) (v.good e)
-    | inr (inl short) ↦ (v.bad short).front
-    | inr (inr long) ↦ let w = v.within in absurd (omega arith)
+      | inl e ↦ rw (take_all valid bytes (omega arith)) (v.good e)
+      | inr (inl short) ↦ (v.bad short).front
+      | inr (inr long) ↦ let w = v.within in absurd (omega arith)
     ]
 
 -- names and numbers are ASCII
@@ -79,10 +79,10 @@ plain_kept (x ∷ xs) rest h =
     let parts = and_parts (not (is_backslash x)) (list_all (λ b. not (is_backslash b)) xs) h in
     kept_go (is_backslash x) refl parts.0 (plain_kept xs rest parts.1)
   where
-  kept_go : (t : Bool) → is_backslash x ≡ t → not t ≡ true → unescaped false (xs ++ rest) ≡ xs ++ unescaped false rest
-      → cond t (unescaped true (xs ++ rest)) (x ∷ unescaped false (xs ++ rest)) ≡ x ∷ (xs ++ unescaped false rest)
-  kept_go true e f h = absurd (false≢true f)
-  kept_go false e f h = ap (λ t. x ∷ t) h
+    kept_go : (t : Bool) → is_backslash x ≡ t → not t ≡ true → unescaped false (xs ++ rest) ≡ xs ++ unescaped false rest
+        → cond t (unescaped true (xs ++ rest)) (x ∷ unescaped false (xs ++ rest)) ≡ x ∷ (xs ++ unescaped false rest)
+    kept_go true e f h = absurd (false≢true f)
+    kept_go false e f h = ap (λ t. x ∷ t) h
 
 some_kept : (escaped : Bool) (xs rest : List ℕ) → 1 ≤ length xs → list_all (λ b. not (is_backslash b)) xs ≡ true → unescaped escaped (xs ++ rest) ≡ xs ++ unescaped false rest
 some_kept false xs rest some h = plain_kept xs rest h
@@ -92,11 +92,11 @@ some_kept true (x ∷ xs) rest some h = ap (λ t. x ∷ t) (plain_kept xs rest (
 char_plain : (c : ℕ) → 128 ≤ c → list_all (λ b. not (is_backslash b)) (encode c) ≡ true
 char_plain c h = list_all-from_AllPass (λ b. not (is_backslash b)) (encode c) (λ k d inside. rw (ne_eqb _ 92 (λ e. char_go k d inside e)) refl)
   where
-  char_go : (k d : ℕ) → k < length (encode c) → get_or (encode c) k d ≡ 92 → ⊥
-  char_go k d inside e =
-      let e0 : get_or (encode c) k 0 ≡ 92 = get_or_default (encode c) k 0 d inside ∙ e in
-      let same = inside_one c [] (encode c) k (sym (append-nil (encode c))) inside (omega arith) in
-      absurd (omega arith)
+    char_go : (k d : ℕ) → k < length (encode c) → get_or (encode c) k d ≡ 92 → ⊥
+    char_go k d inside e =
+        let e0 : get_or (encode c) k 0 ≡ 92 = get_or_default (encode c) k 0 d inside ∙ e in
+        let same = inside_one c [] (encode c) k (sym (append-nil (encode c))) inside (omega arith) in
+        absurd (omega arith)
 
 char_utf8 : (c : ℕ) → scalar c ≡ true → IsUtf8 (encode c)
 char_utf8 c h = (c ∷ [], (and_from (scalar c) true h refl, append-nil (encode c)))
@@ -107,19 +107,20 @@ unescaped_chars false [] h = IsUtf8-nil
 unescaped_chars escaped (c ∷ cs) h =
     let parts = and_parts (scalar c) (scalars cs) h in
     elim (cases_lt c 128) [
-      inl small ↦ subst (λ t. IsUtf8 (unescaped escaped (t ++ encodes cs))) (sym (encode_ascii c small)) (small_go c (encodes cs) escaped (is_backslash c) refl (char_small c small) (unescaped_chars true cs parts.1) (unescaped_chars false cs parts.1))
-    | inr large ↦
-        let some = length-encode c in
-        let bounds = len_utf8_bounds c in
-        rw (some_kept escaped (encode c) (encodes cs) (omega arith) (char_plain c large)) (IsUtf8-append (encode c) (unescaped false (encodes cs)) (char_utf8 c parts.0) (unescaped_chars false cs parts.1))
+      | inl small ↦ subst (λ t. IsUtf8 (unescaped escaped (t ++ encodes cs))) (sym (encode_ascii c small)) (small_go c (encodes cs) escaped (is_backslash c) refl (char_small c small) (unescaped_chars true cs parts.1) (unescaped_chars false cs parts.1))
+      | inr large ↦
+          let some = length-encode c in
+          let bounds = len_utf8_bounds c in
+          rw (some_kept escaped (encode c) (encodes cs) (omega arith) (char_plain c large)) (IsUtf8-append (encode c) (unescaped false (encodes cs)) (char_utf8 c parts.0) (unescaped_chars false cs parts.1))
     ]
   where
-  char_small : (c : ℕ) → c < 128 → IsUtf8 (c ∷ [])
-  char_small c h = IsUtf8-from_ascii (c ∷ []) (one_ascii c h)
-  small_go : (c : ℕ) (rest : List ℕ) (escaped t : Bool) → is_backslash c ≡ t → IsUtf8 (c ∷ []) → IsUtf8 (unescaped true rest) → IsUtf8 (unescaped false rest) → IsUtf8 (unescaped escaped (c ∷ rest))
-  small_go c rest true t e one a b = IsUtf8-append (c ∷ []) (unescaped false rest) one b
-  small_go c rest false true e one a b = rw e a
-  small_go c rest false false e one a b = rw e (IsUtf8-append (c ∷ []) (unescaped false rest) one b)
+    char_small : (c : ℕ) → c < 128 → IsUtf8 (c ∷ [])
+    char_small c h = IsUtf8-from_ascii (c ∷ []) (one_ascii c h)
+
+    small_go : (c : ℕ) (rest : List ℕ) (escaped t : Bool) → is_backslash c ≡ t → IsUtf8 (c ∷ []) → IsUtf8 (unescaped true rest) → IsUtf8 (unescaped false rest) → IsUtf8 (unescaped escaped (c ∷ rest))
+    small_go c rest true t e one a b = IsUtf8-append (c ∷ []) (unescaped false rest) one b
+    small_go c rest false true e one a b = rw e a
+    small_go c rest false false e one a b = rw e (IsUtf8-append (c ∷ []) (unescaped false rest) one b)
 
 unescaped_utf8 : (xs : List ℕ) → IsUtf8 xs → IsUtf8 (unescaped false xs)
 unescaped_utf8 xs (cs, (h, e)) = subst (λ t. IsUtf8 (unescaped false t)) e (unescaped_chars false cs h)
@@ -153,16 +154,16 @@ string_utf8 bytes before text behind valid cut v within (quote, inside, chars, e
     let k = valid - (reach before + length text) in
     let size : length text ≡ suc (length inside + 1) = ap length e ∙ ap suc (length-append inside (quote ∷ [])) in
     let whole : take valid bytes ≡ (x.front ++ text) ++ take k (drop (reach before + length text) bytes) =
-      ap (λ n. take n bytes) (let z : valid ≡ reach before + length text + k = omega arith in z) ∙ take-add (reach before + length text) k bytes
-        ∙ ap (λ t. t ++ take k (drop (reach before + length text) bytes)) (ap (take (reach before + length text)) (x.split ∙ sym (append_assoc x.front text behind)) ∙ take_at (x.front ++ text) behind (reach before + length text) (length-append x.front text ∙ ap (λ n. n + length text) x.size)) in
+    ap (λ n. take n bytes) (let z : valid ≡ reach before + length text + k = omega arith in z) ∙ take-add (reach before + length text) k bytes
+    ∙ ap (λ t. t ++ take k (drop (reach before + length text) bytes)) (ap (take (reach before + length text)) (x.split ∙ sym (append_assoc x.front text behind)) ∙ take_at (x.front ++ text) behind (reach before + length text) (length-append x.front text ∙ ap (λ n. n + length text) x.size)) in
     string_go x.front quote inside (take k (drop (reach before + length text) bytes)) text e q (subst IsUtf8 whole (valid_front bytes valid v))
   where
-  string_go : (front : List ℕ) (quote : ℕ) (inside tail text : List ℕ) → text ≡ quote ∷ inside ++ quote ∷ [] → is_quote quote ≡ true → IsUtf8 ((front ++ text) ++ tail) → IsUtf8 (string_chars text)
-  string_go front quote inside tail text e q u =
-      let small : quote < 128 = elim (quote_is quote q) [ inl a ↦ omega arith | inr a ↦ omega arith ] in
-      let shape : (front ++ text) ++ tail ≡ front ++ quote ∷ (inside ++ quote ∷ tail) =
+    string_go : (front : List ℕ) (quote : ℕ) (inside tail text : List ℕ) → text ≡ quote ∷ inside ++ quote ∷ [] → is_quote quote ≡ true → IsUtf8 ((front ++ text) ++ tail) → IsUtf8 (string_chars text)
+    string_go front quote inside tail text e q u =
+        let small : quote < 128 = elim (quote_is quote q) [ inl a ↦ omega arith | inr a ↦ omega arith ] in
+        let shape : (front ++ text) ++ tail ≡ front ++ quote ∷ (inside ++ quote ∷ tail) =
         append_assoc front text tail ∙ ap (λ t. front ++ (t ++ tail)) e ∙ ap (λ t. front ++ quote ∷ t) (append_assoc inside (quote ∷ []) tail) in
-      rw (inside_chars quote inside text e) (unescaped_utf8 inside (quoted front quote inside tail small (subst IsUtf8 shape u)))
+        rw (inside_chars quote inside text e) (unescaped_utf8 inside (quoted front quote inside tail small (subst IsUtf8 shape u)))
 
 -- a lexeme that is no mark, no name and no string is a number
 pub number_left : (s : Shape) (text : List ℕ) → IsTrue (is_lexeme s) → (s ≡ MarkShape → ⊥) → (s ≡ NameShape → ⊥) → (s ≡ StringShape → ⊥) → IsShape s text → IsAscii text

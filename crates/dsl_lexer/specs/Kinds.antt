@@ -16,21 +16,21 @@ use Rattle.dsl_lexer.specs.Shapes.{MarkShape, NameShape, NumberShape, StringShap
 
 abbrev pub reserved_words : List (List ℕ × WordKind)
 reserved_words = (codes "import", ImportWord) ∷ (codes "type", TypeWord) ∷ (codes "unit", UnitWord) ∷ (codes "is", IsWord)
-      ∷ (codes "of", OfWord) ∷ (codes "enum", EnumWord) ∷ (codes "struct", StructWord) ∷ (codes "actor", ActorWord)
-      ∷ (codes "action", ActionWord) ∷ (codes "scenario", ScenarioWord) ∷ (codes "inherits", InheritsWord)
-      ∷ (codes "extend", ExtendWord) ∷ (codes "list", ListWord) ∷ (codes "keep", KeepWord) ∷ (codes "hard", HardWord)
-      ∷ (codes "default", DefaultWord) ∷ (codes "remove_default", RemoveDefaultWord) ∷ (codes "do", DoWord)
-      ∷ (codes "serial", SerialWord) ∷ (codes "parallel", ParallelWord) ∷ (codes "one_of", OneOfWord)
-      ∷ (codes "wait", WaitWord) ∷ (codes "elapsed", ElapsedWord) ∷ (codes "with", WithWord) ∷ (codes "it", ItWord)
-      ∷ (codes "in", InWord) ∷ (codes "range", RangeWord) ∷ (codes "and", AndWord) ∷ (codes "or", OrWord)
-      ∷ (codes "not", NotWord) ∷ (codes "true", TrueWord) ∷ (codes "false", FalseWord) ∷ []
+    ∷ (codes "of", OfWord) ∷ (codes "enum", EnumWord) ∷ (codes "struct", StructWord) ∷ (codes "actor", ActorWord)
+    ∷ (codes "action", ActionWord) ∷ (codes "scenario", ScenarioWord) ∷ (codes "inherits", InheritsWord)
+    ∷ (codes "extend", ExtendWord) ∷ (codes "list", ListWord) ∷ (codes "keep", KeepWord) ∷ (codes "hard", HardWord)
+    ∷ (codes "default", DefaultWord) ∷ (codes "remove_default", RemoveDefaultWord) ∷ (codes "do", DoWord)
+    ∷ (codes "serial", SerialWord) ∷ (codes "parallel", ParallelWord) ∷ (codes "one_of", OneOfWord)
+    ∷ (codes "wait", WaitWord) ∷ (codes "elapsed", ElapsedWord) ∷ (codes "with", WithWord) ∷ (codes "it", ItWord)
+    ∷ (codes "in", InWord) ∷ (codes "range", RangeWord) ∷ (codes "and", AndWord) ∷ (codes "or", OrWord)
+    ∷ (codes "not", NotWord) ∷ (codes "true", TrueWord) ∷ (codes "false", FalseWord) ∷ []
 
 abbrev pub left_out_words : List (List ℕ × LeftKind)
 left_out_words = (codes "namespace", NamespaceWord) ∷ (codes "export", ExportWord) ∷ (codes "event", EventWord)
-      ∷ (codes "on", OnWord) ∷ (codes "until", UntilWord) ∷ (codes "emit", EmitWord) ∷ (codes "rise", RiseWord)
-      ∷ (codes "fall", FallWord) ∷ (codes "every", EveryWord) ∷ (codes "var", VarWord) ∷ (codes "sample", SampleWord)
-      ∷ (codes "global", GlobalWord) ∷ (codes "def", DefWord) ∷ (codes "external", ExternalWord) ∷ (codes "call", CallWord)
-      ∷ (codes "cover", CoverWord) ∷ (codes "record", RecordWord) ∷ (codes "modifier", ModifierWord) ∷ []
+    ∷ (codes "on", OnWord) ∷ (codes "until", UntilWord) ∷ (codes "emit", EmitWord) ∷ (codes "rise", RiseWord)
+    ∷ (codes "fall", FallWord) ∷ (codes "every", EveryWord) ∷ (codes "var", VarWord) ∷ (codes "sample", SampleWord)
+    ∷ (codes "global", GlobalWord) ∷ (codes "def", DefWord) ∷ (codes "external", ExternalWord) ∷ (codes "call", CallWord)
+    ∷ (codes "cover", CoverWord) ∷ (codes "record", RecordWord) ∷ (codes "modifier", ModifierWord) ∷ []
 
 -- a name is a reserved word, else a left-out word, else a name of the program's own
 abbrev pub first_kind : Option WordKind → Option LeftKind → List ℕ → TokenKind

@@ -24,10 +24,10 @@ entry text ((word, kind) ∷ more) = if bytes_eq text word then Some kind else e
 
 abbrev pub marks : List (List ℕ × MarkKind)
 marks = (codes "(", OpenRound) ∷ (codes ")", CloseRound) ∷ (codes "[", OpenSquare) ∷ (codes "]", CloseSquare)
-      ∷ (codes ":", Colon) ∷ (codes ",", Comma) ∷ (codes ".", Dot) ∷ (codes "..", TwoDots)
-      ∷ (codes "=", Assign) ∷ (codes "==", Equal) ∷ (codes "!=", Differ) ∷ (codes "<", Below) ∷ (codes "<=", AtMost)
-      ∷ (codes ">", Above) ∷ (codes ">=", AtLeast) ∷ (codes "=>", Arrow)
-      ∷ (codes "+", Plus) ∷ (codes "-", Dash) ∷ (codes "*", Star) ∷ (codes "/", Slash) ∷ (codes "!", Bang) ∷ []
+    ∷ (codes ":", Colon) ∷ (codes ",", Comma) ∷ (codes ".", Dot) ∷ (codes "..", TwoDots)
+    ∷ (codes "=", Assign) ∷ (codes "==", Equal) ∷ (codes "!=", Differ) ∷ (codes "<", Below) ∷ (codes "<=", AtMost)
+    ∷ (codes ">", Above) ∷ (codes ">=", AtLeast) ∷ (codes "=>", Arrow)
+    ∷ (codes "+", Plus) ∷ (codes "-", Dash) ∷ (codes "*", Star) ∷ (codes "/", Slash) ∷ (codes "!", Bang) ∷ []
 
 -- a line feed, or a carriage return and a line feed
 abbrev pub IsLineEnd : List ℕ → Type 0

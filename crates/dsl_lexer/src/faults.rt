@@ -55,7 +55,13 @@ fn depth_behind(layout: &Layout, brackets: u32) -> usize
 }
 
 /// A nesting that is too deep, a control character in a string, or a byte that begins no character.
-pub fn lexeme_fault(layout: &Layout, valid: usize, shape: Shape, text: &[u8], brackets: u32) -> Option<(Spot, u16)>
+pub fn lexeme_fault(
+    layout: &Layout,
+    valid: usize,
+    shape: Shape,
+    text: &[u8],
+    brackets: u32,
+) -> Option<(Spot, u16)>
     requires room { HasRoom layout.now (length text.now) }
     requires some { 1 ≤ length text.now }
     requires behind { layout.now.spot.at ≤ valid }

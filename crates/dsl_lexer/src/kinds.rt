@@ -8,13 +8,10 @@ ghost use Rattle.dsl_lexer.specs.Bytes as bytes;
 ghost use Rattle.dsl_lexer.specs.Kinds as kinds;
 ghost use Rattle.dsl_lexer.specs.Values.{value_from, Fits};
 
-use std::alloc::{AllocError, Global};
-
+use crate::{scan, words};
 use dsl_tree::TokenKind;
 use osc_base::Text;
-
-use crate::scan;
-use crate::words;
+use std::alloc::{AllocError, Global};
 
 /// The text with these bytes.
 fn text_of(alloc: Global, bytes: &[u8]) -> Result<Text, AllocError>
@@ -96,7 +93,12 @@ fn hexadecimal_kind(digits: &[u8]) -> Option<TokenKind>
 }
 
 /// The number of these digits before and behind the point, with its unit.
-fn decimal_kind(alloc: Global, whole: &[u8], part: &[u8], unit: &[u8]) -> Result<Option<TokenKind>, AllocError>
+fn decimal_kind(
+    alloc: Global,
+    whole: &[u8],
+    part: &[u8],
+    unit: &[u8],
+) -> Result<Option<TokenKind>, AllocError>
     requires whole { list_all bytes.is_digit whole.now ≡ true }
     requires part { list_all bytes.is_digit part.now ≡ true }
     requires unit { IsUtf8 unit.now }
@@ -114,7 +116,11 @@ fn decimal_kind(alloc: Global, whole: &[u8], part: &[u8], unit: &[u8]) -> Result
         return Ok(None);
     }
     let unit = text_of(alloc, unit)?;
-    Ok(Some(TokenKind::Physical { digits, places, unit }))
+    Ok(Some(TokenKind::Physical {
+        digits,
+        places,
+        unit,
+    }))
 }
 
 /// The digits behind a point, and what stands behind them.

@@ -6,13 +6,11 @@ ghost use Rattle.dsl_lexer.specs.Layout.{brackets_behind, blocks};
 ghost use Rattle.dsl_lexer.specs.Steps as steps;
 ghost use Rattle.dsl_lexer.specs.Room.{HasRoom};
 
-use std::alloc::{AllocError, Global};
-
-use dsl_tree::{MarkKind, Token, TokenKind};
-use osc_base::Row;
-
 use crate::spot::Spot;
 use crate::widths::Widths;
+use dsl_tree::{MarkKind, Token, TokenKind};
+use osc_base::Row;
+use std::alloc::{AllocError, Global};
 
 /// What is known behind the pieces so far.
 #[derive(Drop)]
@@ -60,7 +58,12 @@ fn push(tokens: &mut Row<Token>, file: u32, spot: Spot, kind: TokenKind) -> Resu
 }
 
 /// Puts so many DEDENTs at the spot.
-fn push_dedents(tokens: &mut Row<Token>, file: u32, spot: Spot, count: usize) -> Result<(), AllocError>
+fn push_dedents(
+    tokens: &mut Row<Token>,
+    file: u32,
+    spot: Spot,
+    count: usize,
+) -> Result<(), AllocError>
     requires { length tokens.old + count < 2 ^ 32 }
     ensures pushed { OnOk result (tokens.new ≡ tokens.old ++ steps.stamped file spot (length tokens.old) (replicate count Dedent)) }
     ensures all { OnOk result (length tokens.new ≡ length tokens.old + count) }
@@ -72,7 +75,13 @@ fn push_dedents(tokens: &mut Row<Token>, file: u32, spot: Spot, count: usize) ->
 }
 
 /// Puts the tokens that open or close blocks at the first token of a line of this width.
-fn push_blocks(tokens: &mut Row<Token>, widths: &Widths, file: u32, spot: Spot, width: u32) -> Result<(), AllocError>
+fn push_blocks(
+    tokens: &mut Row<Token>,
+    widths: &Widths,
+    file: u32,
+    spot: Spot,
+    width: u32,
+) -> Result<(), AllocError>
     requires { length tokens.old + length widths.now < 2 ^ 31 }
     ensures pushed { OnOk result (tokens.new ≡ tokens.old ++ steps.stamped file spot (length tokens.old) (blocks width widths.now)) }
     ensures few { OnOk result (length tokens.new < 2 ^ 32) }

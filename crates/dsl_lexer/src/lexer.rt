@@ -9,19 +9,14 @@ ghost use Rattle.dsl_lexer.specs.Progress.{CanTake, CanTakeFront, Valid, Reached
 ghost use Rattle.dsl_lexer.specs.Laws.{OneList, CutOrFault, OneFault, EndIsLast, OpenedLaw, CharsLaw};
 ghost use Rattle.dsl_lexer.specs.Language.{TokensCut, IsFirstFault, IsUncut, EndsOnce};
 
-use std::alloc::{AllocError, Global};
-
-use dsl_tree::{TokenKind, Tokens};
-use osc_base::Fault;
-
-use crate::faults;
-use crate::kinds;
 use crate::layout::{self, Layout};
-use crate::pieces;
-use crate::scan;
 use crate::shape::Shape;
 use crate::spot::Spot;
 use crate::stop::LexStop;
+use crate::{faults, kinds, pieces, scan};
+use dsl_tree::{TokenKind, Tokens};
+use osc_base::Fault;
+use std::alloc::{AllocError, Global};
 
 /// The length of the longest front that is UTF-8.
 fn valid_len(bytes: &[u8]) -> usize
@@ -43,7 +38,12 @@ fn stop_at(file: u32, layout: &Layout, fault: (Spot, u16)) -> LexStop
     })
 }
 
-fn take_separator(file: u32, layout: &mut Layout, shape: Shape, len: usize) -> Result<(), AllocError>
+fn take_separator(
+    file: u32,
+    layout: &mut Layout,
+    shape: Shape,
+    len: usize,
+) -> Result<(), AllocError>
     requires room { HasRoom layout.old len }
     requires some { 1 ≤ len }
     requires separator { shapes.is_lexeme shape ≡ false }
@@ -59,7 +59,14 @@ fn take_separator(file: u32, layout: &mut Layout, shape: Shape, len: usize) -> R
     Ok(())
 }
 
-fn take_plain(alloc: Global, file: u32, layout: &mut Layout, valid: usize, shape: Shape, text: &[u8]) -> Result<(), LexStop>
+fn take_plain(
+    alloc: Global,
+    file: u32,
+    layout: &mut Layout,
+    valid: usize,
+    shape: Shape,
+    text: &[u8],
+) -> Result<(), LexStop>
     requires room { HasRoom layout.old (length text.now) }
     requires some { 1 ≤ length text.now }
     requires behind { layout.old.spot.at ≤ valid }
@@ -79,14 +86,26 @@ fn take_plain(alloc: Global, file: u32, layout: &mut Layout, valid: usize, shape
     Ok(())
 }
 
-fn take_string(alloc: Global, file: u32, layout: &mut Layout, valid: usize, text: &[u8]) -> Result<(), LexStop>
+fn take_string(
+    alloc: Global,
+    file: u32,
+    layout: &mut Layout,
+    valid: usize,
+    text: &[u8],
+) -> Result<(), LexStop>
     requires room { HasRoom layout.old (length text.now) }
     requires behind { layout.old.spot.at ≤ valid }
     requires quotes { 2 ≤ length text.now }
     requires utf8 { layout.old.spot.at + length text.now ≤ valid → IsUtf8 (kinds_of.string_chars text.now) }
     ensures { Gives file layout.old (steps.lexeme_of file valid layout.old StringShape text.now (kinds_of.kind_of StringShape text.now)) result layout.new }
 {
-    if let Some(fault) = faults::lexeme_fault(layout, valid, Shape::StringShape, text, layout.brackets) {
+    if let Some(fault) = faults::lexeme_fault(
+        layout,
+        valid,
+        Shape::StringShape,
+        text,
+        layout.brackets,
+    ) {
         return Err(stop_at(file, layout, fault));
     }
     let chars = kinds::string_chars(alloc, text)?;
@@ -95,7 +114,13 @@ fn take_string(alloc: Global, file: u32, layout: &mut Layout, valid: usize, text
 }
 
 /// Takes a separator.
-fn separate(file: u32, layout: &mut Layout, valid: usize, shape: Shape, len: usize) -> Result<(), LexStop>
+fn separate(
+    file: u32,
+    layout: &mut Layout,
+    valid: usize,
+    shape: Shape,
+    len: usize,
+) -> Result<(), LexStop>
     requires room { HasRoom layout.old len }
     requires some { 1 ≤ len }
     requires behind { layout.old.spot.at ≤ valid }
@@ -110,7 +135,14 @@ fn separate(file: u32, layout: &mut Layout, valid: usize, shape: Shape, len: usi
 }
 
 /// Takes the token of the first `len` bytes.
-fn take_token(alloc: Global, file: u32, layout: &mut Layout, valid: usize, shape: Shape, text: &[u8]) -> Result<(), LexStop>
+fn take_token(
+    alloc: Global,
+    file: u32,
+    layout: &mut Layout,
+    valid: usize,
+    shape: Shape,
+    text: &[u8],
+) -> Result<(), LexStop>
     requires can { CanTake layout.old valid shape text.now (length text.now) }
     requires behind { layout.old.spot.at ≤ valid }
     requires lexeme { IsTrue (shapes.is_lexeme shape) }
@@ -123,7 +155,15 @@ fn take_token(alloc: Global, file: u32, layout: &mut Layout, valid: usize, shape
 }
 
 /// Takes the content at the front: a token of `len` bytes, or nothing that fits.
-fn take_content(alloc: Global, file: u32, layout: &mut Layout, valid: usize, shape: Shape, rest: &[u8], len: Option<usize>) -> Result<(), LexStop>
+fn take_content(
+    alloc: Global,
+    file: u32,
+    layout: &mut Layout,
+    valid: usize,
+    shape: Shape,
+    rest: &[u8],
+    len: Option<usize>,
+) -> Result<(), LexStop>
     requires can { IfSome len (CanTake layout.old valid shape rest.now) }
     requires few { length layout.old.tokens < 2 ^ 32 }
     requires more { 0 < length rest.now }
@@ -142,7 +182,13 @@ fn take_content(alloc: Global, file: u32, layout: &mut Layout, valid: usize, sha
 }
 
 /// Takes the piece at the front of what is left.
-fn take_front(alloc: Global, file: u32, layout: &mut Layout, valid: usize, rest: &[u8]) -> Result<(), LexStop>
+fn take_front(
+    alloc: Global,
+    file: u32,
+    layout: &mut Layout,
+    valid: usize,
+    rest: &[u8],
+) -> Result<(), LexStop>
     requires can { CanTakeFront layout.old valid rest.now }
     requires few { length layout.old.tokens < 2 ^ 32 }
     requires more { 0 < length rest.now }
@@ -161,7 +207,13 @@ fn take_front(alloc: Global, file: u32, layout: &mut Layout, valid: usize, rest:
 }
 
 /// Takes the piece at the layout's spot.
-fn step(alloc: Global, file: u32, bytes: &[u8], valid: usize, layout: &mut Layout) -> Result<(), LexStop>
+fn step(
+    alloc: Global,
+    file: u32,
+    bytes: &[u8],
+    valid: usize,
+    layout: &mut Layout,
+) -> Result<(), LexStop>
     requires reached { Reached file bytes.now valid layout.old }
     requires valid { Valid bytes.now valid }
     requires more { layout.old.spot.at < length bytes.now }
@@ -201,5 +253,4 @@ pub fn laws()
     ensures end_is_last { EndIsLast }
     ensures opened_widths { OpenedLaw }
     ensures chars { CharsLaw }
-{
-}
+{}

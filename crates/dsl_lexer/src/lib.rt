@@ -11,6 +11,8 @@ mod scan;
 mod shape;
 mod spot;
 mod stop;
+#[cfg(test)]
+mod tests;
 mod widths;
 mod words;
 

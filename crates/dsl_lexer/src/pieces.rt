@@ -8,14 +8,10 @@ ghost use Rattle.dsl_lexer.specs.Kinds.{kind_of};
 ghost use Rattle.dsl_lexer.specs.Scan as scan_of;
 ghost use Rattle.dsl_lexer.specs.declared.shape.Shape.TheVariants.{StringShape};
 
-use std::alloc::{AllocError, Global};
-
-use dsl_tree::TokenKind;
-
-use crate::kinds;
-use crate::marks;
-use crate::scan;
 use crate::shape::Shape;
+use crate::{kinds, marks, scan};
+use dsl_tree::TokenKind;
+use std::alloc::{AllocError, Global};
 
 /// Whether a piece of the shape is there for a token.
 pub fn is_lexeme(shape: Shape) -> bool

@@ -1,6 +1,5 @@
-use std::alloc::AllocError;
-
 use osc_base::Fault;
+use std::alloc::AllocError;
 
 /// Why a file has no tokens.
 #[derive(Drop)]

@@ -20,10 +20,7 @@ const RESERVED_TWO: [Reserved; 6] = [
     (b"or", WordKind::OrWord),
 ];
 
-const RESERVED_THREE: [Reserved; 2] = [
-    (b"and", WordKind::AndWord),
-    (b"not", WordKind::NotWord),
-];
+const RESERVED_THREE: [Reserved; 2] = [(b"and", WordKind::AndWord), (b"not", WordKind::NotWord)];
 
 const RESERVED_FOUR: [Reserved; 9] = [
     (b"type", WordKind::TypeWord),
@@ -63,18 +60,11 @@ const RESERVED_EIGHT: [Reserved; 3] = [
     (b"parallel", WordKind::ParallelWord),
 ];
 
-const RESERVED_FOURTEEN: [Reserved; 1] = [
-    (b"remove_default", WordKind::RemoveDefaultWord),
-];
+const RESERVED_FOURTEEN: [Reserved; 1] = [(b"remove_default", WordKind::RemoveDefaultWord)];
 
-const LEFT_TWO: [LeftOut; 1] = [
-    (b"on", LeftKind::OnWord),
-];
+const LEFT_TWO: [LeftOut; 1] = [(b"on", LeftKind::OnWord)];
 
-const LEFT_THREE: [LeftOut; 2] = [
-    (b"var", LeftKind::VarWord),
-    (b"def", LeftKind::DefWord),
-];
+const LEFT_THREE: [LeftOut; 2] = [(b"var", LeftKind::VarWord), (b"def", LeftKind::DefWord)];
 
 const LEFT_FOUR: [LeftOut; 4] = [
     (b"emit", LeftKind::EmitWord),
@@ -102,9 +92,7 @@ const LEFT_EIGHT: [LeftOut; 2] = [
     (b"modifier", LeftKind::ModifierWord),
 ];
 
-const LEFT_NINE: [LeftOut; 1] = [
-    (b"namespace", LeftKind::NamespaceWord),
-];
+const LEFT_NINE: [LeftOut; 1] = [(b"namespace", LeftKind::NamespaceWord)];
 
 /// What the table has for the text.
 fn entry<K: Copy>(text: &[u8], table: &[(&[u8], K)]) -> Option<K>

@@ -29,15 +29,8 @@ pub enum TokenKind {
     Word(WordKind),
     LeftOut(LeftKind),
     Name(Text),
-    Number {
-        digits: u64,
-        places: u8,
-    },
-    Physical {
-        digits: u64,
-        places: u8,
-        unit: Text,
-    },
+    Number { digits: u64, places: u8 },
+    Physical { digits: u64, places: u8, unit: Text },
     Chars(Text),
 }
 

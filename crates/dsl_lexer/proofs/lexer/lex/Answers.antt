@@ -16,4 +16,4 @@ returns-clause-tokens c =
 pub returns-clause-end : goal.returns-clause-end
 returns-clause-end c =
     end_is_last c.args.file c.args.bytes.now c.in_ok-finish.field-0
-      (reached_end c.args.file c.args.bytes.now c.valid_len-valid.result c.loop-layout.layout c.in_ok-finish.field-0 c.loop-layout.invariant c.valid_len-valid.ensures c.loop-layout-test.false c.in_ok-finish.ensures)
+    (reached_end c.args.file c.args.bytes.now c.valid_len-valid.result c.loop-layout.layout c.in_ok-finish.field-0 c.loop-layout.invariant c.valid_len-valid.ensures c.loop-layout-test.false c.in_ok-finish.ensures)

@@ -29,4 +29,4 @@ pub returns-clause-uncut : goal.returns-clause-uncut
 returns-clause-uncut c =
     let gives = rw (take_rest c.args.bytes.now c.args.layout.now.spot.at) at c.take_front.ensures in
     stop_uncut c.args.file c.args.bytes.now c.take_front.result
-      (step_stops c.args.file c.args.bytes.now c.args.valid c.args.layout.now _ c.take_front.result c.requires.reached c.requires.valid c.requires.more gives)
+    (step_stops c.args.file c.args.bytes.now c.args.valid c.args.layout.now _ c.take_front.result c.requires.reached c.requires.valid c.requires.more gives)

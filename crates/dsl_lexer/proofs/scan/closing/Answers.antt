@@ -22,15 +22,15 @@ returns-then-b-eq10-clause-value c =
 pub loop-i-preserved : goal.loop-i-preserved
 loop-i-preserved c =
     elim c.if-escaped.branch [
-      then-escaped+else-not-is_escapable w ↦
-        let known = rw w.if-escaped.true at c.loop-i.invariant in
-        rw w.escaped-is (escape_read c.args.quote c.args.rest.now c.loop-i.i _ known (omega arith) (sym w.is_escapable.ensures ∙ w.if-not-is_escapable.false))
-    | else-escaped+then-b-eq92 w ↦
-        let known = rw w.if-escaped.false at c.loop-i.invariant in
-        rw w.escaped-is (backslash_read c.args.quote c.args.rest.now c.loop-i.i _ known (omega arith) (eq-eqb _ _ w.if-b-eq92.true))
-    | else-escaped+else-b-eq92+else-b-quote+else-b-eq10 w ↦
-        let known = rw w.if-escaped.false at c.loop-i.invariant in
-        rw (w.escaped-is, w.if-escaped.false) (plain_read c.args.quote c.args.rest.now c.loop-i.i _ known (omega arith) (ne_eqb _ _ w.if-b-eq92.false) (ne_eqb _ _ w.if-b-quote.false) (ne_eqb _ _ w.if-b-eq10.false))
+      | then-escaped+else-not-is_escapable w ↦
+          let known = rw w.if-escaped.true at c.loop-i.invariant in
+          rw w.escaped-is (escape_read c.args.quote c.args.rest.now c.loop-i.i _ known (omega arith) (sym w.is_escapable.ensures ∙ w.if-not-is_escapable.false))
+      | else-escaped+then-b-eq92 w ↦
+          let known = rw w.if-escaped.false at c.loop-i.invariant in
+          rw w.escaped-is (backslash_read c.args.quote c.args.rest.now c.loop-i.i _ known (omega arith) (eq-eqb _ _ w.if-b-eq92.true))
+      | else-escaped+else-b-eq92+else-b-quote+else-b-eq10 w ↦
+          let known = rw w.if-escaped.false at c.loop-i.invariant in
+          rw (w.escaped-is, w.if-escaped.false) (plain_read c.args.quote c.args.rest.now c.loop-i.i _ known (omega arith) (ne_eqb _ _ w.if-b-eq92.false) (ne_eqb _ _ w.if-b-quote.false) (ne_eqb _ _ w.if-b-eq10.false))
     ]
 
 pub returns-clause-value : goal.returns-clause-value
