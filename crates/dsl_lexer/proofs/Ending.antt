@@ -8,8 +8,8 @@ use Rattle.dsl_lexer.specs.declared.stop.LexStop.{LexStop}
 use Rattle.dsl_lexer.specs.declared.stop.LexStop.TheVariants.{At, Memory}
 use Rattle.dsl_lexer.specs.Pieces.{Cut}
 use Rattle.dsl_lexer.specs.Steps.{all_tokens}
-use Rattle.dsl_lexer.specs.Progress.{Valid, Reached, OnFault}
-use Rattle.dsl_lexer.specs.Language.{TokensCut, IsFirstFault, IsUncut}
+use Rattle.dsl_lexer.specs.Progress.{Valid, Reached}
+use Rattle.dsl_lexer.specs.Language.{OnFault, TokensCut, IsFirstFault, IsUncut}
 use Rattle.dsl_lexer.proofs.Matching.{all_tokens-is}
 use Rattle.dsl_lexer.proofs.Cutting.{cut_length}
 use Rattle.dsl_lexer.proofs.LawProofs.{cut_or_fault}

@@ -10,12 +10,12 @@ use Rattle.dsl_lexer.specs.Pieces.{reach, Cut}
 use Rattle.dsl_lexer.specs.Layout.{tokens}
 use Rattle.dsl_lexer.specs.Room.{HasRoom}
 use Rattle.dsl_lexer.specs.Steps.{step_of}
-use Rattle.dsl_lexer.specs.Language.{IsFirstFault}
+use Rattle.dsl_lexer.specs.Language.{OnFault, IsFirstFault}
 use Rattle.dsl_lexer.specs.declared.stop.LexStop.{LexStop}
 use Rattle.dsl_lexer.specs.declared.stop.LexStop.TheVariants.{At, Memory}
 use Rattle.std.specs.Prelude.{Result, Ok, Err, OnOk, IfErr}
 use Rattle.dsl_lexer.proofs.StepLaw.{step_law}
-use Rattle.dsl_lexer.specs.Progress.{Valid, Reached, IsStop, Follows, Gives, OnFault, CanTakeFront}
+use Rattle.dsl_lexer.specs.Progress.{Valid, Reached, IsStop, Follows, Gives, CanTakeFront}
 use Rattle.dsl_lexer.proofs.Fronts.{next_found}
 use Rattle.dsl_lexer.proofs.Bounds.{bounded, line_le, column_le}
 use Rattle.dsl_lexer.proofs.Matching.{length-placed}

@@ -324,3 +324,42 @@ bad_byte_bad = record { short = omega arith; front = (35 ∷ [], (refl, refl)); 
 bad_byte_is_101 : IsFirstFault 7 bad_byte_is_101_source (fault 101 1 2 0)
 unfolding number_len closing mark_len line_end_len control_at
 bad_byte_is_101 = ran 7 1 bad_byte_is_101_source _ (valid_part bad_byte_is_101_source 1 bad_byte_bad) refl
+
+-- 105 at the quote stands before a byte that begins no character
+abbrev text_before_bad_source : List ℕ
+text_before_bad_source = 34 ∷ 97 ∷ 255 ∷ 10 ∷ []
+
+no_longer_text : (m : ℕ) → 2 < m → ¬ (IsUtf8 (take m text_before_bad_source))
+unfolding is_utf8 chars encode
+no_longer_text zero h u = absurd (omega arith)
+no_longer_text (suc zero) h u = absurd (omega arith)
+no_longer_text (suc (suc zero)) h u = absurd (omega arith)
+no_longer_text (suc (suc (suc zero))) h u = absurd (false≢true (is_utf8-from_IsUtf8 (34 ∷ 97 ∷ 255 ∷ []) u))
+no_longer_text (suc (suc (suc (suc m)))) h u =
+    absurd (false≢true (is_utf8-from_IsUtf8 text_before_bad_source (subst IsUtf8 (take_all (suc (suc (suc (suc m)))) text_before_bad_source (omega arith)) u)))
+
+text_before_bad_bad : IsValidUpTo text_before_bad_source 2
+unfolding encode
+text_before_bad_bad = record { short = omega arith; front = (34 ∷ 97 ∷ [], (refl, refl)); longest = no_longer_text }
+
+text_before_bad : IsFirstFault 7 text_before_bad_source (fault 105 1 1 0)
+unfolding number_len closing mark_len line_end_len control_at
+text_before_bad = ran 7 2 text_before_bad_source _ (valid_part text_before_bad_source 2 text_before_bad_bad) refl
+
+-- 101 wins over 104 at its place
+abbrev bad_before_character_source : List ℕ
+bad_before_character_source = 255 ∷ []
+
+no_text_at_all : (m : ℕ) → 0 < m → ¬ (IsUtf8 (take m bad_before_character_source))
+unfolding is_utf8 chars encode
+no_text_at_all zero h u = absurd (omega arith)
+no_text_at_all (suc m) h u =
+    absurd (false≢true (is_utf8-from_IsUtf8 bad_before_character_source (subst IsUtf8 (take_all (suc m) bad_before_character_source (omega arith)) u)))
+
+bad_before_character_bad : IsValidUpTo bad_before_character_source 0
+unfolding encode
+bad_before_character_bad = record { short = omega arith; front = ([], (refl, refl)); longest = no_text_at_all }
+
+bad_before_character : IsFirstFault 7 bad_before_character_source (fault 101 1 1 0)
+unfolding number_len closing mark_len line_end_len control_at
+bad_before_character = ran 7 0 bad_before_character_source _ (valid_part bad_before_character_source 0 bad_before_character_bad) refl

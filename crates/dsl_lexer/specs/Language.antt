@@ -4,6 +4,8 @@ use Rattle.std.specs.Str.{IsUtf8, IsValidUpTo}
 use Rattle.osc_base.specs.declared.fault.Fault.{Fault}
 use Rattle.dsl_tree.specs.declared.token.Token.{Token}
 use Rattle.dsl_tree.specs.declared.token.TokenKind.TheVariants.{End}
+use Rattle.dsl_lexer.specs.declared.stop.LexStop.{LexStop}
+use Rattle.dsl_lexer.specs.declared.stop.LexStop.TheVariants.{At, Memory}
 use Rattle.dsl_lexer.specs.Bytes.{is_quote, begins_control, place_at}
 use Rattle.dsl_lexer.specs.Shapes.{NumberShape, StringShape, is_lexeme}
 use Rattle.dsl_lexer.specs.Kinds.{kind_of}
@@ -104,3 +106,8 @@ abbrev pub EndsOnce : List Token → Type 0
 EndsOnce [] = ⊥
 EndsOnce (t ∷ []) = t.kind ≡ End
 EndsOnce (t ∷ u ∷ more) = (t.kind ≢ End) × EndsOnce (u ∷ more)
+
+-- P of the fault, where there is one
+abbrev pub OnFault : LexStop → (Fault → Type 0) → Type 0
+OnFault Memory P = Unit {0}
+OnFault (At fault) P = P fault

@@ -75,11 +75,6 @@ abbrev pub Gives : ℕ → Layout → Outcome → Result (Unit {0}) LexStop → 
 Gives file old outcome (Ok done) next = outcome ≡ Goes next
 Gives file old outcome (Err stop) next = GivesStop file old outcome stop
 
--- P of the fault, where there is one
-abbrev pub OnFault : LexStop → (Fault → Type 0) → Type 0
-OnFault Memory P = Unit {0}
-OnFault (At fault) P = P fault
-
 -- the piece of the first n bytes of rest can be taken
 pub record CanTake (l : Layout) (valid : ℕ) (shape : Shape) (rest : List ℕ) (n : ℕ) : Type 0 where
   pub room : HasRoom l n

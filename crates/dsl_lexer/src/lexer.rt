@@ -5,9 +5,9 @@ ghost use Rattle.dsl_lexer.specs.Shapes as shapes;
 ghost use Rattle.dsl_lexer.specs.Kinds as kinds_of;
 ghost use Rattle.dsl_lexer.specs.Room.{HasRoom};
 ghost use Rattle.dsl_lexer.specs.Steps as steps;
-ghost use Rattle.dsl_lexer.specs.Progress.{CanTake, CanTakeFront, Valid, Reached, Gives, GivesStop, OnFault};
+ghost use Rattle.dsl_lexer.specs.Progress.{CanTake, CanTakeFront, Valid, Reached, Gives, GivesStop};
 ghost use Rattle.dsl_lexer.specs.Laws.{OneList, CutOrFault, OneFault, EndIsLast, OpenedLaw, CharsLaw};
-ghost use Rattle.dsl_lexer.specs.Language.{TokensCut, IsFirstFault, IsUncut, EndsOnce};
+ghost use Rattle.dsl_lexer.specs.Language.{OnFault, TokensCut, IsFirstFault, IsUncut, EndsOnce};
 
 use crate::layout::{self, Layout};
 use crate::shape::Shape;
