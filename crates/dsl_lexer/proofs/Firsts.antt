@@ -1,0 +1,245 @@
+-- Which fault is the first.
+use Rattle.std.proofs.Common.{◌≡◌, ℕ, ◌+◌, ◌<◌, ◌≤◌, Bool, true, false, cond, ◌&&◌, ◌⊎◌, inl, inr, Option, Some, None, List, [], ◌∷◌, ◌++◌, length, refl, ap, sym, ◌∙◌, subst, arith}
+use Rattle.std.specs.Prelude.{◌==◌, IsSome, is_some}
+use Rattle.std.specs.List.{list_all}
+use Rattle.std.specs.Str.{IsValidUpTo}
+use Rattle.std.proofs.lemmas.Bool.{and_from, and_parts, or_parts, or_right, eqb-true, eq-eqb, cases_order, false≢true, true≢false}
+use Rattle.std.proofs.lemmas.List.{append_assoc, length-append}
+use Rattle.std.proofs.lemmas.List.Folds.{list_all-append}
+use Rattle.dsl_lexer.specs.Progress.{Valid}
+use Rattle.dsl_lexer.specs.declared.shape.Shape.{Shape}
+use Rattle.dsl_lexer.specs.Bytes.{is_line_feed}
+use Rattle.dsl_lexer.specs.Shapes.{Space, Tab, Comment, LineEnd, Joint, MarkShape, NameShape, NumberShape, StringShape, is_lexeme, IsShape}
+use Rattle.dsl_lexer.specs.Kinds.{kind_of}
+use Rattle.dsl_lexer.specs.Scan.{first_shape}
+use Rattle.dsl_lexer.specs.Pieces.{Piece, reach, IsLongest, Cut, IsContent}
+use Rattle.dsl_lexer.specs.Layout.{brackets, is_line_end, ends_line, is_tab, line, or_else, first_tab, begins_line, has_lexeme, depth}
+use Rattle.dsl_lexer.specs.Language.{HasControl, IsLaidOut, IsSound, AreSound, BeginsContent, IsNext, FaultBehind, bad_byte, early_tab, bad_width, no_piece, bad_control, no_string, no_number, too_deep, FaultAt}
+use Rattle.dsl_lexer.proofs.Spots.{no_feed}
+use Rattle.dsl_lexer.proofs.Fitting.{begins}
+use Rattle.dsl_lexer.proofs.Matching.{lexeme_is}
+use Rattle.dsl_lexer.proofs.Cutting.{is_next_same, same_cut, extends, sound_there, reach_there}
+
+-- behind sound pieces there is no fault but a byte that begins no character
+
+pub record IsBad (bytes : List ℕ) (reached n : ℕ) : Type 0 where
+  pub bad : IsValidUpTo bytes n
+  pub before : n < reached
+
+begins_first : (p : Piece) (before : List Piece) → is_lexeme p.shape ≡ true → has_lexeme (line before) ≡ false → begins_line p before ≡ true
+begins_first p before lex first = rw (lex, first) refl
+
+pub some_not_none : {A : Type 0} (o : Option A) → IsSome o → o ≡ None → ⊥
+some_not_none o h e = false≢true (sym (ap is_some e) ∙ h)
+
+first_content : (before : List Piece) (rest : List ℕ) (p : Piece) → IsNext before rest p → BeginsContent before rest → IsSound p before → IsLaidOut before
+first_content before rest p next c sound = sound.laid_out (begins_first p before (c.content.lexeme p.shape p.text next.behind next.stands.shape next.split) c.first)
+
+pub clean : (bytes : List ℕ) (before : List Piece) (rest : List ℕ) (p : Piece) (n code : ℕ) → IsNext before rest p → IsSound p before → FaultBehind bytes before rest n code → IsBad bytes (reach before + length p.text) n
+clean bytes before rest p n code next sound (bad_byte c bad reached next_ends) = record { bad = bad; before = next_ends p next }
+clean bytes before rest p n code next sound (early_tab c begun there) =
+    let laid = first_content before rest p next begun sound in
+    absurd (some_not_none (first_tab (line before)) (ap is_some there) laid.no_tab)
+clean bytes before rest p n code next sound (bad_width c at begun off) =
+    let laid = first_content before rest p next begun sound in
+    absurd (false≢true (sym off ∙ laid.fitting))
+clean bytes before rest p n code next sound (no_piece c at stuck quote) = absurd (stuck.none p.shape p.text next.behind next.stands.shape next.split)
+clean bytes before rest p n code next sound (bad_control q i c next' string there at) =
+    let same : q ≡ p = is_next_same before rest q p next' next in
+    absurd (sound.no_control (ap (λ x. x.shape) (sym same) ∙ string) i (subst (λ (x : Piece). HasControl x.text i) same there))
+clean bytes before rest p n code next sound (no_string c at stuck quote) = absurd (stuck.none p.shape p.text next.behind next.stands.shape next.split)
+clean bytes before rest p n code next sound (no_number q c at next' shape none) =
+    let same : q ≡ p = is_next_same before rest q p next' next in
+    let shape' : p.shape ≡ NumberShape = ap (λ x. x.shape) (sym same) ∙ shape in
+    absurd (some_not_none (kind_of p.shape p.text) (sound.token (ap is_lexeme shape')) (ap (λ x. kind_of x.shape x.text) (sym same) ∙ none))
+clean bytes before rest p n code next sound (too_deep q c at next' more over) =
+    let same : q ≡ p = is_next_same before rest q p next' next in
+    let shallow = sound.shallow in
+    let over' : 64 < depth (p ∷ before) = subst (λ (x : Piece). 64 < depth (x ∷ before)) same over in
+    absurd (omega arith)
+
+-- lines behind a piece
+
+abbrev AllFrom : ℕ → List Piece → Type 0
+AllFrom k [] = Unit {0}
+AllFrom k (p ∷ before) = (k ≤ p.at) × AllFrom k before
+
+pub some_is : (m n : ℕ) → Some m ≡ Some n → m ≡ n
+some_is m n e = cc
+
+tab_go : (k n at : ℕ) (o : Option ℕ) (t : Bool) → k ≤ at → ((m : ℕ) → o ≡ Some m → k ≤ m) → or_else o (cond t (Some at) None) ≡ Some n → k ≤ n
+tab_go k n at (Some m) t h earlier e = let x = earlier m refl in let y = some_is m n e in omega arith
+tab_go k n at None true h earlier e = let y = some_is at n e in omega arith
+tab_go k n at None false h earlier e = absurd (cc)
+
+tab_from : (k : ℕ) (pieces : List Piece) (n : ℕ) → AllFrom k pieces → first_tab pieces ≡ Some n → k ≤ n
+tab_from k [] n h e = absurd (cc)
+tab_from k (p ∷ before) n h e = tab_go k n p.at (first_tab before) (is_tab p.shape) h.0 (λ m f. tab_from k before m h.1 f) e
+
+-- the line has a token, or only pieces from the offset on
+abbrev Claim : ℕ → List Piece → Type 0
+Claim k pieces = (has_lexeme (line pieces) ≡ true) ⊎ AllFrom k (line pieces)
+
+claim_step : (k : ℕ) (q : Piece) (pieces : List Piece) → k ≤ q.at → Claim k pieces → Claim k (q ∷ pieces)
+claim_step k q pieces h c = go (ends_line q pieces) refl c
+  where
+    go : (t : Bool) → ends_line q pieces ≡ t → Claim k pieces → Claim k (q ∷ pieces)
+    go true e c = inr (rw e tt)
+    go false e (inl lex) = inl (rw e (or_right (is_lexeme q.shape) (has_lexeme (line pieces)) lex))
+    go false e (inr all) = inr (rw e (h, all))
+
+-- behind a token
+
+claim_lexeme : (bytes : List ℕ) (more : List Piece) (p : Piece) (before : List Piece) (rest : List ℕ) → Cut bytes (more ++ p ∷ before) rest → is_lexeme p.shape ≡ true → is_line_end p.shape ≡ false
+    → Claim (reach before + length p.text) (more ++ p ∷ before)
+claim_lexeme bytes [] p before rest cut lex flat = inl (rw (flat, lex) refl)
+claim_lexeme bytes (q ∷ more) p before rest cut lex flat =
+    let far = reach_there more before p in let at = cut.0.at in
+    claim_step (reach before + length p.text) q (more ++ p ∷ before) (omega arith) (claim_lexeme bytes more p before (q.text ++ rest) cut.1 lex flat)
+
+-- behind a comment
+
+lexeme_line_end : (s : Shape) → is_lexeme s ≡ false → (text : List ℕ) → kind_of s text ≡ None
+lexeme_line_end Space h text = refl
+lexeme_line_end Tab h text = refl
+lexeme_line_end Comment h text = refl
+lexeme_line_end LineEnd h text = refl
+lexeme_line_end Joint h text = refl
+lexeme_line_end MarkShape h text = absurd (true≢false h)
+lexeme_line_end NameShape h text = absurd (true≢false h)
+lexeme_line_end NumberShape h text = absurd (true≢false h)
+lexeme_line_end StringShape h text = absurd (true≢false h)
+
+line_end_none : (s : Shape) → is_line_end s ≡ true → (text : List ℕ) → kind_of s text ≡ None
+line_end_none LineEnd h text = refl
+line_end_none Space h text = absurd (false≢true h)
+line_end_none Tab h text = absurd (false≢true h)
+line_end_none Comment h text = absurd (false≢true h)
+line_end_none Joint h text = absurd (false≢true h)
+line_end_none MarkShape h text = absurd (false≢true h)
+line_end_none NameShape h text = absurd (false≢true h)
+line_end_none NumberShape h text = absurd (false≢true h)
+line_end_none StringShape h text = absurd (false≢true h)
+
+-- no bracket is open in a line without a token
+pub no_brackets : (pieces : List Piece) → has_lexeme (line pieces) ≡ false → brackets pieces ≡ 0
+no_brackets [] h = refl
+no_brackets (p ∷ before) h = brackets_go p before (ends_line p before) refl h (λ e. no_brackets before e)
+  where
+    brackets_go : (p : Piece) (before : List Piece) (t : Bool) → ends_line p before ≡ t → has_lexeme (cond t [] (p ∷ line before)) ≡ false → (has_lexeme (line before) ≡ false → brackets before ≡ 0) → brackets (p ∷ before) ≡ 0
+    brackets_go p before true e h earlier =
+        let parts = and_parts (is_line_end p.shape) (brackets before == 0) e in
+        rw (line_end_none p.shape parts.0 p.text) (eqb-true (brackets before) 0 parts.1)
+    brackets_go p before false e h earlier =
+        let parts = or_parts (is_lexeme p.shape) (has_lexeme (line before)) h in
+        rw (lexeme_line_end p.shape parts.0 p.text) (earlier parts.1)
+
+-- what follows a comment is a line feed or nothing
+after_comment : (text : List ℕ) (b : ℕ) (more : List ℕ) → IsShape Comment text → IsLongest text (b ∷ more) → b ≡ 10
+after_comment text b more (inner, e, all) longest = comment_go (is_line_feed b) refl
+  where
+    comment_go : (t : Bool) → is_line_feed b ≡ t → b ≡ 10
+    comment_go true f = eqb-true b 10 f
+    comment_go false f =
+        let longer : list_all no_feed (inner ++ b ∷ []) ≡ true = list_all-append no_feed inner (b ∷ []) ∙ and_from (list_all no_feed inner) (no_feed b && true) all (and_from (no_feed b) true (rw f refl) refl) in
+        let size = longest Comment (text ++ b ∷ []) more (inner ++ b ∷ [], ap (λ t. t ++ b ∷ []) e, longer) (sym (append_assoc text (b ∷ []) more)) in
+        absurd (omega (arith, length-append text (b ∷ [])))
+
+comment_content : (text rest : List ℕ) → IsShape Comment text → IsLongest text rest → IsContent rest → ⊥
+comment_content text [] shape longest c = c.more refl
+comment_content text (b ∷ more) shape longest c =
+    let ten = after_comment text b more shape longest in
+    false≢true (c.lexeme LineEnd (10 ∷ []) more (inl refl) (ap (λ x. x ∷ more) ten))
+
+cons_head : (b c : ℕ) (xs ys : List ℕ) → b ∷ xs ≡ c ∷ ys → b ≡ c
+cons_head b c xs ys e = cc
+
+-- the piece behind a comment is a line end
+comment_line_end : (text rest : List ℕ) (q : Piece) → IsShape Comment text → IsShape q.shape q.text → IsLongest text (q.text ++ rest) → q.shape ≡ LineEnd
+comment_line_end text rest q shape next longest =
+    let x = begins q.shape q.text next in
+    let whole : q.text ++ rest ≡ x.head ∷ (x.tail ++ rest) = ap (λ t. t ++ rest) x.split in
+    let longest' : IsLongest text (x.head ∷ (x.tail ++ rest)) = subst (IsLongest text) whole longest in
+    let ten = after_comment text x.head (x.tail ++ rest) shape longest' in
+    sym x.first ∙ ap first_shape ten
+
+claim_comment_go : (k : ℕ) (q p : Piece) (before : List Piece) (t u : Bool) → q.shape ≡ LineEnd → p.shape ≡ Comment → (brackets before == 0) ≡ t → has_lexeme (line before) ≡ u → Claim k (q ∷ p ∷ before)
+claim_comment_go k q p before true u e f z h = inr (rw (e, f, z) tt)
+claim_comment_go k q p before false true e f z h = inl (rw (e, f, z, h) refl)
+claim_comment_go k q p before false false e f z h = absurd (false≢true (sym z ∙ eq-eqb (brackets before) 0 (no_brackets before h)))
+
+claim_comment : (bytes : List ℕ) (q : Piece) (more : List Piece) (p : Piece) (before : List Piece) (rest : List ℕ) → Cut bytes (q ∷ more ++ p ∷ before) rest → p.shape ≡ Comment
+    → Claim (reach before + length p.text) (q ∷ more ++ p ∷ before)
+claim_comment bytes q [] p before rest cut c =
+    let comment : IsShape Comment p.text = subst (λ s. IsShape s p.text) c cut.1.0.shape in
+    let end = comment_line_end p.text rest q comment cut.0.shape cut.1.0.longest in
+    claim_comment_go (reach before + length p.text) q p before (brackets before == 0) (has_lexeme (line before)) end c refl refl
+claim_comment bytes q (r ∷ more) p before rest cut c =
+    let far = reach_there (r ∷ more) before p in let at = cut.0.at in
+    claim_step (reach before + length p.text) q (r ∷ more ++ p ∷ before) (omega arith) (claim_comment bytes r more p before (q.text ++ rest) cut.1 c)
+
+-- a tab that is a fault further on stands behind the piece
+tab_claim : (k n : ℕ) (pieces : List Piece) → Claim k pieces → has_lexeme (line pieces) ≡ false → first_tab (line pieces) ≡ Some n → k ≤ n
+tab_claim k n pieces (inl lex) first e = absurd (false≢true (sym first ∙ lex))
+tab_claim k n pieces (inr all) first e = tab_from k (line pieces) n all e
+
+lexeme_flat : (s : Shape) → is_lexeme s ≡ true → is_line_end s ≡ false
+lexeme_flat s h = (lexeme_is s h).0
+
+pub later_tab : (bytes : List ℕ) (more : List Piece) (p : Piece) (before : List Piece) (rest : List ℕ) (n : ℕ) → Cut bytes (more ++ p ∷ before) rest → ((is_lexeme p.shape ≡ true) ⊎ (p.shape ≡ Comment))
+    → BeginsContent (more ++ p ∷ before) rest → first_tab (line (more ++ p ∷ before)) ≡ Some n → reach before + length p.text ≤ n
+later_tab bytes more p before rest n cut (inl lex) c e = tab_claim (reach before + length p.text) n (more ++ p ∷ before) (claim_lexeme bytes more p before rest cut lex (lexeme_flat p.shape lex)) c.first e
+later_tab bytes [] p before rest n cut (inr comment) c e =
+    absurd (comment_content p.text rest (subst (λ s. IsShape s p.text) comment cut.0.shape) cut.0.longest c.content)
+later_tab bytes (q ∷ more) p before rest n cut (inr comment) c e = tab_claim (reach before + length p.text) n (q ∷ more ++ p ∷ before) (claim_comment bytes q more p before rest cut comment) c.first e
+
+-- the first fault
+
+abbrev pub NotBefore : ℕ → ℕ → ℕ → ℕ → Type 0
+NotBefore n code m c = (n < m) ⊎ ((n ≡ m) × (code ≤ c))
+
+-- a fault that is the first of those at its pieces
+pub record IsFirstHere (bytes : List ℕ) (valid : ℕ) (before : List Piece) (rest : List ℕ) (n code : ℕ) : Type 0 where
+  pub fault : FaultBehind bytes before rest n code
+  pub early : (n < valid) ⊎ ((n ≡ valid) × (code ≡ 101))
+  pub least : (m c : ℕ) → FaultBehind bytes before rest m c → NotBefore n code m c
+  pub inside : (p : Piece) → IsNext before rest p → n < reach before + length p.text
+  pub next : (p : Piece) → IsNext before rest p → (is_lexeme p.shape ≡ true) ⊎ (p.shape ≡ Comment)
+
+pub bad_later : (n code valid m c : ℕ) → (n < valid) ⊎ ((n ≡ valid) × (code ≡ 101)) → m ≡ valid → c ≡ 101 → NotBefore n code m c
+bad_later n code valid m c (inl h) e f = inl (omega arith)
+bad_later n code valid m c (inr (h, k)) e f = inr (omega arith, omega arith)
+
+module _ (bytes : List ℕ) (valid : ℕ) (before : List Piece) (rest : List ℕ) (n code : ℕ) (v : Valid bytes valid) (first : IsFirstHere bytes valid before rest n code) where
+  later : (more : List Piece) (p : Piece) (end : List ℕ) (m c : ℕ) → IsNext before rest p → Cut bytes (more ++ p ∷ before) end → FaultBehind bytes (more ++ p ∷ before) end m c → NotBefore n code m c
+  later more p end m c next cut (bad_byte k bad reached ends) = bad_later n code valid m c first.early (v.only m bad) k
+  later more p end m c next cut (early_tab k begun there) =
+      let inside = first.inside p next in
+      let far = later_tab bytes more p before end m cut (first.next p next) begun there in
+      inl (omega arith)
+  later more p end m c next cut (bad_width k at begun off) = let inside = first.inside p next in let far = reach_there more before p in inl (omega arith)
+  later more p end m c next cut (no_piece k at stuck quote) = let inside = first.inside p next in let far = reach_there more before p in inl (omega arith)
+  later more p end m c next cut (bad_control q i k next' string there at) = let inside = first.inside p next in let far = reach_there more before p in inl (omega arith)
+  later more p end m c next cut (no_string k at stuck quote) = let inside = first.inside p next in let far = reach_there more before p in inl (omega arith)
+  later more p end m c next cut (no_number q k at next' shape none) = let inside = first.inside p next in let far = reach_there more before p in inl (omega arith)
+  later more p end m c next cut (too_deep q k at next' rises over) = let inside = first.inside p next in let far = reach_there more before p in inl (omega arith)
+
+  pub first_of_all : Cut bytes before rest → AreSound before → reach before ≤ valid → (m c count : ℕ) → FaultAt bytes m c count → NotBefore n code m c
+  first_of_all cut sound within m c count x =
+      elim (cases_order (length x.before) (length before)) [
+        | inl e ↦
+            let same = same_cut bytes x.before before x.rest rest e x.cut cut in
+            let there : FaultBehind bytes before x.rest m c = subst (λ ps. FaultBehind bytes ps x.rest m c) same.0 x.fault in
+            first.least m c (subst (λ r. FaultBehind bytes before r m c) same.1 there)
+        | inr (inl shorter) ↦
+            let e = extends bytes x.before x.rest before rest shorter x.cut cut in
+            let bad = clean bytes x.before x.rest e.next m c e.is_next (sound_there e.more x.before e.next (subst AreSound e.split sound)) x.fault in
+            let at = v.only m bad.bad in
+            let far = reach_there e.more x.before e.next in
+            let whole : reach before ≡ reach (e.more ++ e.next ∷ x.before) = ap reach e.split in
+            let inside = bad.before in
+            absurd (omega arith)
+        | inr (inr longer) ↦
+            let e = extends bytes before rest x.before x.rest longer cut x.cut in
+            later e.more e.next x.rest m c e.is_next (subst (λ ps. Cut bytes ps x.rest) e.split x.cut) (subst (λ ps. FaultBehind bytes ps x.rest m c) e.split x.fault)
+      ]

@@ -1,0 +1,10 @@
+use Rattle.std.proofs.Common.{length, drop, ◌-◌, ◌≡◌, ◌≤◌, ◌+◌}
+use Rattle.std.specs.List.{prefix_len}
+use Rattle.dsl_lexer.specs.Bytes as bytes
+use Rattle.dsl_lexer.proofs.scan.name_run.Given as goal
+
+abbrev pub invariant-loop-n : goal.invariant-loop-n
+invariant-loop-n l = (l.n ≤ length l.rest) × (l.n + prefix_len (bytes.is_name_byte) (drop l.n l.rest) ≡ prefix_len (bytes.is_name_byte) l.rest)
+
+abbrev pub decreases-loop-n : goal.decreases-loop-n
+decreases-loop-n l = length l.rest - l.n

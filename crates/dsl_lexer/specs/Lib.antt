@@ -1,0 +1,12 @@
+pub mod Bytes
+pub mod Shapes
+pub mod Kinds
+pub mod Pieces
+pub mod Layout
+pub mod Values
+pub mod Scan
+pub mod Room
+pub mod Steps
+pub mod Language
+pub mod Progress
+pub mod Laws

@@ -1,0 +1,82 @@
+//! Which fault stands at a place, by what is known there. What is computed is a definition of `specs/Steps.antt`.
+
+ghost use Rattle.std.specs.Prelude.{◌≡◌, ◌+◌, ◌≤◌, ◌<◌, ◌^◌, length, Option, Some, None};
+ghost use Rattle.dsl_lexer.specs.Steps as steps;
+ghost use Rattle.dsl_lexer.specs.Room.{HasRoom};
+
+use crate::layout::Layout;
+use crate::scan;
+use crate::shape::Shape;
+use crate::spot::Spot;
+
+/// A fault in the white space before a line's first token, a byte that begins no character, or a width that
+/// doesn't fit.
+pub fn white_fault(layout: &Layout, valid: usize) -> Option<(Spot, u16)>
+    ensures { result ≡ steps.white_fault layout.now valid }
+{
+    if !layout.started {
+        if let Some(tab) = layout.tab {
+            return Some((tab, 102));
+        }
+    }
+    if valid == layout.spot.at {
+        return Some((layout.spot, 101));
+    }
+    if !layout.started && !layout.widths.fits(layout.spaces) {
+        return Some((layout.spot, 103));
+    }
+    None
+}
+
+/// A byte of the next `len` that begins no character.
+pub fn end_fault(layout: &Layout, valid: usize, len: usize) -> Option<(Spot, u16)>
+    requires room { HasRoom layout.now len }
+    requires behind { layout.now.spot.at ≤ valid }
+    ensures { result ≡ steps.end_fault layout.now valid len }
+{
+    if valid < layout.spot.at + len {
+        return Some((layout.spot.past(valid - layout.spot.at), 101));
+    }
+    None
+}
+
+/// How deep the nesting is behind a token, behind which so many brackets are open.
+fn depth_behind(layout: &Layout, brackets: u32) -> usize
+    requires room { HasRoom layout.now 1 }
+    requires brackets { brackets < 2 ^ 31 }
+    ensures { result ≡ brackets + length (steps.widths_behind layout.now) }
+{
+    let blocks = if layout.started {
+        layout.widths.len()
+    } else {
+        layout.widths.len_behind(layout.spaces)
+    };
+    brackets as usize + blocks
+}
+
+/// A nesting that is too deep, a control character in a string, or a byte that begins no character.
+pub fn lexeme_fault(
+    layout: &Layout,
+    valid: usize,
+    shape: Shape,
+    text: &[u8],
+    brackets: u32,
+) -> Option<(Spot, u16)>
+    requires room { HasRoom layout.now (length text.now) }
+    requires some { 1 ≤ length text.now }
+    requires behind { layout.now.spot.at ≤ valid }
+    requires brackets { brackets < 2 ^ 31 }
+    ensures { result ≡ steps.lexeme_fault layout.now valid shape text.now brackets }
+{
+    if depth_behind(layout, brackets) > 64 {
+        return Some((layout.spot, 107));
+    }
+    if let Shape::StringShape = shape {
+        if let Some(i) = scan::control_at(text) {
+            if layout.spot.at + i < valid {
+                return Some((layout.spot.past(i), 104));
+            }
+        }
+    }
+    end_fault(layout, valid, text.len())
+}
