@@ -1,0 +1,4 @@
+pub mod ExprTree
+pub mod PhaseTree
+pub mod FileTree
+pub mod Views
