@@ -8,7 +8,7 @@ use Rattle.dsl_tree.specs.declared.phases.Phase.TheOpen.{Phase-F}
 use Rattle.dsl_tree.specs.declared.phases.Phase.TheFolds.{fold-roll-Phase, fold-roll-CompNode}
 use Rattle.dsl_tree.specs.declared.phases.Phase.TheViews
 use Rattle.dsl_tree.specs.PhaseTree.{PhaseTree, row_of}
-use Rattle.dsl_tree.specs.Views.{phase_step, comp_step, phase_tree, comp_tree, argument_tree, part_tree, expr_tree}
+use Rattle.dsl_tree.specs.Views.{phase_step, comp_step, phase_tree, argument_tree, part_tree, expr_tree}
 
 pub seen_comp : (c : CompNode) → phase_tree (TheViews.Comp c) ≡ PhaseTree.Comp c.label c.place c.kind (map argument_tree c.arguments) (row_of (map phase_tree c.members))
 unfolding Rattle.dsl_tree.specs.declared.phases.Phase.TheViews.roll-Phase denote.Hole.Carrier.roll

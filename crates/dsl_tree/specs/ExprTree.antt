@@ -1,6 +1,6 @@
 -- Expressions as contracts speak of them: plain recursion over these trees takes the place of the
 -- rows and boxes of the program's own `Expr`. `Views.expr_tree` gives the tree of an `Expr`.
-use Rattle.std.specs.Prelude.{ℕ, List, [], ◌∷◌, Option, Bool}
+use Rattle.std.specs.Prelude.{ℕ, List, [], ◌∷◌, Bool}
 use Rattle.osc_base.specs.declared.fault.Place.{Place}
 use Rattle.dsl_tree.specs.declared.parts.Ident.{Ident}
 use Rattle.dsl_tree.specs.declared.parts.Digits.{Digits}

@@ -1,5 +1,5 @@
 -- The tree of each value of the program's own types.
-use Rattle.std.specs.Prelude.{List, [], ◌∷◌, Option, map, Bool, true, false, cond, option_map}
+use Rattle.std.specs.Prelude.{List, [], ◌∷◌, map, option_map}
 use Rattle.osc_base.specs.declared.fault.Place.{Place}
 use Rattle.dsl_tree.specs.declared.parts.Ident.{Ident}
 use Rattle.dsl_tree.specs.declared.expr.Operator.{Operator}
