@@ -1,2 +1,4 @@
 pub mod Seen
 pub mod SeenPhases
+pub mod Tests
+mod Worked

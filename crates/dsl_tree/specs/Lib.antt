@@ -9,3 +9,4 @@ pub mod Written
 pub mod WrittenPhases
 pub mod WrittenFile
 pub mod Language
+pub mod Examples
