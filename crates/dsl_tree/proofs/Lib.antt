@@ -2,3 +2,7 @@ pub mod Seen
 pub mod SeenPhases
 pub mod Tests
 mod Worked
+pub mod Checked
+pub mod Sets
+pub mod Fits
+pub mod Begins

@@ -10,3 +10,5 @@ pub mod WrittenPhases
 pub mod WrittenFile
 pub mod Language
 pub mod Examples
+pub mod Tables
+pub mod Reading
