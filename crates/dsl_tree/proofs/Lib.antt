@@ -6,3 +6,5 @@ pub mod Checked
 pub mod Sets
 pub mod Fits
 pub mod Begins
+pub mod Seconds
+pub mod Law
