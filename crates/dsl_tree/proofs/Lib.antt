@@ -8,3 +8,4 @@ pub mod Fits
 pub mod Begins
 pub mod Seconds
 pub mod Law
+pub mod Shortest
