@@ -34,7 +34,7 @@ stops_behind p g ss z h stop = go (void g) refl
     go true e = Stops-left (goes_on p) (stops ss) z (subst (λ (b : Bool). Stops (cond b (goes_on p ++ stops ss) (stops ss)) z) (void_empties g ss h e) stop)
     go false e = starts-nil (goes_on p)
 
-stops_rest : (p : Part) (ss : List Symbol) (z : List Token) → Stops (stops (Of p ∷ ss)) z → Stops (stops ss) z
+pub stops_rest : (p : Part) (ss : List Symbol) (z : List Token) → Stops (stops (Of p ∷ ss)) z → Stops (stops ss) z
 stops_rest p ss z = go (empties ss)
   where
     go : (b : Bool) → Stops (cond b (goes_on p ++ stops ss) (stops ss)) z → Stops (stops ss) z

@@ -9,3 +9,4 @@ pub mod Begins
 pub mod Seconds
 pub mod Law
 pub mod Shortest
+pub mod Faults
