@@ -86,13 +86,13 @@ opened p ss a g ts m z s (any, stop, w) sa sg = go (void g) refl any stop
 -- Two forests of one part, of rules that are told apart, aren't spelled by the same tokens
 
 -- the second token of a rule that begins with two
-record TwoTokens (r : List Symbol) (ts : List Token) : Type 0 where
-  head : Token
-  next : Token
-  others : List Token
-  split : ts ≡ head ∷ next ∷ others
-  misfits : Stops (seconds r) (next ∷ others)
-  long : 2 ≤ least r
+pub record TwoTokens (r : List Symbol) (ts : List Token) : Type 0 where
+  pub head : Token
+  pub next : Token
+  pub others : List Token
+  pub split : ts ≡ head ∷ next ∷ others
+  pub misfits : Stops (seconds r) (next ∷ others)
+  pub long : 2 ≤ least r
 
 begun_two : (r s : List Symbol) (b : Forest) (ts n : List Token) → two_apart s r ≡ true → Follows b s → Spells b ts n → TwoTokens r ts
 begun_two r (Seen codes ∷ Bare next ∷ s) (seen place kind (bare kind' b)) (t ∷ u ∷ ts) n h (h1, (h2, fb)) (p, k, (k', sb)) =
@@ -110,17 +110,18 @@ begun_two r (Seen codes ∷ Bare next ∷ s) (seen place kind b) ts n h (h1, bad
 begun_two r (Seen codes ∷ Bare next ∷ s) b ts n h fb sb = absurd fb
 begun_two r _ b ts n h fb sb = absurd (cc)
 
+-- no forest of the rule is spelled by tokens that begin with two such
+pub no_two : (r : List Symbol) (a : Forest) (ts m : List Token) → TwoTokens r ts → Follows a r → Spells a ts m → ⊥
+no_two r a ts m two fa sa =
+    let le : least r ≤ count a = least_count a r fa in
+    let long : 2 ≤ least r = two.long in
+    ⊎_elim (λ v. let e : count a ≡ 0 = void_count a v in absurd (omega arith))
+      (λ v. ⊎_elim (λ (q, one). absurd (omega arith)) (λ b. both_ways (starts (seconds r) (two.next ∷ two.others)) b two.misfits)
+        (seconds_of a r two.head (two.next ∷ two.others) m fa (subst (λ (v : List Token). Spells a v m) two.split sa) v))
+      (two_ways (void a))
+
 two_tokens : (r s : List Symbol) (a b : Forest) (ts m n : List Token) → two_apart s r ≡ true → Follows a r → Follows b s → Spells a ts m → Spells b ts n → ⊥
-two_tokens r s a b ts m n h fa fb sa sb = go (begun_two r s b ts n h fb sb)
-  where
-    go : TwoTokens r ts → ⊥
-    go two =
-        let le : least r ≤ count a = least_count a r fa in
-        let long : 2 ≤ least r = two.long in
-        ⊎_elim (λ v. let e : count a ≡ 0 = void_count a v in absurd (omega arith))
-          (λ v. ⊎_elim (λ (q, one). absurd (omega arith)) (λ b'. both_ways (starts (seconds r) (two.next ∷ two.others)) b' two.misfits)
-            (seconds_of a r two.head (two.next ∷ two.others) m fa (subst (λ (v : List Token). Spells a v m) two.split sa) v))
-          (two_ways (void a))
+two_tokens r s a b ts m n h fa fb sa sb = no_two r a ts m (begun_two r s b ts n h fb sb) fa sa
 
 clash : (p : Part) (r s : List Symbol) (a b : Forest) (ts m n : List Token) → Fit p r → Fit p s → told r s ≡ true → Whole a r m → Whole b s n
     → Stops (cond (void a) (first p) []) m → Stops (cond (void b) (first p) []) n → Spells a ts m → Spells b ts n → ⊥

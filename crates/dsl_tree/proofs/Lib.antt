@@ -10,3 +10,4 @@ pub mod Seconds
 pub mod Law
 pub mod Shortest
 pub mod Faults
+pub mod RuleFaults
