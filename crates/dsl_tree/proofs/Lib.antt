@@ -11,3 +11,4 @@ pub mod Law
 pub mod Shortest
 pub mod Faults
 pub mod RuleFaults
+pub mod Build
