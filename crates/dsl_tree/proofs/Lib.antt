@@ -12,3 +12,6 @@ pub mod Shortest
 pub mod Faults
 pub mod RuleFaults
 pub mod Build
+pub mod Readers
+pub mod ReadBack
+pub mod PhaseReaders
