@@ -15,3 +15,4 @@ pub mod Build
 pub mod Readers
 pub mod ReadBack
 pub mod PhaseReaders
+pub mod FileReaders
