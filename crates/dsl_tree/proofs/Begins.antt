@@ -1,14 +1,14 @@
 -- How forests begin, and when they are void.
-use Rattle.std.proofs.Common.{◌≡◌, ◌⊎◌, ℕ, ◌+◌, ◌≤◌, List, [], ◌∷◌, ◌++◌, Bool, true, false, cond, refl, sym, ◌∙◌, ap, subst, inl, inr, ⊎_elim, ◌&&◌, arith}
+use Rattle.std.proofs.Common.{◌≡◌, ◌⊎◌, ℕ, List, [], ◌∷◌, ◌++◌, Bool, true, false, cond, refl, sym, ◌∙◌, ap, subst, inl, inr, ⊎_elim, ◌&&◌}
 use Rattle.dsl_tree.specs.declared.token.Token.{Token}
 use Rattle.dsl_tree.specs.Codes.{code, has}
 use Rattle.dsl_tree.specs.Grammar.{Part, Symbol, rules, Seen, Bare, Of}
 use Rattle.dsl_tree.specs.Forest.{Forest, nil, seen, bare, sub, wrong, Spells, AnyRule, Follows}
-use Rattle.dsl_tree.specs.Tables.{first, empty, second, firsts, empties, seconds, least}
-use Rattle.dsl_tree.specs.Reading.{starts, Starts, void}
-use Rattle.dsl_tree.proofs.Tests.{left_of, right_of, count}
-use Rattle.dsl_tree.proofs.Sets.{two_ways, both_ways, and_both, starts-cons, Starts-subset, Starts-append_left, Starts-append_right}
-use Rattle.dsl_tree.proofs.Fits.{Fit, by_rules}
+use Rattle.dsl_tree.specs.Tables.{first, empty, firsts, empties}
+use Rattle.dsl_tree.specs.Reading.{Starts, void}
+use Rattle.dsl_tree.proofs.Tests.{left_of, right_of}
+use Rattle.dsl_tree.proofs.Sets.{both_ways, and_both, starts-cons, Starts-subset, Starts-append_left, Starts-append_right}
+use Rattle.dsl_tree.proofs.Fits.{by_rules}
 
 pub void_spells : (f : Forest) (ts z : List Token) → void f ≡ true → Spells f ts z → ts ≡ z
 void_spells nil ts z v s = s

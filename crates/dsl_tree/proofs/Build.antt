@@ -1,12 +1,11 @@
 -- What readers build: forests of rules from their parts, and of parts from their rules.
-use Rattle.std.proofs.Common.{◌≡◌, ◌⊎◌, ℕ, List, [], ◌∷◌, ◌++◌, Bool, true, false, cond, refl, sym, ◌∙◌, ap, subst, inl, inr, append_assoc}
+use Rattle.std.proofs.Common.{◌≡◌, ℕ, List, [], ◌∷◌, ◌++◌, Bool, true, false, cond, refl, sym, subst, append_assoc}
 use Rattle.std.proofs.lemmas.List.{append-nil}
 use Rattle.dsl_tree.specs.declared.token.Token.{Token}
-use Rattle.dsl_tree.specs.Codes.{code, has}
 use Rattle.dsl_tree.specs.Grammar.{Part, Symbol, rules, Seen, Bare, Of}
-use Rattle.dsl_tree.specs.Forest.{Forest, nil, seen, bare, sub, wrong, Spells, AnyRule, Follows, Is}
-use Rattle.dsl_tree.specs.Tables.{first, goes_on}
-use Rattle.dsl_tree.specs.Reading.{starts, Starts, Stops, void, Whole, Parsed, Built, Taken, PartFault, Along}
+use Rattle.dsl_tree.specs.Forest.{Forest, nil, seen, bare, sub, Spells, AnyRule}
+use Rattle.dsl_tree.specs.Tables.{first}
+use Rattle.dsl_tree.specs.Reading.{Stops, void, Whole, Parsed, Built, Taken, PartFault, Along}
 use Rattle.dsl_tree.proofs.Sets.{starts-nil}
 use Rattle.dsl_tree.proofs.Fits.{any_map}
 use Rattle.dsl_tree.proofs.Begins.{void_spells}

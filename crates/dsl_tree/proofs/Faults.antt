@@ -1,18 +1,18 @@
 -- Where no forest goes on: how a fault in a part becomes one of what holds the part.
-use Rattle.std.proofs.Common.{◌≡◌, ◌⊎◌, ℕ, List, [], ◌∷◌, ◌++◌, length, Bool, true, false, cond, refl, sym, ◌∙◌, ap, subst, inl, inr, ⊎_elim, ◌&&◌, ◌||◌, append_assoc}
+use Rattle.std.proofs.Common.{◌≡◌, ℕ, List, [], ◌∷◌, ◌++◌, Bool, true, false, cond, refl, sym, ◌∙◌, ap, subst, ⊎_elim, ◌&&◌, append_assoc}
 use Rattle.dsl_tree.specs.declared.token.Token.{Token}
 use Rattle.dsl_tree.specs.declared.token.TokenKind.{TokenKind}
 use Rattle.dsl_tree.specs.Codes.{code, has}
 use Rattle.dsl_tree.specs.Grammar.{Part, Symbol, rules, Seen, Bare, Of}
-use Rattle.dsl_tree.specs.Forest.{Forest, nil, seen, bare, sub, wrong, Spells, AnyRule, Follows, Is}
-use Rattle.dsl_tree.specs.Tables.{first, empty, goes_on, firsts, empties, stops, apart, subset, sound, fits, all_fit}
-use Rattle.dsl_tree.specs.Reading.{starts, Starts, Stops, void, Whole, Parsed, Taken, NotTaken, CanBegin, PartFault, RowFault}
+use Rattle.dsl_tree.specs.Forest.{Forest, nil, seen, bare, sub, wrong, Spells, Follows}
+use Rattle.dsl_tree.specs.Tables.{first, goes_on, firsts, stops, apart, sound}
+use Rattle.dsl_tree.specs.Reading.{starts, Stops, void, Whole, Parsed, Taken, NotTaken, PartFault, RowFault}
 use Rattle.dsl_tree.proofs.Tests.{left_of, right_of}
-use Rattle.dsl_tree.proofs.Sets.{two_ways, both_ways, starts-nil, starts-cons, Starts-subset, Stops-subset, Stops-apart, Stops-left}
-use Rattle.dsl_tree.proofs.Fits.{Fit, by_rules, any_map, first_goes_on}
-use Rattle.dsl_tree.proofs.Begins.{void_spells, void_empties, void_part, begins, begins_part}
-use Rattle.dsl_tree.proofs.Law.{follows_whole, part_follows, part_whole, opened, stops_rest, law_part}
-use Rattle.dsl_tree.proofs.Shortest.{example, is_example, filled, row, row_follows, tokens, row_spells, example_spells}
+use Rattle.dsl_tree.proofs.Sets.{both_ways, starts-cons, Stops-apart, Stops-left}
+use Rattle.dsl_tree.proofs.Fits.{any_map}
+use Rattle.dsl_tree.proofs.Begins.{void_spells, void_empties, begins}
+use Rattle.dsl_tree.proofs.Law.{part_follows, part_whole, stops_rest, law_part}
+use Rattle.dsl_tree.proofs.Shortest.{filled, row, row_follows, tokens, row_spells}
 
 -- what the lemmas below ask of a row of symbols, by computing
 abbrev pub ready : List Symbol → Bool

@@ -7,11 +7,7 @@ use Rattle.dsl_tree.specs.declared.parts.Digits.{Digits}
 use Rattle.dsl_tree.specs.declared.parts.Signed.{Signed}
 use Rattle.dsl_tree.specs.declared.parts.QName.{QName}
 use Rattle.dsl_tree.specs.declared.units.BasePart.{BasePart}
-use Rattle.dsl_tree.specs.declared.units.PhysicalDecl.{PhysicalDecl}
-use Rattle.dsl_tree.specs.declared.units.UnitDecl.{UnitDecl}
 use Rattle.dsl_tree.specs.declared.enums.EnumItem.{EnumItem}
-use Rattle.dsl_tree.specs.declared.enums.EnumDecl.{EnumDecl}
-use Rattle.dsl_tree.specs.declared.enums.MoreEnum.{MoreEnum}
 use Rattle.dsl_tree.specs.declared.compounds.ConditionValue.{ConditionValue}
 use Rattle.dsl_tree.specs.declared.compounds.HeirCondition.{HeirCondition}
 use Rattle.dsl_tree.specs.declared.compounds.Heir.{Heir}
@@ -22,11 +18,11 @@ use Rattle.dsl_tree.specs.declared.token.MarkKind.{MarkKind}
 use Rattle.dsl_tree.specs.declared.token.WordKind.{WordKind}
 use Rattle.dsl_tree.specs.ExprTree.{ExprTree}
 use Rattle.dsl_tree.specs.PhaseTree.{RuleTree, PhaseTree}
-use Rattle.dsl_tree.specs.FileTree.{FieldTree, MemberTree, Field, Rule, Do, CompoundTree, MoreTree, DeclarationTree, TypeDeclaration, UnitDeclaration, EnumDeclaration, CompoundDeclaration, MemberExtension, EnumExtension, FileTree}
+use Rattle.dsl_tree.specs.FileTree.{FieldTree, MemberTree, Field, Rule, Do, CompoundTree, DeclarationTree, TypeDeclaration, UnitDeclaration, EnumDeclaration, CompoundDeclaration, MemberExtension, EnumExtension, FileTree}
 use Rattle.dsl_tree.specs.Forest.{Forest, nil, seen, bare, sub, wrong}
-use Rattle.dsl_tree.specs.Written.{expr, digits, mark, mark_at, ident, word_at}
-use Rattle.dsl_tree.specs.WrittenPhases.{newline, by_option, rule, rules_tail, phase}
-use Rattle.dsl_tree.specs.WrittenFile.{import_rest, import_of, imports, same_place, signed, base, bases_tail, bases_end, type_bases, factor_tail, offset_end, unit_end, unit_tail, unit_bases, item_number, enum_item, items_tail, enum_items, second_name, qualified_name, condition_value, heir_condition, optional_heir, names_tail, field_type, initial, field_end, field_rest, field, member, members_tail, block, body, heading_rest, plain_name, compound_heading, declaration, declarations, file}
+use Rattle.dsl_tree.specs.Written.{digits, mark_at, ident}
+use Rattle.dsl_tree.specs.WrittenPhases.{by_option}
+use Rattle.dsl_tree.specs.WrittenFile.{import_rest, imports, same_place, signed, base, bases_tail, type_bases, factor_tail, unit_end, unit_tail, unit_bases, item_number, enum_item, items_tail, enum_items, second_name, qualified_name, condition_value, heir_condition, optional_heir, names_tail, field_type, initial, field_end, field_rest, field, member, members_tail, block, body, heading_rest, plain_name, compound_heading, declaration, declarations, file}
 use Rattle.dsl_tree.proofs.Tests.{is_whole, left_of, right_of}
 use Rattle.dsl_tree.proofs.Readers.{name_of, number_of, read_expr}
 use Rattle.dsl_tree.proofs.ReadBack.{read_expr_back}

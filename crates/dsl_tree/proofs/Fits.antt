@@ -1,8 +1,8 @@
 -- What the tables say of each rule of a part.
-use Rattle.std.proofs.Common.{◌≡◌, ◌⊎◌, List, [], ◌∷◌, Bool, true, false, inl, inr, ◌||◌, ◌&&◌, not}
+use Rattle.std.proofs.Common.{◌≡◌, List, [], ◌∷◌, true, inl, inr, ◌||◌, ◌&&◌, not}
 use Rattle.dsl_tree.specs.Grammar.{Part, Symbol, rules}
 use Rattle.dsl_tree.specs.Forest.{AnyRule}
-use Rattle.dsl_tree.specs.Tables.{first, empty, goes_on, second, firsts, empties, stops, seconds, subset, sound, fits, all_fit, told, told_from, all_told, good}
+use Rattle.dsl_tree.specs.Tables.{first, empty, goes_on, second, firsts, empties, stops, seconds, subset, sound, fits, all_fit, told, told_from, all_told}
 use Rattle.dsl_tree.proofs.Tests.{left_of, right_of}
 use Rattle.dsl_tree.proofs.Sets.{implied}
 use Rattle.dsl_tree.proofs.Checked.{checked}

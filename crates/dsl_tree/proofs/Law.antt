@@ -1,5 +1,5 @@
 -- A list of tokens is spelled by one forest of a part at most.
-use Rattle.std.proofs.Common.{◌≡◌, ◌⊎◌, ℕ, ◌+◌, ◌≤◌, ◌<◌, List, [], ◌∷◌, ◌++◌, Bool, true, false, cond, refl, sym, ◌∙◌, ap, subst, inl, inr, ⊎_elim, ◌&&◌, ◌||◌, not, arith}
+use Rattle.std.proofs.Common.{◌≡◌, ℕ, ◌≤◌, List, [], ◌∷◌, ◌++◌, Bool, true, false, cond, refl, sym, ◌∙◌, ap, subst, ⊎_elim, ◌&&◌, not, arith}
 use Rattle.std.specs.Prelude.{nat_le}
 use Rattle.std.proofs.lemmas.Bool.{leb-true}
 use Rattle.osc_base.specs.declared.fault.Place.{Place}
@@ -7,13 +7,13 @@ use Rattle.dsl_tree.specs.declared.token.Token.{Token}
 use Rattle.dsl_tree.specs.declared.token.TokenKind.{TokenKind}
 use Rattle.dsl_tree.specs.Codes.{code, has}
 use Rattle.dsl_tree.specs.Grammar.{Part, Symbol, rules, Seen, Bare, Of}
-use Rattle.dsl_tree.specs.Forest.{Forest, nil, seen, bare, sub, wrong, Spells, AnyRule, Follows}
-use Rattle.dsl_tree.specs.Tables.{first, empty, goes_on, second, firsts, empties, stops, seconds, least, subset, apart, sound, two_apart, told}
+use Rattle.dsl_tree.specs.Forest.{Forest, nil, seen, bare, sub, Spells, AnyRule, Follows}
+use Rattle.dsl_tree.specs.Tables.{first, goes_on, firsts, empties, stops, seconds, least, apart, sound, two_apart, told}
 use Rattle.dsl_tree.specs.Reading.{starts, Starts, Stops, void, Whole, Parsed}
 use Rattle.dsl_tree.proofs.Tests.{left_of, right_of, either_of, count}
 use Rattle.dsl_tree.proofs.Sets.{two_ways, both_ways, not_true, starts-nil, starts-cons, Starts-subset, Stops-subset, Stops-apart, Stops-left, Stops-right, and_both}
-use Rattle.dsl_tree.proofs.Fits.{Fit, by_rules, fit_map, any_map, pick, first_goes_on}
-use Rattle.dsl_tree.proofs.Begins.{void_spells, void_empties, void_part, begins, begins_part}
+use Rattle.dsl_tree.proofs.Fits.{Fit, fit_map, any_map, pick, first_goes_on}
+use Rattle.dsl_tree.proofs.Begins.{void_spells, void_empties, void_part, begins}
 use Rattle.dsl_tree.proofs.Seconds.{void_count, seconds_of, least_count}
 
 -- Whole forests

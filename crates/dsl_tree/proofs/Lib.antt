@@ -16,3 +16,4 @@ pub mod Readers
 pub mod ReadBack
 pub mod PhaseReaders
 pub mod FileReaders
+pub mod OneTrees

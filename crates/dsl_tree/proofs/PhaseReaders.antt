@@ -1,5 +1,5 @@
 -- Rules, arguments and phases, read back from the forests that they are written as.
-use Rattle.std.proofs.Common.{◌≡◌, List, [], ◌∷◌, Bool, true, false, Option, Some, None, refl, sym, ◌∙◌, ap, ap₂, ◌&&◌}
+use Rattle.std.proofs.Common.{◌≡◌, List, [], ◌∷◌, true, Option, Some, None, refl, ◌∙◌, ap, ap₂}
 use Rattle.std.proofs.lemmas.Bool.{false≢true}
 use Rattle.osc_base.specs.declared.fault.Place.{Place}
 use Rattle.dsl_tree.specs.declared.parts.Ident.{Ident}
@@ -10,10 +10,10 @@ use Rattle.dsl_tree.specs.declared.token.TokenKind.{TokenKind}
 use Rattle.dsl_tree.specs.declared.token.MarkKind.{MarkKind}
 use Rattle.dsl_tree.specs.declared.token.WordKind.{WordKind}
 use Rattle.dsl_tree.specs.ExprTree.{ExprTree}
-use Rattle.dsl_tree.specs.PhaseTree.{RuleTree, Keep, Remove, ArgumentTree, ModifierTree, PartTree, RulePart, ModifierPart, PhaseTree, Comp, Invoke, Wait, PhaseRow, End, Phase}
+use Rattle.dsl_tree.specs.PhaseTree.{RuleTree, Keep, Remove, ArgumentTree, PartTree, RulePart, ModifierPart, PhaseTree, Comp, Invoke, Wait, PhaseRow, End, Phase}
 use Rattle.dsl_tree.specs.Forest.{Forest, nil, seen, bare, sub, wrong}
-use Rattle.dsl_tree.specs.Written.{expr, path, mark}
-use Rattle.dsl_tree.specs.WrittenPhases.{by_option, named_argument, keep_kind, rule, rules_tail, named_tail, arguments_tail, arguments, dotted_names, invocation_arguments, modifier, invocation_part, parts_tail, invocation_end, invocation_rest, comp_word, composition_arguments, phase, block_phases, phases_tail}
+use Rattle.dsl_tree.specs.Written.{expr, mark}
+use Rattle.dsl_tree.specs.WrittenPhases.{by_option, named_argument, keep_kind, rule, rules_tail, named_tail, arguments_tail, arguments, dotted_names, invocation_arguments, invocation_part, parts_tail, invocation_end, invocation_rest, comp_word, composition_arguments, phase, block_phases, phases_tail}
 use Rattle.dsl_tree.proofs.Tests.{is_whole, left_of, right_of}
 use Rattle.dsl_tree.proofs.Readers.{name_of, nothing, read_expr, read_path}
 use Rattle.dsl_tree.proofs.ReadBack.{read_expr_back, read_path_back}

@@ -1,21 +1,15 @@
 -- What is read back from the forest of an expression is the expression.
-use Rattle.std.proofs.Common.{◌≡◌, ◌⊎◌, ℕ, zero, suc, ◌+◌, ◌-◌, ◌≤◌, ◌<◌, List, [], ◌∷◌, Bool, true, false, cond, refl, sym, ◌∙◌, ap, ap₂, subst, inl, inr, ⊎_elim, ◌&&◌, arith}
+use Rattle.std.proofs.Common.{◌≡◌, ℕ, zero, suc, ◌+◌, ◌-◌, ◌≤◌, ◌<◌, Bool, true, false, cond, refl, ◌∙◌, ap, ap₂, ◌&&◌, arith}
 use Rattle.std.specs.Prelude.{nat_lt, ◌==◌, ◌||◌}
 use Rattle.std.proofs.lemmas.Bool.{false≢true, ltb-false}
-use Rattle.osc_base.specs.declared.fault.Place.{Place}
-use Rattle.dsl_tree.specs.declared.parts.Ident.{Ident}
 use Rattle.dsl_tree.specs.declared.expr.Operator.{Operator}
 use Rattle.dsl_tree.specs.declared.expr.RelationSign.{RelationSign}
 use Rattle.dsl_tree.specs.declared.expr.RelationSign.TheVariants.{Below}
-use Rattle.dsl_tree.specs.declared.token.TokenKind.{TokenKind}
-use Rattle.dsl_tree.specs.declared.token.MarkKind.{MarkKind}
-use Rattle.dsl_tree.specs.declared.token.WordKind.{WordKind}
 use Rattle.dsl_tree.specs.ExprTree.{ExprTree, Implies, Or, And, Not, Relation, Sum, Product, Minus, Dot, Index, Number, Physical, Chars, Truth, It, Actor, Name, EnumName, Group, Span, Listed, RangeCall, Start, ExprRow, End, Item}
-use Rattle.dsl_tree.specs.Forest.{Forest, nil, seen, bare, sub, wrong}
-use Rattle.dsl_tree.specs.Written.{operator_kind, sign_kind, level, lifted, raised, at, next_part, next_name, next_index, written, or_row, and_row, sum_row, product_row, post_row, listed, listed_tail, expr, path_row, path_front, path}
+use Rattle.dsl_tree.specs.Forest.{Forest, nil, sub, wrong}
+use Rattle.dsl_tree.specs.Written.{operator_kind, sign_kind, level, lifted, raised, at, next_part, next_name, next_index, written, or_row, and_row, sum_row, product_row, post_row, listed_tail, expr, path_row, path_front, path}
 use Rattle.dsl_tree.proofs.Tests.{is_whole, left_of, right_of}
-use Rattle.dsl_tree.proofs.Sets.{two_ways, both_ways}
-use Rattle.dsl_tree.proofs.Readers.{operator_of, sign_of, read_at, read_expr, read_or, read_and, read_not, read_relation, read_sum, read_product, read_minus, read_post, read_prim, read_items, or_first, or_more, and_first, and_more, sum_first, sum_more, product_first, product_more, post_first, post_more, path_head, read_path}
+use Rattle.dsl_tree.proofs.Readers.{operator_of, sign_of, read_at, read_expr, read_or, read_and, read_sum, read_product, read_post, read_items, or_first, or_more, and_first, and_more, sum_first, sum_more, product_first, product_more, post_first, post_more, read_path}
 
 pub operator_back : (o : Operator) → operator_of (operator_kind o) ≡ o
 operator_back Operator.Or = refl

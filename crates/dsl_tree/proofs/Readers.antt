@@ -1,5 +1,5 @@
 -- Trees read back from the forests that they are written as.
-use Rattle.std.proofs.Common.{ℕ, zero, suc, List, [], ◌∷◌, Bool, true, false}
+use Rattle.std.proofs.Common.{ℕ, zero, suc, List, [], true, false}
 use Rattle.osc_base.specs.declared.fault.Place.{Place}
 use Rattle.dsl_tree.specs.declared.parts.Ident.{Ident}
 use Rattle.dsl_tree.specs.declared.parts.Digits.{Digits}
@@ -11,7 +11,7 @@ use Rattle.dsl_tree.specs.declared.token.MarkKind.TheVariants.{Below as BelowMar
 use Rattle.dsl_tree.specs.declared.expr.RelationSign.TheVariants.{Below as BelowSign}
 use Rattle.dsl_tree.specs.declared.token.WordKind.{WordKind}
 use Rattle.dsl_tree.specs.ExprTree.{ExprTree, ExprRow}
-use Rattle.dsl_tree.specs.Forest.{Forest, nil, seen, bare, sub, wrong}
+use Rattle.dsl_tree.specs.Forest.{Forest, seen, bare, sub}
 
 abbrev pub text_of : TokenKind → List ℕ
 text_of (TokenKind.Name text) = text

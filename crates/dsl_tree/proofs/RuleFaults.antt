@@ -1,13 +1,13 @@
 -- How a fault in a rule of a part becomes one of the part.
-use Rattle.std.proofs.Common.{◌≡◌, ◌⊎◌, ℕ, List, [], ◌∷◌, ◌++◌, length, Bool, true, false, cond, refl, sym, ◌∙◌, ap, subst, inl, inr, ⊎_elim, ◌&&◌, ◌||◌}
+use Rattle.std.proofs.Common.{◌≡◌, ◌⊎◌, ℕ, List, [], ◌∷◌, ◌++◌, Bool, true, false, refl, sym, ◌∙◌, ap, subst, inl, inr, ⊎_elim, ◌&&◌}
 use Rattle.std.specs.Prelude.{nat_le}
 use Rattle.std.proofs.lemmas.Bool.{leb-true}
 use Rattle.dsl_tree.specs.declared.token.Token.{Token}
 use Rattle.dsl_tree.specs.declared.token.TokenKind.{TokenKind}
 use Rattle.dsl_tree.specs.Codes.{code, has}
-use Rattle.dsl_tree.specs.Grammar.{Part, Symbol, rules, Seen, Bare, Of}
-use Rattle.dsl_tree.specs.Forest.{Forest, nil, seen, bare, sub, wrong, Spells, AnyRule, Follows, Is}
-use Rattle.dsl_tree.specs.Tables.{first, empty, goes_on, firsts, empties, stops, seconds, least, apart, subset, two_apart}
+use Rattle.dsl_tree.specs.Grammar.{Part, Symbol, rules, Seen, Bare}
+use Rattle.dsl_tree.specs.Forest.{Forest, seen, bare, Spells, AnyRule, Follows, Is}
+use Rattle.dsl_tree.specs.Tables.{first, empty, goes_on, firsts, empties, stops, seconds, least, apart, two_apart}
 use Rattle.dsl_tree.specs.Reading.{starts, Starts, Stops, void, Taken, NotTaken, CanBegin, PartFault, RowFault}
 use Rattle.dsl_tree.proofs.Tests.{left_of, right_of}
 use Rattle.dsl_tree.proofs.Sets.{both_ways, starts-nil, starts-cons, Starts-subset, Stops-subset, Stops-apart}

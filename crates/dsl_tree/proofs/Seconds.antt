@@ -1,15 +1,14 @@
 -- The second token of a forest.
-use Rattle.std.proofs.Common.{◌≡◌, ◌⊎◌, ℕ, ◌+◌, ◌≤◌, ◌<◌, List, [], ◌∷◌, ◌++◌, Bool, true, false, cond, refl, sym, ◌∙◌, ap, subst, inl, inr, ⊎_elim, ◌&&◌, arith}
+use Rattle.std.proofs.Common.{◌≡◌, ◌⊎◌, ℕ, ◌+◌, ◌≤◌, List, [], ◌∷◌, ◌++◌, Bool, true, false, cond, refl, sym, ◌∙◌, ap, subst, inl, inr, ⊎_elim, ◌&&◌, arith}
 use Rattle.dsl_tree.specs.declared.token.Token.{Token}
-use Rattle.dsl_tree.specs.Codes.{code, has}
-use Rattle.dsl_tree.specs.Grammar.{Part, Symbol, rules, Seen, Bare, Of}
-use Rattle.dsl_tree.specs.Forest.{Forest, nil, seen, bare, sub, wrong, Spells, AnyRule, Follows}
-use Rattle.dsl_tree.specs.Tables.{first, empty, second, firsts, empties, seconds, least}
-use Rattle.dsl_tree.specs.Reading.{starts, Starts, void}
+use Rattle.dsl_tree.specs.Grammar.{Symbol, Seen, Bare, Of}
+use Rattle.dsl_tree.specs.Forest.{Forest, nil, seen, bare, sub, wrong, Spells, Follows}
+use Rattle.dsl_tree.specs.Tables.{empty, second, firsts, seconds, least}
+use Rattle.dsl_tree.specs.Reading.{Starts, void}
 use Rattle.dsl_tree.proofs.Tests.{left_of, right_of, count}
-use Rattle.dsl_tree.proofs.Sets.{two_ways, both_ways, starts-cons, Starts-subset, Starts-append_left, Starts-append_right}
-use Rattle.dsl_tree.proofs.Fits.{Fit, by_rules}
-use Rattle.dsl_tree.proofs.Begins.{void_spells, void_part, begins, begins_part}
+use Rattle.dsl_tree.proofs.Sets.{two_ways, both_ways, Starts-subset, Starts-append_left, Starts-append_right}
+use Rattle.dsl_tree.proofs.Fits.{by_rules}
+use Rattle.dsl_tree.proofs.Begins.{void_spells, void_part, begins}
 
 pub void_count : (f : Forest) → void f ≡ true → count f ≡ 0
 void_count nil v = refl

@@ -1,8 +1,5 @@
 -- The worked trees are spelled by their tokens.
-use Rattle.std.proofs.Common.{◌≡◌, List, [], ◌∷◌, ◌++◌, refl}
-use Rattle.dsl_tree.specs.declared.expr.Expr.{Expr}
-use Rattle.dsl_tree.specs.declared.expr.Expr.TheViews
-use Rattle.dsl_tree.specs.declared.token.Token.{Token}
+use Rattle.std.proofs.Common.{[], ◌++◌, refl}
 use Rattle.dsl_tree.specs.Grammar.{Part}
 use Rattle.dsl_tree.specs.Forest.{Is, Spells}
 use Rattle.dsl_tree.specs.Written.{expr}

@@ -1,8 +1,7 @@
 -- Worked trees, with the tokens that they are spelled by.
-use Rattle.std.specs.Prelude.{ℕ, ◌+◌, List, [], ◌∷◌, ◌++◌, None, Some, true, codes}
+use Rattle.std.specs.Prelude.{ℕ, ◌+◌, List, [], ◌∷◌, None, true, codes}
 use Rattle.osc_base.specs.declared.fault.Place.{Place}
 use Rattle.dsl_tree.specs.declared.parts.Ident.{Ident}
-use Rattle.dsl_tree.specs.declared.parts.Digits.{Digits}
 use Rattle.dsl_tree.specs.declared.token.Token.{Token}
 use Rattle.dsl_tree.specs.declared.token.TokenKind.{TokenKind}
 use Rattle.dsl_tree.specs.declared.token.MarkKind.{MarkKind}

@@ -5,6 +5,7 @@ mod compounds;
 mod enums;
 mod expr;
 mod file;
+mod laws;
 mod parts;
 mod phases;
 mod rules;
@@ -17,6 +18,7 @@ pub use compounds::{
 pub use enums::{EnumDecl, EnumItem, MoreEnum};
 pub use expr::{Expr, Further, Operator, RelationSign, Suffix};
 pub use file::{Declaration, File, Import};
+pub use laws::one_tree;
 pub use parts::{Digits, Ident, QName, Signed};
 pub use phases::{
     Argument, CompKind, CompNode, InvokeHead, InvokeNode, InvokePart, ModifierNode, Phase, WaitNode,
