@@ -17,3 +17,4 @@ pub mod ReadBack
 pub mod PhaseReaders
 pub mod FileReaders
 pub mod OneTrees
+pub mod Rows

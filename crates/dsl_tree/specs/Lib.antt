@@ -12,3 +12,4 @@ pub mod Language
 pub mod Examples
 pub mod Tables
 pub mod Reading
+pub mod Words

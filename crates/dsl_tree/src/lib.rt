@@ -9,6 +9,7 @@ mod laws;
 mod parts;
 mod phases;
 mod rules;
+mod spell_expr;
 mod token;
 mod units;
 
