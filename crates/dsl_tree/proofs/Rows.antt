@@ -1,5 +1,5 @@
 -- Rows of tokens, one more at a time.
-use Rattle.std.proofs.Common.{◌≡◌, ℕ, ◌+◌, ◌<◌, List, [], ◌∷◌, ◌++◌, length, take, map, get_or, refl, sym, ◌∙◌, ap, append_assoc}
+use Rattle.std.proofs.Common.{◌≡◌, ℕ, zero, suc, ◌+◌, ◌-◌, ◌<◌, ◌≤◌, List, [], ◌∷◌, ◌++◌, length, take, drop, map, get_or, refl, sym, ◌∙◌, ap, ap₂, append_assoc, arith}
 use Rattle.std.proofs.lemmas.List.{take_more, map-append, append-nil}
 use Rattle.osc_base.specs.declared.fault.Place.{Place}
 use Rattle.dsl_tree.specs.declared.token.Token.{Token}
@@ -8,7 +8,7 @@ use Rattle.dsl_tree.specs.declared.expr.Further.{Further}
 use Rattle.dsl_tree.specs.declared.expr.Expr.TheOpen.{Further-F}
 use Rattle.dsl_tree.specs.declared.expr.Expr.TheFolds.{fold-roll-Further}
 use Rattle.dsl_tree.specs.Written.{operator_kind}
-use Rattle.dsl_tree.specs.Words.{one, joined, behind_comma, expr_words, expr_step, suffix_step, further_step, further_words}
+use Rattle.dsl_tree.specs.Words.{one, joined, behind_comma, comma_joined, expr_words, expr_step, suffix_step, further_step, further_words}
 
 pub joined-append : (xs ys : List (List Token)) → joined (xs ++ ys) ≡ joined xs ++ joined ys
 joined-append [] ys = refl
@@ -46,3 +46,25 @@ two_more done x first y second e e' = e' ∙ (ap (λ (v : List Token). v ++ y) e
 pub further_seen : (at : Place) (f : Further) → further_words at f ≡ one f.place (operator_kind f.operator) ++ expr_words at f.part
 unfolding denote.Hole.Carrier.roll
 further_seen at f = fold-roll-Further (List Token) (List Token) (List Token) (expr_step at) (suffix_step at) (further_step at) (record { place = f.place; operator = f.operator; part = f.part })
+
+take-all : {X : Type 0} (xs : List X) (i : ℕ) → length xs ≤ i → take i xs ≡ xs
+take-all [] zero h = refl
+take-all [] (suc i) h = refl
+take-all (x ∷ xs) zero h = absurd (omega arith)
+take-all (x ∷ xs) (suc i) h = ap (λ v. x ∷ v) (take-all xs i (omega arith))
+
+-- a row with commas, once all of it is written
+pub comma_all : {X : Type 0} (at : Place) (f : X → List Token) (items : List X) (i : ℕ) (first : X) (start middle tokens : List Token)
+    → 1 ≤ length items → first ≡ get_or items 0 first → middle ≡ start ++ f first
+    → length (take (length items - 1) (drop 1 items)) ≤ i
+    → tokens ≡ middle ++ joined (map (behind_comma at) (map f (take i (take (length items - 1) (drop 1 items)))))
+    → tokens ≡ start ++ comma_joined at (map f items)
+comma_all at f [] i first start middle tokens some is m all h = absurd (omega arith)
+comma_all at f (x ∷ xs) i first start middle tokens some is m all h =
+    h ∙ (ap₂ (λ (a : List Token) (b : List (List Token)). a ++ joined b) m (ap (λ v. map (behind_comma at) (map f v)) whole)
+      ∙ (append_assoc start (f first) (joined (map (behind_comma at) (map f xs))) ∙ ap (λ v. start ++ (f v ++ joined (map (behind_comma at) (map f xs)))) is))
+  where
+    inner : take (length (x ∷ xs) - 1) (drop 1 (x ∷ xs)) ≡ xs
+    inner = take-all xs (length (x ∷ xs) - 1) (omega arith)
+    whole : take i (take (length (x ∷ xs) - 1) (drop 1 (x ∷ xs))) ≡ xs
+    whole = ap (take i) inner ∙ take-all xs i (let e : length (take (length (x ∷ xs) - 1) (drop 1 (x ∷ xs))) ≡ length xs = ap length inner in omega arith)

@@ -15,7 +15,22 @@ use Rattle.dsl_tree.specs.declared.expr.Suffix.{Suffix}
 use Rattle.dsl_tree.specs.declared.expr.Further.{Further}
 use Rattle.dsl_tree.specs.declared.expr.Expr.TheOpen.{Expr-F, Suffix-F, Further-F}
 use Rattle.dsl_tree.specs.declared.expr.Expr.TheFolds.{fold-Expr, fold-Suffix, fold-Further}
+use Rattle.dsl_tree.specs.declared.rules.KeepKind.{KeepKind}
+use Rattle.dsl_tree.specs.declared.rules.RuleDecl.{RuleDecl}
+use Rattle.dsl_tree.specs.declared.rules.PathHead.{PathHead}
+use Rattle.dsl_tree.specs.declared.rules.PathNode.{PathNode}
+use Rattle.dsl_tree.specs.declared.phases.Argument.{Argument}
+use Rattle.dsl_tree.specs.declared.phases.ModifierNode.{ModifierNode}
+use Rattle.dsl_tree.specs.declared.phases.InvokePart.{InvokePart}
+use Rattle.dsl_tree.specs.declared.phases.InvokeHead.{InvokeHead}
+use Rattle.dsl_tree.specs.declared.phases.InvokeNode.{InvokeNode}
+use Rattle.dsl_tree.specs.declared.phases.WaitNode.{WaitNode}
+use Rattle.dsl_tree.specs.declared.phases.CompNode.{CompNode}
+use Rattle.dsl_tree.specs.declared.phases.Phase.{Phase}
+use Rattle.dsl_tree.specs.declared.phases.Phase.TheOpen.{Phase-F, CompNode-F}
+use Rattle.dsl_tree.specs.declared.phases.Phase.TheFolds.{fold-Phase, fold-CompNode}
 use Rattle.dsl_tree.specs.Written.{truth_word, operator_kind, sign_kind}
+use Rattle.dsl_tree.specs.WrittenPhases.{comp_word}
 
 abbrev pub one : Place → TokenKind → List Token
 one place kind = record { place = place; kind = kind } ∷ []
@@ -85,3 +100,92 @@ suffix_words at = fold-Suffix (List Token) (List Token) (List Token) (expr_step 
 
 abbrev pub further_words : Place → Further → List Token
 further_words at = fold-Further (List Token) (List Token) (List Token) (expr_step at) (suffix_step at) (further_step at)
+
+-- Rules, arguments and phases
+
+abbrev pub newline : Place → List Token
+newline at = one at TokenKind.Newline
+
+abbrev pub path_head_words : PathHead → List Token
+path_head_words (PathHead.Name name) = ident name
+path_head_words (PathHead.It place) = word place WordKind.ItWord
+path_head_words (PathHead.Actor place) = word place WordKind.ActorWord
+
+abbrev pub path_words : Place → PathNode → List Token
+path_words at p = path_head_words p.head ++ joined (map (suffix_words at) p.suffixes)
+
+abbrev pub keep_words : Place → KeepKind → List Token
+keep_words at KeepKind.Plain = []
+keep_words at KeepKind.Hard = word at WordKind.HardWord
+keep_words at KeepKind.Default = word at WordKind.DefaultWord
+
+abbrev pub rule_words : Place → RuleDecl → List Token
+rule_words at (RuleDecl.Keep place kind expr) =
+    word place WordKind.KeepWord ++ mark at MarkKind.OpenRound ++ keep_words at kind ++ expr_words at expr ++ mark at MarkKind.CloseRound ++ newline at
+rule_words at (RuleDecl.Remove place path) =
+    word place WordKind.RemoveDefaultWord ++ mark at MarkKind.OpenRound ++ path_words at path ++ mark at MarkKind.CloseRound ++ newline at
+
+-- a name with a colon behind it, where there is one
+abbrev pub label_words : Place → Option Ident → List Token
+label_words at None = []
+label_words at (Some name) = ident name ++ mark at MarkKind.Colon
+
+abbrev pub argument_words : Place → Argument → List Token
+argument_words at a = label_words at a.name ++ expr_words at a.value
+
+-- arguments and the bracket behind them
+abbrev pub argument_list_words : Place → List Argument → List Token
+argument_list_words at args = comma_joined at (map (argument_words at) args) ++ mark at MarkKind.CloseRound
+
+-- a line end, an INDENT, some lines and a DEDENT
+abbrev pub block_words : Place → List (List Token) → List Token
+block_words at lines = newline at ++ one at TokenKind.Indent ++ joined lines ++ one at TokenKind.Dedent
+
+-- a block behind `with:`, or a line end where there are no lines
+abbrev pub with_words : Place → List (List Token) → List Token
+with_words at [] = newline at
+with_words at (line ∷ others) = word at WordKind.WithWord ++ mark at MarkKind.Colon ++ block_words at (line ∷ others)
+
+abbrev pub dotted_words : Place → Ident → List Token
+dotted_words at name = mark at MarkKind.Dot ++ ident name
+
+abbrev pub modifier_words : Place → ModifierNode → List Token
+modifier_words at m = ident m.name ++ mark at MarkKind.OpenRound ++ argument_list_words at m.arguments ++ newline at
+
+abbrev pub part_words : Place → InvokePart → List Token
+part_words at (InvokePart.Rule rule) = rule_words at rule
+part_words at (InvokePart.Modifier modifier) = modifier_words at modifier
+
+abbrev pub invoke_head_words : InvokeHead → List Token
+invoke_head_words (InvokeHead.Name name) = ident name
+invoke_head_words (InvokeHead.Actor place) = word place WordKind.ActorWord
+
+abbrev pub invocation_words : Place → InvokeNode → List Token
+invocation_words at i =
+    label_words at i.label ++ invoke_head_words i.head ++ joined (map (dotted_words at) i.names) ++ mark at MarkKind.OpenRound
+      ++ argument_list_words at i.arguments ++ with_words at (map (part_words at) i.parts)
+
+abbrev pub wait_words : Place → WaitNode → List Token
+wait_words at w =
+    label_words at w.label ++ word w.place WordKind.WaitWord ++ word at WordKind.ElapsedWord ++ mark at MarkKind.OpenRound
+      ++ expr_words at w.elapsed ++ mark at MarkKind.CloseRound ++ newline at
+
+-- brackets, where there are arguments
+abbrev pub bracket_words : Place → List Argument → List Token
+bracket_words at [] = []
+bracket_words at (a ∷ others) = mark at MarkKind.OpenRound ++ argument_list_words at (a ∷ others)
+
+abbrev pub comp_step : Place → CompNode-F (List Token) (List Token) → List Token
+comp_step at c =
+    label_words at c.label ++ word c.place (comp_word c.kind) ++ bracket_words at c.arguments ++ mark at MarkKind.Colon ++ block_words at c.members
+
+abbrev pub phase_step : Place → Phase-F (List Token) (List Token) → List Token
+phase_step at (Phase-F.Comp comp) = comp
+phase_step at (Phase-F.Invoke i) = invocation_words at i
+phase_step at (Phase-F.Wait w) = wait_words at w
+
+abbrev pub phase_words : Place → Phase → List Token
+phase_words at = fold-Phase (List Token) (List Token) (phase_step at) (comp_step at)
+
+abbrev pub comp_words : Place → CompNode → List Token
+comp_words at = fold-CompNode (List Token) (List Token) (phase_step at) (comp_step at)
