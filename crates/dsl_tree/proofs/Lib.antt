@@ -18,3 +18,5 @@ pub mod PhaseReaders
 pub mod FileReaders
 pub mod OneTrees
 pub mod Rows
+pub mod Leaves
+pub mod ExprWords

@@ -84,31 +84,31 @@ read_part l t f back = go (nat_lt (level t) l) refl
 
 -- Rows
 
-or_whole : (t : ExprTree) (rest : Forest) → is_whole (or_row t rest) ≡ true → is_whole rest ≡ true
+pub or_whole : (t : ExprTree) (rest : Forest) → is_whole (or_row t rest) ≡ true → is_whole rest ≡ true
 or_whole (Start first) rest h = left_of (is_whole rest) true (right_of (is_whole (at 2 first (written first))) (is_whole (sub rest nil)) h)
 or_whole (Or place operator left right) rest h =
     left_of (is_whole rest) true (right_of (is_whole (at 2 right (written right))) (is_whole (sub rest nil)) (or_whole left (next_part place operator (at 2 right (written right)) rest) h))
 or_whole _ rest h = absurd (false≢true h)
 
-and_whole : (t : ExprTree) (rest : Forest) → is_whole (and_row t rest) ≡ true → is_whole rest ≡ true
+pub and_whole : (t : ExprTree) (rest : Forest) → is_whole (and_row t rest) ≡ true → is_whole rest ≡ true
 and_whole (Start first) rest h = left_of (is_whole rest) true (right_of (is_whole (at 3 first (written first))) (is_whole (sub rest nil)) h)
 and_whole (And place operator left right) rest h =
     left_of (is_whole rest) true (right_of (is_whole (at 3 right (written right))) (is_whole (sub rest nil)) (and_whole left (next_part place operator (at 3 right (written right)) rest) h))
 and_whole _ rest h = absurd (false≢true h)
 
-sum_whole : (t : ExprTree) (rest : Forest) → is_whole (sum_row t rest) ≡ true → is_whole rest ≡ true
+pub sum_whole : (t : ExprTree) (rest : Forest) → is_whole (sum_row t rest) ≡ true → is_whole rest ≡ true
 sum_whole (Start first) rest h = left_of (is_whole rest) true (right_of (is_whole (at 6 first (written first))) (is_whole (sub rest nil)) h)
 sum_whole (Sum place operator left right) rest h =
     left_of (is_whole rest) true (right_of (is_whole (at 6 right (written right))) (is_whole (sub rest nil)) (sum_whole left (next_part place operator (at 6 right (written right)) rest) h))
 sum_whole _ rest h = absurd (false≢true h)
 
-product_whole : (t : ExprTree) (rest : Forest) → is_whole (product_row t rest) ≡ true → is_whole rest ≡ true
+pub product_whole : (t : ExprTree) (rest : Forest) → is_whole (product_row t rest) ≡ true → is_whole rest ≡ true
 product_whole (Start first) rest h = left_of (is_whole rest) true (right_of (is_whole (at 7 first (written first))) (is_whole (sub rest nil)) h)
 product_whole (Product place operator left right) rest h =
     left_of (is_whole rest) true (right_of (is_whole (at 7 right (written right))) (is_whole (sub rest nil)) (product_whole left (next_part place operator (at 7 right (written right)) rest) h))
 product_whole _ rest h = absurd (false≢true h)
 
-post_whole : (t : ExprTree) (rest : Forest) → is_whole (post_row t rest) ≡ true → is_whole rest ≡ true
+pub post_whole : (t : ExprTree) (rest : Forest) → is_whole (post_row t rest) ≡ true → is_whole rest ≡ true
 post_whole (Start head) rest h = left_of (is_whole rest) true (right_of (is_whole (at 9 head (written head))) (is_whole (sub rest nil)) h)
 post_whole (Dot head name) rest h = left_of (is_whole rest) true (post_whole head (next_name name rest) h)
 post_whole (Index place head index) rest h =

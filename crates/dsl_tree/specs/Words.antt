@@ -29,6 +29,24 @@ use Rattle.dsl_tree.specs.declared.phases.CompNode.{CompNode}
 use Rattle.dsl_tree.specs.declared.phases.Phase.{Phase}
 use Rattle.dsl_tree.specs.declared.phases.Phase.TheOpen.{Phase-F, CompNode-F}
 use Rattle.dsl_tree.specs.declared.phases.Phase.TheFolds.{fold-Phase, fold-CompNode}
+use Rattle.dsl_tree.specs.declared.compounds.FieldDecl.{FieldDecl}
+use Rattle.dsl_tree.specs.declared.compounds.Member.{Member}
+use Rattle.dsl_tree.specs.declared.compounds.ConditionValue.{ConditionValue}
+use Rattle.dsl_tree.specs.declared.compounds.HeirCondition.{HeirCondition}
+use Rattle.dsl_tree.specs.declared.compounds.Heir.{Heir}
+use Rattle.dsl_tree.specs.declared.compounds.CompoundKind.{CompoundKind}
+use Rattle.dsl_tree.specs.declared.compounds.CompoundDecl.{CompoundDecl}
+use Rattle.dsl_tree.specs.declared.compounds.MoreMembers.{MoreMembers}
+use Rattle.dsl_tree.specs.declared.enums.EnumItem.{EnumItem}
+use Rattle.dsl_tree.specs.declared.enums.EnumDecl.{EnumDecl}
+use Rattle.dsl_tree.specs.declared.enums.MoreEnum.{MoreEnum}
+use Rattle.dsl_tree.specs.declared.units.BasePart.{BasePart}
+use Rattle.dsl_tree.specs.declared.units.PhysicalDecl.{PhysicalDecl}
+use Rattle.dsl_tree.specs.declared.units.UnitDecl.{UnitDecl}
+use Rattle.dsl_tree.specs.declared.file.Declaration.{Declaration}
+use Rattle.dsl_tree.specs.declared.file.Import.{Import}
+use Rattle.dsl_tree.specs.declared.file.File.{File}
+use Rattle.dsl_tree.specs.Codes.{si_text, factor_text, offset_text}
 use Rattle.dsl_tree.specs.Written.{truth_word, operator_kind, sign_kind}
 use Rattle.dsl_tree.specs.WrittenPhases.{comp_word}
 
@@ -189,3 +207,124 @@ phase_words at = fold-Phase (List Token) (List Token) (phase_step at) (comp_step
 
 abbrev pub comp_words : Place → CompNode → List Token
 comp_words at = fold-CompNode (List Token) (List Token) (phase_step at) (comp_step at)
+
+-- Members, declarations and files
+
+abbrev pub field_type_words : Place → Option Place → Ident → List Token
+field_type_words at None of = ident of
+field_type_words at (Some place) of = word place WordKind.ListWord ++ word at WordKind.OfWord ++ ident of
+
+abbrev pub initial_words : Place → Option Expr → List Token
+initial_words at None = []
+initial_words at (Some expr) = mark at MarkKind.Assign ++ expr_words at expr
+
+abbrev pub field_words : Place → FieldDecl → List Token
+field_words at f =
+    comma_joined at (map ident f.names) ++ mark at MarkKind.Colon ++ field_type_words at f.list f.of ++ initial_words at f.initial ++ with_words at (map (rule_words at) f.rules)
+
+abbrev pub member_words : Place → Member → List Token
+member_words at (Member.Field field) = field_words at field
+member_words at (Member.Rule rule) = rule_words at rule
+member_words at (Member.Do place phase) = word place WordKind.DoWord ++ phase_words at phase
+
+-- a line end, or a colon and a block
+abbrev pub body_words : Place → List (List Token) → List Token
+body_words at [] = newline at
+body_words at (line ∷ others) = mark at MarkKind.Colon ++ block_words at (line ∷ others)
+
+abbrev pub second_words : Place → Option Ident → List Token
+second_words at None = []
+second_words at (Some name) = dotted_words at name
+
+abbrev pub qualified_words : Place → QName → List Token
+qualified_words at q = ident q.first ++ second_words at q.second
+
+abbrev pub condition_value_words : Place → ConditionValue → List Token
+condition_value_words at (ConditionValue.Truth place value) = word place (truth_word value)
+condition_value_words at (ConditionValue.Name name) = ident name
+condition_value_words at (ConditionValue.EnumName of member) = ident of ++ mark at MarkKind.Bang ++ ident member
+
+abbrev pub condition_words : Place → Option HeirCondition → List Token
+condition_words at None = []
+condition_words at (Some c) = mark at MarkKind.OpenRound ++ ident c.field ++ mark at MarkKind.Equal ++ condition_value_words at c.value ++ mark at MarkKind.CloseRound
+
+abbrev pub heir_words : Place → Option Heir → List Token
+heir_words at None = []
+heir_words at (Some h) = word at WordKind.InheritsWord ++ qualified_words at h.base ++ condition_words at h.condition
+
+abbrev pub compound_word : CompoundKind → WordKind
+compound_word CompoundKind.Struct = WordKind.StructWord
+compound_word CompoundKind.Actor = WordKind.ActorWord
+compound_word CompoundKind.Action = WordKind.ActionWord
+compound_word CompoundKind.Scenario = WordKind.ScenarioWord
+
+abbrev pub compound_words : Place → CompoundDecl → List Token
+compound_words at c = word c.place (compound_word c.kind) ++ qualified_words at c.name ++ heir_words at c.heir ++ body_words at (map (member_words at) c.members)
+
+abbrev pub more_members_words : Place → MoreMembers → List Token
+more_members_words at m = word m.place WordKind.ExtendWord ++ qualified_words at m.name ++ mark at MarkKind.Colon ++ block_words at (map (member_words at) m.members)
+
+abbrev pub item_number_words : Place → Option Digits → List Token
+item_number_words at None = []
+item_number_words at (Some number) = mark at MarkKind.Assign ++ digits number
+
+abbrev pub item_words : Place → EnumItem → List Token
+item_words at i = ident i.name ++ item_number_words at i.number
+
+abbrev pub items_words : Place → List EnumItem → List Token
+items_words at items = mark at MarkKind.OpenSquare ++ comma_joined at (map (item_words at) items) ++ mark at MarkKind.CloseSquare
+
+abbrev pub more_enum_words : Place → MoreEnum → List Token
+more_enum_words at m = word m.place WordKind.ExtendWord ++ qualified_words at m.name ++ mark at MarkKind.Colon ++ items_words at m.items ++ newline at
+
+abbrev pub enum_words : Place → EnumDecl → List Token
+enum_words at e = word e.place WordKind.EnumWord ++ ident e.name ++ mark at MarkKind.Colon ++ items_words at e.items ++ newline at
+
+abbrev pub minus_words : Place → Bool → List Token
+minus_words place true = mark place MarkKind.Dash
+minus_words place false = []
+
+abbrev pub signed_words : Signed → List Token
+signed_words s = minus_words s.place s.minus ++ digits s.number
+
+abbrev pub base_words : Place → BasePart → List Token
+base_words at b = ident b.name ++ mark at MarkKind.Colon ++ signed_words b.exponent
+
+abbrev pub bases_words : Place → List BasePart → List Token
+bases_words at bases = word at WordKind.IsWord ++ one at (TokenKind.Name si_text) ++ mark at MarkKind.OpenRound ++ comma_joined at (map (base_words at) bases)
+
+abbrev pub type_words : Place → PhysicalDecl → List Token
+type_words at d = word d.place WordKind.TypeWord ++ ident d.name ++ bases_words at d.bases ++ mark at MarkKind.CloseRound ++ newline at
+
+-- a factor or an offset, where it is there
+abbrev pub further_part_words : Place → List ℕ → Option Signed → List Token
+further_part_words at name None = []
+further_part_words at name (Some number) = mark at MarkKind.Comma ++ one at (TokenKind.Name name) ++ mark at MarkKind.Colon ++ signed_words number
+
+abbrev pub unit_words : Place → UnitDecl → List Token
+unit_words at d =
+    word d.place WordKind.UnitWord ++ ident d.name ++ word at WordKind.OfWord ++ ident d.of ++ bases_words at d.bases
+      ++ further_part_words at factor_text d.factor ++ further_part_words at offset_text d.offset ++ mark at MarkKind.CloseRound ++ newline at
+
+abbrev pub declaration_words : Place → Declaration → List Token
+declaration_words at (Declaration.Physical d) = type_words at d
+declaration_words at (Declaration.Unit d) = unit_words at d
+declaration_words at (Declaration.Enum d) = enum_words at d
+declaration_words at (Declaration.Compound d) = compound_words at d
+declaration_words at (Declaration.MoreMembers d) = more_members_words at d
+declaration_words at (Declaration.MoreEnum d) = more_enum_words at d
+
+-- names with points between them
+abbrev pub name_row_words : Place → List Ident → List Token
+name_row_words at [] = []
+name_row_words at (name ∷ names) = ident name ++ joined (map (dotted_words at) names)
+
+abbrev pub import_name_words : Place → Import → List Token
+import_name_words at (Import.Named place name) = one place (TokenKind.Chars name)
+import_name_words at (Import.Dotted names) = name_row_words at names
+
+abbrev pub import_words : Place → Import → List Token
+import_words at i = word at WordKind.ImportWord ++ import_name_words at i ++ newline at
+
+abbrev pub file_words : File → List Token
+file_words f = joined (map (import_words f.end) f.imports) ++ joined (map (declaration_words f.end) f.decls) ++ one f.end TokenKind.End

@@ -10,6 +10,7 @@ mod parts;
 mod phases;
 mod rules;
 mod spell_expr;
+mod spell_file;
 mod spell_phase;
 mod token;
 mod units;
