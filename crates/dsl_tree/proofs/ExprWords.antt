@@ -25,14 +25,14 @@ use Rattle.dsl_tree.proofs.Leaves.{leaves, tree_words, items_words, others_words
 abbrev tok : Place → TokenKind → Token
 tok place kind = record { place = place; kind = kind }
 
-abbrev OfExpr : Place → Expr → Type 0
+abbrev pub OfExpr : Place → Expr → Type 0
 OfExpr p e = (z : List Token) → tree_words p (expr_tree e) z ≡ expr_words p e ++ z
 
-abbrev OfSuffix : Place → Suffix → Type 0
+abbrev pub OfSuffix : Place → Suffix → Type 0
 OfSuffix p s = (head : ExprTree) (rest : List SuffixTree) (z y : List Token) → ((t : ExprTree) → tree_words p (with_suffixes t rest) z ≡ tree_words p t y)
     → tree_words p (with_suffixes head (suffix_tree s ∷ rest)) z ≡ tree_words p head (suffix_words p s ++ y)
 
-abbrev OfFurther : Place → Further → Type 0
+abbrev pub OfFurther : Place → Further → Type 0
 OfFurther p f = (z : List Token) → tok (further_tree f).place (operator_kind (further_tree f).operator) ∷ tree_words p (further_tree f).part z ≡ further_words p f ++ z
 
 -- layers with a proof beside each part
@@ -176,13 +176,13 @@ further_proof p y z =
       ∙ (ap (λ (v : List Token). tok y.place (operator_kind y.operator) ∷ v) (y.part.1 z)
       ∙ ap (λ (v : List Token). v ++ z) (sym (fold-roll-Further (List Token) (List Token) (List Token) (Words.expr_step p) (Words.suffix_step p) (Words.further_step p) (mapped_further p y))))
 
-of_expr : (p : Place) (e : Expr) → OfExpr p e
+pub of_expr : (p : Place) (e : Expr) → OfExpr p e
 of_expr p = ind-Expr (OfExpr p) (OfSuffix p) (OfFurther p)
     (λ x y is. subst (λ v. OfExpr p (roll-Expr v)) is (expr_proof p y))
     (λ x y is. subst (λ v. OfSuffix p (roll-Suffix v)) is (suffix_proof p y))
     (λ x y is. subst (λ v. OfFurther p (roll-Further v)) is (further_proof p y))
 
-of_suffix : (p : Place) (s : Suffix) → OfSuffix p s
+pub of_suffix : (p : Place) (s : Suffix) → OfSuffix p s
 of_suffix p = ind-Suffix (OfExpr p) (OfSuffix p) (OfFurther p)
     (λ x y is. subst (λ v. OfExpr p (roll-Expr v)) is (expr_proof p y))
     (λ x y is. subst (λ v. OfSuffix p (roll-Suffix v)) is (suffix_proof p y))

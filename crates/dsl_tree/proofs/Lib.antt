@@ -20,3 +20,4 @@ pub mod OneTrees
 pub mod Rows
 pub mod Leaves
 pub mod ExprWords
+pub mod PhaseWords

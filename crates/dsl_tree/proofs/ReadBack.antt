@@ -241,7 +241,7 @@ path_head_whole (It place) rest h = left_of (is_whole rest) true h
 path_head_whole (Actor place) rest h = left_of (is_whole rest) true h
 path_head_whole _ rest h = absurd (false≢true h)
 
-front_whole : (t : ExprTree) (rest : Forest) → is_whole (path_front t rest) ≡ true → is_whole rest ≡ true
+pub front_whole : (t : ExprTree) (rest : Forest) → is_whole (path_front t rest) ≡ true → is_whole rest ≡ true
 front_whole (Start head) rest h = path_head_whole head rest h
 front_whole (Dot head name) rest h = left_of (is_whole rest) true (front_whole head (next_name name rest) h)
 front_whole (Index place head index) rest h = left_of (is_whole rest) true (right_of (is_whole (expr index) && true) (is_whole (sub rest nil)) (front_whole head (next_index place (expr index) rest) h))
