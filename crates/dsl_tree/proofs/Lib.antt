@@ -21,3 +21,4 @@ pub mod Rows
 pub mod Leaves
 pub mod ExprWords
 pub mod PhaseWords
+pub mod FileWords

@@ -263,7 +263,7 @@ leaves_wait p w z h =
         (leaves_expr p w.elapsed (closing p ∷ (tok p TokenKind.Newline ∷ z)) (left_of _ _ (left_of _ _ (label_whole w.label (wait_core w.place (expr_tree w.elapsed)) h)))))
       ∙ regroup_wait (label_words p w.label) (tok w.place (TokenKind.Word WordKind.WaitWord)) (tok p (TokenKind.Word WordKind.ElapsedWord)) (tok p (TokenKind.Mark MarkKind.OpenRound)) (expr_words p w.elapsed) (closing p) (tok p TokenKind.Newline) z
 
-abbrev OfPhase : Place → Phase → Type 0
+abbrev pub OfPhase : Place → Phase → Type 0
 OfPhase p x = (z : List Token) → is_whole (phase (phase_tree x)) ≡ true → leaves p (phase (phase_tree x)) z ≡ phase_words p x ++ z
 
 abbrev OfComp : Place → CompNode → Type 0
@@ -317,3 +317,36 @@ comp_case p y z h =
     core = comp_core y.place (comp_word y.kind) (composition_arguments (map argument_tree y.arguments)) (block_phases (row_of (map phase_tree (map (λ x. x.0) y.members))))
     whole : is_whole (comp_core y.place (comp_word y.kind) (composition_arguments (map argument_tree y.arguments)) (block_phases (row_of (map phase_tree (map (λ x. x.0) y.members))))) ≡ true
     whole = label_whole y.label (comp_core y.place (comp_word y.kind) (composition_arguments (map argument_tree y.arguments)) (block_phases (row_of (map phase_tree (map (λ x. x.0) y.members))))) h
+
+abbrev mapped_phase : (p : Place) → Phase-F (SuchPhase p) (SuchComp p) → Phase-F Phase CompNode
+mapped_phase p y = map-Phase (SuchPhase p) (SuchComp p) Phase CompNode (λ x. x.0) (λ c. c.0) y
+
+abbrev mapped_comp : (p : Place) → CompNode-F (SuchPhase p) (SuchComp p) → CompNode-F Phase CompNode
+mapped_comp p y = map-CompNode (SuchPhase p) (SuchComp p) Phase CompNode (λ x. x.0) (λ c. c.0) y
+
+phase_case : (p : Place) (y : Phase-F (SuchPhase p) (SuchComp p)) (z : List Token)
+    → is_whole (phase (Views.phase_step (map-Phase Phase CompNode PhaseTree PhaseTree phase_tree comp_tree (mapped_phase p y)))) ≡ true
+    → leaves p (phase (Views.phase_step (map-Phase Phase CompNode PhaseTree PhaseTree phase_tree comp_tree (mapped_phase p y)))) z
+      ≡ Words.phase_step p (map-Phase Phase CompNode (List Token) (List Token) (phase_words p) (comp_words p) (mapped_phase p y)) ++ z
+phase_case p (Phase-F.Comp c) z h = c.1 z h
+phase_case p (Phase-F.Invoke i) z h = leaves_invocation p i z h
+phase_case p (Phase-F.Wait w) z h = leaves_wait p w z h
+
+-- the same by equations
+carried : (p : Place) (t t' : PhaseTree) (w w' : List Token) → t ≡ t' → w ≡ w' → ((z : List Token) → is_whole (phase t') ≡ true → leaves p (phase t') z ≡ w' ++ z)
+    → (z : List Token) → is_whole (phase t) ≡ true → leaves p (phase t) z ≡ w ++ z
+carried p t t' w w' e e' known z h =
+    ap (λ (x : PhaseTree). leaves p (phase x) z) e ∙ (known z (subst (λ (x : PhaseTree). is_whole (phase x) ≡ true) e h) ∙ ap (λ (v : List Token). v ++ z) (sym e'))
+
+phase_proof : (p : Place) (y : Phase-F (SuchPhase p) (SuchComp p)) → OfPhase p (roll-Phase (mapped_phase p y))
+phase_proof p y = carried p _ _ _ _ (fold-roll-Phase PhaseTree PhaseTree Views.phase_step Views.comp_step (mapped_phase p y))
+    (fold-roll-Phase (List Token) (List Token) (Words.phase_step p) (Words.comp_step p) (mapped_phase p y)) (phase_case p y)
+
+comp_proof : (p : Place) (y : CompNode-F (SuchPhase p) (SuchComp p)) → OfComp p (roll-CompNode (mapped_comp p y))
+comp_proof p y = carried p _ _ _ _ (fold-roll-CompNode PhaseTree PhaseTree Views.phase_step Views.comp_step (mapped_comp p y))
+    (fold-roll-CompNode (List Token) (List Token) (Words.phase_step p) (Words.comp_step p) (mapped_comp p y)) (comp_case p y)
+
+pub leaves_phase : (p : Place) (x : Phase) → OfPhase p x
+leaves_phase p = ind-Phase (OfPhase p) (OfComp p)
+    (λ x y is. subst (λ v. OfPhase p (roll-Phase v)) is (phase_proof p y))
+    (λ x y is. subst (λ v. OfComp p (roll-CompNode v)) is (comp_proof p y))
