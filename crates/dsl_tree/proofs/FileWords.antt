@@ -1,5 +1,5 @@
 -- The tokens that are pushed for a file are those of its tree.
-use Rattle.std.proofs.Common.{◌≡◌, ℕ, List, [], ◌∷◌, ◌++◌, Bool, true, false, cond, Option, Some, None, map, option_map, refl, sym, ◌∙◌, ap, ap₂, subst, append_assoc, ◌&&◌}
+use Rattle.std.proofs.Common.{◌≡◌, List, [], ◌∷◌, ◌++◌, Bool, true, false, cond, Option, Some, None, map, option_map, refl, sym, ◌∙◌, ap, append_assoc, ◌&&◌}
 use Rattle.std.proofs.lemmas.Bool.{false≢true}
 use Rattle.osc_base.specs.declared.fault.Place.{Place}
 use Rattle.dsl_tree.specs.declared.parts.Ident.{Ident}
@@ -12,7 +12,6 @@ use Rattle.dsl_tree.specs.declared.token.MarkKind.{MarkKind}
 use Rattle.dsl_tree.specs.declared.token.WordKind.{WordKind}
 use Rattle.dsl_tree.specs.declared.expr.Expr.{Expr}
 use Rattle.dsl_tree.specs.declared.rules.RuleDecl.{RuleDecl}
-use Rattle.dsl_tree.specs.declared.phases.Phase.{Phase}
 use Rattle.dsl_tree.specs.declared.compounds.FieldDecl.{FieldDecl}
 use Rattle.dsl_tree.specs.declared.compounds.Member.{Member}
 use Rattle.dsl_tree.specs.declared.compounds.ConditionValue.{ConditionValue}
@@ -20,10 +19,8 @@ use Rattle.dsl_tree.specs.declared.compounds.HeirCondition.{HeirCondition}
 use Rattle.dsl_tree.specs.declared.compounds.Heir.{Heir}
 use Rattle.dsl_tree.specs.declared.compounds.CompoundKind.{CompoundKind}
 use Rattle.dsl_tree.specs.declared.compounds.CompoundDecl.{CompoundDecl}
-use Rattle.dsl_tree.specs.declared.compounds.MoreMembers.{MoreMembers}
 use Rattle.dsl_tree.specs.declared.enums.EnumItem.{EnumItem}
 use Rattle.dsl_tree.specs.declared.enums.EnumDecl.{EnumDecl}
-use Rattle.dsl_tree.specs.declared.enums.MoreEnum.{MoreEnum}
 use Rattle.dsl_tree.specs.declared.units.BasePart.{BasePart}
 use Rattle.dsl_tree.specs.declared.units.PhysicalDecl.{PhysicalDecl}
 use Rattle.dsl_tree.specs.declared.units.UnitDecl.{UnitDecl}
@@ -31,13 +28,12 @@ use Rattle.dsl_tree.specs.declared.file.Declaration.{Declaration}
 use Rattle.dsl_tree.specs.declared.file.Import.{Import}
 use Rattle.dsl_tree.specs.declared.file.File.{File}
 use Rattle.dsl_tree.specs.Codes.{si_text, factor_text, offset_text}
-use Rattle.dsl_tree.specs.ExprTree.{ExprTree}
-use Rattle.dsl_tree.specs.Forest.{Forest, nil, seen, bare, sub, wrong}
+use Rattle.dsl_tree.specs.Forest.{nil, sub, wrong}
 use Rattle.dsl_tree.specs.Written.{digits, ident, mark_at}
-use Rattle.dsl_tree.specs.WrittenPhases.{by_option, rule, rules_tail, phase}
+use Rattle.dsl_tree.specs.WrittenPhases.{by_option, rules_tail}
 use Rattle.dsl_tree.specs.WrittenFile as Written
 use Rattle.dsl_tree.specs.WrittenFile.{import_rest, imports, same_place, signed, base, bases_tail, bases_end, type_bases, offset_end, factor_tail, unit_end, unit_tail, unit_bases, item_number, enum_item, items_tail, enum_items, second_name, qualified_name, condition_value, heir_condition, optional_heir, names_tail, field_type, initial, field_end, field_rest, field, member, members_tail, block, body, heading_rest, plain_name, compound_heading, declaration, declarations, file}
-use Rattle.dsl_tree.specs.Views.{expr_tree, rule_tree, phase_tree, field_tree, member_tree, compound_tree, more_tree, declaration_tree, file_tree}
+use Rattle.dsl_tree.specs.Views.{expr_tree, rule_tree, field_tree, member_tree, compound_tree, declaration_tree, file_tree}
 use Rattle.dsl_tree.specs.Words.{joined, comma_joined, behind_comma, expr_words, rule_words, block_words, with_words, dotted_words, phase_words, field_type_words, initial_words, field_words, member_words, body_words, second_words, qualified_words, condition_value_words, condition_words, heir_words, compound_word, compound_words, more_members_words, item_number_words, item_words, items_words, more_enum_words, enum_words, minus_words, signed_words, base_words, bases_words, type_words, further_part_words, unit_words, declaration_words, name_row_words, import_name_words, import_words, file_words}
 use Rattle.dsl_tree.specs.Words as Words
 use Rattle.dsl_tree.proofs.Tests.{is_whole, left_of, right_of}

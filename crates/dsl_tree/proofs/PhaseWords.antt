@@ -1,5 +1,5 @@
 -- The tokens that are pushed for rules, arguments and phases are those of their trees.
-use Rattle.std.proofs.Common.{◌≡◌, ℕ, List, [], ◌∷◌, ◌++◌, Bool, true, false, Option, Some, None, map, refl, sym, ◌∙◌, ap, ap₂, subst, append_assoc, ◌&&◌}
+use Rattle.std.proofs.Common.{◌≡◌, List, [], ◌∷◌, ◌++◌, true, Option, Some, None, map, refl, sym, ◌∙◌, ap, subst, append_assoc}
 use Rattle.std.proofs.lemmas.Bool.{false≢true}
 use Rattle.osc_base.specs.declared.fault.Place.{Place}
 use Rattle.dsl_tree.specs.declared.parts.Ident.{Ident}
@@ -14,7 +14,6 @@ use Rattle.dsl_tree.specs.declared.rules.RuleDecl.{RuleDecl}
 use Rattle.dsl_tree.specs.declared.rules.PathHead.{PathHead}
 use Rattle.dsl_tree.specs.declared.rules.PathNode.{PathNode}
 use Rattle.dsl_tree.specs.declared.phases.Argument.{Argument}
-use Rattle.dsl_tree.specs.declared.phases.ModifierNode.{ModifierNode}
 use Rattle.dsl_tree.specs.declared.phases.InvokePart.{InvokePart}
 use Rattle.dsl_tree.specs.declared.phases.InvokeHead.{InvokeHead}
 use Rattle.dsl_tree.specs.declared.phases.InvokeNode.{InvokeNode}
@@ -25,8 +24,8 @@ use Rattle.dsl_tree.specs.declared.phases.Phase.TheOpen.{Phase-F, CompNode-F}
 use Rattle.dsl_tree.specs.declared.phases.Phase.TheFolds.{fold-roll-Phase, fold-roll-CompNode, ind-Phase, map-Phase, map-CompNode}
 use Rattle.dsl_tree.specs.declared.phases.Phase.TheViews.{roll-Phase, roll-CompNode}
 use Rattle.dsl_tree.specs.ExprTree.{ExprTree}
-use Rattle.dsl_tree.specs.PhaseTree.{PhaseTree, PhaseRow, row_of}
-use Rattle.dsl_tree.specs.Forest.{Forest, nil, seen, bare, sub, wrong}
+use Rattle.dsl_tree.specs.PhaseTree.{PhaseTree, row_of}
+use Rattle.dsl_tree.specs.Forest.{Forest, nil, sub, wrong}
 use Rattle.dsl_tree.specs.Written as Written
 use Rattle.dsl_tree.specs.Written.{expr, next_name, next_index, path, path_front}
 use Rattle.dsl_tree.specs.WrittenPhases as WrittenPhases
@@ -38,7 +37,7 @@ use Rattle.dsl_tree.specs.Words.{joined, comma_joined, behind_comma, expr_words,
 use Rattle.dsl_tree.proofs.Tests.{is_whole, left_of, right_of}
 use Rattle.dsl_tree.proofs.Leaves.{leaves, tree_words, expr_words_of}
 use Rattle.dsl_tree.proofs.ReadBack.{front_whole}
-use Rattle.dsl_tree.proofs.ExprWords.{leaves_expr, of_expr, of_suffix}
+use Rattle.dsl_tree.proofs.ExprWords.{leaves_expr, of_suffix}
 
 abbrev tok : Place → TokenKind → Token
 tok place kind = record { place = place; kind = kind }

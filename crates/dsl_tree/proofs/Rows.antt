@@ -3,9 +3,7 @@ use Rattle.std.proofs.Common.{◌≡◌, ℕ, zero, suc, ◌+◌, ◌-◌, ◌<�
 use Rattle.std.proofs.lemmas.List.{take_more, map-append, append-nil}
 use Rattle.osc_base.specs.declared.fault.Place.{Place}
 use Rattle.dsl_tree.specs.declared.token.Token.{Token}
-use Rattle.dsl_tree.specs.declared.expr.Expr.{Expr}
 use Rattle.dsl_tree.specs.declared.expr.Further.{Further}
-use Rattle.dsl_tree.specs.declared.expr.Expr.TheOpen.{Further-F}
 use Rattle.dsl_tree.specs.declared.expr.Expr.TheFolds.{fold-roll-Further}
 use Rattle.dsl_tree.specs.Written.{operator_kind}
 use Rattle.dsl_tree.specs.Words.{one, joined, behind_comma, comma_joined, expr_words, expr_step, suffix_step, further_step, further_words}

@@ -1,5 +1,5 @@
 -- The language: which lists of tokens spell a tree, and where a list that spells none goes wrong.
-use Rattle.std.specs.Prelude.{◌≡◌, ℕ, List, [], ◌∷◌, ◌++◌}
+use Rattle.std.specs.Prelude.{◌≡◌, ℕ, List, [], ◌∷◌, ◌++◌, Bool, true, false, map}
 use Rattle.osc_base.specs.declared.fault.Fault.{Fault}
 use Rattle.dsl_tree.specs.declared.token.Token.{Token}
 use Rattle.dsl_tree.specs.declared.token.TokenKind.{TokenKind}
@@ -8,12 +8,28 @@ use Rattle.dsl_tree.specs.Grammar.{Part}
 use Rattle.dsl_tree.specs.Forest.{Is, Spells}
 use Rattle.dsl_tree.specs.WrittenFile.{file}
 
+-- The tree follows the grammar. Such a tree is spelled by some list of tokens, and no other tree is.
+abbrev pub FollowsGrammar : FileTree → Type 0
+FollowsGrammar tree = Is Part.File (file tree)
+
 -- the tree follows the grammar, and the tokens are those it is written as, with its places
 pub record Spelled (tree : FileTree) (tokens : List Token) : Type 0 where
-  pub follows : Is Part.File (file tree)
+  pub follows : FollowsGrammar tree
   pub spells : Spells (file tree) tokens []
 
--- the spelling of some tree begins with these tokens
+-- The last token is `End`, and no other one is: so the lexer gives them.
+abbrev pub is_end : TokenKind → Bool
+is_end TokenKind.End = true
+is_end _ = false
+
+abbrev pub Ended : List Token → Type 0
+Ended [] = ⊥
+Ended (token ∷ []) = is_end token.kind ≡ true
+Ended (token ∷ next ∷ others) = (is_end token.kind ≡ false) × Ended (next ∷ others)
+
+-- The spelling of some tree begins with these tokens. Numbers and texts have no ranges here. That
+-- changes nothing: those of the front are the tokens' own, and of those behind it the grammar asks
+-- no more than that a number is whole, or at most 9, or that a name is one of three.
 pub record IsViable (front : List Token) : Type 0 where
   pub tree : FileTree
   pub back : List Token
@@ -38,3 +54,13 @@ pub record FirstFault (tokens : List Token) (fault : Fault) : Type 0 where
 -- a list of tokens spells one tree at most
 abbrev pub OneTree : Type 0
 OneTree = (tree other : FileTree) (tokens : List Token) → Spelled tree tokens → Spelled other tokens → tree ≡ other
+
+-- a tree that follows the grammar is spelled, and apart from the places that it doesn't hold by one list
+abbrev pub OneSpelling : Type 0
+OneSpelling =
+    ((tree : FileTree) → FollowsGrammar tree → (tokens : List Token) × Spelled tree tokens)
+      × ((tree : FileTree) (tokens others : List Token) → Spelled tree tokens → Spelled tree others → map (λ t. t.kind) tokens ≡ map (λ t. t.kind) others)
+
+-- a list with a fault spells no tree
+abbrev pub FaultsSpellNothing : Type 0
+FaultsSpellNothing = (tokens : List Token) (fault : Fault) (tree : FileTree) → FirstFault tokens fault → Spelled tree tokens → ⊥

@@ -1,4 +1,4 @@
-use Rattle.std.proofs.Common.{◌≡◌, ◌∙◌, ◌++◌, ◌-◌, take, drop, length, ap, sym}
+use Rattle.std.proofs.Common.{◌∙◌, ◌++◌, ◌-◌, take, drop, length, ap, sym}
 use Rattle.dsl_tree.specs.declared.token.TokenKind.{TokenKind}
 use Rattle.dsl_tree.specs.declared.token.MarkKind.{MarkKind}
 use Rattle.dsl_tree.specs.Words.{one, mark, behind_comma, expr_words, suffix_words, further_words}

@@ -1,4 +1,4 @@
-use Rattle.std.proofs.Common.{◌-◌, take, drop, length, arith}
+use Rattle.std.proofs.Common.{◌-◌, take, drop, length}
 use Rattle.dsl_tree.specs.declared.token.MarkKind.{MarkKind}
 use Rattle.dsl_tree.specs.Words.{mark, behind_comma, argument_words}
 use Rattle.dsl_tree.proofs.Rows.{row_more_twice, two_more, comma_all}
