@@ -211,7 +211,7 @@ condition_value_back : (v : ConditionValue) → read_condition_value (condition_
 condition_value_back (ConditionValue.Truth place true) = refl
 condition_value_back (ConditionValue.Truth place false) = refl
 condition_value_back (ConditionValue.Name name) = refl
-condition_value_back (ConditionValue.EnumName of member) = refl
+condition_value_back (ConditionValue.EnumName of name) = refl
 
 abbrev pub read_heir_condition : Forest → Option HeirCondition
 read_heir_condition (bare open' (seen place kind (bare equal (sub value r)))) = Some (record { field = name_of place kind; value = read_condition_value value })

@@ -210,7 +210,7 @@ qualified_leaves p q z = ap (λ (v : List Token). name_tok q.first ∷ v) (secon
 value_leaves : (p : Place) (v : ConditionValue) (z : List Token) → leaves p (condition_value v) z ≡ condition_value_words p v ++ z
 value_leaves p (ConditionValue.Truth place value) z = refl
 value_leaves p (ConditionValue.Name name) z = refl
-value_leaves p (ConditionValue.EnumName of member) z = refl
+value_leaves p (ConditionValue.EnumName of name) z = refl
 
 condition_leaves : (p : Place) (c : Option HeirCondition) (z : List Token) → leaves p (heir_condition c) z ≡ condition_words p c ++ z
 condition_leaves p None z = refl

@@ -4,7 +4,7 @@ use Rattle.dsl_tree.specs.declared.token.Token.{Token}
 use Rattle.dsl_tree.specs.declared.token.TokenKind.{TokenKind}
 use Rattle.dsl_tree.specs.declared.file.File.{File}
 use Rattle.dsl_tree.specs.Grammar.{Part, Symbol, Seen, Bare, Of}
-use Rattle.dsl_tree.specs.Forest.{Forest, nil, seen, bare, sub, wrong, Spells, Follows, Is}
+use Rattle.dsl_tree.specs.Forest.{Forest, nil, seen, bare, sub, wrong, Spells, Follows, IsOf}
 use Rattle.dsl_tree.specs.FileTree.{FileTree}
 use Rattle.dsl_tree.specs.Views.{file_tree}
 use Rattle.dsl_tree.specs.Words.{file_words}
@@ -27,7 +27,7 @@ follows_is_whole (sub a g) (Of p ∷ ss) (any, h) =
     and_both (is_whole a) (is_whole g) (by_rules p (Follows a) (is_whole a ≡ true) any (λ r fit does. follows_is_whole a r does)) (follows_is_whole g ss h)
 follows_is_whole _ _ h = absurd h
 
-pub is_is_whole : (p : Part) (f : Forest) → Is p f → is_whole f ≡ true
+pub is_is_whole : (p : Part) (f : Forest) → IsOf p f → is_whole f ≡ true
 is_is_whole p f is = by_rules p (Follows f) (is_whole f ≡ true) is (λ r fit does. follows_is_whole f r does)
 
 pub spelled_once : OneTree

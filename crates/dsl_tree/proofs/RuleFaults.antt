@@ -6,7 +6,7 @@ use Rattle.dsl_tree.specs.declared.token.Token.{Token}
 use Rattle.dsl_tree.specs.declared.token.TokenKind.{TokenKind}
 use Rattle.dsl_tree.specs.Codes.{code, has}
 use Rattle.dsl_tree.specs.Grammar.{Part, Symbol, rules, Seen, Bare}
-use Rattle.dsl_tree.specs.Forest.{Forest, seen, bare, Spells, AnyRule, Follows, Is}
+use Rattle.dsl_tree.specs.Forest.{Forest, seen, bare, Spells, AnyRule, Follows, IsOf}
 use Rattle.dsl_tree.specs.Tables.{first, empty, goes_on, firsts, empties, stops, seconds, least, apart, two_apart}
 use Rattle.dsl_tree.specs.Reading.{starts, Starts, Stops, void, Taken, NotTaken, CanBegin, PartFault, RowFault}
 use Rattle.dsl_tree.proofs.Tests.{left_of, right_of}
@@ -23,7 +23,7 @@ RuleOf p r = AnyRule (rules p) (λ s. s ≡ r)
 fit_of : (p : Part) (r : List Symbol) → RuleOf p r → Fit p r
 fit_of p r rule = by_rules p (λ s. s ≡ r) (Fit p r) rule (λ s fit e. subst (Fit p) e fit)
 
-pub is_by : (p : Part) (r : List Symbol) (f : Forest) → RuleOf p r → Follows f r → Is p f
+pub is_by : (p : Part) (r : List Symbol) (f : Forest) → RuleOf p r → Follows f r → IsOf p f
 is_by p r f rule does = any_map (rules p) (λ s. s ≡ r) (Follows f) (λ s e. subst (Follows f) (sym e) does) rule
 
 -- the rules begin with different tokens
@@ -51,7 +51,7 @@ choose (x ∷ rs) r P G h (inr rule) (inl does) same other =
 choose (x ∷ rs) r P G h (inr rule) (inr any) same other = choose rs r P G (right_of (apart_from x rs) (all_apart rs) h) rule any same other
 
 -- tokens that begin a part don't stand behind a void forest of it
-not_void : (p : Part) (f : Forest) (ts z : List Token) → Is p f → Spells f ts z → Stops (goes_on p) z → Starts (first p) ts → void f ≡ true → ⊥
+not_void : (p : Part) (f : Forest) (ts z : List Token) → IsOf p f → Spells f ts z → Stops (goes_on p) z → Starts (first p) ts → void f ≡ true → ⊥
 not_void p f ts z is s stop start v =
     both_ways (starts (first p) z) (subst (Starts (first p)) (void_spells f ts z v s) start) (Stops-subset (first p) (goes_on p) z (first_goes_on p (void_part p f is v)) stop)
 
@@ -73,7 +73,7 @@ by_rule p r ts left rule tells start fault = record {
   where
     fit : Fit p r
     fit = fit_of p r rule
-    dead : (f : Forest) (others z : List Token) → Is p f → Stops (goes_on p) z → Spells f (fault.front ++ fault.token ∷ others) z → ⊥
+    dead : (f : Forest) (others z : List Token) → IsOf p f → Stops (goes_on p) z → Spells f (fault.front ++ fault.token ∷ others) z → ⊥
     dead f others z is stop s =
         let us : List Token = fault.front ++ fault.token ∷ others in
         let begun : Starts (firsts r) us = first_of_fault fault.front fault.token fault.back others (firsts r) (subst (Starts (firsts r)) fault.split start) in
@@ -105,7 +105,7 @@ by_only p r ts left only fault = record {
   where
     rule : RuleOf p r
     rule = subst (λ (rs : List (List Symbol)). AnyRule rs (λ s. s ≡ r)) (sym only) (inl refl)
-    does_it : (f : Forest) → Is p f → Follows f r
+    does_it : (f : Forest) → IsOf p f → Follows f r
     does_it f is = ⊎_elim (λ does. does) (λ none. absurd none) (subst (λ (rs : List (List Symbol)). AnyRule rs (Follows f)) only is)
 
 -- no rule begins as the tokens do
@@ -130,7 +130,7 @@ two_rule p s r both = subst (λ (rs : List (List Symbol)). AnyRule rs (λ x. x �
 other_rule : (p : Part) (s r : List Symbol) → rules p ≡ s ∷ r ∷ [] → RuleOf p s
 other_rule p s r both = subst (λ (rs : List (List Symbol)). AnyRule rs (λ x. x ≡ s)) (sym both) (inl refl)
 
-one_of_two : (p : Part) (s r : List Symbol) (f : Forest) → rules p ≡ s ∷ r ∷ [] → Is p f → Follows f s ⊎ Follows f r
+one_of_two : (p : Part) (s r : List Symbol) (f : Forest) → rules p ≡ s ∷ r ∷ [] → IsOf p f → Follows f s ⊎ Follows f r
 one_of_two p s r f both is = ⊎_elim inl (λ other. inr (⊎_elim (λ does. does) (λ none. absurd none) other)) (subst (λ (rs : List (List Symbol)). AnyRule rs (Follows f)) both is)
 
 -- both tokens were taken

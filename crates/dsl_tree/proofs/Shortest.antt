@@ -9,7 +9,7 @@ use Rattle.dsl_tree.specs.declared.token.MarkKind.TheVariants.{Below}
 use Rattle.dsl_tree.specs.declared.token.WordKind.{WordKind}
 use Rattle.dsl_tree.specs.Codes.{code, has, si_text, factor_text, offset_text}
 use Rattle.dsl_tree.specs.Grammar.{Part, Symbol, Seen, Bare, Of}
-use Rattle.dsl_tree.specs.Forest.{Forest, nil, seen, bare, sub, Follows, Is, Spells}
+use Rattle.dsl_tree.specs.Forest.{Forest, nil, seen, bare, sub, Follows, IsOf, Spells}
 use Rattle.dsl_tree.proofs.Tests.{Is-follows, is_whole, tokens_of, Spells-tokens_of, left_of, right_of}
 use Rattle.dsl_tree.proofs.Sets.{and_both}
 
@@ -163,14 +163,14 @@ xCompositionArguments = nil
 abbrev xPhasesTail : Forest
 xPhasesTail = nil
 
-abbrev xPrim : Forest
-xPrim = seen nowhere (TokenKind.Number 0 0) nil
+abbrev xPrimary : Forest
+xPrimary = seen nowhere (TokenKind.Number 0 0) nil
 
-abbrev xPost : Forest
-xPost = sub xPrim (sub nil nil)
+abbrev xPostfix : Forest
+xPostfix = sub xPrimary (sub nil nil)
 
 abbrev xMinus : Forest
-xMinus = sub xPost nil
+xMinus = sub xPostfix nil
 
 abbrev xProduct : Forest
 xProduct = sub xMinus (sub nil nil)
@@ -304,12 +304,12 @@ example Part.SumTail = xSumTail
 example Part.Product = xProduct
 example Part.ProductTail = xProductTail
 example Part.Minus = xMinus
-example Part.Post = xPost
-example Part.Prim = xPrim
+example Part.Postfix = xPostfix
+example Part.Primary = xPrimary
 example Part.BracketRest = xBracketRest
 example Part.ListedTail = xListedTail
 
-pub is_example : (p : Part) → Is p (example p)
+pub is_example : (p : Part) → IsOf p (example p)
 is_example Part.File = Is-follows Part.File xFile refl
 is_example Part.Imports = Is-follows Part.Imports xImports refl
 is_example Part.Import = Is-follows Part.Import xImport refl
@@ -378,8 +378,8 @@ is_example Part.SumTail = Is-follows Part.SumTail xSumTail refl
 is_example Part.Product = Is-follows Part.Product xProduct refl
 is_example Part.ProductTail = Is-follows Part.ProductTail xProductTail refl
 is_example Part.Minus = Is-follows Part.Minus xMinus refl
-is_example Part.Post = Is-follows Part.Post xPost refl
-is_example Part.Prim = Is-follows Part.Prim xPrim refl
+is_example Part.Postfix = Is-follows Part.Postfix xPostfix refl
+is_example Part.Primary = Is-follows Part.Primary xPrimary refl
 is_example Part.BracketRest = Is-follows Part.BracketRest xBracketRest refl
 is_example Part.ListedTail = Is-follows Part.ListedTail xListedTail refl
 
@@ -452,8 +452,8 @@ whole_example Part.SumTail = refl
 whole_example Part.Product = refl
 whole_example Part.ProductTail = refl
 whole_example Part.Minus = refl
-whole_example Part.Post = refl
-whole_example Part.Prim = refl
+whole_example Part.Postfix = refl
+whole_example Part.Primary = refl
 whole_example Part.BracketRest = refl
 whole_example Part.ListedTail = refl
 

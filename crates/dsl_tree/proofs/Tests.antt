@@ -4,7 +4,7 @@ use Rattle.osc_base.specs.declared.fault.Place.{Place}
 use Rattle.dsl_tree.specs.declared.token.Token.{Token}
 use Rattle.dsl_tree.specs.Codes.{code, has}
 use Rattle.dsl_tree.specs.Grammar.{Part, Symbol, rules, Seen, Bare, Of}
-use Rattle.dsl_tree.specs.Forest.{Forest, nil, seen, bare, sub, wrong, Spells, AnyRule, Follows, Is}
+use Rattle.dsl_tree.specs.Forest.{Forest, nil, seen, bare, sub, wrong, Spells, AnyRule, Follows, IsOf}
 
 abbrev pub any_rule : List (List Symbol) → (List Symbol → Bool) → Bool
 any_rule [] test = false
@@ -44,7 +44,7 @@ Follows-follows (sub part f) (Of p ∷ rule) h =
       Follows-follows f rule (right_of (any_rule (rules p) (follows part)) (follows f rule) h))
 Follows-follows _ _ h = absurd (cc)
 
-pub Is-follows : (p : Part) (f : Forest) → any_rule (rules p) (follows f) ≡ true → Is p f
+pub Is-follows : (p : Part) (f : Forest) → any_rule (rules p) (follows f) ≡ true → IsOf p f
 Is-follows p f h = AnyRule-any_rule (rules p) (follows f) (Follows f) (Follows-follows f) h
 
 -- the number of tokens of a forest, and its tokens: those whose places it doesn't hold stand at `place`

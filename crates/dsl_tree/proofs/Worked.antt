@@ -1,7 +1,7 @@
 -- The worked trees are spelled by their tokens.
 use Rattle.std.proofs.Common.{[], ◌++◌, refl}
 use Rattle.dsl_tree.specs.Grammar.{Part}
-use Rattle.dsl_tree.specs.Forest.{Is, Spells}
+use Rattle.dsl_tree.specs.Forest.{IsOf, Spells}
 use Rattle.dsl_tree.specs.Written.{expr}
 use Rattle.dsl_tree.specs.WrittenFile.{file}
 use Rattle.dsl_tree.specs.Language.{Spelled, IsViable}
@@ -15,13 +15,13 @@ scenario = record { follows = Is-follows Part.File (file scenario_tree) refl; sp
 scenario_begun : IsViable (tokens_from 0 scenario_front)
 scenario_begun = record { tree = scenario_tree; back = tokens_from 17 scenario_back; spelled = scenario }
 
-levels : Is Part.Expr (expr levels_tree)
+levels : IsOf Part.Expr (expr levels_tree)
 levels = Is-follows Part.Expr (expr levels_tree) refl
 
 levels_spelled : Spells (expr levels_tree) (tokens_from 0 levels_tokens) []
 levels_spelled = Spells-tokens_of at (expr levels_tree) 0 [] refl
 
-sum_is : Is Part.Expr (expr sum_tree)
+sum_is : IsOf Part.Expr (expr sum_tree)
 sum_is = Is-follows Part.Expr (expr sum_tree) refl
 
 sum_spelled : Spells (expr sum_tree) (tokens_from 0 sum_tokens) []

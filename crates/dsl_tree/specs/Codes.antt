@@ -29,7 +29,9 @@ abbrev pub other_name : ℕ
 other_name = 8
 
 abbrev pub name_code : List ℕ → ℕ
-name_code text = cond (bytes_eq text si_text) si_name (cond (bytes_eq text factor_text) factor_name (cond (bytes_eq text offset_text) offset_name other_name))
+name_code text =
+    cond (bytes_eq text si_text) si_name
+      (cond (bytes_eq text factor_text) factor_name (cond (bytes_eq text offset_text) offset_name other_name))
 
 -- numbers: whole ones up to 9, other whole ones, and those with a point
 abbrev pub small_number : ℕ
@@ -43,6 +45,13 @@ point_number = 11
 
 abbrev pub number_code : ℕ → ℕ → ℕ
 number_code digits places = cond (places == 0) (cond (nat_le digits 9) small_number large_number) point_number
+
+-- physical literals and texts
+abbrev pub physical_code : ℕ
+physical_code = 12
+
+abbrev pub text_code : ℕ
+text_code = 13
 
 abbrev pub mark_code : MarkKind → ℕ
 mark_code MarkKind.OpenRound = 20
@@ -109,8 +118,8 @@ code TokenKind.End = 3
 code (TokenKind.LeftOut word) = 4
 code (TokenKind.Name text) = name_code text
 code (TokenKind.Number digits places) = number_code digits places
-code (TokenKind.Physical digits places unit) = 12
-code (TokenKind.Chars text) = 13
+code (TokenKind.Physical digits places unit) = physical_code
+code (TokenKind.Chars text) = text_code
 code (TokenKind.Mark mark) = mark_code mark
 code (TokenKind.Word word) = word_code word
 

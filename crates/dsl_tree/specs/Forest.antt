@@ -8,7 +8,7 @@ use Rattle.dsl_tree.specs.Grammar.{Part, Symbol, rules, Seen, Bare, Of}
 
 -- A row of tokens and parts: `seen` is a token whose place the tree holds, `bare` one whose place it
 -- doesn't hold, and `sub` a part, each with what stands behind it. `wrong` stands where a tree breaks
--- the grammar.
+-- the grammar in a way that its tokens wouldn't show, such as an empty row.
 pub data Forest : Type 0 where
   nil : Forest
   seen : (place : Place) (kind : TokenKind) (rest : Forest) → Forest
@@ -40,5 +40,5 @@ Follows (sub part f) (Of p ∷ rule) = AnyRule (rules p) (Follows part) × Follo
 Follows _ _ = ⊥
 
 -- the forest is one of a part
-abbrev pub Is : Part → Forest → Type 0
-Is p f = AnyRule (rules p) (Follows f)
+abbrev pub IsOf : Part → Forest → Type 0
+IsOf p f = AnyRule (rules p) (Follows f)

@@ -2,7 +2,7 @@
 --
 -- Each rule is the row of symbols that a part is written as; a part with several rules is written by
 -- any one of them, and `[]` is the rule that writes nothing. A repetition is a part that ends in
--- itself. Rules of one part that would begin alike share their beginning, so that one token tells
+-- itself, or in a part that does. Rules of one part that would begin alike share their beginning, so that one token tells
 -- which rule goes on, but for arguments, where two do.
 use Rattle.std.specs.Prelude.{ℕ, List, [], ◌∷◌, map}
 use Rattle.dsl_tree.specs.declared.token.TokenKind.{TokenKind}
@@ -10,7 +10,7 @@ use Rattle.dsl_tree.specs.declared.token.MarkKind.{MarkKind}
 use Rattle.dsl_tree.specs.declared.token.MarkKind.TheVariants.{OpenRound, CloseRound, OpenSquare, CloseSquare, Colon, Comma, Dot, TwoDots, Assign, Equal, Differ, Below, AtMost, Above, AtLeast, Arrow, Plus, Dash, Star, Slash, Bang}
 use Rattle.dsl_tree.specs.declared.token.WordKind.{WordKind}
 use Rattle.dsl_tree.specs.declared.token.WordKind.TheVariants.{ImportWord, TypeWord, UnitWord, IsWord, OfWord, EnumWord, StructWord, ActorWord, ActionWord, ScenarioWord, InheritsWord, ExtendWord, ListWord, KeepWord, HardWord, DefaultWord, RemoveDefaultWord, DoWord, SerialWord, ParallelWord, OneOfWord, WaitWord, ElapsedWord, WithWord, ItWord, InWord, RangeWord, AndWord, OrWord, NotWord, TrueWord, FalseWord}
-use Rattle.dsl_tree.specs.Codes.{code, mark_code, word_code, si_name, factor_name, offset_name, other_name, small_number, large_number, point_number}
+use Rattle.dsl_tree.specs.Codes.{code, mark_code, word_code, si_name, factor_name, offset_name, other_name, small_number, large_number, point_number, physical_code, text_code}
 
 pub data Part : Type 0 where
   File : Part
@@ -81,8 +81,8 @@ pub data Part : Type 0 where
   Product : Part
   ProductTail : Part
   Minus : Part
-  Post : Part
-  Prim : Part
+  Postfix : Part
+  Primary : Part
   BracketRest : Part
   ListedTail : Part
 
@@ -157,10 +157,10 @@ abbrev pub number : Symbol
 number = Seen (small_number ∷ large_number ∷ point_number ∷ [])
 
 abbrev pub physical : Symbol
-physical = Seen (12 ∷ [])
+physical = Seen (physical_code ∷ [])
 
 abbrev pub text : Symbol
-text = Seen (13 ∷ [])
+text = Seen (text_code ∷ [])
 
 -- the signs of a relation
 abbrev pub relation_sign : Symbol
@@ -177,10 +177,12 @@ rules Imports =
 rules Import =
     (word ImportWord ∷ Of ImportRest ∷ [])
     ∷ []
+-- an import behind its word
 rules ImportRest =
     (text ∷ newline ∷ [])
     ∷ (name ∷ Of DottedNames ∷ newline ∷ [])
     ∷ []
+-- further names, each behind a point
 rules DottedNames =
     []
     ∷ (mark Dot ∷ name ∷ Of DottedNames ∷ [])
@@ -197,19 +199,23 @@ rules Declaration =
     ∷ (placed_words (ActionWord ∷ ScenarioWord ∷ []) ∷ Of QualifiedName ∷ Of OptionalHeir ∷ Of Body ∷ [])
     ∷ (placed_word ExtendWord ∷ Of QualifiedName ∷ mark Colon ∷ Of ExtensionRest ∷ [])
     ∷ []
+-- further bases of a type, each behind a comma
 rules BasesTail =
     []
     ∷ (mark Comma ∷ Of Base ∷ Of BasesTail ∷ [])
     ∷ []
+-- behind a base of a unit: the closing bracket and the line end, or more
 rules UnitTail =
     (mark CloseRound ∷ newline ∷ [])
     ∷ (mark Comma ∷ Of UnitMore ∷ [])
     ∷ []
+-- behind a comma in a unit: another base, or the factor, or the offset, to the line end
 rules UnitMore =
     (Of Base ∷ Of UnitTail ∷ [])
     ∷ (factor ∷ mark Colon ∷ Of Signed ∷ Of FactorTail ∷ [])
     ∷ (offset ∷ mark Colon ∷ Of Signed ∷ mark CloseRound ∷ newline ∷ [])
     ∷ []
+-- behind the factor of a unit: the offset, if there is one, to the line end
 rules FactorTail =
     (mark CloseRound ∷ newline ∷ [])
     ∷ (mark Comma ∷ offset ∷ mark Colon ∷ Of Signed ∷ mark CloseRound ∷ newline ∷ [])
@@ -224,6 +230,7 @@ rules OptionalDash =
 rules Signed =
     (Of OptionalDash ∷ number ∷ [])
     ∷ []
+-- the items of an enum in their brackets
 rules EnumItems =
     (mark OpenSquare ∷ Of EnumItem ∷ Of ItemsTail ∷ mark CloseSquare ∷ [])
     ∷ []
@@ -234,6 +241,7 @@ rules ItemNumber =
     []
     ∷ (mark Assign ∷ whole ∷ [])
     ∷ []
+-- further items, each behind a comma
 rules ItemsTail =
     []
     ∷ (mark Comma ∷ Of EnumItem ∷ Of ItemsTail ∷ [])
@@ -241,6 +249,7 @@ rules ItemsTail =
 rules QualifiedName =
     (name ∷ Of SecondName ∷ [])
     ∷ []
+-- the name behind an owner, if there is one
 rules SecondName =
     []
     ∷ (mark Dot ∷ name ∷ [])
@@ -257,17 +266,21 @@ rules ConditionValue =
     (placed_words (TrueWord ∷ FalseWord ∷ []) ∷ [])
     ∷ (name ∷ Of EnumMember ∷ [])
     ∷ []
+-- the member behind the name of an enum, if there is one
 rules EnumMember =
     []
     ∷ (mark Bang ∷ name ∷ [])
     ∷ []
+-- a line end, or a block behind its colon
 rules Body =
     (newline ∷ [])
     ∷ (mark Colon ∷ Of Block ∷ [])
     ∷ []
+-- a block, behind its colon
 rules Block =
     (newline ∷ indent ∷ Of Member ∷ Of MembersTail ∷ dedent ∷ [])
     ∷ []
+-- what `extend` adds, behind the colon
 rules ExtensionRest =
     (Of EnumItems ∷ newline ∷ [])
     ∷ (Of Block ∷ [])
@@ -281,6 +294,7 @@ rules Member =
     ∷ (Of Rule ∷ [])
     ∷ (placed_word DoWord ∷ Of Phase ∷ [])
     ∷ []
+-- further names of a field, each behind a comma
 rules NamesTail =
     []
     ∷ (mark Comma ∷ name ∷ Of NamesTail ∷ [])
@@ -293,6 +307,7 @@ rules Initial =
     []
     ∷ (mark Assign ∷ Of Expr ∷ [])
     ∷ []
+-- the end of a field: a line end, or `with:` and its rules
 rules FieldEnd =
     (newline ∷ [])
     ∷ (word WithWord ∷ mark Colon ∷ newline ∷ indent ∷ Of Rule ∷ Of RulesTail ∷ dedent ∷ [])
@@ -326,18 +341,22 @@ rules Phase =
     ∷ (placed_word ActorWord ∷ Of InvocationRest ∷ [])
     ∷ (Of Wait ∷ [])
     ∷ []
+-- a phase behind a name, which is its label or the head of an invocation
 rules PhaseAfterName =
     (mark Colon ∷ Of LabelledPhase ∷ [])
     ∷ (Of InvocationRest ∷ [])
     ∷ []
+-- a phase behind its label
 rules LabelledPhase =
     (name_or (ActorWord ∷ []) ∷ Of InvocationRest ∷ [])
     ∷ (Of Composition ∷ [])
     ∷ (Of Wait ∷ [])
     ∷ []
 rules Composition =
-    (placed_words (SerialWord ∷ ParallelWord ∷ OneOfWord ∷ []) ∷ Of CompositionArguments ∷ mark Colon ∷ newline ∷ indent ∷ Of Phase ∷ Of PhasesTail ∷ dedent ∷ [])
+    (placed_words (SerialWord ∷ ParallelWord ∷ OneOfWord ∷ []) ∷ Of CompositionArguments ∷ mark Colon ∷ newline ∷ indent
+      ∷ Of Phase ∷ Of PhasesTail ∷ dedent ∷ [])
     ∷ []
+-- the arguments of a composition in their brackets, if there are any
 rules CompositionArguments =
     []
     ∷ (mark OpenRound ∷ Of Arguments ∷ [])
@@ -349,13 +368,16 @@ rules PhasesTail =
 rules Wait =
     (placed_word WaitWord ∷ word ElapsedWord ∷ mark OpenRound ∷ Of Expr ∷ mark CloseRound ∷ newline ∷ [])
     ∷ []
+-- an invocation behind its head
 rules InvocationRest =
     (Of DottedNames ∷ mark OpenRound ∷ Of InvocationArguments ∷ Of InvocationEnd ∷ [])
     ∷ []
+-- the arguments of an invocation, if there are any, and the closing bracket
 rules InvocationArguments =
     (mark CloseRound ∷ [])
     ∷ (Of Arguments ∷ [])
     ∷ []
+-- the end of an invocation: a line end, or `with:` and its parts
 rules InvocationEnd =
     (newline ∷ [])
     ∷ (word WithWord ∷ mark Colon ∷ newline ∷ indent ∷ Of InvocationPart ∷ Of PartsTail ∷ dedent ∷ [])
@@ -368,15 +390,17 @@ rules PartsTail =
     []
     ∷ (Of InvocationPart ∷ Of PartsTail ∷ [])
     ∷ []
--- arguments end with their closing bracket; those with names come last
+-- one argument or more and the closing bracket; those with names come last
 rules Arguments =
     (Of Expr ∷ Of ArgumentsTail ∷ [])
     ∷ (name ∷ mark Colon ∷ Of Expr ∷ Of NamedTail ∷ [])
     ∷ []
+-- behind an argument without a name: the closing bracket, or more arguments
 rules ArgumentsTail =
     (mark CloseRound ∷ [])
     ∷ (mark Comma ∷ Of Arguments ∷ [])
     ∷ []
+-- behind an argument with a name: the closing bracket, or more such arguments
 rules NamedTail =
     (mark CloseRound ∷ [])
     ∷ (mark Comma ∷ name ∷ mark Colon ∷ Of Expr ∷ Of NamedTail ∷ [])
@@ -384,6 +408,7 @@ rules NamedTail =
 rules Expr =
     (Of Or ∷ Of ImpliesTail ∷ [])
     ∷ []
+-- behind the left side of an implication: its right side, if there is one
 rules ImpliesTail =
     []
     ∷ (placed_mark Arrow ∷ Of Or ∷ [])
@@ -391,6 +416,7 @@ rules ImpliesTail =
 rules Or =
     (Of And ∷ Of OrTail ∷ [])
     ∷ []
+-- further parts of an `or`
 rules OrTail =
     []
     ∷ (placed_word OrWord ∷ Of And ∷ Of OrTail ∷ [])
@@ -398,6 +424,7 @@ rules OrTail =
 rules And =
     (Of Not ∷ Of AndTail ∷ [])
     ∷ []
+-- further parts of an `and`
 rules AndTail =
     []
     ∷ (placed_word AndWord ∷ Of Not ∷ Of AndTail ∷ [])
@@ -409,6 +436,7 @@ rules Not =
 rules Relation =
     (Of Sum ∷ Of RelationTail ∷ [])
     ∷ []
+-- the sign and the right side of a relation, if there is one
 rules RelationTail =
     []
     ∷ (relation_sign ∷ Of Sum ∷ [])
@@ -416,6 +444,7 @@ rules RelationTail =
 rules Sum =
     (Of Product ∷ Of SumTail ∷ [])
     ∷ []
+-- further parts of a sum
 rules SumTail =
     []
     ∷ (placed_marks (Plus ∷ Dash ∷ []) ∷ Of Product ∷ Of SumTail ∷ [])
@@ -423,18 +452,22 @@ rules SumTail =
 rules Product =
     (Of Minus ∷ Of ProductTail ∷ [])
     ∷ []
+-- further parts of a product
 rules ProductTail =
     []
     ∷ (placed_marks (Star ∷ Slash ∷ []) ∷ Of Minus ∷ Of ProductTail ∷ [])
     ∷ []
+-- an operand with a minus before it, or without
 rules Minus =
-    (placed_mark Dash ∷ Of Post ∷ [])
-    ∷ (Of Post ∷ [])
+    (placed_mark Dash ∷ Of Postfix ∷ [])
+    ∷ (Of Postfix ∷ [])
     ∷ []
-rules Post =
-    (Of Prim ∷ Of SuffixesTail ∷ [])
+-- an operand with its suffixes
+rules Postfix =
+    (Of Primary ∷ Of SuffixesTail ∷ [])
     ∷ []
-rules Prim =
+-- an operand
+rules Primary =
     (number ∷ [])
     ∷ (physical ∷ [])
     ∷ (text ∷ [])
@@ -446,10 +479,12 @@ rules Prim =
     ∷ (placed_mark OpenSquare ∷ Of Expr ∷ Of BracketRest ∷ [])
     ∷ (placed_word RangeWord ∷ mark OpenRound ∷ Of Expr ∷ mark Comma ∷ Of Expr ∷ mark CloseRound ∷ [])
     ∷ []
+-- behind the first expression in square brackets: the other end of a range, or further items, and the bracket
 rules BracketRest =
     (mark TwoDots ∷ Of Expr ∷ mark CloseSquare ∷ [])
     ∷ (Of ListedTail ∷ mark CloseSquare ∷ [])
     ∷ []
+-- further items of a list, each behind a comma
 rules ListedTail =
     []
     ∷ (mark Comma ∷ Of Expr ∷ Of ListedTail ∷ [])

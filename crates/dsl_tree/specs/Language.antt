@@ -5,12 +5,12 @@ use Rattle.dsl_tree.specs.declared.token.Token.{Token}
 use Rattle.dsl_tree.specs.declared.token.TokenKind.{TokenKind}
 use Rattle.dsl_tree.specs.FileTree.{FileTree}
 use Rattle.dsl_tree.specs.Grammar.{Part}
-use Rattle.dsl_tree.specs.Forest.{Is, Spells}
+use Rattle.dsl_tree.specs.Forest.{IsOf, Spells}
 use Rattle.dsl_tree.specs.WrittenFile.{file}
 
 -- The tree follows the grammar. Such a tree is spelled by some list of tokens, and no other tree is.
 abbrev pub FollowsGrammar : FileTree → Type 0
-FollowsGrammar tree = Is Part.File (file tree)
+FollowsGrammar tree = IsOf Part.File (file tree)
 
 -- the tree follows the grammar, and the tokens are those it is written as, with its places
 pub record Spelled (tree : FileTree) (tokens : List Token) : Type 0 where

@@ -3,7 +3,7 @@ use Rattle.std.specs.Prelude.{◌≡◌, ℕ, List, [], ◌∷◌, ◌++◌, len
 use Rattle.dsl_tree.specs.declared.token.Token.{Token}
 use Rattle.dsl_tree.specs.Codes.{code, has}
 use Rattle.dsl_tree.specs.Grammar.{Part, Symbol, Seen, Bare, Of, rules}
-use Rattle.dsl_tree.specs.Forest.{Forest, nil, seen, bare, sub, wrong, Spells, AnyRule, Follows, Is}
+use Rattle.dsl_tree.specs.Forest.{Forest, nil, seen, bare, sub, wrong, Spells, AnyRule, Follows, IsOf}
 use Rattle.dsl_tree.specs.Tables.{first, goes_on, stops}
 
 -- whether the first token has one of these codes
@@ -74,8 +74,8 @@ pub record PartFault (p : Part) (tokens : List Token) (left : ℕ) : Type 0 wher
   pub back : List Token
   pub split : tokens ≡ front ++ token ∷ back
   pub count : left ≡ length (token ∷ back)
-  pub viable : CanBegin (Is p) front
-  pub dead : (f : Forest) (others rest : List Token) → Is p f → Stops (goes_on p) rest → Spells f (front ++ token ∷ others) rest → ⊥
+  pub viable : CanBegin (IsOf p) front
+  pub dead : (f : Forest) (others rest : List Token) → IsOf p f → Stops (goes_on p) rest → Spells f (front ++ token ∷ others) rest → ⊥
 
 -- the same of what is left of a rule
 pub record RowFault (rule : List Symbol) (tokens : List Token) (left : ℕ) : Type 0 where

@@ -76,8 +76,8 @@ first Part.SumTail = 36 ∷ 37 ∷ []
 first Part.Product = 5 ∷ 6 ∷ 7 ∷ 8 ∷ 9 ∷ 10 ∷ 11 ∷ 12 ∷ 13 ∷ 20 ∷ 22 ∷ 37 ∷ 57 ∷ 74 ∷ 76 ∷ 80 ∷ 81 ∷ []
 first Part.ProductTail = 38 ∷ 39 ∷ []
 first Part.Minus = 5 ∷ 6 ∷ 7 ∷ 8 ∷ 9 ∷ 10 ∷ 11 ∷ 12 ∷ 13 ∷ 20 ∷ 22 ∷ 37 ∷ 57 ∷ 74 ∷ 76 ∷ 80 ∷ 81 ∷ []
-first Part.Post = 5 ∷ 6 ∷ 7 ∷ 8 ∷ 9 ∷ 10 ∷ 11 ∷ 12 ∷ 13 ∷ 20 ∷ 22 ∷ 57 ∷ 74 ∷ 76 ∷ 80 ∷ 81 ∷ []
-first Part.Prim = 5 ∷ 6 ∷ 7 ∷ 8 ∷ 9 ∷ 10 ∷ 11 ∷ 12 ∷ 13 ∷ 20 ∷ 22 ∷ 57 ∷ 74 ∷ 76 ∷ 80 ∷ 81 ∷ []
+first Part.Postfix = 5 ∷ 6 ∷ 7 ∷ 8 ∷ 9 ∷ 10 ∷ 11 ∷ 12 ∷ 13 ∷ 20 ∷ 22 ∷ 57 ∷ 74 ∷ 76 ∷ 80 ∷ 81 ∷ []
+first Part.Primary = 5 ∷ 6 ∷ 7 ∷ 8 ∷ 9 ∷ 10 ∷ 11 ∷ 12 ∷ 13 ∷ 20 ∷ 22 ∷ 57 ∷ 74 ∷ 76 ∷ 80 ∷ 81 ∷ []
 first Part.BracketRest = 23 ∷ 25 ∷ 27 ∷ []
 first Part.ListedTail = 25 ∷ []
 
@@ -151,8 +151,8 @@ empty Part.SumTail = true
 empty Part.Product = false
 empty Part.ProductTail = true
 empty Part.Minus = false
-empty Part.Post = false
-empty Part.Prim = false
+empty Part.Postfix = false
+empty Part.Primary = false
 empty Part.BracketRest = false
 empty Part.ListedTail = true
 
@@ -226,8 +226,8 @@ goes_on Part.SumTail = 22 ∷ 26 ∷ 36 ∷ 37 ∷ 38 ∷ 39 ∷ 40 ∷ []
 goes_on Part.Product = 22 ∷ 26 ∷ 38 ∷ 39 ∷ 40 ∷ []
 goes_on Part.ProductTail = 22 ∷ 26 ∷ 38 ∷ 39 ∷ 40 ∷ []
 goes_on Part.Minus = 22 ∷ 26 ∷ 40 ∷ []
-goes_on Part.Post = 22 ∷ 26 ∷ 40 ∷ []
-goes_on Part.Prim = 40 ∷ []
+goes_on Part.Postfix = 22 ∷ 26 ∷ 40 ∷ []
+goes_on Part.Primary = 40 ∷ []
 goes_on Part.BracketRest = []
 goes_on Part.ListedTail = 22 ∷ 25 ∷ 26 ∷ 29 ∷ 30 ∷ 31 ∷ 32 ∷ 33 ∷ 34 ∷ 35 ∷ 36 ∷ 37 ∷ 38 ∷ 39 ∷ 40 ∷ 75 ∷ 77 ∷ 78 ∷ []
 
@@ -301,8 +301,8 @@ second Part.SumTail = 5 ∷ 6 ∷ 7 ∷ 8 ∷ 9 ∷ 10 ∷ 11 ∷ 12 ∷ 13 ∷ 
 second Part.Product = 5 ∷ 6 ∷ 7 ∷ 8 ∷ 9 ∷ 10 ∷ 11 ∷ 12 ∷ 13 ∷ 20 ∷ 22 ∷ 26 ∷ 37 ∷ 38 ∷ 39 ∷ 40 ∷ 57 ∷ 74 ∷ 76 ∷ 79 ∷ 80 ∷ 81 ∷ []
 second Part.ProductTail = 5 ∷ 6 ∷ 7 ∷ 8 ∷ 9 ∷ 10 ∷ 11 ∷ 12 ∷ 13 ∷ 20 ∷ 22 ∷ 37 ∷ 57 ∷ 74 ∷ 76 ∷ 80 ∷ 81 ∷ []
 second Part.Minus = 5 ∷ 6 ∷ 7 ∷ 8 ∷ 9 ∷ 10 ∷ 11 ∷ 12 ∷ 13 ∷ 20 ∷ 22 ∷ 26 ∷ 37 ∷ 40 ∷ 57 ∷ 74 ∷ 76 ∷ 79 ∷ 80 ∷ 81 ∷ []
-second Part.Post = 5 ∷ 6 ∷ 7 ∷ 8 ∷ 9 ∷ 10 ∷ 11 ∷ 12 ∷ 13 ∷ 20 ∷ 22 ∷ 26 ∷ 37 ∷ 40 ∷ 57 ∷ 74 ∷ 76 ∷ 79 ∷ 80 ∷ 81 ∷ []
-second Part.Prim = 5 ∷ 6 ∷ 7 ∷ 8 ∷ 9 ∷ 10 ∷ 11 ∷ 12 ∷ 13 ∷ 20 ∷ 22 ∷ 37 ∷ 40 ∷ 57 ∷ 74 ∷ 76 ∷ 79 ∷ 80 ∷ 81 ∷ []
+second Part.Postfix = 5 ∷ 6 ∷ 7 ∷ 8 ∷ 9 ∷ 10 ∷ 11 ∷ 12 ∷ 13 ∷ 20 ∷ 22 ∷ 26 ∷ 37 ∷ 40 ∷ 57 ∷ 74 ∷ 76 ∷ 79 ∷ 80 ∷ 81 ∷ []
+second Part.Primary = 5 ∷ 6 ∷ 7 ∷ 8 ∷ 9 ∷ 10 ∷ 11 ∷ 12 ∷ 13 ∷ 20 ∷ 22 ∷ 37 ∷ 40 ∷ 57 ∷ 74 ∷ 76 ∷ 79 ∷ 80 ∷ 81 ∷ []
 second Part.BracketRest = 5 ∷ 6 ∷ 7 ∷ 8 ∷ 9 ∷ 10 ∷ 11 ∷ 12 ∷ 13 ∷ 20 ∷ 22 ∷ 23 ∷ 37 ∷ 57 ∷ 74 ∷ 76 ∷ 79 ∷ 80 ∷ 81 ∷ []
 second Part.ListedTail = 5 ∷ 6 ∷ 7 ∷ 8 ∷ 9 ∷ 10 ∷ 11 ∷ 12 ∷ 13 ∷ 20 ∷ 22 ∷ 37 ∷ 57 ∷ 74 ∷ 76 ∷ 79 ∷ 80 ∷ 81 ∷ []
 

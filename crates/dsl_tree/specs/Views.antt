@@ -1,4 +1,8 @@
 -- The tree of each value of the program's own types.
+--
+-- Each field of each type goes into the tree. Two values with one tree are both spelled by no tokens:
+-- `Or`, `And`, `Sum` and `Product` with an empty `rest` have one tree, and so have `Dot` and `Index`
+-- with empty `suffixes`.
 use Rattle.std.specs.Prelude.{List, [], ◌∷◌, map, option_map}
 use Rattle.osc_base.specs.declared.fault.Place.{Place}
 use Rattle.dsl_tree.specs.declared.parts.Ident.{Ident}

@@ -53,7 +53,8 @@ sign_kind RelationSign.Above = TokenKind.Mark MarkKind.Above
 sign_kind RelationSign.AtLeast = TokenKind.Mark MarkKind.AtLeast
 sign_kind RelationSign.Within = TokenKind.Word WordKind.InWord
 
--- Levels: the ten parts of an expression, from the whole of it (0) to its smallest (9)
+-- Levels: the ten parts of an expression, from the whole of it to its operands. They are 0 `Expr`,
+-- 1 `Or`, 2 `And`, 3 `Not`, 4 `Relation`, 5 `Sum`, 6 `Product`, 7 `Minus`, 8 `Postfix`, 9 `Primary`.
 
 abbrev pub level : ExprTree → ℕ
 level (Implies place left right) = 0
@@ -68,8 +69,8 @@ level (Dot head name) = 8
 level (Index place head index) = 8
 level _ = 9
 
--- a part of the next level, as one of this level: nothing stands behind it, and no `not` or minus
--- before it
+-- A part of the next level, as one of this level: it has an empty tail behind it, but in a `Not` (3)
+-- and a `Minus` (7), which have none.
 abbrev pub lifted : ℕ → Forest → Forest
 lifted own f = cond ((own == 3) || (own == 7)) (sub f nil) (sub f (sub nil nil))
 
@@ -96,11 +97,13 @@ next_index place index rest = sub (mark_at place MarkKind.OpenSquare (sub index 
 abbrev mutual
   -- a tree, at its own level
   pub written : ExprTree → Forest
-  written (Implies place left right) = sub (at 1 left (written left)) (sub (mark_at place MarkKind.Arrow (sub (at 1 right (written right)) nil)) nil)
+  written (Implies place left right) =
+      sub (at 1 left (written left)) (sub (mark_at place MarkKind.Arrow (sub (at 1 right (written right)) nil)) nil)
   written (Or place operator left right) = or_row left (next_part place operator (at 2 right (written right)) nil)
   written (And place operator left right) = and_row left (next_part place operator (at 3 right (written right)) nil)
   written (Not place part) = word_at place WordKind.NotWord (sub (at 4 part (written part)) nil)
-  written (Relation place sign left right) = sub (at 5 left (written left)) (sub (seen place (sign_kind sign) (sub (at 5 right (written right)) nil)) nil)
+  written (Relation place sign left right) =
+      sub (at 5 left (written left)) (sub (seen place (sign_kind sign) (sub (at 5 right (written right)) nil)) nil)
   written (Sum place operator left right) = sum_row left (next_part place operator (at 6 right (written right)) nil)
   written (Product place operator left right) = product_row left (next_part place operator (at 7 right (written right)) nil)
   written (Minus place part) = mark_at place MarkKind.Dash (sub (at 8 part (written part)) nil)
@@ -114,10 +117,15 @@ abbrev mutual
   written (Actor place) = word_at place WordKind.ActorWord nil
   written (Name name) = ident name (sub nil nil)
   written (EnumName of member) = ident of (sub (mark MarkKind.Bang (ident member nil)) nil)
-  written (Group place inner) = mark_at place MarkKind.OpenRound (sub (at 0 inner (written inner)) (mark MarkKind.CloseRound nil))
-  written (Span place low high) = mark_at place MarkKind.OpenSquare (sub (at 0 low (written low)) (sub (mark MarkKind.TwoDots (sub (at 0 high (written high)) (mark MarkKind.CloseSquare nil))) nil))
+  written (Group place inner) =
+      mark_at place MarkKind.OpenRound (sub (at 0 inner (written inner)) (mark MarkKind.CloseRound nil))
+  written (Span place low high) =
+      mark_at place MarkKind.OpenSquare (sub (at 0 low (written low)) (sub (mark MarkKind.TwoDots
+        (sub (at 0 high (written high)) (mark MarkKind.CloseSquare nil))) nil))
   written (Listed place items) = mark_at place MarkKind.OpenSquare (listed items)
-  written (RangeCall place low high) = word_at place WordKind.RangeWord (mark MarkKind.OpenRound (sub (at 0 low (written low)) (mark MarkKind.Comma (sub (at 0 high (written high)) (mark MarkKind.CloseRound nil)))))
+  written (RangeCall place low high) =
+      word_at place WordKind.RangeWord (mark MarkKind.OpenRound (sub (at 0 low (written low)) (mark MarkKind.Comma
+        (sub (at 0 high (written high)) (mark MarkKind.CloseRound nil)))))
   written (Start first) = wrong
 
   -- the left side of a row of operators, with the rest of the row

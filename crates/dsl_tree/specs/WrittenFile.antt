@@ -132,7 +132,7 @@ qualified_name q = ident q.first (sub (second_name q.second) nil)
 abbrev pub condition_value : ConditionValue → Forest
 condition_value (ConditionValue.Truth place value) = word_at place (truth_word value) nil
 condition_value (ConditionValue.Name name) = ident name (sub nil nil)
-condition_value (ConditionValue.EnumName of member) = ident of (sub (mark MarkKind.Bang (ident member nil)) nil)
+condition_value (ConditionValue.EnumName of name) = ident of (sub (mark MarkKind.Bang (ident name nil)) nil)
 
 abbrev pub heir_condition : Option HeirCondition → Forest
 heir_condition None = nil

@@ -1,5 +1,6 @@
 -- What rules, arguments and phases are written as.
 use Rattle.std.specs.Prelude.{List, [], ◌∷◌, Option, Some, None}
+use Rattle.osc_base.specs.declared.fault.Place.{Place}
 use Rattle.dsl_tree.specs.declared.parts.Ident.{Ident}
 use Rattle.dsl_tree.specs.declared.rules.KeepKind.{KeepKind}
 use Rattle.dsl_tree.specs.declared.phases.CompKind.{CompKind}
@@ -34,8 +35,10 @@ keep_kind KeepKind.Hard = word WordKind.HardWord nil
 keep_kind KeepKind.Default = word WordKind.DefaultWord nil
 
 abbrev pub rule : RuleTree → Forest
-rule (Keep place kind tree) = word_at place WordKind.KeepWord (mark MarkKind.OpenRound (sub (keep_kind kind) (sub (expr tree) (mark MarkKind.CloseRound (newline nil)))))
-rule (Remove place tree) = word_at place WordKind.RemoveDefaultWord (mark MarkKind.OpenRound (sub (path tree) (mark MarkKind.CloseRound (newline nil))))
+rule (Keep place kind tree) =
+    word_at place WordKind.KeepWord (mark MarkKind.OpenRound (sub (keep_kind kind) (sub (expr tree) (mark MarkKind.CloseRound (newline nil)))))
+rule (Remove place tree) =
+    word_at place WordKind.RemoveDefaultWord (mark MarkKind.OpenRound (sub (path tree) (mark MarkKind.CloseRound (newline nil))))
 
 abbrev pub rules_tail : List RuleTree → Forest
 rules_tail [] = nil
@@ -62,7 +65,9 @@ arguments_tail (a ∷ others) more = mark MarkKind.Comma (sub more nil)
 
 abbrev pub arguments : List ArgumentTree → Forest
 arguments [] = wrong
-arguments (a ∷ others) = by_option a.name (sub (expr a.value) (sub (arguments_tail others (arguments others)) nil)) (λ name. named_argument name a.value (named_tail others))
+arguments (a ∷ others) =
+    by_option a.name (sub (expr a.value) (sub (arguments_tail others (arguments others)) nil))
+      (λ name. named_argument name a.value (named_tail others))
 
 -- Invocations
 
@@ -92,7 +97,8 @@ invocation_end (p ∷ ps) = with_block (sub (invocation_part p) (sub (parts_tail
 
 -- an invocation behind its head
 abbrev pub invocation_rest : List Ident → List ArgumentTree → List PartTree → Forest
-invocation_rest names args parts = sub (dotted_names names) (mark MarkKind.OpenRound (sub (invocation_arguments args) (sub (invocation_end parts) nil)))
+invocation_rest names args parts =
+    sub (dotted_names names) (mark MarkKind.OpenRound (sub (invocation_arguments args) (sub (invocation_end parts) nil)))
 
 -- an invocation without a label, and behind its label
 abbrev pub invocation : InvokeHead → Forest → Forest
@@ -114,18 +120,29 @@ abbrev pub composition_arguments : List ArgumentTree → Forest
 composition_arguments [] = nil
 composition_arguments (a ∷ others) = mark MarkKind.OpenRound (sub (arguments (a ∷ others)) nil)
 
+-- a composition, with the phases of its block, and a wait, both behind their label
+abbrev pub composition : Place → CompKind → List ArgumentTree → Forest → Forest
+composition place kind args phases =
+    sub (word_at place (comp_word kind) (sub (composition_arguments args) (mark MarkKind.Colon (opened phases)))) nil
+
+abbrev pub wait : Place → ExprTree → Forest
+wait place elapsed =
+    sub (word_at place WordKind.WaitWord (word WordKind.ElapsedWord (mark MarkKind.OpenRound
+      (sub (expr elapsed) (mark MarkKind.CloseRound (newline nil)))))) nil
+
 -- a phase, where `plain` is written without a label and `core` behind one
 abbrev pub labelled : Option Ident → Forest → Forest → Forest
 labelled label plain core = by_option label plain (λ name. ident name (sub (mark MarkKind.Colon (sub core nil)) nil))
 
+abbrev pub with_label : Option Ident → Forest → Forest
+with_label label core = labelled label core core
+
 abbrev mutual
   pub phase : PhaseTree → Forest
-  phase (Comp label place kind args members) =
-      let core = sub (word_at place (comp_word kind) (sub (composition_arguments args) (mark MarkKind.Colon (opened (block_phases members))))) nil in labelled label core core
+  phase (Comp label place kind args members) = with_label label (composition place kind args (block_phases members))
   phase (Invoke label head names args parts) =
-      let rest = invocation_rest names args parts in labelled label (invocation head rest) (labelled_invocation head rest)
-  phase (Wait label place elapsed) =
-      let core = sub (word_at place WordKind.WaitWord (word WordKind.ElapsedWord (mark MarkKind.OpenRound (sub (expr elapsed) (mark MarkKind.CloseRound (newline nil)))))) nil in labelled label core core
+      labelled label (invocation head (invocation_rest names args parts)) (labelled_invocation head (invocation_rest names args parts))
+  phase (Wait label place elapsed) = with_label label (wait place elapsed)
 
   -- the phases of a block, one at least, and its end; and those behind the first
   pub block_phases : PhaseRow → Forest

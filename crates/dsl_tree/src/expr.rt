@@ -45,8 +45,8 @@ pub enum Suffix {
 ///
 /// The place of `Implies` and `Relation` is that of the operator, and each other place that of the
 /// expression's first token. The rows `rest` of `Or`, `And`, `Sum` and `Product` hold one part or
-/// more, with the node's own operators, and so do the `suffixes`: a `Dot` has a name as its last
-/// suffix, and an `Index` an index. `Listed` has one item or more. `Chars` is a string.
+/// more, with the node's own operators. `suffixes` has one suffix or more, and the last one is a name
+/// in a `Dot` and an index in an `Index`. `Listed` has one item or more. `Chars` is a string.
 #[derive(Drop)]
 #[cycle(expr_types)]
 pub enum Expr {

@@ -2,6 +2,9 @@ use crate::{CompoundDecl, EnumDecl, Ident, MoreEnum, MoreMembers, PhysicalDecl, 
 use osc_base::{Place, Row, Text};
 
 /// A source file: its imports, then its declarations. `end` is where the file ends.
+///
+/// The types of trees also hold values that no tokens spell, such as empty `items`. What their
+/// descriptions say of a tree is said of one that tokens spell.
 #[derive(Drop)]
 pub struct File {
     pub imports: Row<Import>,
