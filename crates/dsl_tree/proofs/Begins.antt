@@ -22,8 +22,8 @@ pub void_empties : (f : Forest) (ss : List Symbol) → Follows f ss → void f �
 void_empties nil [] h v = refl
 void_empties (sub a g) (Of p ∷ ss) (any, h) v =
     and_both (empty p) (empties ss)
-      (by_rules p (Follows a) (empty p ≡ true) any (λ r fit does. fit.blank (void_empties a r does (left_of (void a) (void g) v))))
-      (void_empties g ss h (right_of (void a) (void g) v))
+    (by_rules p (Follows a) (empty p ≡ true) any (λ r fit does. fit.blank (void_empties a r does (left_of (void a) (void g) v))))
+    (void_empties g ss h (right_of (void a) (void g) v))
 void_empties (seen place kind f) (Seen codes ∷ ss) h v = absurd (cc)
 void_empties (bare kind f) (Bare codes ∷ ss) h v = absurd (cc)
 void_empties _ _ h v = absurd h
@@ -44,13 +44,13 @@ begins (seen place kind f) (Seen codes ∷ ss) (t ∷ ts) z (h, h') (p, k, s) = 
 begins (bare kind f) (Bare codes ∷ ss) (t ∷ ts) z (h, h') (k, s) = inr (refl, starts-cons codes t ts ∙ ap (λ kind. has codes (code kind)) k ∙ h)
 begins (sub a g) (Of p ∷ ss) ts z (any, h) (m, s, s') =
     go (void a) (empty p) refl refl
-      (by_rules p (Follows a) (Begun a (first p) ts) any (λ r fit does. ⊎_elim inl (λ (v, b). inr (v, Starts-subset (firsts r) (first p) ts fit.begins b)) (begins a r ts m does s)))
-      (begins g ss m z h s')
+    (by_rules p (Follows a) (Begun a (first p) ts) any (λ r fit does. ⊎_elim inl (λ (v, b). inr (v, Starts-subset (firsts r) (first p) ts fit.begins b)) (begins a r ts m does s)))
+    (begins g ss m z h s')
   where
     go : (v e : Bool) → void a ≡ v → empty p ≡ e → Begun a (first p) ts → Begun g (firsts ss) m → Begun (sub a g) (cond e (first p ++ firsts ss) (first p)) ts
     go true true v e part others =
         ⊎_elim (λ w. inl (ap (λ (b : Bool). b && void g) v ∙ w))
-          (λ (w, b). inr (ap (λ (b : Bool). b && void g) v ∙ w, Starts-append_right (first p) (firsts ss) ts (subst (Starts (firsts ss)) (sym (void_spells a ts m v s)) b))) others
+        (λ (w, b). inr (ap (λ (b : Bool). b && void g) v ∙ w, Starts-append_right (first p) (firsts ss) ts (subst (Starts (firsts ss)) (sym (void_spells a ts m v s)) b))) others
     go true false v e part others = both_ways (empty p) (void_part p a any v) e
     go false true v e part others = ⊎_elim (λ w. both_ways (void a) w v) (λ (w, b). inr (unvoid a g v, Starts-append_left (first p) (firsts ss) ts b)) part
     go false false v e part others = ⊎_elim (λ w. both_ways (void a) w v) (λ (w, b). inr (unvoid a g v, b)) part

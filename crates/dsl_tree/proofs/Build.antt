@@ -29,10 +29,11 @@ whole_end : (f : Forest) (ss : List Symbol) (z : List Token) → Whole f ss z �
 whole_end nil [] z w = tt
 whole_end (seen place kind f) (Seen codes ∷ ss) z (h, w) = (h, whole_end f ss z w)
 whole_end (bare kind f) (Bare codes ∷ ss) z (h, w) = (h, whole_end f ss z w)
-whole_end (sub a g) (Of p ∷ ss) z (any, stop, w) =
-    (subst (λ (y : List Token). AnyRule (rules p) (λ r. Whole a r y)) (sym (either_way (void g) [])) (any_map (rules p) (λ r. Whole a r (cond (void g) z [])) (λ r. Whole a r []) (λ r does. whole_end a r (cond (void g) z []) does) any),
-      subst (λ (y : List Token). Stops (cond (void a) (first p) []) y) (sym (either_way (void g) [])) (starts-nil (cond (void a) (first p) [])),
-      whole_end g ss z w)
+whole_end (sub a g) (Of p ∷ ss) z (any, stop, w) = (
+  subst (λ (y : List Token). AnyRule (rules p) (λ r. Whole a r y)) (sym (either_way (void g) [])) (any_map (rules p) (λ r. Whole a r (cond (void g) z [])) (λ r. Whole a r []) (λ r does. whole_end a r (cond (void g) z []) does) any),
+  subst (λ (y : List Token). Stops (cond (void a) (first p) []) y) (sym (either_way (void g) [])) (starts-nil (cond (void a) (first p) [])),
+  whole_end g ss z w,
+)
 whole_end _ _ z w = absurd w
 
 pub built_part : (p : Part) (ss : List Symbol) (a g : Forest) (ts m rest : List Token) → Parsed p a ts m → Built ss g m rest → Built (Of p ∷ ss) (sub a g) ts rest
@@ -41,6 +42,7 @@ built_part p ss a g ts m rest parsed built = record { whole = (go (void g) refl,
     go : (v : Bool) → void g ≡ v → AnyRule (rules p) (λ r. Whole a r (cond v rest []))
     go true e = subst (λ (y : List Token). AnyRule (rules p) (λ r. Whole a r y)) (void_spells g m rest e built.spells) parsed.whole
     go false e = any_map (rules p) (λ r. Whole a r m) (λ r. Whole a r []) (λ r does. whole_end a r m does) parsed.whole
+
     stops : (v : Bool) → void g ≡ v → Stops (cond (void a) (first p) []) (cond v rest [])
     stops true e = subst (Stops (cond (void a) (first p) [])) (void_spells g m rest e built.spells) parsed.stop
     stops false e = starts-nil (cond (void a) (first p) [])

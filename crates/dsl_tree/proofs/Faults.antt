@@ -60,14 +60,16 @@ pub whole_alike : (f : Forest) (ss : List Symbol) (z y : List Token) → ((cs : 
 whole_alike nil [] z y e w = tt
 whole_alike (seen place kind f) (Seen codes ∷ ss) z y e (h, w) = (h, whole_alike f ss z y e w)
 whole_alike (bare kind f) (Bare codes ∷ ss) z y e (h, w) = (h, whole_alike f ss z y e w)
-whole_alike (sub a g) (Of p ∷ ss) z y e (any, stop, w) =
-    (any_map (rules p) (λ r. Whole a r (cond (void g) z [])) (λ r. Whole a r (cond (void g) y [])) (λ r does. whole_alike a r (cond (void g) z []) (cond (void g) y []) behind does) any,
-      sym (behind (cond (void a) (first p) [])) ∙ stop,
-      whole_alike g ss z y e w)
+whole_alike (sub a g) (Of p ∷ ss) z y e (any, stop, w) = (
+  any_map (rules p) (λ r. Whole a r (cond (void g) z [])) (λ r. Whole a r (cond (void g) y [])) (λ r does. whole_alike a r (cond (void g) z []) (cond (void g) y []) behind does) any,
+  sym (behind (cond (void a) (first p) [])) ∙ stop,
+  whole_alike g ss z y e w,
+)
   where
     alike : (v : Bool) (cs : List ℕ) → starts cs (cond v z []) ≡ starts cs (cond v y [])
     alike true cs = e cs
     alike false cs = refl
+
     behind : (cs : List ℕ) → starts cs (cond (void g) z []) ≡ starts cs (cond (void g) y [])
     behind cs = alike (void g) cs
 whole_alike _ _ z y e w = absurd w
@@ -168,10 +170,12 @@ in_part p ss ts left h fault = record {
     forest = sub fault.viable.forest (row ss);
     back = fault.viable.back ++ tokens (row ss);
     does = (fault.viable.does, row_follows ss (right_of (sound (Of p ∷ ss)) (filled (Of p ∷ ss)) h));
-    spells = (tokens (row ss),
+    spells = (
+      tokens (row ss),
       subst (λ (v : List Token). Spells fault.viable.forest v (tokens (row ss))) (append_assoc fault.front fault.viable.back (tokens (row ss)))
-        (spells_append fault.viable.forest (fault.front ++ fault.viable.back) [] (tokens (row ss)) fault.viable.spells),
-      row_spells ss);
+          (spells_append fault.viable.forest (fault.front ++ fault.viable.back) [] (tokens (row ss)) fault.viable.spells),
+      row_spells ss,
+    );
   };
   dead = dead;
 }
@@ -192,21 +196,24 @@ past_part p ss a ts m left h parsed fault = record {
     forest = sub a fault.viable.forest;
     back = fault.viable.back;
     does = (part_follows p a m parsed.whole, fault.viable.does);
-    spells = (fault.front ++ fault.viable.back,
+    spells = (
+      fault.front ++ fault.viable.back,
       subst (λ (v : List Token). Spells a v (fault.front ++ fault.viable.back)) (sym (append_assoc c.used fault.front fault.viable.back)) (c.spells (fault.front ++ fault.viable.back)),
-      fault.viable.spells);
+      fault.viable.spells,
+    );
   };
   dead = dead;
 }
   where
     c : Consumed a ts m
     c = consumed a ts m parsed.spells
+
     dead : (f : Forest) (others z : List Token) → Follows f (Of p ∷ ss) → Stops (stops (Of p ∷ ss)) z → Spells f ((c.used ++ fault.front) ++ fault.token ∷ others) z → ⊥
     dead (sub b g) others z (any, does) stop (n, s, s') =
         let w : List Token = fault.front ++ fault.token ∷ others in
         let sb : Spells b (c.used ++ w) n = subst (λ (v : List Token). Spells b v n) (append_assoc c.used fault.front (fault.token ∷ others)) s in
         let pa : Parsed p a (c.used ++ w) w =
-              parsed_alike p a ts (c.used ++ w) m w (λ cs. ap (λ (v : List Token). starts cs v) fault.split ∙ begin_alike fault.front fault.token fault.back others cs) parsed (c.spells w) in
+        parsed_alike p a ts (c.used ++ w) m w (λ cs. ap (λ (v : List Token). starts cs v) fault.split ∙ begin_alike fault.front fault.token fault.back others cs) parsed (c.spells w) in
         let pb : Parsed p b (c.used ++ w) n = part_whole p b (c.used ++ w) n any (stops_middle p ss g n z (left_of (sound (Of p ∷ ss)) (filled (Of p ∷ ss)) h) does s' stop) sb in
         let q : w ≡ n = (law_part p a b (c.used ++ w) w n pa pb).1 in
         fault.dead g others z does (stops_rest p ss z stop) (subst (λ (v : List Token). Spells g v z) (sym q) s')

@@ -69,7 +69,7 @@ same_place_true p q h =
     let e3 : p.column ≡ q.column = eqb-true p.column q.column (left_of _ _ (right_of (eqb p.line q.line) _ (right_of (eqb p.file q.file) _ h))) in
     let e4 : p.token ≡ q.token = eqb-true p.token q.token (right_of (eqb p.column q.column) _ (right_of (eqb p.line q.line) _ (right_of (eqb p.file q.file) _ h))) in
     ap₂ (λ (f l : ℕ). record { file = f; line = l; column = p.column; token = p.token }) e1 e2
-      ∙ ap₂ (λ (c t : ℕ). record { file = q.file; line = q.line; column = c; token = t }) e3 e4
+    ∙ ap₂ (λ (c t : ℕ). record { file = q.file; line = q.line; column = c; token = t }) e3 e4
 
 signed_back : (s : Signed) → is_whole (signed s) ≡ true → read_signed (signed s) ≡ s
 signed_back s h = go s.minus (same_place s.place s.number.place) refl refl h
@@ -283,12 +283,13 @@ read_field name _ = field_of [] None no_name None []
 field_rest_back : (name : Ident) (names : List Ident) (f : FieldTree) → is_whole (field_rest names f) ≡ true → read_field name (field_rest names f) ≡ field_of (name ∷ names) f.list f.of f.initial f.rules
 field_rest_back name names f h =
     ap (λ (ns : List Ident). field_of (name ∷ ns) (read_list (field_type f.list f.of)) (read_of (field_type f.list f.of)) (read_initial (initial f.initial)) (read_field_end (field_end f.rules))) (names_tail_back names)
-      ∙ (ap₂ (λ (l : Option Place) (o : Ident). field_of (name ∷ names) l o (read_initial (initial f.initial)) (read_field_end (field_end f.rules))) (list_back f.list f.of) (of_back f.list f.of)
-      ∙ ap₂ (λ (e : Option ExprTree) (rs : List RuleTree). field_of (name ∷ names) f.list f.of e rs)
-        (initial_back f.initial (left_of _ _ h3)) (field_end_back f.rules (left_of _ _ (right_of (is_whole (initial f.initial)) _ h3))))
+    ∙ (ap₂ (λ (l : Option Place) (o : Ident). field_of (name ∷ names) l o (read_initial (initial f.initial)) (read_field_end (field_end f.rules))) (list_back f.list f.of) (of_back f.list f.of)
+    ∙ ap₂ (λ (e : Option ExprTree) (rs : List RuleTree). field_of (name ∷ names) f.list f.of e rs)
+    (initial_back f.initial (left_of _ _ h3)) (field_end_back f.rules (left_of _ _ (right_of (is_whole (initial f.initial)) _ h3))))
   where
     h2 : (is_whole (field_type f.list f.of) && (is_whole (initial f.initial) && (is_whole (field_end f.rules) && true))) ≡ true
     h2 = right_of (is_whole (names_tail names)) _ h
+
     h3 : (is_whole (initial f.initial) && (is_whole (field_end f.rules) && true)) ≡ true
     h3 = right_of (is_whole (field_type f.list f.of)) _ h2
 
@@ -373,7 +374,7 @@ read_declaration _ = compound_of no_place CompoundKind.Struct (record { first = 
 compound_back : (c : CompoundTree) (name : QName) → name ≡ c.name → is_whole (heading_rest c) ≡ true → read_compound c.place c.kind name (heading_rest c) ≡ CompoundDeclaration c
 compound_back c name e h =
     ap₂ (λ (q : QName) (x : Option Heir). compound_of c.place c.kind q x (read_body (body c.members))) e (heir_back c.heir)
-      ∙ ap (λ (ms : List MemberTree). compound_of c.place c.kind c.name c.heir ms) (body_back c.members (left_of _ _ (right_of (is_whole (optional_heir c.heir)) _ h)))
+    ∙ ap (λ (ms : List MemberTree). compound_of c.place c.kind c.name c.heir ms) (body_back c.members (left_of _ _ (right_of (is_whole (optional_heir c.heir)) _ h)))
 
 plain_back : (c : CompoundTree) (second : Option Ident) → c.name.second ≡ second
     → is_whole (by_option second (ident c.name.first (heading_rest c)) (λ s. wrong)) ≡ true → read_plain c.place c.kind (by_option second (ident c.name.first (heading_rest c)) (λ s. wrong)) ≡ CompoundDeclaration c
@@ -414,4 +415,4 @@ read_file _ = record { imports = []; decls = []; end = no_place }
 pub file_back : (f : FileTree) → is_whole (file f) ≡ true → read_file (file f) ≡ f
 file_back f h =
     ap₂ (λ (is : List Import) (ds : List DeclarationTree). record { imports = is; decls = ds; end = f.end })
-      (imports_back f.imports (left_of _ _ h)) (declarations_back f.decls (left_of _ _ (right_of (is_whole (imports f.imports)) _ h)))
+    (imports_back f.imports (left_of _ _ h)) (declarations_back f.decls (left_of _ _ (right_of (is_whole (imports f.imports)) _ h)))

@@ -74,7 +74,7 @@ imports_leaves : (p : Place) (is : List Import) (z : List Token) → is_whole (i
 imports_leaves p [] z h = refl
 imports_leaves p (i ∷ is) z h =
     import_leaves p i (leaves p (imports is) z) (left_of _ _ (left_of _ _ h))
-      ∙ (ap (λ (v : List Token). import_words p i ++ v) (imports_leaves p is z (left_of _ _ (right_of _ _ h))) ∙ sym (append_assoc (import_words p i) (joined (map (import_words p) is)) z))
+    ∙ (ap (λ (v : List Token). import_words p i ++ v) (imports_leaves p is z (left_of _ _ (right_of _ _ h))) ∙ sym (append_assoc (import_words p i) (joined (map (import_words p) is)) z))
 
 -- Types and units
 
@@ -98,14 +98,14 @@ bases_tail_leaves : (p : Place) (bs : List BasePart) (z : List Token) → is_who
 bases_tail_leaves p [] z h = refl
 bases_tail_leaves p (b ∷ bs) z h =
     ap (λ (v : List Token). comma p ∷ v) (base_leaves p b (leaves p (bases_tail bs) z) (left_of _ _ h) ∙ ap (λ (v : List Token). base_words p b ++ v) (bases_tail_leaves p bs z (left_of _ _ (right_of _ _ h))))
-      ∙ behind p (base_words p) b bs z
+    ∙ behind p (base_words p) b bs z
 
 type_bases_leaves : (p : Place) (bs : List BasePart) (z : List Token) → is_whole (type_bases bs) ≡ true → leaves p (type_bases bs) z ≡ comma_joined p (map (base_words p) bs) ++ mark_tok p MarkKind.CloseRound ∷ (newline p ∷ z)
 type_bases_leaves p [] z h = absurd (false≢true h)
 type_bases_leaves p (b ∷ bs) z h =
     base_leaves p b (leaves p (bases_tail bs) (mark_tok p MarkKind.CloseRound ∷ (newline p ∷ z))) (left_of _ _ h)
-      ∙ (ap (λ (v : List Token). base_words p b ++ v) (bases_tail_leaves p bs (mark_tok p MarkKind.CloseRound ∷ (newline p ∷ z)) (left_of _ _ (right_of _ _ h)))
-      ∙ sym (append_assoc (base_words p b) (others_of p (base_words p) bs) (mark_tok p MarkKind.CloseRound ∷ (newline p ∷ z))))
+    ∙ (ap (λ (v : List Token). base_words p b ++ v) (bases_tail_leaves p bs (mark_tok p MarkKind.CloseRound ∷ (newline p ∷ z)) (left_of _ _ (right_of _ _ h)))
+    ∙ sym (append_assoc (base_words p b) (others_of p (base_words p) bs) (mark_tok p MarkKind.CloseRound ∷ (newline p ∷ z))))
 
 regroup_type : (t n i s o : Token) (b : List Token) (c l : Token) (z : List Token) → t ∷ (n ∷ (i ∷ (s ∷ (o ∷ (b ++ (c ∷ (l ∷ z))))))) ≡ ((((t ∷ (n ∷ [])) ++ (i ∷ (s ∷ (o ∷ b)))) ++ c ∷ []) ++ l ∷ []) ++ z
 regroup_type t n i s o b c l z = simp append_assoc
@@ -113,9 +113,9 @@ regroup_type t n i s o b c l z = simp append_assoc
 type_leaves : (p : Place) (d : PhysicalDecl) (z : List Token) → is_whole (type_bases d.bases) ≡ true → leaves p (Written.type_declaration d) z ≡ type_words p d ++ z
 type_leaves p d z h =
     ap (λ (v : List Token). tok d.place (TokenKind.Word WordKind.TypeWord) ∷ (name_tok d.name ∷ (tok p (TokenKind.Word WordKind.IsWord) ∷ (tok p (TokenKind.Name si_text) ∷ (mark_tok p MarkKind.OpenRound ∷ v)))))
-      (type_bases_leaves p d.bases z h)
-      ∙ regroup_type (tok d.place (TokenKind.Word WordKind.TypeWord)) (name_tok d.name) (tok p (TokenKind.Word WordKind.IsWord)) (tok p (TokenKind.Name si_text)) (mark_tok p MarkKind.OpenRound)
-        (comma_joined p (map (base_words p) d.bases)) (mark_tok p MarkKind.CloseRound) (newline p) z
+    (type_bases_leaves p d.bases z h)
+    ∙ regroup_type (tok d.place (TokenKind.Word WordKind.TypeWord)) (name_tok d.name) (tok p (TokenKind.Word WordKind.IsWord)) (tok p (TokenKind.Name si_text)) (mark_tok p MarkKind.OpenRound)
+    (comma_joined p (map (base_words p) d.bases)) (mark_tok p MarkKind.CloseRound) (newline p) z
 
 abbrev unit_end_words : Place → Option Signed → Option Signed → List Token
 unit_end_words p f o = further_part_words p factor_text f ++ (further_part_words p offset_text o ++ (mark_tok p MarkKind.CloseRound ∷ (newline p ∷ [])))
@@ -130,32 +130,32 @@ factor_tail_leaves : (p : Place) (o : Option Signed) (z : List Token) → is_who
 factor_tail_leaves p None z h = refl
 factor_tail_leaves p (Some s) z h =
     ap (λ (v : List Token). comma p ∷ v) (offset_leaves p s z (left_of _ _ h))
-      ∙ ap (λ (v : List Token). comma p ∷ (tok p (TokenKind.Name offset_text) ∷ (mark_tok p MarkKind.Colon ∷ v))) (regroup_offset (signed_words s) (mark_tok p MarkKind.CloseRound) (newline p) z)
+    ∙ ap (λ (v : List Token). comma p ∷ (tok p (TokenKind.Name offset_text) ∷ (mark_tok p MarkKind.Colon ∷ v))) (regroup_offset (signed_words s) (mark_tok p MarkKind.CloseRound) (newline p) z)
 
 unit_end_leaves : (p : Place) (f o : Option Signed) (z : List Token) → is_whole (unit_end f o) ≡ true → leaves p (unit_end f o) z ≡ unit_end_words p f o ++ z
 unit_end_leaves p None None z h = refl
 unit_end_leaves p None (Some s) z h =
     ap (λ (v : List Token). comma p ∷ v) (offset_leaves p s z (left_of _ _ (left_of _ _ h)))
-      ∙ ap (λ (v : List Token). comma p ∷ (tok p (TokenKind.Name offset_text) ∷ (mark_tok p MarkKind.Colon ∷ v))) (regroup_offset (signed_words s) (mark_tok p MarkKind.CloseRound) (newline p) z)
+    ∙ ap (λ (v : List Token). comma p ∷ (tok p (TokenKind.Name offset_text) ∷ (mark_tok p MarkKind.Colon ∷ v))) (regroup_offset (signed_words s) (mark_tok p MarkKind.CloseRound) (newline p) z)
 unit_end_leaves p (Some s) o z h =
     ap (λ (v : List Token). comma p ∷ (tok p (TokenKind.Name factor_text) ∷ (mark_tok p MarkKind.Colon ∷ v)))
-      (signed_leaves p s (leaves p (factor_tail o) z) (left_of _ _ (left_of _ _ h))
-        ∙ (ap (λ (v : List Token). signed_words s ++ v) (factor_tail_leaves p o z (left_of _ _ (right_of _ _ (left_of _ _ h))))
-        ∙ sym (append_assoc (signed_words s) (further_part_words p offset_text o ++ (mark_tok p MarkKind.CloseRound ∷ (newline p ∷ []))) z)))
+    (signed_leaves p s (leaves p (factor_tail o) z) (left_of _ _ (left_of _ _ h))
+    ∙ (ap (λ (v : List Token). signed_words s ++ v) (factor_tail_leaves p o z (left_of _ _ (right_of _ _ (left_of _ _ h))))
+    ∙ sym (append_assoc (signed_words s) (further_part_words p offset_text o ++ (mark_tok p MarkKind.CloseRound ∷ (newline p ∷ []))) z)))
 
 unit_tail_leaves : (p : Place) (bs : List BasePart) (f o : Option Signed) (z : List Token) → is_whole (unit_tail bs (unit_end f o)) ≡ true → leaves p (unit_tail bs (unit_end f o)) z ≡ others_of p (base_words p) bs ++ (unit_end_words p f o ++ z)
 unit_tail_leaves p [] f o z h = unit_end_leaves p f o z h
 unit_tail_leaves p (b ∷ bs) f o z h =
     ap (λ (v : List Token). comma p ∷ v)
-      (base_leaves p b (leaves p (unit_tail bs (unit_end f o)) z) (left_of _ _ (left_of _ _ h)) ∙ ap (λ (v : List Token). base_words p b ++ v) (unit_tail_leaves p bs f o z (left_of _ _ (right_of _ _ (left_of _ _ h)))))
-      ∙ behind p (base_words p) b bs (unit_end_words p f o ++ z)
+    (base_leaves p b (leaves p (unit_tail bs (unit_end f o)) z) (left_of _ _ (left_of _ _ h)) ∙ ap (λ (v : List Token). base_words p b ++ v) (unit_tail_leaves p bs f o z (left_of _ _ (right_of _ _ (left_of _ _ h)))))
+    ∙ behind p (base_words p) b bs (unit_end_words p f o ++ z)
 
 unit_bases_leaves : (p : Place) (bs : List BasePart) (f o : Option Signed) (z : List Token) → is_whole (unit_bases bs (unit_end f o)) ≡ true → leaves p (unit_bases bs (unit_end f o)) z ≡ comma_joined p (map (base_words p) bs) ++ (unit_end_words p f o ++ z)
 unit_bases_leaves p [] f o z h = absurd (false≢true h)
 unit_bases_leaves p (b ∷ bs) f o z h =
     base_leaves p b (leaves p (unit_tail bs (unit_end f o)) z) (left_of _ _ h)
-      ∙ (ap (λ (v : List Token). base_words p b ++ v) (unit_tail_leaves p bs f o z (left_of _ _ (right_of _ _ h)))
-      ∙ sym (append_assoc (base_words p b) (others_of p (base_words p) bs) (unit_end_words p f o ++ z)))
+    ∙ (ap (λ (v : List Token). base_words p b ++ v) (unit_tail_leaves p bs f o z (left_of _ _ (right_of _ _ h)))
+    ∙ sym (append_assoc (base_words p b) (others_of p (base_words p) bs) (unit_end_words p f o ++ z)))
 
 regroup_unit : (t n o' n' i s o : Token) (b f g : List Token) (c l : Token) (z : List Token)
     → t ∷ (n ∷ (o' ∷ (n' ∷ (i ∷ (s ∷ (o ∷ (b ++ ((f ++ (g ++ (c ∷ (l ∷ [])))) ++ z)))))))) ≡ ((((((t ∷ (n ∷ (o' ∷ (n' ∷ [])))) ++ (i ∷ (s ∷ (o ∷ b)))) ++ f) ++ g) ++ c ∷ []) ++ l ∷ []) ++ z
@@ -164,10 +164,10 @@ regroup_unit t n o' n' i s o b f g c l z = simp append_assoc
 unit_leaves : (p : Place) (d : UnitDecl) (z : List Token) → is_whole (unit_bases d.bases (unit_end d.factor d.offset)) ≡ true → leaves p (Written.unit_declaration d) z ≡ unit_words p d ++ z
 unit_leaves p d z h =
     ap (λ (v : List Token). tok d.place (TokenKind.Word WordKind.UnitWord) ∷ (name_tok d.name ∷ (tok p (TokenKind.Word WordKind.OfWord) ∷ (name_tok d.of
-      ∷ (tok p (TokenKind.Word WordKind.IsWord) ∷ (tok p (TokenKind.Name si_text) ∷ (mark_tok p MarkKind.OpenRound ∷ v)))))))
-      (unit_bases_leaves p d.bases d.factor d.offset z h)
-      ∙ regroup_unit (tok d.place (TokenKind.Word WordKind.UnitWord)) (name_tok d.name) (tok p (TokenKind.Word WordKind.OfWord)) (name_tok d.of) (tok p (TokenKind.Word WordKind.IsWord)) (tok p (TokenKind.Name si_text)) (mark_tok p MarkKind.OpenRound)
-        (comma_joined p (map (base_words p) d.bases)) (further_part_words p factor_text d.factor) (further_part_words p offset_text d.offset) (mark_tok p MarkKind.CloseRound) (newline p) z
+    ∷ (tok p (TokenKind.Word WordKind.IsWord) ∷ (tok p (TokenKind.Name si_text) ∷ (mark_tok p MarkKind.OpenRound ∷ v)))))))
+    (unit_bases_leaves p d.bases d.factor d.offset z h)
+    ∙ regroup_unit (tok d.place (TokenKind.Word WordKind.UnitWord)) (name_tok d.name) (tok p (TokenKind.Word WordKind.OfWord)) (name_tok d.of) (tok p (TokenKind.Word WordKind.IsWord)) (tok p (TokenKind.Name si_text)) (mark_tok p MarkKind.OpenRound)
+    (comma_joined p (map (base_words p) d.bases)) (further_part_words p factor_text d.factor) (further_part_words p offset_text d.offset) (mark_tok p MarkKind.CloseRound) (newline p) z
 
 -- Enums
 
@@ -187,8 +187,8 @@ items_leaves : (p : Place) (is : List EnumItem) (z : List Token) → is_whole (e
 items_leaves p [] z h = absurd (false≢true h)
 items_leaves p (i ∷ is) z h =
     ap (λ (v : List Token). mark_tok p MarkKind.OpenSquare ∷ v)
-      (item_leaves p i (leaves p (items_tail is) (mark_tok p MarkKind.CloseSquare ∷ z))
-        ∙ (ap (λ (v : List Token). item_words p i ++ v) (items_tail_leaves p is (mark_tok p MarkKind.CloseSquare ∷ z)) ∙ sym (regroup_row (item_words p i) (others_of p (item_words p) is) (mark_tok p MarkKind.CloseSquare) z)))
+    (item_leaves p i (leaves p (items_tail is) (mark_tok p MarkKind.CloseSquare ∷ z))
+    ∙ (ap (λ (v : List Token). item_words p i ++ v) (items_tail_leaves p is (mark_tok p MarkKind.CloseSquare ∷ z)) ∙ sym (regroup_row (item_words p i) (others_of p (item_words p) is) (mark_tok p MarkKind.CloseSquare) z)))
   where
     regroup_row : (a b : List Token) (c : Token) (z : List Token) → ((a ++ b) ++ c ∷ []) ++ z ≡ a ++ (b ++ c ∷ z)
     regroup_row a b c z = append_assoc (a ++ b) (c ∷ []) z ∙ append_assoc a b (c ∷ z)
@@ -196,7 +196,7 @@ items_leaves p (i ∷ is) z h =
 enum_leaves : (p : Place) (d : EnumDecl) (z : List Token) → is_whole (enum_items d.items) ≡ true → leaves p (Written.enum_declaration d) z ≡ enum_words p d ++ z
 enum_leaves p d z h =
     ap (λ (v : List Token). tok d.place (TokenKind.Word WordKind.EnumWord) ∷ (name_tok d.name ∷ (mark_tok p MarkKind.Colon ∷ v)))
-      (items_leaves p d.items (newline p ∷ z) h ∙ sym (append_assoc (items_words p d.items) (newline p ∷ []) z))
+    (items_leaves p d.items (newline p ∷ z) h ∙ sym (append_assoc (items_words p d.items) (newline p ∷ []) z))
 
 -- Headings
 
@@ -216,14 +216,14 @@ condition_leaves : (p : Place) (c : Option HeirCondition) (z : List Token) → l
 condition_leaves p None z = refl
 condition_leaves p (Some c) z =
     ap (λ (v : List Token). mark_tok p MarkKind.OpenRound ∷ (name_tok c.field ∷ (mark_tok p MarkKind.Equal ∷ v)))
-      (value_leaves p c.value (mark_tok p MarkKind.CloseRound ∷ z) ∙ sym (append_assoc (condition_value_words p c.value) (mark_tok p MarkKind.CloseRound ∷ []) z))
+    (value_leaves p c.value (mark_tok p MarkKind.CloseRound ∷ z) ∙ sym (append_assoc (condition_value_words p c.value) (mark_tok p MarkKind.CloseRound ∷ []) z))
 
 heir_leaves : (p : Place) (h : Option Heir) (z : List Token) → leaves p (optional_heir h) z ≡ heir_words p h ++ z
 heir_leaves p None z = refl
 heir_leaves p (Some h) z =
     ap (λ (v : List Token). tok p (TokenKind.Word WordKind.InheritsWord) ∷ v)
-      (qualified_leaves p h.base (leaves p (heir_condition h.condition) z)
-        ∙ (ap (λ (v : List Token). qualified_words p h.base ++ v) (condition_leaves p h.condition z) ∙ sym (append_assoc (qualified_words p h.base) (condition_words p h.condition) z)))
+    (qualified_leaves p h.base (leaves p (heir_condition h.condition) z)
+    ∙ (ap (λ (v : List Token). qualified_words p h.base ++ v) (condition_leaves p h.condition z) ∙ sym (append_assoc (qualified_words p h.base) (condition_words p h.condition) z)))
 
 -- Members
 
@@ -243,8 +243,8 @@ field_end_leaves : (p : Place) (rs : List RuleDecl) (z : List Token) → is_whol
 field_end_leaves p [] z h = refl
 field_end_leaves p (r ∷ rs) z h =
     ap (λ (v : List Token). tok p (TokenKind.Word WordKind.WithWord) ∷ (mark_tok p MarkKind.Colon ∷ (newline p ∷ (tok p TokenKind.Indent ∷ v))))
-      (leaves_rule p r (leaves p (rules_tail (map rule_tree rs)) (tok p TokenKind.Dedent ∷ z)) (left_of _ _ h)
-        ∙ (ap (λ (v : List Token). rule_words p r ++ v) (leaves_rules p rs (tok p TokenKind.Dedent ∷ z) (left_of _ _ (right_of _ _ h))) ∙ simp append_assoc))
+    (leaves_rule p r (leaves p (rules_tail (map rule_tree rs)) (tok p TokenKind.Dedent ∷ z)) (left_of _ _ h)
+    ∙ (ap (λ (v : List Token). rule_words p r ++ v) (leaves_rules p rs (tok p TokenKind.Dedent ∷ z) (left_of _ _ (right_of _ _ h))) ∙ simp append_assoc))
 
 regroup_field : (n : Token) (ns : List Token) (c : Token) (t i w z : List Token) → n ∷ (ns ++ (c ∷ (t ++ (i ++ (w ++ z))))) ≡ (((((n ∷ ns) ++ c ∷ []) ++ t) ++ i) ++ w) ++ z
 regroup_field n ns c t i w z = simp append_assoc
@@ -253,17 +253,18 @@ field_leaves : (p : Place) (names : List Ident) (f : FieldDecl) (z : List Token)
 field_leaves p [] f z e h = absurd (false≢true h)
 field_leaves p (n ∷ ns) f z e h =
     ap (λ (v : List Token). name_tok n ∷ v)
-      (names_leaves p ns (mark_tok p MarkKind.Colon ∷ leaves p (field_type f.list f.of) (leaves p (initial (option_map expr_tree f.initial)) (leaves p (field_end (map rule_tree f.rules)) z)))
-        ∙ ap (λ (v : List Token). others_of p Words.ident ns ++ mark_tok p MarkKind.Colon ∷ v)
-          (type_name_leaves p f.list f.of (leaves p (initial (option_map expr_tree f.initial)) (leaves p (field_end (map rule_tree f.rules)) z))
-            ∙ ap (λ (v : List Token). field_type_words p f.list f.of ++ v)
-              (initial_leaves p f.initial (leaves p (field_end (map rule_tree f.rules)) z) (left_of _ _ h3)
-                ∙ ap (λ (v : List Token). initial_words p f.initial ++ v) (field_end_leaves p f.rules z (left_of _ _ (right_of (is_whole (initial (option_map expr_tree f.initial))) _ h3))))))
-      ∙ (regroup_field (name_tok n) (others_of p Words.ident ns) (mark_tok p MarkKind.Colon) (field_type_words p f.list f.of) (initial_words p f.initial) (with_words p (map (rule_words p) f.rules)) z
-      ∙ ap (λ (v : List Ident). ((((comma_joined p (map Words.ident v) ++ mark_tok p MarkKind.Colon ∷ []) ++ field_type_words p f.list f.of) ++ initial_words p f.initial) ++ with_words p (map (rule_words p) f.rules)) ++ z) e)
+    (names_leaves p ns (mark_tok p MarkKind.Colon ∷ leaves p (field_type f.list f.of) (leaves p (initial (option_map expr_tree f.initial)) (leaves p (field_end (map rule_tree f.rules)) z)))
+    ∙ ap (λ (v : List Token). others_of p Words.ident ns ++ mark_tok p MarkKind.Colon ∷ v)
+    (type_name_leaves p f.list f.of (leaves p (initial (option_map expr_tree f.initial)) (leaves p (field_end (map rule_tree f.rules)) z))
+    ∙ ap (λ (v : List Token). field_type_words p f.list f.of ++ v)
+    (initial_leaves p f.initial (leaves p (field_end (map rule_tree f.rules)) z) (left_of _ _ h3)
+    ∙ ap (λ (v : List Token). initial_words p f.initial ++ v) (field_end_leaves p f.rules z (left_of _ _ (right_of (is_whole (initial (option_map expr_tree f.initial))) _ h3))))))
+    ∙ (regroup_field (name_tok n) (others_of p Words.ident ns) (mark_tok p MarkKind.Colon) (field_type_words p f.list f.of) (initial_words p f.initial) (with_words p (map (rule_words p) f.rules)) z
+    ∙ ap (λ (v : List Ident). ((((comma_joined p (map Words.ident v) ++ mark_tok p MarkKind.Colon ∷ []) ++ field_type_words p f.list f.of) ++ initial_words p f.initial) ++ with_words p (map (rule_words p) f.rules)) ++ z) e)
   where
     h2 : (is_whole (field_type f.list f.of) && (is_whole (initial (option_map expr_tree f.initial)) && (is_whole (field_end (map rule_tree f.rules)) && true))) ≡ true
     h2 = right_of (is_whole (names_tail ns)) _ h
+
     h3 : (is_whole (initial (option_map expr_tree f.initial)) && (is_whole (field_end (map rule_tree f.rules)) && true)) ≡ true
     h3 = right_of (is_whole (field_type f.list f.of)) _ h2
 
@@ -276,14 +277,14 @@ members_leaves : (p : Place) (ms : List Member) (z : List Token) → is_whole (m
 members_leaves p [] z h = refl
 members_leaves p (m ∷ ms) z h =
     member_leaves p m (leaves p (members_tail (map member_tree ms)) z) (left_of _ _ h)
-      ∙ (ap (λ (v : List Token). member_words p m ++ v) (members_leaves p ms z (left_of _ _ (right_of _ _ h))) ∙ sym (append_assoc (member_words p m) (joined (map (member_words p) ms)) z))
+    ∙ (ap (λ (v : List Token). member_words p m ++ v) (members_leaves p ms z (left_of _ _ (right_of _ _ h))) ∙ sym (append_assoc (member_words p m) (joined (map (member_words p) ms)) z))
 
 block_leaves : (p : Place) (ms : List Member) (z : List Token) → is_whole (block (map member_tree ms)) ≡ true → leaves p (block (map member_tree ms)) z ≡ block_words p (map (member_words p) ms) ++ z
 block_leaves p [] z h = absurd (false≢true h)
 block_leaves p (m ∷ ms) z h =
     ap (λ (v : List Token). newline p ∷ (tok p TokenKind.Indent ∷ v))
-      (member_leaves p m (leaves p (members_tail (map member_tree ms)) (tok p TokenKind.Dedent ∷ z)) (left_of _ _ h)
-        ∙ (ap (λ (v : List Token). member_words p m ++ v) (members_leaves p ms (tok p TokenKind.Dedent ∷ z) (left_of _ _ (right_of _ _ h))) ∙ simp append_assoc))
+    (member_leaves p m (leaves p (members_tail (map member_tree ms)) (tok p TokenKind.Dedent ∷ z)) (left_of _ _ h)
+    ∙ (ap (λ (v : List Token). member_words p m ++ v) (members_leaves p ms (tok p TokenKind.Dedent ∷ z) (left_of _ _ (right_of _ _ h))) ∙ simp append_assoc))
 
 body_leaves : (p : Place) (ms : List Member) (z : List Token) → is_whole (body (map member_tree ms)) ≡ true → leaves p (body (map member_tree ms)) z ≡ body_words p (map (member_words p) ms) ++ z
 body_leaves p [] z h = refl
@@ -330,23 +331,23 @@ declaration_leaves p (Declaration.Compound c) z h =
     compound_leaves p c.kind c z h ∙ regroup_compound (tok c.place (TokenKind.Word (compound_word c.kind))) (qualified_words p c.name) (heir_words p c.heir) (body_words p (map (member_words p) c.members)) z
 declaration_leaves p (Declaration.MoreMembers e) z h =
     ap (λ (v : List Token). tok e.place (TokenKind.Word WordKind.ExtendWord) ∷ v)
-      (qualified_leaves p e.name (mark_tok p MarkKind.Colon ∷ leaves p (block (map member_tree e.members)) z)
-        ∙ ap (λ (v : List Token). qualified_words p e.name ++ mark_tok p MarkKind.Colon ∷ v) (block_leaves p e.members z (left_of _ _ (left_of _ _ (right_of (is_whole (qualified_name e.name)) _ h)))))
-      ∙ regroup_members (tok e.place (TokenKind.Word WordKind.ExtendWord)) (qualified_words p e.name) (mark_tok p MarkKind.Colon) (block_words p (map (member_words p) e.members)) z
+    (qualified_leaves p e.name (mark_tok p MarkKind.Colon ∷ leaves p (block (map member_tree e.members)) z)
+    ∙ ap (λ (v : List Token). qualified_words p e.name ++ mark_tok p MarkKind.Colon ∷ v) (block_leaves p e.members z (left_of _ _ (left_of _ _ (right_of (is_whole (qualified_name e.name)) _ h)))))
+    ∙ regroup_members (tok e.place (TokenKind.Word WordKind.ExtendWord)) (qualified_words p e.name) (mark_tok p MarkKind.Colon) (block_words p (map (member_words p) e.members)) z
 declaration_leaves p (Declaration.MoreEnum e) z h =
     ap (λ (v : List Token). tok e.place (TokenKind.Word WordKind.ExtendWord) ∷ v)
-      (qualified_leaves p e.name (mark_tok p MarkKind.Colon ∷ leaves p (enum_items e.items) (newline p ∷ z))
-        ∙ ap (λ (v : List Token). qualified_words p e.name ++ mark_tok p MarkKind.Colon ∷ v) (items_leaves p e.items (newline p ∷ z) (left_of _ _ (left_of _ _ (right_of (is_whole (qualified_name e.name)) _ h)))))
-      ∙ regroup_enum (tok e.place (TokenKind.Word WordKind.ExtendWord)) (qualified_words p e.name) (mark_tok p MarkKind.Colon) (items_words p e.items) (newline p) z
+    (qualified_leaves p e.name (mark_tok p MarkKind.Colon ∷ leaves p (enum_items e.items) (newline p ∷ z))
+    ∙ ap (λ (v : List Token). qualified_words p e.name ++ mark_tok p MarkKind.Colon ∷ v) (items_leaves p e.items (newline p ∷ z) (left_of _ _ (left_of _ _ (right_of (is_whole (qualified_name e.name)) _ h)))))
+    ∙ regroup_enum (tok e.place (TokenKind.Word WordKind.ExtendWord)) (qualified_words p e.name) (mark_tok p MarkKind.Colon) (items_words p e.items) (newline p) z
 
 declarations_leaves : (p : Place) (ds : List Declaration) (z : List Token) → is_whole (declarations (map declaration_tree ds)) ≡ true → leaves p (declarations (map declaration_tree ds)) z ≡ joined (map (declaration_words p) ds) ++ z
 declarations_leaves p [] z h = refl
 declarations_leaves p (d ∷ ds) z h =
     declaration_leaves p d (leaves p (declarations (map declaration_tree ds)) z) (left_of _ _ h)
-      ∙ (ap (λ (v : List Token). declaration_words p d ++ v) (declarations_leaves p ds z (left_of _ _ (right_of _ _ h))) ∙ sym (append_assoc (declaration_words p d) (joined (map (declaration_words p) ds)) z))
+    ∙ (ap (λ (v : List Token). declaration_words p d ++ v) (declarations_leaves p ds z (left_of _ _ (right_of _ _ h))) ∙ sym (append_assoc (declaration_words p d) (joined (map (declaration_words p) ds)) z))
 
 pub file_leaves : (f : File) → is_whole (file (file_tree f)) ≡ true → leaves f.end (file (file_tree f)) [] ≡ file_words f
 file_leaves f h =
     imports_leaves f.end f.imports (leaves f.end (declarations (map declaration_tree f.decls)) (tok f.end TokenKind.End ∷ [])) (left_of _ _ h)
-      ∙ (ap (λ (v : List Token). joined (map (import_words f.end) f.imports) ++ v) (declarations_leaves f.end f.decls (tok f.end TokenKind.End ∷ []) (left_of _ _ (right_of (is_whole (imports f.imports)) _ h)))
-      ∙ sym (append_assoc (joined (map (import_words f.end) f.imports)) (joined (map (declaration_words f.end) f.decls)) (tok f.end TokenKind.End ∷ [])))
+    ∙ (ap (λ (v : List Token). joined (map (import_words f.end) f.imports) ++ v) (declarations_leaves f.end f.decls (tok f.end TokenKind.End ∷ []) (left_of _ _ (right_of (is_whole (imports f.imports)) _ h)))
+    ∙ sym (append_assoc (joined (map (import_words f.end) f.imports)) (joined (map (declaration_words f.end) f.decls)) (tok f.end TokenKind.End ∷ [])))

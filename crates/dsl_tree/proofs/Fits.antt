@@ -44,7 +44,7 @@ by_rules p P G any go = by_fit p (rules p) P G (rules_fit p) any go
 pub first_goes_on : (p : Part) → empty p ≡ true → subset (first p) (goes_on p) ≡ true
 first_goes_on p e =
     implied (empty p) (subset (first p) (goes_on p)) (right_of (all_told (rules p)) (not (empty p) || subset (first p) (goes_on p))
-      (right_of (all_fit p (rules p)) (all_told (rules p) && (not (empty p) || subset (first p) (goes_on p))) (checked p))) e
+    (right_of (all_fit p (rules p)) (all_told (rules p) && (not (empty p) || subset (first p) (goes_on p))) (checked p))) e
 
 pub any_map : (rs : List (List Symbol)) (P Q : List Symbol → Type 0) → ((r : List Symbol) → P r → Q r) → AnyRule rs P → AnyRule rs Q
 any_map [] P Q f any = any
@@ -75,10 +75,10 @@ pick_from p [] P Q G h t any other same one two = absurd any
 pick_from p (r ∷ rs) P Q G h t (inl does) (inl does') same one two = same r (to_fit p r (left_of (fits p r) (all_fit p rs) h)) does does'
 pick_from p (r ∷ rs) P Q G h t (inl does) (inr other) same one two =
     by_told p r rs Q G (left_of (told_from r rs) (all_told rs) t) (right_of (fits p r) (all_fit p rs) h) other
-      (λ s fit tells does'. one r s (to_fit p r (left_of (fits p r) (all_fit p rs) h)) fit tells does does')
+    (λ s fit tells does'. one r s (to_fit p r (left_of (fits p r) (all_fit p rs) h)) fit tells does does')
 pick_from p (r ∷ rs) P Q G h t (inr any) (inl does') same one two =
     by_told p r rs P G (left_of (told_from r rs) (all_told rs) t) (right_of (fits p r) (all_fit p rs) h) any
-      (λ s fit tells does. two r s (to_fit p r (left_of (fits p r) (all_fit p rs) h)) fit tells does does')
+    (λ s fit tells does. two r s (to_fit p r (left_of (fits p r) (all_fit p rs) h)) fit tells does does')
 pick_from p (r ∷ rs) P Q G h t (inr any) (inr other) same one two =
     pick_from p rs P Q G (right_of (fits p r) (all_fit p rs) h) (right_of (told_from r rs) (all_told rs) t) any other same one two
 
@@ -88,5 +88,5 @@ pub pick : (p : Part) (P Q : List Symbol → Type 0) (G : Type 0) → AnyRule (r
     → ((r s : List Symbol) → Fit p r → Fit p s → told r s ≡ true → P s → Q r → G) → G
 pick p P Q G any other same one two =
     pick_from p (rules p) P Q G (rules_fit p)
-      (left_of (all_told (rules p)) (not (empty p) || subset (first p) (goes_on p)) (right_of (all_fit p (rules p)) (all_told (rules p) && (not (empty p) || subset (first p) (goes_on p))) (checked p)))
-      any other same one two
+    (left_of (all_told (rules p)) (not (empty p) || subset (first p) (goes_on p)) (right_of (all_fit p (rules p)) (all_told (rules p) && (not (empty p) || subset (first p) (goes_on p))) (checked p)))
+    any other same one two

@@ -54,11 +54,12 @@ follows_whole nil [] z s h stop = tt
 follows_whole (seen place kind f) (Seen codes ∷ ss) z s (h, h') stop = (h, follows_whole f ss z s h' stop)
 follows_whole (bare kind f) (Bare codes ∷ ss) z s (h, h') stop = (h, follows_whole f ss z s h' stop)
 follows_whole (sub a g) (Of p ∷ ss) z s (any, h) stop =
-    let behind : Stops (goes_on p) (cond (void g) z []) = stops_behind p g ss z h stop in
-    (fit_map p (Follows a) (λ r. Whole a r (cond (void g) z []))
-        (λ r fit does. follows_whole a r (cond (void g) z []) fit.is_sound does (Stops-subset (stops r) (goes_on p) (cond (void g) z []) fit.ends behind)) any,
+    let behind : Stops (goes_on p) (cond (void g) z []) = stops_behind p g ss z h stop in (
+      fit_map p (Follows a) (λ r. Whole a r (cond (void g) z []))
+          (λ r fit does. follows_whole a r (cond (void g) z []) fit.is_sound does (Stops-subset (stops r) (goes_on p) (cond (void g) z []) fit.ends behind)) any,
       stops_void p a (cond (void g) z []) any behind,
-      follows_whole g ss z (right_of (apart (firsts ss) (goes_on p)) (sound ss) s) h (stops_rest p ss z stop))
+      follows_whole g ss z (right_of (apart (firsts ss) (goes_on p)) (sound ss) s) h (stops_rest p ss z stop),
+    )
 follows_whole _ _ z s h stop = absurd h
 
 pub part_whole : (p : Part) (a : Forest) (ts z : List Token) → AnyRule (rules p) (Follows a) → Stops (goes_on p) z → Spells a ts z → Parsed p a ts z
@@ -81,7 +82,7 @@ opened p ss a g ts m z s (any, stop, w) sa sg = go (void g) refl any stop
         record { whole = subst (λ (y : List Token). AnyRule (rules p) (λ r. Whole a r y)) q any'; stop = subst (λ (y : List Token). Stops (cond (void a) (first p) []) y) q stop'; spells = sa }
     go false e any' stop' =
         part_whole p a ts m (part_follows p a [] any')
-          (⊎_elim (λ v. both_ways (void g) v e) (λ (v, b). Stops-apart (firsts ss) (goes_on p) m (left_of (apart (firsts ss) (goes_on p)) (sound ss) s) b) (begins g ss m z (whole_follows g ss z w) sg)) sa
+        (⊎_elim (λ v. both_ways (void g) v e) (λ (v, b). Stops-apart (firsts ss) (goes_on p) m (left_of (apart (firsts ss) (goes_on p)) (sound ss) s) b) (begins g ss m z (whole_follows g ss z w) sg)) sa
 
 -- Two forests of one part, of rules that are told apart, aren't spelled by the same tokens
 
@@ -116,9 +117,9 @@ no_two r a ts m two fa sa =
     let le : least r ≤ count a = least_count a r fa in
     let long : 2 ≤ least r = two.long in
     ⊎_elim (λ v. let e : count a ≡ 0 = void_count a v in absurd (omega arith))
-      (λ v. ⊎_elim (λ (q, one). absurd (omega arith)) (λ b. both_ways (starts (seconds r) (two.next ∷ two.others)) b two.misfits)
-        (seconds_of a r two.head (two.next ∷ two.others) m fa (subst (λ (v : List Token). Spells a v m) two.split sa) v))
-      (two_ways (void a))
+    (λ v. ⊎_elim (λ (q, one). absurd (omega arith)) (λ b. both_ways (starts (seconds r) (two.next ∷ two.others)) b two.misfits)
+    (seconds_of a r two.head (two.next ∷ two.others) m fa (subst (λ (v : List Token). Spells a v m) two.split sa) v))
+    (two_ways (void a))
 
 two_tokens : (r s : List Symbol) (a b : Forest) (ts m n : List Token) → two_apart s r ≡ true → Follows a r → Follows b s → Spells a ts m → Spells b ts n → ⊥
 two_tokens r s a b ts m n h fa fb sa sb = no_two r a ts m (begun_two r s b ts n h fb sb) fa sa
@@ -127,28 +128,30 @@ clash : (p : Part) (r s : List Symbol) (a b : Forest) (ts m n : List Token) → 
     → Stops (cond (void a) (first p) []) m → Stops (cond (void b) (first p) []) n → Spells a ts m → Spells b ts n → ⊥
 clash p r s a b ts m n fit fit' tells wa wb stop stop' sa sb =
     ⊎_elim (λ one. go (void a) (void b) refl refl (left_of (apart (firsts r) (firsts s)) (not (empties r && empties s)) one)
-        (not_true (empties r && empties s) (right_of (apart (firsts r) (firsts s)) (not (empties r && empties s)) one)))
-      (λ two. two_tokens r s a b ts m n two fa fb sa sb)
-      (either_of (apart (firsts r) (firsts s) && not (empties r && empties s)) (two_apart s r) tells)
+    (not_true (empties r && empties s) (right_of (apart (firsts r) (firsts s)) (not (empties r && empties s)) one)))
+    (λ two. two_tokens r s a b ts m n two fa fb sa sb)
+    (either_of (apart (firsts r) (firsts s) && not (empties r && empties s)) (two_apart s r) tells)
   where
     fa : Follows a r
     fa = whole_follows a r m wa
+
     fb : Follows b s
     fb = whole_follows b s n wb
+
     go : (v w : Bool) → void a ≡ v → void b ≡ w → apart (firsts r) (firsts s) ≡ true → (empties r && empties s) ≡ false → ⊥
     go true true e e' tell blank = both_ways (empties r && empties s) (and_both (empties r) (empties s) (void_empties a r fa e) (void_empties b s fb e')) blank
     go true false e e' tell blank =
         ⊎_elim (λ v. both_ways (void b) v e')
-          (λ (v, st). both_ways (starts (first p) m) (subst (Starts (first p)) (void_spells a ts m e sa) (Starts-subset (firsts s) (first p) ts fit'.begins st)) (subst (λ (c : Bool). Stops (cond c (first p) []) m) e stop))
-          (begins b s ts n fb sb)
+        (λ (v, st). both_ways (starts (first p) m) (subst (Starts (first p)) (void_spells a ts m e sa) (Starts-subset (firsts s) (first p) ts fit'.begins st)) (subst (λ (c : Bool). Stops (cond c (first p) []) m) e stop))
+        (begins b s ts n fb sb)
     go false true e e' tell blank =
         ⊎_elim (λ v. both_ways (void a) v e)
-          (λ (v, st). both_ways (starts (first p) n) (subst (Starts (first p)) (void_spells b ts n e' sb) (Starts-subset (firsts r) (first p) ts fit.begins st)) (subst (λ (c : Bool). Stops (cond c (first p) []) n) e' stop'))
-          (begins a r ts m fa sa)
+        (λ (v, st). both_ways (starts (first p) n) (subst (Starts (first p)) (void_spells b ts n e' sb) (Starts-subset (firsts r) (first p) ts fit.begins st)) (subst (λ (c : Bool). Stops (cond c (first p) []) n) e' stop'))
+        (begins a r ts m fa sa)
     go false false e e' tell blank =
         ⊎_elim (λ v. both_ways (void a) v e)
-          (λ (v, st). ⊎_elim (λ v'. both_ways (void b) v' e') (λ (v', st'). both_ways (starts (firsts s) ts) st' (Stops-apart (firsts r) (firsts s) ts tell st)) (begins b s ts n fb sb))
-          (begins a r ts m fa sa)
+        (λ (v, st). ⊎_elim (λ v'. both_ways (void b) v' e') (λ (v', st'). both_ways (starts (firsts s) ts) st' (Stops-apart (firsts r) (firsts s) ts tell st)) (begins b s ts n fb sb))
+        (begins a r ts m fa sa)
 
 -- The law
 
@@ -195,9 +198,9 @@ Same f f' z z' = (f ≡ f') × (z ≡ z')
 same_part : (p : Part) (a b : Forest) (ts m n : List Token) → ((r : List Symbol) → sound r ≡ true → Whole a r m → Whole b r n → Same a b m n) → Parsed p a ts m → Parsed p b ts n → Same a b m n
 same_part p a b ts m n law pa pb =
     pick p (λ r. Whole a r m) (λ r. Whole b r n) (Same a b m n) pa.whole pb.whole
-      (λ r fit wa wb. law r fit.is_sound wa wb)
-      (λ r s fit fit' tells wa wb. absurd (clash p r s a b ts m n fit fit' tells wa wb pa.stop pb.stop pa.spells pb.spells))
-      (λ r s fit fit' tells wa wb. absurd (clash p r s b a ts n m fit fit' tells wb wa pb.stop pa.stop pb.spells pa.spells))
+    (λ r fit wa wb. law r fit.is_sound wa wb)
+    (λ r s fit fit' tells wa wb. absurd (clash p r s a b ts m n fit fit' tells wa wb pa.stop pb.stop pa.spells pb.spells))
+    (λ r s fit fit' tells wa wb. absurd (clash p r s b a ts n m fit fit' tells wb wa pb.stop pa.stop pb.spells pa.spells))
 
 pub law : (f f' : Forest) (ss : List Symbol) (ts z z' : List Token) → sound ss ≡ true → Whole f ss z → Whole f' ss z' → Spells f ts z → Spells f' ts z' → Same f f' z z'
 law nil f' [] ts z z' s w w' sp sp' =

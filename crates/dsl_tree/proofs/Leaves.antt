@@ -59,7 +59,7 @@ abbrev mutual
   tree_words p (Listed place items) z = tok place (TokenKind.Mark MarkKind.OpenSquare) ∷ items_words p items (tok p (TokenKind.Mark MarkKind.CloseSquare) ∷ z)
   tree_words p (RangeCall place low high) z =
       tok place (TokenKind.Word WordKind.RangeWord) ∷ (tok p (TokenKind.Mark MarkKind.OpenRound)
-        ∷ tree_words p low (tok p (TokenKind.Mark MarkKind.Comma) ∷ tree_words p high (tok p (TokenKind.Mark MarkKind.CloseRound) ∷ z)))
+      ∷ tree_words p low (tok p (TokenKind.Mark MarkKind.Comma) ∷ tree_words p high (tok p (TokenKind.Mark MarkKind.CloseRound) ∷ z)))
   tree_words p (Start first) z = tree_words p first z
 
   pub items_words : Place → ExprRow → List Token → List Token
@@ -106,29 +106,29 @@ mutual
   pub written_words : (p : Place) (t : ExprTree) (z : List Token) → is_whole (written t) ≡ true → leaves p (written t) z ≡ tree_words p t z
   written_words p (Implies place left right) z h =
       at_words p 1 left (written left) (tok place (TokenKind.Mark MarkKind.Arrow) ∷ leaves p (at 1 right (written right)) z) (tree_words p left (tok place (TokenKind.Mark MarkKind.Arrow) ∷ leaves p (at 1 right (written right)) z)) (written_words p left (tok place (TokenKind.Mark MarkKind.Arrow) ∷ leaves p (at 1 right (written right)) z)) (left_of _ _ h)
-        ∙ ap (λ (v : List Token). tree_words p left (tok place (TokenKind.Mark MarkKind.Arrow) ∷ v)) (at_words p 1 right (written right) (z) (tree_words p right (z)) (written_words p right (z)) (left_of _ _ (left_of _ _ (right_of _ _ h))))
+      ∙ ap (λ (v : List Token). tree_words p left (tok place (TokenKind.Mark MarkKind.Arrow) ∷ v)) (at_words p 1 right (written right) (z) (tree_words p right (z)) (written_words p right (z)) (left_of _ _ (left_of _ _ (right_of _ _ h))))
   written_words p (Relation place sign left right) z h =
       at_words p 5 left (written left) (tok place (sign_kind sign) ∷ leaves p (at 5 right (written right)) z) (tree_words p left (tok place (sign_kind sign) ∷ leaves p (at 5 right (written right)) z)) (written_words p left (tok place (sign_kind sign) ∷ leaves p (at 5 right (written right)) z)) (left_of _ _ h)
-        ∙ ap (λ (v : List Token). tree_words p left (tok place (sign_kind sign) ∷ v)) (at_words p 5 right (written right) (z) (tree_words p right (z)) (written_words p right (z)) (left_of _ _ (left_of _ _ (right_of _ _ h))))
+      ∙ ap (λ (v : List Token). tree_words p left (tok place (sign_kind sign) ∷ v)) (at_words p 5 right (written right) (z) (tree_words p right (z)) (written_words p right (z)) (left_of _ _ (left_of _ _ (right_of _ _ h))))
   written_words p (Not place part) z h = ap (λ (v : List Token). tok place (TokenKind.Word WordKind.NotWord) ∷ v) (at_words p 4 part (written part) (z) (tree_words p part (z)) (written_words p part (z)) (left_of _ _ h))
   written_words p (Minus place part) z h = ap (λ (v : List Token). tok place (TokenKind.Mark MarkKind.Dash) ∷ v) (at_words p 8 part (written part) (z) (tree_words p part (z)) (written_words p part (z)) (left_of _ _ h))
   written_words p (Or place operator left right) z h =
       or_words p left (next_part place operator (at 2 right (written right)) nil) z h
-        ∙ ap (λ (v : List Token). tree_words p left (tok place (operator_kind operator) ∷ v)) (at_words p 2 right (written right) (z) (tree_words p right (z)) (written_words p right (z)) (left_of _ _ (or_whole left (next_part place operator (at 2 right (written right)) nil) h)))
+      ∙ ap (λ (v : List Token). tree_words p left (tok place (operator_kind operator) ∷ v)) (at_words p 2 right (written right) (z) (tree_words p right (z)) (written_words p right (z)) (left_of _ _ (or_whole left (next_part place operator (at 2 right (written right)) nil) h)))
   written_words p (And place operator left right) z h =
       and_words p left (next_part place operator (at 3 right (written right)) nil) z h
-        ∙ ap (λ (v : List Token). tree_words p left (tok place (operator_kind operator) ∷ v)) (at_words p 3 right (written right) (z) (tree_words p right (z)) (written_words p right (z)) (left_of _ _ (and_whole left (next_part place operator (at 3 right (written right)) nil) h)))
+      ∙ ap (λ (v : List Token). tree_words p left (tok place (operator_kind operator) ∷ v)) (at_words p 3 right (written right) (z) (tree_words p right (z)) (written_words p right (z)) (left_of _ _ (and_whole left (next_part place operator (at 3 right (written right)) nil) h)))
   written_words p (Sum place operator left right) z h =
       sum_words p left (next_part place operator (at 6 right (written right)) nil) z h
-        ∙ ap (λ (v : List Token). tree_words p left (tok place (operator_kind operator) ∷ v)) (at_words p 6 right (written right) (z) (tree_words p right (z)) (written_words p right (z)) (left_of _ _ (sum_whole left (next_part place operator (at 6 right (written right)) nil) h)))
+      ∙ ap (λ (v : List Token). tree_words p left (tok place (operator_kind operator) ∷ v)) (at_words p 6 right (written right) (z) (tree_words p right (z)) (written_words p right (z)) (left_of _ _ (sum_whole left (next_part place operator (at 6 right (written right)) nil) h)))
   written_words p (Product place operator left right) z h =
       product_words p left (next_part place operator (at 7 right (written right)) nil) z h
-        ∙ ap (λ (v : List Token). tree_words p left (tok place (operator_kind operator) ∷ v)) (at_words p 7 right (written right) (z) (tree_words p right (z)) (written_words p right (z)) (left_of _ _ (product_whole left (next_part place operator (at 7 right (written right)) nil) h)))
+      ∙ ap (λ (v : List Token). tree_words p left (tok place (operator_kind operator) ∷ v)) (at_words p 7 right (written right) (z) (tree_words p right (z)) (written_words p right (z)) (left_of _ _ (product_whole left (next_part place operator (at 7 right (written right)) nil) h)))
   written_words p (Dot head name) z h = post_words p head (next_name name nil) z h
   written_words p (Index place head index) z h =
       post_words p head (next_index place (at 0 index (written index)) nil) z h
-        ∙ ap (λ (v : List Token). tree_words p head (tok place (TokenKind.Mark MarkKind.OpenSquare) ∷ v))
-          (at_words p 0 index (written index) (tok p (TokenKind.Mark MarkKind.CloseSquare) ∷ z) (tree_words p index (tok p (TokenKind.Mark MarkKind.CloseSquare) ∷ z)) (written_words p index (tok p (TokenKind.Mark MarkKind.CloseSquare) ∷ z)) (left_of _ _ (left_of _ _ (post_whole head (next_index place (at 0 index (written index)) nil) h))))
+      ∙ ap (λ (v : List Token). tree_words p head (tok place (TokenKind.Mark MarkKind.OpenSquare) ∷ v))
+      (at_words p 0 index (written index) (tok p (TokenKind.Mark MarkKind.CloseSquare) ∷ z) (tree_words p index (tok p (TokenKind.Mark MarkKind.CloseSquare) ∷ z)) (written_words p index (tok p (TokenKind.Mark MarkKind.CloseSquare) ∷ z)) (left_of _ _ (left_of _ _ (post_whole head (next_index place (at 0 index (written index)) nil) h))))
   written_words p (Number number) z h = refl
   written_words p (Physical number unit) z h = refl
   written_words p (Chars place text) z h = refl
@@ -140,49 +140,49 @@ mutual
   written_words p (Group place inner) z h = ap (λ (v : List Token). tok place (TokenKind.Mark MarkKind.OpenRound) ∷ v) (at_words p 0 inner (written inner) (tok p (TokenKind.Mark MarkKind.CloseRound) ∷ z) (tree_words p inner (tok p (TokenKind.Mark MarkKind.CloseRound) ∷ z)) (written_words p inner (tok p (TokenKind.Mark MarkKind.CloseRound) ∷ z)) (left_of _ _ h))
   written_words p (Span place low high) z h =
       ap (λ (v : List Token). tok place (TokenKind.Mark MarkKind.OpenSquare) ∷ v)
-        (at_words p 0 low (written low) (tok p (TokenKind.Mark MarkKind.TwoDots) ∷ leaves p (at 0 high (written high)) (tok p (TokenKind.Mark MarkKind.CloseSquare) ∷ z)) (tree_words p low (tok p (TokenKind.Mark MarkKind.TwoDots) ∷ leaves p (at 0 high (written high)) (tok p (TokenKind.Mark MarkKind.CloseSquare) ∷ z))) (written_words p low (tok p (TokenKind.Mark MarkKind.TwoDots) ∷ leaves p (at 0 high (written high)) (tok p (TokenKind.Mark MarkKind.CloseSquare) ∷ z))) (left_of _ _ h)
-          ∙ ap (λ (v : List Token). tree_words p low (tok p (TokenKind.Mark MarkKind.TwoDots) ∷ v)) (at_words p 0 high (written high) (tok p (TokenKind.Mark MarkKind.CloseSquare) ∷ z) (tree_words p high (tok p (TokenKind.Mark MarkKind.CloseSquare) ∷ z)) (written_words p high (tok p (TokenKind.Mark MarkKind.CloseSquare) ∷ z)) (left_of _ _ (left_of _ _ (right_of _ _ h)))))
+      (at_words p 0 low (written low) (tok p (TokenKind.Mark MarkKind.TwoDots) ∷ leaves p (at 0 high (written high)) (tok p (TokenKind.Mark MarkKind.CloseSquare) ∷ z)) (tree_words p low (tok p (TokenKind.Mark MarkKind.TwoDots) ∷ leaves p (at 0 high (written high)) (tok p (TokenKind.Mark MarkKind.CloseSquare) ∷ z))) (written_words p low (tok p (TokenKind.Mark MarkKind.TwoDots) ∷ leaves p (at 0 high (written high)) (tok p (TokenKind.Mark MarkKind.CloseSquare) ∷ z))) (left_of _ _ h)
+      ∙ ap (λ (v : List Token). tree_words p low (tok p (TokenKind.Mark MarkKind.TwoDots) ∷ v)) (at_words p 0 high (written high) (tok p (TokenKind.Mark MarkKind.CloseSquare) ∷ z) (tree_words p high (tok p (TokenKind.Mark MarkKind.CloseSquare) ∷ z)) (written_words p high (tok p (TokenKind.Mark MarkKind.CloseSquare) ∷ z)) (left_of _ _ (left_of _ _ (right_of _ _ h)))))
   written_words p (Listed place End) z h = absurd (false≢true h)
   written_words p (Listed place (Item item others)) z h =
       ap (λ (v : List Token). tok place (TokenKind.Mark MarkKind.OpenSquare) ∷ v)
-        (at_words p 0 item (written item) (leaves p (listed_tail others) (tok p (TokenKind.Mark MarkKind.CloseSquare) ∷ z)) (tree_words p item (leaves p (listed_tail others) (tok p (TokenKind.Mark MarkKind.CloseSquare) ∷ z))) (written_words p item (leaves p (listed_tail others) (tok p (TokenKind.Mark MarkKind.CloseSquare) ∷ z))) (left_of _ _ h)
-          ∙ ap (λ (v : List Token). tree_words p item v) (listed_words p others (tok p (TokenKind.Mark MarkKind.CloseSquare) ∷ z) (left_of _ _ (left_of _ _ (right_of _ _ h)))))
+      (at_words p 0 item (written item) (leaves p (listed_tail others) (tok p (TokenKind.Mark MarkKind.CloseSquare) ∷ z)) (tree_words p item (leaves p (listed_tail others) (tok p (TokenKind.Mark MarkKind.CloseSquare) ∷ z))) (written_words p item (leaves p (listed_tail others) (tok p (TokenKind.Mark MarkKind.CloseSquare) ∷ z))) (left_of _ _ h)
+      ∙ ap (λ (v : List Token). tree_words p item v) (listed_words p others (tok p (TokenKind.Mark MarkKind.CloseSquare) ∷ z) (left_of _ _ (left_of _ _ (right_of _ _ h)))))
   written_words p (RangeCall place low high) z h =
       ap (λ (v : List Token). tok place (TokenKind.Word WordKind.RangeWord) ∷ (tok p (TokenKind.Mark MarkKind.OpenRound) ∷ v))
-        (at_words p 0 low (written low) (tok p (TokenKind.Mark MarkKind.Comma) ∷ leaves p (at 0 high (written high)) (tok p (TokenKind.Mark MarkKind.CloseRound) ∷ z)) (tree_words p low (tok p (TokenKind.Mark MarkKind.Comma) ∷ leaves p (at 0 high (written high)) (tok p (TokenKind.Mark MarkKind.CloseRound) ∷ z))) (written_words p low (tok p (TokenKind.Mark MarkKind.Comma) ∷ leaves p (at 0 high (written high)) (tok p (TokenKind.Mark MarkKind.CloseRound) ∷ z))) (left_of _ _ h)
-          ∙ ap (λ (v : List Token). tree_words p low (tok p (TokenKind.Mark MarkKind.Comma) ∷ v)) (at_words p 0 high (written high) (tok p (TokenKind.Mark MarkKind.CloseRound) ∷ z) (tree_words p high (tok p (TokenKind.Mark MarkKind.CloseRound) ∷ z)) (written_words p high (tok p (TokenKind.Mark MarkKind.CloseRound) ∷ z)) (left_of _ _ (right_of _ _ h))))
+      (at_words p 0 low (written low) (tok p (TokenKind.Mark MarkKind.Comma) ∷ leaves p (at 0 high (written high)) (tok p (TokenKind.Mark MarkKind.CloseRound) ∷ z)) (tree_words p low (tok p (TokenKind.Mark MarkKind.Comma) ∷ leaves p (at 0 high (written high)) (tok p (TokenKind.Mark MarkKind.CloseRound) ∷ z))) (written_words p low (tok p (TokenKind.Mark MarkKind.Comma) ∷ leaves p (at 0 high (written high)) (tok p (TokenKind.Mark MarkKind.CloseRound) ∷ z))) (left_of _ _ h)
+      ∙ ap (λ (v : List Token). tree_words p low (tok p (TokenKind.Mark MarkKind.Comma) ∷ v)) (at_words p 0 high (written high) (tok p (TokenKind.Mark MarkKind.CloseRound) ∷ z) (tree_words p high (tok p (TokenKind.Mark MarkKind.CloseRound) ∷ z)) (written_words p high (tok p (TokenKind.Mark MarkKind.CloseRound) ∷ z)) (left_of _ _ (right_of _ _ h))))
   written_words p (Start first) z h = absurd (false≢true h)
 
   or_words : (p : Place) (t : ExprTree) (rest : Forest) (z : List Token) → is_whole (or_row t rest) ≡ true → leaves p (or_row t rest) z ≡ tree_words p t (leaves p rest z)
   or_words p (Start first) rest z h = at_words p 2 first (written first) (leaves p rest z) (tree_words p first (leaves p rest z)) (written_words p first (leaves p rest z)) (left_of _ _ h)
   or_words p (Or place operator left right) rest z h =
       or_words p left (next_part place operator (at 2 right (written right)) rest) z h
-        ∙ ap (λ (v : List Token). tree_words p left (tok place (operator_kind operator) ∷ v))
-          (at_words p 2 right (written right) (leaves p rest z) (tree_words p right (leaves p rest z)) (written_words p right (leaves p rest z)) (left_of _ _ (or_whole left (next_part place operator (at 2 right (written right)) rest) h)))
+      ∙ ap (λ (v : List Token). tree_words p left (tok place (operator_kind operator) ∷ v))
+      (at_words p 2 right (written right) (leaves p rest z) (tree_words p right (leaves p rest z)) (written_words p right (leaves p rest z)) (left_of _ _ (or_whole left (next_part place operator (at 2 right (written right)) rest) h)))
   or_words p _ rest z h = absurd (false≢true h)
 
   and_words : (p : Place) (t : ExprTree) (rest : Forest) (z : List Token) → is_whole (and_row t rest) ≡ true → leaves p (and_row t rest) z ≡ tree_words p t (leaves p rest z)
   and_words p (Start first) rest z h = at_words p 3 first (written first) (leaves p rest z) (tree_words p first (leaves p rest z)) (written_words p first (leaves p rest z)) (left_of _ _ h)
   and_words p (And place operator left right) rest z h =
       and_words p left (next_part place operator (at 3 right (written right)) rest) z h
-        ∙ ap (λ (v : List Token). tree_words p left (tok place (operator_kind operator) ∷ v))
-          (at_words p 3 right (written right) (leaves p rest z) (tree_words p right (leaves p rest z)) (written_words p right (leaves p rest z)) (left_of _ _ (and_whole left (next_part place operator (at 3 right (written right)) rest) h)))
+      ∙ ap (λ (v : List Token). tree_words p left (tok place (operator_kind operator) ∷ v))
+      (at_words p 3 right (written right) (leaves p rest z) (tree_words p right (leaves p rest z)) (written_words p right (leaves p rest z)) (left_of _ _ (and_whole left (next_part place operator (at 3 right (written right)) rest) h)))
   and_words p _ rest z h = absurd (false≢true h)
 
   sum_words : (p : Place) (t : ExprTree) (rest : Forest) (z : List Token) → is_whole (sum_row t rest) ≡ true → leaves p (sum_row t rest) z ≡ tree_words p t (leaves p rest z)
   sum_words p (Start first) rest z h = at_words p 6 first (written first) (leaves p rest z) (tree_words p first (leaves p rest z)) (written_words p first (leaves p rest z)) (left_of _ _ h)
   sum_words p (Sum place operator left right) rest z h =
       sum_words p left (next_part place operator (at 6 right (written right)) rest) z h
-        ∙ ap (λ (v : List Token). tree_words p left (tok place (operator_kind operator) ∷ v))
-          (at_words p 6 right (written right) (leaves p rest z) (tree_words p right (leaves p rest z)) (written_words p right (leaves p rest z)) (left_of _ _ (sum_whole left (next_part place operator (at 6 right (written right)) rest) h)))
+      ∙ ap (λ (v : List Token). tree_words p left (tok place (operator_kind operator) ∷ v))
+      (at_words p 6 right (written right) (leaves p rest z) (tree_words p right (leaves p rest z)) (written_words p right (leaves p rest z)) (left_of _ _ (sum_whole left (next_part place operator (at 6 right (written right)) rest) h)))
   sum_words p _ rest z h = absurd (false≢true h)
 
   product_words : (p : Place) (t : ExprTree) (rest : Forest) (z : List Token) → is_whole (product_row t rest) ≡ true → leaves p (product_row t rest) z ≡ tree_words p t (leaves p rest z)
   product_words p (Start first) rest z h = at_words p 7 first (written first) (leaves p rest z) (tree_words p first (leaves p rest z)) (written_words p first (leaves p rest z)) (left_of _ _ h)
   product_words p (Product place operator left right) rest z h =
       product_words p left (next_part place operator (at 7 right (written right)) rest) z h
-        ∙ ap (λ (v : List Token). tree_words p left (tok place (operator_kind operator) ∷ v))
-          (at_words p 7 right (written right) (leaves p rest z) (tree_words p right (leaves p rest z)) (written_words p right (leaves p rest z)) (left_of _ _ (product_whole left (next_part place operator (at 7 right (written right)) rest) h)))
+      ∙ ap (λ (v : List Token). tree_words p left (tok place (operator_kind operator) ∷ v))
+      (at_words p 7 right (written right) (leaves p rest z) (tree_words p right (leaves p rest z)) (written_words p right (leaves p rest z)) (left_of _ _ (product_whole left (next_part place operator (at 7 right (written right)) rest) h)))
   product_words p _ rest z h = absurd (false≢true h)
 
   post_words : (p : Place) (t : ExprTree) (rest : Forest) (z : List Token) → is_whole (post_row t rest) ≡ true → leaves p (post_row t rest) z ≡ tree_words p t (leaves p rest z)
@@ -190,16 +190,16 @@ mutual
   post_words p (Dot head name) rest z h = post_words p head (next_name name rest) z h
   post_words p (Index place head index) rest z h =
       post_words p head (next_index place (at 0 index (written index)) rest) z h
-        ∙ ap (λ (v : List Token). tree_words p head (tok place (TokenKind.Mark MarkKind.OpenSquare) ∷ v))
-          (at_words p 0 index (written index) (tok p (TokenKind.Mark MarkKind.CloseSquare) ∷ leaves p rest z) (tree_words p index (tok p (TokenKind.Mark MarkKind.CloseSquare) ∷ leaves p rest z)) (written_words p index (tok p (TokenKind.Mark MarkKind.CloseSquare) ∷ leaves p rest z)) (left_of _ _ (left_of _ _ (post_whole head (next_index place (at 0 index (written index)) rest) h))))
+      ∙ ap (λ (v : List Token). tree_words p head (tok place (TokenKind.Mark MarkKind.OpenSquare) ∷ v))
+      (at_words p 0 index (written index) (tok p (TokenKind.Mark MarkKind.CloseSquare) ∷ leaves p rest z) (tree_words p index (tok p (TokenKind.Mark MarkKind.CloseSquare) ∷ leaves p rest z)) (written_words p index (tok p (TokenKind.Mark MarkKind.CloseSquare) ∷ leaves p rest z)) (left_of _ _ (left_of _ _ (post_whole head (next_index place (at 0 index (written index)) rest) h))))
   post_words p _ rest z h = absurd (false≢true h)
 
   listed_words : (p : Place) (items : ExprRow) (z : List Token) → is_whole (listed_tail items) ≡ true → leaves p (listed_tail items) z ≡ others_words p items z
   listed_words p End z h = refl
   listed_words p (Item item others) z h =
       ap (λ (v : List Token). tok p (TokenKind.Mark MarkKind.Comma) ∷ v)
-        (at_words p 0 item (written item) (leaves p (listed_tail others) z) (tree_words p item (leaves p (listed_tail others) z)) (written_words p item (leaves p (listed_tail others) z)) (left_of _ _ h)
-          ∙ ap (λ (v : List Token). tree_words p item v) (listed_words p others z (left_of _ _ (right_of _ _ h))))
+      (at_words p 0 item (written item) (leaves p (listed_tail others) z) (tree_words p item (leaves p (listed_tail others) z)) (written_words p item (leaves p (listed_tail others) z)) (left_of _ _ h)
+      ∙ ap (λ (v : List Token). tree_words p item v) (listed_words p others z (left_of _ _ (right_of _ _ h))))
 
 pub expr_words_of : (p : Place) (t : ExprTree) (z : List Token) → is_whole (expr t) ≡ true → leaves p (expr t) z ≡ tree_words p t z
 expr_words_of p t z h = at_words p 0 t (written t) z (tree_words p t z) (written_words p t z) h

@@ -33,8 +33,8 @@ is_is_whole p f is = by_rules p (Follows f) (is_whole f ≡ true) is (λ r fit d
 pub spelled_once : OneTree
 spelled_once tree other tokens s s' =
     sym (file_back tree (is_is_whole Part.File (file tree) s.follows))
-      ∙ (ap read_file (one_forest Part.File (file tree) (file other) tokens s.follows s'.follows s.spells s'.spells)
-      ∙ file_back other (is_is_whole Part.File (file other) s'.follows))
+    ∙ (ap read_file (one_forest Part.File (file tree) (file other) tokens s.follows s'.follows s.spells s'.spells)
+    ∙ file_back other (is_is_whole Part.File (file other) s'.follows))
 
 -- a tree that follows the grammar is spelled by the tokens of its forest
 pub spelled_by : (tree : FileTree) → FollowsGrammar tree → (tokens : List Token) × Spelled tree tokens

@@ -149,9 +149,9 @@ invocation_back : (label : Option Ident) (head : InvokeHead) (names : List Ident
     → is_whole (invocation_rest names args parts) ≡ true → read_invocation label head (invocation_rest names args parts) ≡ Invoke label head names args parts
 invocation_back label head names args parts h =
     ap (λ (x : List Ident). Invoke label head x (read_invocation_arguments (invocation_arguments args)) (read_end (invocation_end parts))) (dotted_back names)
-      ∙ ap₂ (λ (x : List ArgumentTree) (y : List PartTree). Invoke label head names x y)
-        (invocation_arguments_back args (left_of _ _ (right_of (is_whole (dotted_names names)) _ h)))
-        (end_back parts (left_of _ _ (right_of _ _ (right_of (is_whole (dotted_names names)) _ h))))
+    ∙ ap₂ (λ (x : List ArgumentTree) (y : List PartTree). Invoke label head names x y)
+    (invocation_arguments_back args (left_of _ _ (right_of (is_whole (dotted_names names)) _ h)))
+    (end_back parts (left_of _ _ (right_of _ _ (right_of (is_whole (dotted_names names)) _ h))))
 
 -- Phases
 
@@ -206,10 +206,10 @@ mutual
   pub phase_back : (p : PhaseTree) → is_whole (phase p) ≡ true → read_phase (phase p) ≡ p
   phase_back (Comp None place kind args members) h =
       ap₂ (λ (k : CompKind) (x : List ArgumentTree). Comp None place k x (read_block (block_phases members))) (comp_back kind) (composition_arguments_back args (left_of _ _ (left_of _ _ h)))
-        ∙ ap (λ (x : PhaseRow). Comp None place kind args x) (block_back members (right_of (is_whole (composition_arguments args)) _ (left_of _ _ h)))
+      ∙ ap (λ (x : PhaseRow). Comp None place kind args x) (block_back members (right_of (is_whole (composition_arguments args)) _ (left_of _ _ h)))
   phase_back (Comp (Some label) place kind args members) h =
       ap₂ (λ (k : CompKind) (x : List ArgumentTree). Comp (Some label) place k x (read_block (block_phases members))) (comp_back kind) (composition_arguments_back args (left_of _ _ (left_of _ _ (left_of _ _ (left_of _ _ h)))))
-        ∙ ap (λ (x : PhaseRow). Comp (Some label) place kind args x) (block_back members (right_of (is_whole (composition_arguments args)) _ (left_of _ _ (left_of _ _ (left_of _ _ h)))))
+      ∙ ap (λ (x : PhaseRow). Comp (Some label) place kind args x) (block_back members (right_of (is_whole (composition_arguments args)) _ (left_of _ _ (left_of _ _ (left_of _ _ h)))))
   phase_back (Invoke None (InvokeHead.Name name) names args parts) h = invocation_back None (InvokeHead.Name name) names args parts (left_of _ _ (left_of _ _ h))
   phase_back (Invoke None (InvokeHead.Actor place) names args parts) h = invocation_back None (InvokeHead.Actor place) names args parts (left_of _ _ h)
   phase_back (Invoke (Some label) (InvokeHead.Name name) names args parts) h = invocation_back (Some label) (InvokeHead.Name name) names args parts (left_of _ _ (left_of _ _ (left_of _ _ h)))

@@ -61,16 +61,16 @@ front_words p (ExprTree.Start head) rest z h = head_words p head rest z h
 front_words p (ExprTree.Dot head name) rest z h = front_words p head (next_name name rest) z h
 front_words p (ExprTree.Index place head index) rest z h =
     front_words p head (next_index place (expr index) rest) z h
-      ∙ ap (λ (v : List Token). tree_words p head (tok place (TokenKind.Mark MarkKind.OpenSquare) ∷ v))
-        (expr_words_of p index (tok p (TokenKind.Mark MarkKind.CloseSquare) ∷ leaves p rest z) (left_of _ _ (left_of _ _ (front_whole head (next_index place (expr index) rest) h))))
+    ∙ ap (λ (v : List Token). tree_words p head (tok place (TokenKind.Mark MarkKind.OpenSquare) ∷ v))
+    (expr_words_of p index (tok p (TokenKind.Mark MarkKind.CloseSquare) ∷ leaves p rest z) (left_of _ _ (left_of _ _ (front_whole head (next_index place (expr index) rest) h))))
 front_words p _ rest z h = absurd (false≢true h)
 
 path_tree_words : (p : Place) (t : ExprTree) (z : List Token) → is_whole (path t) ≡ true → leaves p (path t) z ≡ tree_words p t z
 path_tree_words p (ExprTree.Dot head name) z h = front_words p head (next_name name nil) z h
 path_tree_words p (ExprTree.Index place head index) z h =
     front_words p head (next_index place (expr index) nil) z h
-      ∙ ap (λ (v : List Token). tree_words p head (tok place (TokenKind.Mark MarkKind.OpenSquare) ∷ v))
-        (expr_words_of p index (tok p (TokenKind.Mark MarkKind.CloseSquare) ∷ z) (left_of _ _ (left_of _ _ (front_whole head (next_index place (expr index) nil) h))))
+    ∙ ap (λ (v : List Token). tree_words p head (tok place (TokenKind.Mark MarkKind.OpenSquare) ∷ v))
+    (expr_words_of p index (tok p (TokenKind.Mark MarkKind.CloseSquare) ∷ z) (left_of _ _ (left_of _ _ (front_whole head (next_index place (expr index) nil) h))))
 path_tree_words p (ExprTree.Name name) z h = refl
 path_tree_words p (ExprTree.It place) z h = refl
 path_tree_words p (ExprTree.Actor place) z h = refl
@@ -80,7 +80,7 @@ suffix_list_words : (p : Place) (suffixes : List Suffix) (head : ExprTree) (z : 
 suffix_list_words p [] head z = refl
 suffix_list_words p (s ∷ rest) head z =
     of_suffix p s head (map suffix_tree rest) z (joined (map (suffix_words p) rest) ++ z) (λ t. suffix_list_words p rest t z)
-      ∙ ap (λ (v : List Token). tree_words p head v) (sym (append_assoc (suffix_words p s) (joined (map (suffix_words p) rest)) z))
+    ∙ ap (λ (v : List Token). tree_words p head v) (sym (append_assoc (suffix_words p s) (joined (map (suffix_words p) rest)) z))
 
 path_head_tree_words : (p : Place) (h : PathHead) (z : List Token) → tree_words p (head_tree h) z ≡ path_head_words h ++ z
 path_head_tree_words p (PathHead.Name name) z = refl
@@ -91,7 +91,7 @@ path_row_words : (p : Place) (head : PathHead) (suffixes : List Suffix) (z : Lis
 path_row_words p head [] z = path_head_tree_words p head z ∙ sym (append_assoc (path_head_words head) [] z)
 path_row_words p head (s ∷ rest) z =
     suffix_list_words p (s ∷ rest) (ExprTree.Start (head_tree head)) z
-      ∙ (path_head_tree_words p head (joined (map (suffix_words p) (s ∷ rest)) ++ z) ∙ sym (append_assoc (path_head_words head) (joined (map (suffix_words p) (s ∷ rest))) z))
+    ∙ (path_head_tree_words p head (joined (map (suffix_words p) (s ∷ rest)) ++ z) ∙ sym (append_assoc (path_head_words head) (joined (map (suffix_words p) (s ∷ rest))) z))
 
 leaves_path : (p : Place) (n : PathNode) (z : List Token) → is_whole (path (path_tree n)) ≡ true → leaves p (path (path_tree n)) z ≡ path_words p n ++ z
 leaves_path p n z h = path_tree_words p (path_tree n) z h ∙ path_row_words p n.head n.suffixes z
@@ -106,18 +106,18 @@ keep_kind_words p KeepKind.Default z = refl
 pub leaves_rule : (p : Place) (r : RuleDecl) (z : List Token) → is_whole (rule (rule_tree r)) ≡ true → leaves p (rule (rule_tree r)) z ≡ rule_words p r ++ z
 leaves_rule p (RuleDecl.Keep place kind e) z h =
     ap (λ (v : List Token). tok place (TokenKind.Word WordKind.KeepWord) ∷ (tok p (TokenKind.Mark MarkKind.OpenRound) ∷ v))
-      (keep_kind_words p kind (leaves p (expr (expr_tree e)) (tok p (TokenKind.Mark MarkKind.CloseRound) ∷ (tok p TokenKind.Newline ∷ z)))
-        ∙ (ap (λ (v : List Token). keep_words p kind ++ v) (leaves_expr p e (tok p (TokenKind.Mark MarkKind.CloseRound) ∷ (tok p TokenKind.Newline ∷ z)) (left_of _ _ (right_of (is_whole (keep_kind kind)) _ h)))
-        ∙ sym (regroup_four (keep_words p kind) (expr_words p e) (closing p) (tok p TokenKind.Newline) z)))
+    (keep_kind_words p kind (leaves p (expr (expr_tree e)) (tok p (TokenKind.Mark MarkKind.CloseRound) ∷ (tok p TokenKind.Newline ∷ z)))
+    ∙ (ap (λ (v : List Token). keep_words p kind ++ v) (leaves_expr p e (tok p (TokenKind.Mark MarkKind.CloseRound) ∷ (tok p TokenKind.Newline ∷ z)) (left_of _ _ (right_of (is_whole (keep_kind kind)) _ h)))
+    ∙ sym (regroup_four (keep_words p kind) (expr_words p e) (closing p) (tok p TokenKind.Newline) z)))
 leaves_rule p (RuleDecl.Remove place n) z h =
     ap (λ (v : List Token). tok place (TokenKind.Word WordKind.RemoveDefaultWord) ∷ (tok p (TokenKind.Mark MarkKind.OpenRound) ∷ v))
-      (leaves_path p n (tok p (TokenKind.Mark MarkKind.CloseRound) ∷ (tok p TokenKind.Newline ∷ z)) (left_of _ _ h) ∙ simp append_assoc)
+    (leaves_path p n (tok p (TokenKind.Mark MarkKind.CloseRound) ∷ (tok p TokenKind.Newline ∷ z)) (left_of _ _ h) ∙ simp append_assoc)
 
 pub leaves_rules : (p : Place) (rs : List RuleDecl) (z : List Token) → is_whole (rules_tail (map rule_tree rs)) ≡ true → leaves p (rules_tail (map rule_tree rs)) z ≡ joined (map (rule_words p) rs) ++ z
 leaves_rules p [] z h = refl
 leaves_rules p (r ∷ rs) z h =
     leaves_rule p r (leaves p (rules_tail (map rule_tree rs)) z) (left_of _ _ h)
-      ∙ (ap (λ (v : List Token). rule_words p r ++ v) (leaves_rules p rs z (left_of _ _ (right_of _ _ h))) ∙ sym (append_assoc (rule_words p r) (joined (map (rule_words p) rs)) z))
+    ∙ (ap (λ (v : List Token). rule_words p r ++ v) (leaves_rules p rs z (left_of _ _ (right_of _ _ h))) ∙ sym (append_assoc (rule_words p r) (joined (map (rule_words p) rs)) z))
 
 -- Arguments
 
@@ -132,11 +132,11 @@ named_item : (p : Place) (name : Option Ident) (value : Expr) (others : List Arg
     → (is_whole (named_tail (map argument_tree others)) ≡ true → leaves p (named_tail (map argument_tree others)) z ≡ others_of p others ++ closing p ∷ z)
     → is_whole (by_option name wrong (λ n. Written.mark MarkKind.Comma (named_argument n (expr_tree value) (named_tail (map argument_tree others))))) ≡ true
     → leaves p (by_option name wrong (λ n. Written.mark MarkKind.Comma (named_argument n (expr_tree value) (named_tail (map argument_tree others))))) z
-      ≡ tok p (TokenKind.Mark MarkKind.Comma) ∷ ((label_words p name ++ expr_words p value) ++ (others_of p others ++ closing p ∷ z))
+    ≡ tok p (TokenKind.Mark MarkKind.Comma) ∷ ((label_words p name ++ expr_words p value) ++ (others_of p others ++ closing p ∷ z))
 named_item p None value others z back h = absurd (false≢true h)
 named_item p (Some n) value others z back h =
     ap (λ (v : List Token). tok p (TokenKind.Mark MarkKind.Comma) ∷ (tok n.place (TokenKind.Name n.text) ∷ (tok p (TokenKind.Mark MarkKind.Colon) ∷ v)))
-      (leaves_expr p value (leaves p (named_tail (map argument_tree others)) z) (left_of _ _ h) ∙ ap (λ (v : List Token). expr_words p value ++ v) (back (left_of _ _ (right_of _ _ h))))
+    (leaves_expr p value (leaves p (named_tail (map argument_tree others)) z) (left_of _ _ h) ∙ ap (λ (v : List Token). expr_words p value ++ v) (back (left_of _ _ (right_of _ _ h))))
 
 named_words : (p : Place) (args : List Argument) (z : List Token) → is_whole (named_tail (map argument_tree args)) ≡ true → leaves p (named_tail (map argument_tree args)) z ≡ others_of p args ++ closing p ∷ z
 named_words p [] z h = refl
@@ -154,13 +154,13 @@ argument_item : (p : Place) (name : Option Ident) (value : Expr) (others : List 
     → (is_whole (arguments (map argument_tree others)) ≡ true → leaves p (arguments (map argument_tree others)) z ≡ comma_joined p (map (argument_words p) others) ++ closing p ∷ z)
     → is_whole (by_option name (sub (expr (expr_tree value)) (sub (arguments_tail (map argument_tree others) (arguments (map argument_tree others))) nil)) (λ n. named_argument n (expr_tree value) (named_tail (map argument_tree others)))) ≡ true
     → leaves p (by_option name (sub (expr (expr_tree value)) (sub (arguments_tail (map argument_tree others) (arguments (map argument_tree others))) nil)) (λ n. named_argument n (expr_tree value) (named_tail (map argument_tree others)))) z
-      ≡ (label_words p name ++ expr_words p value) ++ (others_of p others ++ closing p ∷ z)
+    ≡ (label_words p name ++ expr_words p value) ++ (others_of p others ++ closing p ∷ z)
 argument_item p None value others z back h =
     leaves_expr p value (leaves p (arguments_tail (map argument_tree others) (arguments (map argument_tree others))) z) (left_of _ _ h)
-      ∙ ap (λ (v : List Token). expr_words p value ++ v) (tail_words p others z back (left_of _ _ (right_of _ _ h)))
+    ∙ ap (λ (v : List Token). expr_words p value ++ v) (tail_words p others z back (left_of _ _ (right_of _ _ h)))
 argument_item p (Some n) value others z back h =
     ap (λ (v : List Token). tok n.place (TokenKind.Name n.text) ∷ (tok p (TokenKind.Mark MarkKind.Colon) ∷ v))
-      (leaves_expr p value (leaves p (named_tail (map argument_tree others)) z) (left_of _ _ h) ∙ ap (λ (v : List Token). expr_words p value ++ v) (named_words p others z (left_of _ _ (right_of _ _ h))))
+    (leaves_expr p value (leaves p (named_tail (map argument_tree others)) z) (left_of _ _ h) ∙ ap (λ (v : List Token). expr_words p value ++ v) (named_words p others z (left_of _ _ (right_of _ _ h))))
 
 list_words : (p : Place) (args : List Argument) (z : List Token) → is_whole (arguments (map argument_tree args)) ≡ true → leaves p (arguments (map argument_tree args)) z ≡ comma_joined p (map (argument_words p) args) ++ closing p ∷ z
 list_words p [] z h = absurd (false≢true h)
@@ -187,20 +187,20 @@ leaves_part : (p : Place) (part : InvokePart) (z : List Token) → is_whole (inv
 leaves_part p (InvokePart.Rule r) z h = leaves_rule p r z (left_of _ _ h)
 leaves_part p (InvokePart.Modifier m) z h =
     ap (λ (v : List Token). tok m.name.place (TokenKind.Name m.name.text) ∷ (tok p (TokenKind.Mark MarkKind.OpenRound) ∷ v))
-      (leaves_arguments p m.arguments (tok p TokenKind.Newline ∷ z) (left_of _ _ h) ∙ simp append_assoc)
+    (leaves_arguments p m.arguments (tok p TokenKind.Newline ∷ z) (left_of _ _ h) ∙ simp append_assoc)
 
 leaves_parts : (p : Place) (ps : List InvokePart) (z : List Token) → is_whole (parts_tail (map part_tree ps)) ≡ true → leaves p (parts_tail (map part_tree ps)) z ≡ joined (map (part_words p) ps) ++ z
 leaves_parts p [] z h = refl
 leaves_parts p (x ∷ xs) z h =
     leaves_part p x (leaves p (parts_tail (map part_tree xs)) z) (left_of _ _ h)
-      ∙ (ap (λ (v : List Token). part_words p x ++ v) (leaves_parts p xs z (left_of _ _ (right_of _ _ h))) ∙ sym (append_assoc (part_words p x) (joined (map (part_words p) xs)) z))
+    ∙ (ap (λ (v : List Token). part_words p x ++ v) (leaves_parts p xs z (left_of _ _ (right_of _ _ h))) ∙ sym (append_assoc (part_words p x) (joined (map (part_words p) xs)) z))
 
 leaves_end : (p : Place) (ps : List InvokePart) (z : List Token) → is_whole (invocation_end (map part_tree ps)) ≡ true → leaves p (invocation_end (map part_tree ps)) z ≡ with_words p (map (part_words p) ps) ++ z
 leaves_end p [] z h = refl
 leaves_end p (x ∷ xs) z h =
     ap (λ (v : List Token). tok p (TokenKind.Word WordKind.WithWord) ∷ (tok p (TokenKind.Mark MarkKind.Colon) ∷ (tok p TokenKind.Newline ∷ (tok p TokenKind.Indent ∷ v))))
-      (leaves_part p x (leaves p (parts_tail (map part_tree xs)) (tok p TokenKind.Dedent ∷ z)) (left_of _ _ h)
-        ∙ (ap (λ (v : List Token). part_words p x ++ v) (leaves_parts p xs (tok p TokenKind.Dedent ∷ z) (left_of _ _ (right_of _ _ h))) ∙ simp append_assoc))
+    (leaves_part p x (leaves p (parts_tail (map part_tree xs)) (tok p TokenKind.Dedent ∷ z)) (left_of _ _ h)
+    ∙ (ap (λ (v : List Token). part_words p x ++ v) (leaves_parts p xs (tok p TokenKind.Dedent ∷ z) (left_of _ _ (right_of _ _ h))) ∙ simp append_assoc))
 
 -- an invocation behind its head
 abbrev rest_words : Place → InvokeNode → List Token
@@ -210,10 +210,10 @@ leaves_rest : (p : Place) (i : InvokeNode) (z : List Token) → is_whole (invoca
     → leaves p (invocation_rest i.names (map argument_tree i.arguments) (map part_tree i.parts)) z ≡ rest_words p i ++ z
 leaves_rest p i z h =
     leaves_dotted p i.names (tok p (TokenKind.Mark MarkKind.OpenRound) ∷ leaves p (invocation_arguments (map argument_tree i.arguments)) (leaves p (invocation_end (map part_tree i.parts)) z))
-      ∙ (ap (λ (v : List Token). joined (map (dotted_words p) i.names) ++ (tok p (TokenKind.Mark MarkKind.OpenRound) ∷ v))
-        (leaves_invocation_arguments p i.arguments (leaves p (invocation_end (map part_tree i.parts)) z) (left_of _ _ (right_of (is_whole (dotted_names i.names)) _ h))
-          ∙ ap (λ (v : List Token). argument_list_words p i.arguments ++ v) (leaves_end p i.parts z (left_of _ _ (right_of _ _ (right_of (is_whole (dotted_names i.names)) _ h)))))
-      ∙ simp append_assoc)
+    ∙ (ap (λ (v : List Token). joined (map (dotted_words p) i.names) ++ (tok p (TokenKind.Mark MarkKind.OpenRound) ∷ v))
+    (leaves_invocation_arguments p i.arguments (leaves p (invocation_end (map part_tree i.parts)) z) (left_of _ _ (right_of (is_whole (dotted_names i.names)) _ h))
+    ∙ ap (λ (v : List Token). argument_list_words p i.arguments ++ v) (leaves_end p i.parts z (left_of _ _ (right_of _ _ (right_of (is_whole (dotted_names i.names)) _ h)))))
+    ∙ simp append_assoc)
 
 head_case : (p : Place) (label : Option Ident) (head : InvokeHead) (rest : Forest) (z w : List Token) → leaves p rest z ≡ w
     → leaves p (labelled label (invocation head rest) (labelled_invocation head rest)) z ≡ (label_words p label ++ invoke_head_words head) ++ w
@@ -235,8 +235,8 @@ leaves_invocation : (p : Place) (i : InvokeNode) (z : List Token) → is_whole (
     → leaves p (phase (PhaseTree.Invoke i.label i.head i.names (map argument_tree i.arguments) (map part_tree i.parts))) z ≡ invocation_words p i ++ z
 leaves_invocation p i z h =
     head_case p i.label i.head (invocation_rest i.names (map argument_tree i.arguments) (map part_tree i.parts)) z (rest_words p i ++ z)
-      (leaves_rest p i z (head_whole i.label i.head (invocation_rest i.names (map argument_tree i.arguments) (map part_tree i.parts)) h))
-      ∙ regroup_invocation (label_words p i.label ++ invoke_head_words i.head) (joined (map (dotted_words p) i.names)) (tok p (TokenKind.Mark MarkKind.OpenRound)) (argument_list_words p i.arguments) (with_words p (map (part_words p) i.parts)) z
+    (leaves_rest p i z (head_whole i.label i.head (invocation_rest i.names (map argument_tree i.arguments) (map part_tree i.parts)) h))
+    ∙ regroup_invocation (label_words p i.label ++ invoke_head_words i.head) (joined (map (dotted_words p) i.names)) (tok p (TokenKind.Mark MarkKind.OpenRound)) (argument_list_words p i.arguments) (with_words p (map (part_words p) i.parts)) z
 
 -- Waits and compositions
 
@@ -257,10 +257,10 @@ wait_core place e = sub (Written.word_at place WordKind.WaitWord (Written.word W
 leaves_wait : (p : Place) (w : WaitNode) (z : List Token) → is_whole (phase (PhaseTree.Wait w.label w.place (expr_tree w.elapsed))) ≡ true → leaves p (phase (PhaseTree.Wait w.label w.place (expr_tree w.elapsed))) z ≡ wait_words p w ++ z
 leaves_wait p w z h =
     label_case p w.label (wait_core w.place (expr_tree w.elapsed)) z
-      (tok w.place (TokenKind.Word WordKind.WaitWord) ∷ (tok p (TokenKind.Word WordKind.ElapsedWord) ∷ (tok p (TokenKind.Mark MarkKind.OpenRound) ∷ (expr_words p w.elapsed ++ (closing p ∷ (tok p TokenKind.Newline ∷ z))))))
-      (ap (λ (v : List Token). tok w.place (TokenKind.Word WordKind.WaitWord) ∷ (tok p (TokenKind.Word WordKind.ElapsedWord) ∷ (tok p (TokenKind.Mark MarkKind.OpenRound) ∷ v)))
-        (leaves_expr p w.elapsed (closing p ∷ (tok p TokenKind.Newline ∷ z)) (left_of _ _ (left_of _ _ (label_whole w.label (wait_core w.place (expr_tree w.elapsed)) h)))))
-      ∙ regroup_wait (label_words p w.label) (tok w.place (TokenKind.Word WordKind.WaitWord)) (tok p (TokenKind.Word WordKind.ElapsedWord)) (tok p (TokenKind.Mark MarkKind.OpenRound)) (expr_words p w.elapsed) (closing p) (tok p TokenKind.Newline) z
+    (tok w.place (TokenKind.Word WordKind.WaitWord) ∷ (tok p (TokenKind.Word WordKind.ElapsedWord) ∷ (tok p (TokenKind.Mark MarkKind.OpenRound) ∷ (expr_words p w.elapsed ++ (closing p ∷ (tok p TokenKind.Newline ∷ z))))))
+    (ap (λ (v : List Token). tok w.place (TokenKind.Word WordKind.WaitWord) ∷ (tok p (TokenKind.Word WordKind.ElapsedWord) ∷ (tok p (TokenKind.Mark MarkKind.OpenRound) ∷ v)))
+    (leaves_expr p w.elapsed (closing p ∷ (tok p TokenKind.Newline ∷ z)) (left_of _ _ (left_of _ _ (label_whole w.label (wait_core w.place (expr_tree w.elapsed)) h)))))
+    ∙ regroup_wait (label_words p w.label) (tok w.place (TokenKind.Word WordKind.WaitWord)) (tok p (TokenKind.Word WordKind.ElapsedWord)) (tok p (TokenKind.Mark MarkKind.OpenRound)) (expr_words p w.elapsed) (closing p) (tok p TokenKind.Newline) z
 
 abbrev pub OfPhase : Place → Phase → Type 0
 OfPhase p x = (z : List Token) → is_whole (phase (phase_tree x)) ≡ true → leaves p (phase (phase_tree x)) z ≡ phase_words p x ++ z
@@ -279,15 +279,15 @@ tail_phases : (p : Place) (xs : List (SuchPhase p)) (z : List Token) → is_whol
 tail_phases p [] z h = refl
 tail_phases p (x ∷ xs) z h =
     x.1 (leaves p (phases_tail (row_of (map phase_tree (map (λ x. x.0) xs)))) z) (left_of _ _ h)
-      ∙ (ap (λ (v : List Token). phase_words p x.0 ++ v) (tail_phases p xs z (left_of _ _ (right_of _ _ h))) ∙ sym (append_assoc (phase_words p x.0) (joined (map (phase_words p) (map (λ x. x.0) xs))) z))
+    ∙ (ap (λ (v : List Token). phase_words p x.0 ++ v) (tail_phases p xs z (left_of _ _ (right_of _ _ h))) ∙ sym (append_assoc (phase_words p x.0) (joined (map (phase_words p) (map (λ x. x.0) xs))) z))
 
 members_phases : (p : Place) (xs : List (SuchPhase p)) (z : List Token) → is_whole (block_phases (row_of (map phase_tree (map (λ x. x.0) xs)))) ≡ true
     → leaves p (block_phases (row_of (map phase_tree (map (λ x. x.0) xs)))) z ≡ joined (map (phase_words p) (map (λ x. x.0) xs)) ++ tok p TokenKind.Dedent ∷ z
 members_phases p [] z h = absurd (false≢true h)
 members_phases p (x ∷ xs) z h =
     x.1 (leaves p (phases_tail (row_of (map phase_tree (map (λ x. x.0) xs)))) (tok p TokenKind.Dedent ∷ z)) (left_of _ _ h)
-      ∙ (ap (λ (v : List Token). phase_words p x.0 ++ v) (tail_phases p xs (tok p TokenKind.Dedent ∷ z) (left_of _ _ (right_of _ _ h)))
-      ∙ sym (append_assoc (phase_words p x.0) (joined (map (phase_words p) (map (λ x. x.0) xs))) (tok p TokenKind.Dedent ∷ z)))
+    ∙ (ap (λ (v : List Token). phase_words p x.0 ++ v) (tail_phases p xs (tok p TokenKind.Dedent ∷ z) (left_of _ _ (right_of _ _ h)))
+    ∙ sym (append_assoc (phase_words p x.0) (joined (map (phase_words p) (map (λ x. x.0) xs))) (tok p TokenKind.Dedent ∷ z)))
 
 regroup_comp : (l : List Token) (w : Token) (b : List Token) (c n i : Token) (m : List Token) (d : Token) (z : List Token)
     → l ++ (w ∷ (b ++ (c ∷ (n ∷ (i ∷ (m ++ (d ∷ z))))))) ≡ ((((l ++ w ∷ []) ++ b) ++ c ∷ []) ++ (((n ∷ (i ∷ [])) ++ m) ++ d ∷ [])) ++ z
@@ -299,21 +299,23 @@ comp_core place w args members = sub (Written.word_at place w (sub args (Written
 comp_case : (p : Place) (y : CompNode-F (SuchPhase p) (SuchComp p)) (z : List Token)
     → is_whole (phase (Views.comp_step (map-CompNode Phase CompNode PhaseTree PhaseTree phase_tree comp_tree (map-CompNode (SuchPhase p) (SuchComp p) Phase CompNode (λ x. x.0) (λ c. c.0) y)))) ≡ true
     → leaves p (phase (Views.comp_step (map-CompNode Phase CompNode PhaseTree PhaseTree phase_tree comp_tree (map-CompNode (SuchPhase p) (SuchComp p) Phase CompNode (λ x. x.0) (λ c. c.0) y)))) z
-      ≡ Words.comp_step p (map-CompNode Phase CompNode (List Token) (List Token) (phase_words p) (comp_words p) (map-CompNode (SuchPhase p) (SuchComp p) Phase CompNode (λ x. x.0) (λ c. c.0) y)) ++ z
+    ≡ Words.comp_step p (map-CompNode Phase CompNode (List Token) (List Token) (phase_words p) (comp_words p) (map-CompNode (SuchPhase p) (SuchComp p) Phase CompNode (λ x. x.0) (λ c. c.0) y)) ++ z
 comp_case p y z h =
     label_case p y.label core z
-      (tok y.place (TokenKind.Word (comp_word y.kind)) ∷ (bracket_words p y.arguments ++ (tok p (TokenKind.Mark MarkKind.Colon) ∷ (tok p TokenKind.Newline ∷ (tok p TokenKind.Indent ∷ (joined (map (phase_words p) (map (λ x. x.0) y.members)) ++ (tok p TokenKind.Dedent ∷ z)))))))
-      (ap (λ (v : List Token). tok y.place (TokenKind.Word (comp_word y.kind)) ∷ v)
-        (leaves_brackets p y.arguments (tok p (TokenKind.Mark MarkKind.Colon) ∷ (tok p TokenKind.Newline ∷ (tok p TokenKind.Indent ∷ leaves p members z))) (left_of _ _ (left_of _ _ whole))
-          ∙ ap (λ (v : List Token). bracket_words p y.arguments ++ (tok p (TokenKind.Mark MarkKind.Colon) ∷ (tok p TokenKind.Newline ∷ (tok p TokenKind.Indent ∷ v))))
-            (members_phases p y.members z (right_of (is_whole (composition_arguments (map argument_tree y.arguments))) _ (left_of _ _ whole)))))
-      ∙ regroup_comp (label_words p y.label) (tok y.place (TokenKind.Word (comp_word y.kind))) (bracket_words p y.arguments) (tok p (TokenKind.Mark MarkKind.Colon)) (tok p TokenKind.Newline) (tok p TokenKind.Indent)
-        (joined (map (phase_words p) (map (λ x. x.0) y.members))) (tok p TokenKind.Dedent) z
+    (tok y.place (TokenKind.Word (comp_word y.kind)) ∷ (bracket_words p y.arguments ++ (tok p (TokenKind.Mark MarkKind.Colon) ∷ (tok p TokenKind.Newline ∷ (tok p TokenKind.Indent ∷ (joined (map (phase_words p) (map (λ x. x.0) y.members)) ++ (tok p TokenKind.Dedent ∷ z)))))))
+    (ap (λ (v : List Token). tok y.place (TokenKind.Word (comp_word y.kind)) ∷ v)
+    (leaves_brackets p y.arguments (tok p (TokenKind.Mark MarkKind.Colon) ∷ (tok p TokenKind.Newline ∷ (tok p TokenKind.Indent ∷ leaves p members z))) (left_of _ _ (left_of _ _ whole))
+    ∙ ap (λ (v : List Token). bracket_words p y.arguments ++ (tok p (TokenKind.Mark MarkKind.Colon) ∷ (tok p TokenKind.Newline ∷ (tok p TokenKind.Indent ∷ v))))
+    (members_phases p y.members z (right_of (is_whole (composition_arguments (map argument_tree y.arguments))) _ (left_of _ _ whole)))))
+    ∙ regroup_comp (label_words p y.label) (tok y.place (TokenKind.Word (comp_word y.kind))) (bracket_words p y.arguments) (tok p (TokenKind.Mark MarkKind.Colon)) (tok p TokenKind.Newline) (tok p TokenKind.Indent)
+    (joined (map (phase_words p) (map (λ x. x.0) y.members))) (tok p TokenKind.Dedent) z
   where
     members : Forest
     members = block_phases (row_of (map phase_tree (map (λ x. x.0) y.members)))
+
     core : Forest
     core = comp_core y.place (comp_word y.kind) (composition_arguments (map argument_tree y.arguments)) (block_phases (row_of (map phase_tree (map (λ x. x.0) y.members))))
+
     whole : is_whole (comp_core y.place (comp_word y.kind) (composition_arguments (map argument_tree y.arguments)) (block_phases (row_of (map phase_tree (map (λ x. x.0) y.members))))) ≡ true
     whole = label_whole y.label (comp_core y.place (comp_word y.kind) (composition_arguments (map argument_tree y.arguments)) (block_phases (row_of (map phase_tree (map (λ x. x.0) y.members))))) h
 
@@ -326,7 +328,7 @@ mapped_comp p y = map-CompNode (SuchPhase p) (SuchComp p) Phase CompNode (λ x. 
 phase_case : (p : Place) (y : Phase-F (SuchPhase p) (SuchComp p)) (z : List Token)
     → is_whole (phase (Views.phase_step (map-Phase Phase CompNode PhaseTree PhaseTree phase_tree comp_tree (mapped_phase p y)))) ≡ true
     → leaves p (phase (Views.phase_step (map-Phase Phase CompNode PhaseTree PhaseTree phase_tree comp_tree (mapped_phase p y)))) z
-      ≡ Words.phase_step p (map-Phase Phase CompNode (List Token) (List Token) (phase_words p) (comp_words p) (mapped_phase p y)) ++ z
+    ≡ Words.phase_step p (map-Phase Phase CompNode (List Token) (List Token) (phase_words p) (comp_words p) (mapped_phase p y)) ++ z
 phase_case p (Phase-F.Comp c) z h = c.1 z h
 phase_case p (Phase-F.Invoke i) z h = leaves_invocation p i z h
 phase_case p (Phase-F.Wait w) z h = leaves_wait p w z h

@@ -126,36 +126,36 @@ mutual
   pub read_written : (t : ExprTree) → is_whole (written t) ≡ true → read_at (level t) (written t) ≡ t
   read_written (Implies place left right) h =
       ap₂ (λ (x y : ExprTree). Implies place x y)
-        (read_part 1 left (written left) (read_written left) (left_of _ _ h))
-        (read_part 1 right (written right) (read_written right) (left_of _ _ (left_of _ _ (right_of _ _ h))))
+      (read_part 1 left (written left) (read_written left) (left_of _ _ h))
+      (read_part 1 right (written right) (read_written right) (left_of _ _ (left_of _ _ (right_of _ _ h))))
   read_written (Not place part) h = ap (λ (x : ExprTree). Not place x) (read_part 4 part (written part) (read_written part) (left_of _ _ h))
   read_written (Relation place sign left right) h =
       ap (λ (s : RelationSign). Relation place s (read_sum (at 5 left (written left))) (read_sum (at 5 right (written right)))) (sign_back sign)
-        ∙ ap₂ (λ (x y : ExprTree). Relation place sign x y)
-          (read_part 5 left (written left) (read_written left) (left_of _ _ h))
-          (read_part 5 right (written right) (read_written right) (left_of _ _ (left_of _ _ (right_of _ _ h))))
+      ∙ ap₂ (λ (x y : ExprTree). Relation place sign x y)
+      (read_part 5 left (written left) (read_written left) (left_of _ _ h))
+      (read_part 5 right (written right) (read_written right) (left_of _ _ (left_of _ _ (right_of _ _ h))))
   read_written (Minus place part) h = ap (λ (x : ExprTree). Minus place x) (read_part 8 part (written part) (read_written part) (left_of _ _ h))
   read_written (Or place operator left right) h =
       or_back left (next_part place operator (at 2 right (written right)) nil) (λ x. refl) h
-        ∙ ap₂ (λ (o : Operator) (y : ExprTree). Or place o left y) (operator_back operator)
-          (read_part 2 right (written right) (read_written right) (left_of _ _ (or_whole left (next_part place operator (at 2 right (written right)) nil) h)))
+      ∙ ap₂ (λ (o : Operator) (y : ExprTree). Or place o left y) (operator_back operator)
+      (read_part 2 right (written right) (read_written right) (left_of _ _ (or_whole left (next_part place operator (at 2 right (written right)) nil) h)))
   read_written (And place operator left right) h =
       and_back left (next_part place operator (at 3 right (written right)) nil) (λ x. refl) h
-        ∙ ap₂ (λ (o : Operator) (y : ExprTree). And place o left y) (operator_back operator)
-          (read_part 3 right (written right) (read_written right) (left_of _ _ (and_whole left (next_part place operator (at 3 right (written right)) nil) h)))
+      ∙ ap₂ (λ (o : Operator) (y : ExprTree). And place o left y) (operator_back operator)
+      (read_part 3 right (written right) (read_written right) (left_of _ _ (and_whole left (next_part place operator (at 3 right (written right)) nil) h)))
   read_written (Sum place operator left right) h =
       sum_back left (next_part place operator (at 6 right (written right)) nil) (λ x. refl) h
-        ∙ ap₂ (λ (o : Operator) (y : ExprTree). Sum place o left y) (operator_back operator)
-          (read_part 6 right (written right) (read_written right) (left_of _ _ (sum_whole left (next_part place operator (at 6 right (written right)) nil) h)))
+      ∙ ap₂ (λ (o : Operator) (y : ExprTree). Sum place o left y) (operator_back operator)
+      (read_part 6 right (written right) (read_written right) (left_of _ _ (sum_whole left (next_part place operator (at 6 right (written right)) nil) h)))
   read_written (Product place operator left right) h =
       product_back left (next_part place operator (at 7 right (written right)) nil) (λ x. refl) h
-        ∙ ap₂ (λ (o : Operator) (y : ExprTree). Product place o left y) (operator_back operator)
-          (read_part 7 right (written right) (read_written right) (left_of _ _ (product_whole left (next_part place operator (at 7 right (written right)) nil) h)))
+      ∙ ap₂ (λ (o : Operator) (y : ExprTree). Product place o left y) (operator_back operator)
+      (read_part 7 right (written right) (read_written right) (left_of _ _ (product_whole left (next_part place operator (at 7 right (written right)) nil) h)))
   read_written (Dot head name) h = post_back head (next_name name nil) (λ x. refl) h
   read_written (Index place head index) h =
       post_back head (next_index place (at 0 index (written index)) nil) (λ x. refl) h
-        ∙ ap (λ (x : ExprTree). Index place head x)
-          (read_part 0 index (written index) (read_written index) (left_of _ _ (left_of _ _ (post_whole head (next_index place (at 0 index (written index)) nil) h))))
+      ∙ ap (λ (x : ExprTree). Index place head x)
+      (read_part 0 index (written index) (read_written index) (left_of _ _ (left_of _ _ (post_whole head (next_index place (at 0 index (written index)) nil) h))))
   read_written (Number number) h = refl
   read_written (Physical number unit) h = refl
   read_written (Chars place text) h = refl
@@ -168,49 +168,49 @@ mutual
   read_written (Group place inner) h = ap (λ (x : ExprTree). Group place x) (read_part 0 inner (written inner) (read_written inner) (left_of _ _ h))
   read_written (Span place low high) h =
       ap₂ (λ (x y : ExprTree). Span place x y)
-        (read_part 0 low (written low) (read_written low) (left_of _ _ h))
-        (read_part 0 high (written high) (read_written high) (left_of _ _ (left_of _ _ (right_of _ _ h))))
+      (read_part 0 low (written low) (read_written low) (left_of _ _ h))
+      (read_part 0 high (written high) (read_written high) (left_of _ _ (left_of _ _ (right_of _ _ h))))
   read_written (Listed place End) h = absurd (false≢true h)
   read_written (Listed place (Item item others)) h =
       ap₂ (λ (x : ExprTree) (y : ExprRow). Listed place (Item x y))
-        (read_part 0 item (written item) (read_written item) (left_of _ _ h))
-        (items_back others (left_of _ _ (left_of _ _ (right_of _ _ h))))
+      (read_part 0 item (written item) (read_written item) (left_of _ _ h))
+      (items_back others (left_of _ _ (left_of _ _ (right_of _ _ h))))
   read_written (RangeCall place low high) h =
       ap₂ (λ (x y : ExprTree). RangeCall place x y)
-        (read_part 0 low (written low) (read_written low) (left_of _ _ h))
-        (read_part 0 high (written high) (read_written high) (left_of _ _ (right_of _ _ h)))
+      (read_part 0 low (written low) (read_written low) (left_of _ _ h))
+      (read_part 0 high (written high) (read_written high) (left_of _ _ (right_of _ _ h)))
   read_written (Start first) h = absurd (false≢true h)
 
   or_back : (t : ExprTree) (rest : Forest) → Opens or_first or_more rest → is_whole (or_row t rest) ≡ true → read_or (or_row t rest) ≡ or_more t (sub rest nil)
   or_back (Start first) rest opens h = ap (λ (x : ExprTree). or_first x (sub rest nil)) (read_part 2 first (written first) (read_written first) (left_of _ _ h)) ∙ opens first
   or_back (Or place operator left right) rest opens h =
       or_back left (next_part place operator (at 2 right (written right)) rest) (λ x. refl) h
-        ∙ ap₂ (λ (o : Operator) (y : ExprTree). or_more (Or place o left y) (sub rest nil)) (operator_back operator)
-          (read_part 2 right (written right) (read_written right) (left_of _ _ (or_whole left (next_part place operator (at 2 right (written right)) rest) h)))
+      ∙ ap₂ (λ (o : Operator) (y : ExprTree). or_more (Or place o left y) (sub rest nil)) (operator_back operator)
+      (read_part 2 right (written right) (read_written right) (left_of _ _ (or_whole left (next_part place operator (at 2 right (written right)) rest) h)))
   or_back _ rest opens h = absurd (false≢true h)
 
   and_back : (t : ExprTree) (rest : Forest) → Opens and_first and_more rest → is_whole (and_row t rest) ≡ true → read_and (and_row t rest) ≡ and_more t (sub rest nil)
   and_back (Start first) rest opens h = ap (λ (x : ExprTree). and_first x (sub rest nil)) (read_part 3 first (written first) (read_written first) (left_of _ _ h)) ∙ opens first
   and_back (And place operator left right) rest opens h =
       and_back left (next_part place operator (at 3 right (written right)) rest) (λ x. refl) h
-        ∙ ap₂ (λ (o : Operator) (y : ExprTree). and_more (And place o left y) (sub rest nil)) (operator_back operator)
-          (read_part 3 right (written right) (read_written right) (left_of _ _ (and_whole left (next_part place operator (at 3 right (written right)) rest) h)))
+      ∙ ap₂ (λ (o : Operator) (y : ExprTree). and_more (And place o left y) (sub rest nil)) (operator_back operator)
+      (read_part 3 right (written right) (read_written right) (left_of _ _ (and_whole left (next_part place operator (at 3 right (written right)) rest) h)))
   and_back _ rest opens h = absurd (false≢true h)
 
   sum_back : (t : ExprTree) (rest : Forest) → Opens sum_first sum_more rest → is_whole (sum_row t rest) ≡ true → read_sum (sum_row t rest) ≡ sum_more t (sub rest nil)
   sum_back (Start first) rest opens h = ap (λ (x : ExprTree). sum_first x (sub rest nil)) (read_part 6 first (written first) (read_written first) (left_of _ _ h)) ∙ opens first
   sum_back (Sum place operator left right) rest opens h =
       sum_back left (next_part place operator (at 6 right (written right)) rest) (λ x. refl) h
-        ∙ ap₂ (λ (o : Operator) (y : ExprTree). sum_more (Sum place o left y) (sub rest nil)) (operator_back operator)
-          (read_part 6 right (written right) (read_written right) (left_of _ _ (sum_whole left (next_part place operator (at 6 right (written right)) rest) h)))
+      ∙ ap₂ (λ (o : Operator) (y : ExprTree). sum_more (Sum place o left y) (sub rest nil)) (operator_back operator)
+      (read_part 6 right (written right) (read_written right) (left_of _ _ (sum_whole left (next_part place operator (at 6 right (written right)) rest) h)))
   sum_back _ rest opens h = absurd (false≢true h)
 
   product_back : (t : ExprTree) (rest : Forest) → Opens product_first product_more rest → is_whole (product_row t rest) ≡ true → read_product (product_row t rest) ≡ product_more t (sub rest nil)
   product_back (Start first) rest opens h = ap (λ (x : ExprTree). product_first x (sub rest nil)) (read_part 7 first (written first) (read_written first) (left_of _ _ h)) ∙ opens first
   product_back (Product place operator left right) rest opens h =
       product_back left (next_part place operator (at 7 right (written right)) rest) (λ x. refl) h
-        ∙ ap₂ (λ (o : Operator) (y : ExprTree). product_more (Product place o left y) (sub rest nil)) (operator_back operator)
-          (read_part 7 right (written right) (read_written right) (left_of _ _ (product_whole left (next_part place operator (at 7 right (written right)) rest) h)))
+      ∙ ap₂ (λ (o : Operator) (y : ExprTree). product_more (Product place o left y) (sub rest nil)) (operator_back operator)
+      (read_part 7 right (written right) (read_written right) (left_of _ _ (product_whole left (next_part place operator (at 7 right (written right)) rest) h)))
   product_back _ rest opens h = absurd (false≢true h)
 
   post_back : (t : ExprTree) (rest : Forest) → Opens post_first post_more rest → is_whole (post_row t rest) ≡ true → read_post (post_row t rest) ≡ post_more t (sub rest nil)
@@ -218,16 +218,16 @@ mutual
   post_back (Dot head name) rest opens h = post_back head (next_name name rest) (λ x. refl) h
   post_back (Index place head index) rest opens h =
       post_back head (next_index place (at 0 index (written index)) rest) (λ x. refl) h
-        ∙ ap (λ (x : ExprTree). post_more (Index place head x) (sub rest nil))
-          (read_part 0 index (written index) (read_written index) (left_of _ _ (left_of _ _ (post_whole head (next_index place (at 0 index (written index)) rest) h))))
+      ∙ ap (λ (x : ExprTree). post_more (Index place head x) (sub rest nil))
+      (read_part 0 index (written index) (read_written index) (left_of _ _ (left_of _ _ (post_whole head (next_index place (at 0 index (written index)) rest) h))))
   post_back _ rest opens h = absurd (false≢true h)
 
   items_back : (items : ExprRow) → is_whole (listed_tail items) ≡ true → read_items (listed_tail items) ≡ items
   items_back End h = refl
   items_back (Item item others) h =
       ap₂ (λ (x : ExprTree) (y : ExprRow). Item x y)
-        (read_part 0 item (written item) (read_written item) (left_of _ _ h))
-        (items_back others (left_of _ _ (right_of _ _ h)))
+      (read_part 0 item (written item) (read_written item) (left_of _ _ h))
+      (items_back others (left_of _ _ (right_of _ _ h)))
 
 -- a whole expression, where it stands
 pub read_expr_back : (t : ExprTree) → is_whole (expr t) ≡ true → read_expr (expr t) ≡ t
@@ -258,14 +258,14 @@ front_back (Start head) rest opens h = head_back head rest h ∙ opens head
 front_back (Dot head name) rest opens h = front_back head (next_name name rest) (λ x. refl) h
 front_back (Index place head index) rest opens h =
     front_back head (next_index place (expr index) rest) (λ x. refl) h
-      ∙ ap (λ (x : ExprTree). post_more (Index place head x) (sub rest nil)) (read_expr_back index (left_of _ _ (left_of _ _ (front_whole head (next_index place (expr index) rest) h))))
+    ∙ ap (λ (x : ExprTree). post_more (Index place head x) (sub rest nil)) (read_expr_back index (left_of _ _ (left_of _ _ (front_whole head (next_index place (expr index) rest) h))))
 front_back _ rest opens h = absurd (false≢true h)
 
 pub read_path_back : (t : ExprTree) → is_whole (path t) ≡ true → read_path (path t) ≡ t
 read_path_back (Dot head name) h = front_back head (next_name name nil) (λ x. refl) h
 read_path_back (Index place head index) h =
     front_back head (next_index place (expr index) nil) (λ x. refl) h
-      ∙ ap (λ (x : ExprTree). Index place head x) (read_expr_back index (left_of _ _ (left_of _ _ (front_whole head (next_index place (expr index) nil) h))))
+    ∙ ap (λ (x : ExprTree). Index place head x) (read_expr_back index (left_of _ _ (left_of _ _ (front_whole head (next_index place (expr index) nil) h))))
 read_path_back (Name name) h = refl
 read_path_back (It place) h = refl
 read_path_back (Actor place) h = refl

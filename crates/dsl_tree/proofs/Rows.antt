@@ -21,10 +21,11 @@ row_more f xs i x start done tokens h e lt is =
   where
     last : joined (f (get_or xs i x) ∷ []) ≡ f x
     last = append-nil (f (get_or xs i x)) ∙ ap f (sym is)
+
     row : joined (map f (take (i + 1) xs)) ≡ joined (map f (take i xs)) ++ f x
     row = ap (λ v. joined (map f v)) (take_more xs i x lt)
-      ∙ (ap joined (map-append f (take i xs) (get_or xs i x ∷ []))
-      ∙ (joined-append (map f (take i xs)) (f (get_or xs i x) ∷ []) ∙ ap (λ (v : List Token). joined (map f (take i xs)) ++ v) last))
+        ∙ (ap joined (map-append f (take i xs) (get_or xs i x ∷ []))
+        ∙ (joined-append (map f (take i xs)) (f (get_or xs i x) ∷ []) ∙ ap (λ (v : List Token). joined (map f (take i xs)) ++ v) last))
 
 map_twice : {X : Type 0} (f : List Token → List Token) (g : X → List Token) (xs : List X) → map f (map g xs) ≡ map (λ x. f (g x)) xs
 map_twice f g [] = refl
@@ -35,7 +36,7 @@ pub row_more_twice : {X : Type 0} (f : List Token → List Token) (g : X → Lis
     → tokens ≡ start ++ joined (map f (map g (take (i + 1) xs)))
 row_more_twice f g xs i x start done tokens h e lt is =
     row_more (λ y. f (g y)) xs i x start done tokens (h ∙ ap (λ (v : List (List Token)). start ++ joined v) (map_twice f g (take i xs))) e lt is
-      ∙ ap (λ (v : List (List Token)). start ++ joined v) (sym (map_twice f g (take (i + 1) xs)))
+    ∙ ap (λ (v : List (List Token)). start ++ joined v) (sym (map_twice f g (take (i + 1) xs)))
 
 -- two writes, one after another
 pub two_more : (done x first y second : List Token) → first ≡ done ++ x → second ≡ first ++ y → second ≡ done ++ (x ++ y)
@@ -60,9 +61,10 @@ pub comma_all : {X : Type 0} (at : Place) (f : X → List Token) (items : List X
 comma_all at f [] i first start middle tokens some is m all h = absurd (omega arith)
 comma_all at f (x ∷ xs) i first start middle tokens some is m all h =
     h ∙ (ap₂ (λ (a : List Token) (b : List (List Token)). a ++ joined b) m (ap (λ v. map (behind_comma at) (map f v)) whole)
-      ∙ (append_assoc start (f first) (joined (map (behind_comma at) (map f xs))) ∙ ap (λ v. start ++ (f v ++ joined (map (behind_comma at) (map f xs)))) is))
+    ∙ (append_assoc start (f first) (joined (map (behind_comma at) (map f xs))) ∙ ap (λ v. start ++ (f v ++ joined (map (behind_comma at) (map f xs)))) is))
   where
     inner : take (length (x ∷ xs) - 1) (drop 1 (x ∷ xs)) ≡ xs
     inner = take-all xs (length (x ∷ xs) - 1) (omega arith)
+
     whole : take i (take (length (x ∷ xs) - 1) (drop 1 (x ∷ xs))) ≡ xs
     whole = ap (take i) inner ∙ take-all xs i (let e : length (take (length (x ∷ xs) - 1) (drop 1 (x ∷ xs))) ≡ length xs = ap length inner in omega arith)

@@ -73,16 +73,17 @@ by_rule p r ts left rule tells start fault = record {
   where
     fit : Fit p r
     fit = fit_of p r rule
+
     dead : (f : Forest) (others z : List Token) → IsOf p f → Stops (goes_on p) z → Spells f (fault.front ++ fault.token ∷ others) z → ⊥
     dead f others z is stop s =
         let us : List Token = fault.front ++ fault.token ∷ others in
         let begun : Starts (firsts r) us = first_of_fault fault.front fault.token fault.back others (firsts r) (subst (Starts (firsts r)) fault.split start) in
         choose (rules p) r (Follows f) ⊥ tells rule is
-          (λ does. fault.dead f others z does (Stops-subset (stops r) (goes_on p) z fit.ends stop) s)
-          (λ s' tell does. ⊎_elim (λ v. not_void p f us z is s stop (Starts-subset (firsts r) (first p) us fit.begins begun) v)
-            (λ (v, b). ⊎_elim (λ e. both_ways (starts (firsts s') us) b (Stops-apart (firsts r) (firsts s') us e begun))
-              (λ e. both_ways (starts (firsts r) us) begun (Stops-apart (firsts s') (firsts r) us e b)) tell)
-            (begins f s' us z does s))
+        (λ does. fault.dead f others z does (Stops-subset (stops r) (goes_on p) z fit.ends stop) s)
+        (λ s' tell does. ⊎_elim (λ v. not_void p f us z is s stop (Starts-subset (firsts r) (first p) us fit.begins begun) v)
+        (λ (v, b). ⊎_elim (λ e. both_ways (starts (firsts s') us) b (Stops-apart (firsts r) (firsts s') us e begun))
+        (λ e. both_ways (starts (firsts r) us) begun (Stops-apart (firsts s') (firsts r) us e b)) tell)
+        (begins f s' us z does s))
 
 -- a token that was taken begins the tokens
 pub taken_starts : (codes : List ℕ) (ts : List Token) (t : Token) (rest : List Token) → Taken codes ts t rest → Starts codes ts
@@ -105,6 +106,7 @@ by_only p r ts left only fault = record {
   where
     rule : RuleOf p r
     rule = subst (λ (rs : List (List Symbol)). AnyRule rs (λ s. s ≡ r)) (sym only) (inl refl)
+
     does_it : (f : Forest) → IsOf p f → Follows f r
     does_it f is = ⊎_elim (λ does. does) (λ none. absurd none) (subst (λ (rs : List (List Symbol)). AnyRule rs (Follows f)) only is)
 
@@ -118,7 +120,7 @@ no_rule p ts left blank n = record {
   count = n.count;
   viable = record { forest = example p; back = tokens (example p); does = is_example p; spells = example_spells p };
   dead = λ f others z is stop s.
-    ⊎_elim (λ v. both_ways (empty p) (void_part p f is v) blank)
+      ⊎_elim (λ v. both_ways (empty p) (void_part p f is v) blank)
       (λ (v, b). both_ways (starts (first p) (n.token ∷ others)) b (starts-cons (first p) n.token others ∙ n.misfits)) (begins_part p f (n.token ∷ others) z is s);
 }
 
@@ -154,16 +156,18 @@ by_two p one two r s ts t us u vs left both tells taken taken' fault = record {
   where
     rule : List Symbol
     rule = Seen one ∷ Bare two ∷ r
+
     no_s : (f : Forest) (others z : List Token) → Spells f (t ∷ u ∷ (fault.front ++ fault.token ∷ others)) z → Follows f s → ⊥
     no_s f others z sp does = no_two s f (t ∷ u ∷ (fault.front ++ fault.token ∷ others)) z (record {
-        head = t;
-        next = u;
-        others = fault.front ++ fault.token ∷ others;
-        split = refl;
-        misfits = Stops-apart two (seconds s) (u ∷ (fault.front ++ fault.token ∷ others)) (left_of (apart two (seconds s)) (nat_le 2 (least s)) tells)
+      head = t;
+      next = u;
+      others = fault.front ++ fault.token ∷ others;
+      split = refl;
+      misfits = Stops-apart two (seconds s) (u ∷ (fault.front ++ fault.token ∷ others)) (left_of (apart two (seconds s)) (nat_le 2 (least s)) tells)
           (starts-cons two u (fault.front ++ fault.token ∷ others) ∙ taken'.fits);
-        long = leb-true 2 (least s) (right_of (apart two (seconds s)) (nat_le 2 (least s)) tells);
-      }) does sp
+      long = leb-true 2 (least s) (right_of (apart two (seconds s)) (nat_le 2 (least s)) tells);
+    }) does sp
+
     no_r : (f : Forest) (others z : List Token) → Follows f rule → Stops (goes_on p) z → Spells f (t ∷ u ∷ (fault.front ++ fault.token ∷ others)) z → ⊥
     no_r (seen place kind (bare kind' f)) others z (h, (h', does)) stop (p1, k1, (k2, sp)) =
         fault.dead f others z does (Stops-subset (stops rule) (goes_on p) z (fit_of p rule (two_rule p s rule both)).ends stop) sp
@@ -181,15 +185,17 @@ by_other_first p one two r s ts left both misfit fault = record {
   count = fault.count;
   viable = record { forest = fault.viable.forest; back = fault.viable.back; does = is_by p s fault.viable.forest (other_rule p s rule both) fault.viable.does; spells = fault.viable.spells };
   dead = λ f others z is stop sp.
-    ⊎_elim (λ does. fault.dead f others z does (Stops-subset (stops s) (goes_on p) z (fit_of p s (other_rule p s rule both)).ends stop) sp)
+      ⊎_elim (λ does. fault.dead f others z does (Stops-subset (stops s) (goes_on p) z (fit_of p s (other_rule p s rule both)).ends stop) sp)
       (λ does. no_r f others z does (starts_like fault.front fault.token fault.back others one (subst (Stops one) fault.split misfit)) sp) (one_of_two p s rule f both is);
 }
   where
     rule : List Symbol
     rule = Seen one ∷ Bare two ∷ r
+
     starts_like : (front : List Token) (t : Token) (back others : List Token) (cs : List ℕ) → Stops cs (front ++ t ∷ back) → Stops cs (front ++ t ∷ others)
     starts_like [] t back others cs h = starts-cons cs t others ∙ (sym (starts-cons cs t back) ∙ h)
     starts_like (u ∷ front) t back others cs h = starts-cons cs u (front ++ t ∷ others) ∙ (sym (starts-cons cs u (front ++ t ∷ back)) ∙ h)
+
     no_r : (f : Forest) (others z : List Token) → Follows f rule → Stops one (fault.front ++ fault.token ∷ others) → Spells f (fault.front ++ fault.token ∷ others) z → ⊥
     no_r f others z does stop sp =
         ⊎_elim (λ v. both_ways (empties rule) (void_empties f rule does v) refl) (λ (v, b). both_ways (starts one (fault.front ++ fault.token ∷ others)) b stop) (begins f rule (fault.front ++ fault.token ∷ others) z does sp)
@@ -205,21 +211,24 @@ by_other_second p one two r s ts t us left both taken misfit up fault = record {
   count = fault.count;
   viable = record { forest = fault.viable.forest; back = fault.viable.back; does = is_by p s fault.viable.forest (other_rule p s rule both) fault.viable.does; spells = fault.viable.spells };
   dead = λ f others z is stop sp.
-    ⊎_elim (λ does. fault.dead f others z does (Stops-subset (stops s) (goes_on p) z (fit_of p s (other_rule p s rule both)).ends stop) sp)
+      ⊎_elim (λ does. fault.dead f others z does (Stops-subset (stops s) (goes_on p) z (fit_of p s (other_rule p s rule both)).ends stop) sp)
       (λ does. no_r fault.front fault.token fault.back f others z (sym taken.split ∙ fault.split) fault.dead does sp) (one_of_two p s rule f both is);
 }
   where
     rule : List Symbol
     rule = Seen one ∷ Bare two ∷ r
+
     second_like : (front : List Token) (u : Token) (back others : List Token) → us ≡ front ++ u ∷ back → Stops two (front ++ u ∷ others)
     second_like [] u back others e = starts-cons two u others ∙ (sym (starts-cons two u back) ∙ subst (Stops two) e misfit)
     second_like (v ∷ front) u back others e = starts-cons two v (front ++ u ∷ others) ∙ (sym (starts-cons two v (front ++ u ∷ back)) ∙ subst (Stops two) e misfit)
+
     no_second : (f : Forest) (x : Token) (xs z : List Token) → Follows f rule → Stops two xs → Spells f (x ∷ xs) z → ⊥
     no_second (seen place kind (bare kind' f)) x (y ∷ ys) z (h, (h', does)) stop (p1, k1, (k2, sp)) =
         both_ways (has two (code y.kind)) (ap (λ (v : TokenKind). has two (code v)) k2 ∙ h') (sym (starts-cons two y ys) ∙ stop)
     no_second (seen place kind (bare kind' f)) x [] z does stop (p1, k1, none) = absurd none
     no_second (seen place kind f) x xs z (h, none) stop sp = absurd none
     no_second f x xs z does stop sp = absurd does
+
     no_r : (front : List Token) (token : Token) (back : List Token) (f : Forest) (others z : List Token) → t ∷ us ≡ front ++ token ∷ back
         → ((g : Forest) (others z : List Token) → Follows g s → Stops (stops s) z → Spells g (front ++ token ∷ others) z → ⊥)
         → Follows f rule → Spells f (front ++ token ∷ others) z → ⊥

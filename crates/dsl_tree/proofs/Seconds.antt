@@ -29,22 +29,22 @@ seconds_of (bare kind f) (Bare codes ∷ ss) t ts z (h, h') (k, s) v =
     ⊎_elim (λ w. inl (void_spells f ts z w s, ap (λ (n : ℕ). n + 1) (void_count f w))) (λ (w, b). inr b) (begins f ss ts z h' s)
 seconds_of (sub a g) (Of p ∷ ss) t ts z (any, h) (m, s, s') v =
     go (void a) refl
-      (λ w. by_rules p (Follows a) (Then a (second p) ts m) any (λ r fit does. ⊎_elim inl (λ b. inr (Starts-subset (seconds r) (second p) ts fit.then_second b)) (seconds_of a r t ts m does s w)))
-      (λ x spells w. seconds_of g ss t ts z h spells w)
+    (λ w. by_rules p (Follows a) (Then a (second p) ts m) any (λ r fit does. ⊎_elim inl (λ b. inr (Starts-subset (seconds r) (second p) ts fit.then_second b)) (seconds_of a r t ts m does s w)))
+    (λ x spells w. seconds_of g ss t ts z h spells w)
   where
     go : (b : Bool) → void a ≡ b → (void a ≡ false → Then a (second p) ts m) → (ℕ → Spells g (t ∷ ts) z → void g ≡ false → Then g (seconds ss) ts z) → Then (sub a g) (seconds (Of p ∷ ss)) ts z
     go true e part others =
         let e' : (t ∷ ts) ≡ m = void_spells a (t ∷ ts) m e s in
         let is_empty : empty p ≡ true = void_part p a any e in
         ⊎_elim (λ (q, n). inl (q, let zero_count : count a ≡ 0 = void_count a e in omega arith))
-          (λ b. inr (Starts-append_right (second p ++ firsts ss) (cond (empty p) (seconds ss) []) ts (subst (λ (v : Bool). Starts (cond v (seconds ss) []) ts) (sym is_empty) b)))
-          (others 0 (subst (λ (v : List Token). Spells g v z) (sym e') s') (subst (λ (v : Bool). (v && void g) ≡ false) e v))
+        (λ b. inr (Starts-append_right (second p ++ firsts ss) (cond (empty p) (seconds ss) []) ts (subst (λ (v : Bool). Starts (cond v (seconds ss) []) ts) (sym is_empty) b)))
+        (others 0 (subst (λ (v : List Token). Spells g v z) (sym e') s') (subst (λ (v : Bool). (v && void g) ≡ false) e v))
     go false e part others =
         ⊎_elim (λ (q, n). ⊎_elim (λ w. inl (q ∙ void_spells g m z w s', let zero_count : count g ≡ 0 = void_count g w in omega arith))
-            (λ (w, b). inr (Starts-append_left (second p ++ firsts ss) (cond (empty p) (seconds ss) []) ts (Starts-append_right (second p) (firsts ss) ts (subst (Starts (firsts ss)) (sym q) b))))
-            (begins g ss m z h s'))
-          (λ b. inr (Starts-append_left (second p ++ firsts ss) (cond (empty p) (seconds ss) []) ts (Starts-append_left (second p) (firsts ss) ts b)))
-          (part e)
+        (λ (w, b). inr (Starts-append_left (second p ++ firsts ss) (cond (empty p) (seconds ss) []) ts (Starts-append_right (second p) (firsts ss) ts (subst (Starts (firsts ss)) (sym q) b))))
+        (begins g ss m z h s'))
+        (λ b. inr (Starts-append_left (second p ++ firsts ss) (cond (empty p) (seconds ss) []) ts (Starts-append_left (second p) (firsts ss) ts b)))
+        (part e)
 seconds_of _ _ t ts z h s v = absurd h
 
 -- a forest that isn't void has a token
@@ -54,7 +54,7 @@ unvoid_count (seen place kind f) (Seen codes ∷ ss) h v = omega arith
 unvoid_count (bare kind f) (Bare codes ∷ ss) h v = omega arith
 unvoid_count (sub a g) (Of p ∷ ss) (any, h) v =
     ⊎_elim (λ e. let le : 1 ≤ count g = unvoid_count g ss h (subst (λ (b : Bool). (b && void g) ≡ false) e v) in omega arith)
-      (λ e. let le : 1 ≤ count a = by_rules p (Follows a) (1 ≤ count a) any (λ r fit does. unvoid_count a r does e) in omega arith) (two_ways (void a))
+    (λ e. let le : 1 ≤ count a = by_rules p (Follows a) (1 ≤ count a) any (λ r fit does. unvoid_count a r does e) in omega arith) (two_ways (void a))
 unvoid_count _ _ h v = absurd h
 
 -- a forest has the least number of tokens of its row
@@ -68,5 +68,5 @@ least_count (sub a g) (Of p ∷ ss) (any, h) = go (empty p) refl (least_count g 
     go true e le = omega arith
     go false e le =
         ⊎_elim (λ v. both_ways (empty p) (void_part p a any v) e)
-          (λ v. let some : 1 ≤ count a = by_rules p (Follows a) (1 ≤ count a) any (λ r fit does. unvoid_count a r does v) in omega arith) (two_ways (void a))
+        (λ v. let some : 1 ≤ count a = by_rules p (Follows a) (1 ≤ count a) any (λ r fit does. unvoid_count a r does v) in omega arith) (two_ways (void a))
 least_count _ _ h = absurd h

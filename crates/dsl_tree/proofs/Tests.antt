@@ -39,9 +39,10 @@ pub Follows-follows : (f : Forest) (rule : List Symbol) → follows f rule ≡ t
 Follows-follows nil [] h = tt
 Follows-follows (seen place kind f) (Seen codes ∷ rule) h = (left_of (has codes (code kind)) (follows f rule) h, Follows-follows f rule (right_of (has codes (code kind)) (follows f rule) h))
 Follows-follows (bare kind f) (Bare codes ∷ rule) h = (left_of (has codes (code kind)) (follows f rule) h, Follows-follows f rule (right_of (has codes (code kind)) (follows f rule) h))
-Follows-follows (sub part f) (Of p ∷ rule) h =
-    (AnyRule-any_rule (rules p) (follows part) (Follows part) (Follows-follows part) (left_of (any_rule (rules p) (follows part)) (follows f rule) h),
-      Follows-follows f rule (right_of (any_rule (rules p) (follows part)) (follows f rule) h))
+Follows-follows (sub part f) (Of p ∷ rule) h = (
+  AnyRule-any_rule (rules p) (follows part) (Follows part) (Follows-follows part) (left_of (any_rule (rules p) (follows part)) (follows f rule) h),
+  Follows-follows f rule (right_of (any_rule (rules p) (follows part)) (follows f rule) h),
+)
 Follows-follows _ _ h = absurd (cc)
 
 pub Is-follows : (p : Part) (f : Forest) → any_rule (rules p) (follows f) ≡ true → IsOf p f
@@ -75,8 +76,9 @@ pub Spells-tokens_of : (place : ℕ → Place) (f : Forest) (n : ℕ) (rest : Li
 Spells-tokens_of place nil n rest h = refl
 Spells-tokens_of place (seen p kind f) n rest h = (refl, refl, Spells-tokens_of place f (n + 1) rest h)
 Spells-tokens_of place (bare kind f) n rest h = (refl, Spells-tokens_of place f (n + 1) rest h)
-Spells-tokens_of place (sub part f) n rest h =
-    (tokens_of place f (n + count part) rest,
-      Spells-tokens_of place part n (tokens_of place f (n + count part) rest) (left_of (is_whole part) (is_whole f) h),
-      Spells-tokens_of place f (n + count part) rest (right_of (is_whole part) (is_whole f) h))
+Spells-tokens_of place (sub part f) n rest h = (
+  tokens_of place f (n + count part) rest,
+  Spells-tokens_of place part n (tokens_of place f (n + count part) rest) (left_of (is_whole part) (is_whole f) h),
+  Spells-tokens_of place f (n + count part) rest (right_of (is_whole part) (is_whole f) h),
+)
 Spells-tokens_of place wrong n rest h = absurd (cc)

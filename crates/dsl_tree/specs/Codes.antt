@@ -31,7 +31,7 @@ other_name = 8
 abbrev pub name_code : List ℕ → ℕ
 name_code text =
     cond (bytes_eq text si_text) si_name
-      (cond (bytes_eq text factor_text) factor_name (cond (bytes_eq text offset_text) offset_name other_name))
+    (cond (bytes_eq text factor_text) factor_name (cond (bytes_eq text offset_text) offset_name other_name))
 
 -- numbers: whole ones up to 9, other whole ones, and those with a point
 abbrev pub small_number : ℕ

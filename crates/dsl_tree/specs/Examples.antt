@@ -53,16 +53,16 @@ abbrev pub scenario_tree : FileTree
 scenario_tree = record {
   imports = [];
   decls = DeclarationTree.CompoundDeclaration (record {
-      place = at 0;
-      kind = CompoundKind.Scenario;
-      name = record { first = ident_at 1 (codes "top"); second = None };
-      heir = None;
-      members =
+    place = at 0;
+    kind = CompoundKind.Scenario;
+    name = record { first = ident_at 1 (codes "top"); second = None };
+    heir = None;
+    members =
         MemberTree.Field (record { names = ident_at 5 (codes "x") ∷ []; list = None; of = ident_at 7 (codes "int"); initial = None; rules = [] })
         ∷ MemberTree.Rule (RuleTree.Keep (at 9) KeepKind.Plain
-            (ExprTree.Relation (at 12) RelationSign.Within (ExprTree.Name (ident_at 11 (codes "x"))) (ExprTree.Span (at 13) (number_at 14 1) (number_at 16 2))))
+        (ExprTree.Relation (at 12) RelationSign.Within (ExprTree.Name (ident_at 11 (codes "x"))) (ExprTree.Span (at 13) (number_at 14 1) (number_at 16 2))))
         ∷ [];
-    }) ∷ [];
+  }) ∷ [];
   end = at 21;
 }
 
@@ -77,11 +77,11 @@ levels_tokens =
 abbrev pub levels_tree : ExprTree
 levels_tree =
     ExprTree.Implies (at 14)
-      (ExprTree.Not (at 0) (ExprTree.Relation (at 2) RelationSign.Equal (ExprTree.Name (ident_at 1 (codes "a")))
-        (ExprTree.Sum (at 4) Operator.Plus (ExprTree.Start (number_at 3 1))
-          (ExprTree.Product (at 6) Operator.Star (ExprTree.Start (number_at 5 2))
-            (ExprTree.Minus (at 7) (ExprTree.Index (at 11) (ExprTree.Dot (ExprTree.Start (ExprTree.Name (ident_at 8 (codes "b")))) (ident_at 10 (codes "c"))) (number_at 12 0)))))))
-      (ExprTree.Truth (at 15) true)
+    (ExprTree.Not (at 0) (ExprTree.Relation (at 2) RelationSign.Equal (ExprTree.Name (ident_at 1 (codes "a")))
+    (ExprTree.Sum (at 4) Operator.Plus (ExprTree.Start (number_at 3 1))
+    (ExprTree.Product (at 6) Operator.Star (ExprTree.Start (number_at 5 2))
+    (ExprTree.Minus (at 7) (ExprTree.Index (at 11) (ExprTree.Dot (ExprTree.Start (ExprTree.Name (ident_at 8 (codes "b")))) (ident_at 10 (codes "c"))) (number_at 12 0)))))))
+    (ExprTree.Truth (at 15) true)
 
 -- 1 + 2 - 3
 abbrev pub sum_tokens : List TokenKind

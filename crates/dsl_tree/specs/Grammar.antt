@@ -354,7 +354,7 @@ rules LabelledPhase =
     ∷ []
 rules Composition =
     (placed_words (SerialWord ∷ ParallelWord ∷ OneOfWord ∷ []) ∷ Of CompositionArguments ∷ mark Colon ∷ newline ∷ indent
-      ∷ Of Phase ∷ Of PhasesTail ∷ dedent ∷ [])
+    ∷ Of Phase ∷ Of PhasesTail ∷ dedent ∷ [])
     ∷ []
 -- the arguments of a composition in their brackets, if there are any
 rules CompositionArguments =

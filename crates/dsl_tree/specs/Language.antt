@@ -59,7 +59,7 @@ OneTree = (tree other : FileTree) (tokens : List Token) → Spelled tree tokens 
 abbrev pub OneSpelling : Type 0
 OneSpelling =
     ((tree : FileTree) → FollowsGrammar tree → (tokens : List Token) × Spelled tree tokens)
-      × ((tree : FileTree) (tokens others : List Token) → Spelled tree tokens → Spelled tree others → map (λ t. t.kind) tokens ≡ map (λ t. t.kind) others)
+    × ((tree : FileTree) (tokens others : List Token) → Spelled tree tokens → Spelled tree others → map (λ t. t.kind) tokens ≡ map (λ t. t.kind) others)
 
 -- a list with a fault spells no tree
 abbrev pub FaultsSpellNothing : Type 0

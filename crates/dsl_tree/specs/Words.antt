@@ -181,12 +181,12 @@ invoke_head_words (InvokeHead.Actor place) = word place WordKind.ActorWord
 abbrev pub invocation_words : Place → InvokeNode → List Token
 invocation_words at i =
     label_words at i.label ++ invoke_head_words i.head ++ joined (map (dotted_words at) i.names) ++ mark at MarkKind.OpenRound
-      ++ argument_list_words at i.arguments ++ with_words at (map (part_words at) i.parts)
+    ++ argument_list_words at i.arguments ++ with_words at (map (part_words at) i.parts)
 
 abbrev pub wait_words : Place → WaitNode → List Token
 wait_words at w =
     label_words at w.label ++ word w.place WordKind.WaitWord ++ word at WordKind.ElapsedWord ++ mark at MarkKind.OpenRound
-      ++ expr_words at w.elapsed ++ mark at MarkKind.CloseRound ++ newline at
+    ++ expr_words at w.elapsed ++ mark at MarkKind.CloseRound ++ newline at
 
 -- brackets, where there are arguments
 abbrev pub bracket_words : Place → List Argument → List Token
@@ -304,7 +304,7 @@ further_part_words at name (Some number) = mark at MarkKind.Comma ++ one at (Tok
 abbrev pub unit_words : Place → UnitDecl → List Token
 unit_words at d =
     word d.place WordKind.UnitWord ++ ident d.name ++ word at WordKind.OfWord ++ ident d.of ++ bases_words at d.bases
-      ++ further_part_words at factor_text d.factor ++ further_part_words at offset_text d.offset ++ mark at MarkKind.CloseRound ++ newline at
+    ++ further_part_words at factor_text d.factor ++ further_part_words at offset_text d.offset ++ mark at MarkKind.CloseRound ++ newline at
 
 abbrev pub declaration_words : Place → Declaration → List Token
 declaration_words at (Declaration.Physical d) = type_words at d

@@ -121,11 +121,11 @@ abbrev mutual
       mark_at place MarkKind.OpenRound (sub (at 0 inner (written inner)) (mark MarkKind.CloseRound nil))
   written (Span place low high) =
       mark_at place MarkKind.OpenSquare (sub (at 0 low (written low)) (sub (mark MarkKind.TwoDots
-        (sub (at 0 high (written high)) (mark MarkKind.CloseSquare nil))) nil))
+      (sub (at 0 high (written high)) (mark MarkKind.CloseSquare nil))) nil))
   written (Listed place items) = mark_at place MarkKind.OpenSquare (listed items)
   written (RangeCall place low high) =
       word_at place WordKind.RangeWord (mark MarkKind.OpenRound (sub (at 0 low (written low)) (mark MarkKind.Comma
-        (sub (at 0 high (written high)) (mark MarkKind.CloseRound nil)))))
+      (sub (at 0 high (written high)) (mark MarkKind.CloseRound nil)))))
   written (Start first) = wrong
 
   -- the left side of a row of operators, with the rest of the row

@@ -67,7 +67,7 @@ abbrev pub arguments : List ArgumentTree → Forest
 arguments [] = wrong
 arguments (a ∷ others) =
     by_option a.name (sub (expr a.value) (sub (arguments_tail others (arguments others)) nil))
-      (λ name. named_argument name a.value (named_tail others))
+    (λ name. named_argument name a.value (named_tail others))
 
 -- Invocations
 
@@ -128,7 +128,7 @@ composition place kind args phases =
 abbrev pub wait : Place → ExprTree → Forest
 wait place elapsed =
     sub (word_at place WordKind.WaitWord (word WordKind.ElapsedWord (mark MarkKind.OpenRound
-      (sub (expr elapsed) (mark MarkKind.CloseRound (newline nil)))))) nil
+    (sub (expr elapsed) (mark MarkKind.CloseRound (newline nil)))))) nil
 
 -- a phase, where `plain` is written without a label and `core` behind one
 abbrev pub labelled : Option Ident → Forest → Forest → Forest

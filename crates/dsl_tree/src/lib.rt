@@ -9,10 +9,10 @@ mod laws;
 mod parts;
 mod phases;
 mod rules;
-mod spell_tree;
 mod spell_expr;
 mod spell_file;
 mod spell_phase;
+mod spell_tree;
 mod token;
 mod units;
 

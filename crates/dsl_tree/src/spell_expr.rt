@@ -3,8 +3,8 @@ ghost use Rattle.dsl_tree.specs.Written.{operator_kind, sign_kind};
 ghost use Rattle.dsl_tree.specs.Words.{one, mark, word, ident, digits, joined, comma_joined, expr_words, suffix_words, further_words};
 
 use crate::{
-    Digits, Expr, Further, Ident, MarkKind, Operator, RelationSign, Suffix, Token, TokenKind, Tokens,
-    WordKind,
+    Digits, Expr, Further, Ident, MarkKind, Operator, RelationSign, Suffix, Token, TokenKind,
+    Tokens, WordKind,
 };
 use osc_base::{Place, Text};
 use std::alloc::{AllocError, Global};
@@ -72,7 +72,12 @@ fn kind_of_sign(sign: RelationSign) -> TokenKind
 }
 
 #[cycle(spelling)]
-pub(crate) fn push_expr(alloc: Global, tokens: &mut Tokens, at: Place, expr: &Expr) -> Result<(), AllocError>
+pub(crate) fn push_expr(
+    alloc: Global,
+    tokens: &mut Tokens,
+    at: Place,
+    expr: &Expr,
+) -> Result<(), AllocError>
     ensures { OnOk result (tokens.new ≡ tokens.old ++ expr_words at expr.now) }
 {
     match expr {
@@ -81,7 +86,10 @@ pub(crate) fn push_expr(alloc: Global, tokens: &mut Tokens, at: Place, expr: &Ex
             push_mark(tokens, *place, MarkKind::Arrow)?;
             push_expr(alloc, tokens, at, right.get())
         }
-        Expr::Or { first, rest } | Expr::And { first, rest } | Expr::Sum { first, rest } | Expr::Product { first, rest } => {
+        Expr::Or { first, rest }
+        | Expr::And { first, rest }
+        | Expr::Sum { first, rest }
+        | Expr::Product { first, rest } => {
             push_expr(alloc, tokens, at, first.get())?;
             push_further(alloc, tokens, at, rest.as_slice())
         }
@@ -89,7 +97,12 @@ pub(crate) fn push_expr(alloc: Global, tokens: &mut Tokens, at: Place, expr: &Ex
             push_word(tokens, *place, WordKind::NotWord)?;
             push_expr(alloc, tokens, at, part.get())
         }
-        Expr::Relation { place, sign, left, right } => {
+        Expr::Relation {
+            place,
+            sign,
+            left,
+            right,
+        } => {
             push_expr(alloc, tokens, at, left.get())?;
             push(tokens, *place, kind_of_sign(*sign))?;
             push_expr(alloc, tokens, at, right.get())
@@ -116,7 +129,11 @@ pub(crate) fn push_expr(alloc: Global, tokens: &mut Tokens, at: Place, expr: &Ex
             push(tokens, *place, TokenKind::Chars(text))
         }
         Expr::Truth { place, value } => {
-            let word = if *value { WordKind::TrueWord } else { WordKind::FalseWord };
+            let word = if *value {
+                WordKind::TrueWord
+            } else {
+                WordKind::FalseWord
+            };
             push_word(tokens, *place, word)
         }
         Expr::It(place) => push_word(tokens, *place, WordKind::ItWord),
@@ -156,7 +173,12 @@ pub(crate) fn push_expr(alloc: Global, tokens: &mut Tokens, at: Place, expr: &Ex
 }
 
 #[cycle(spelling)]
-fn push_further(alloc: Global, tokens: &mut Tokens, at: Place, rest: &[Further]) -> Result<(), AllocError>
+fn push_further(
+    alloc: Global,
+    tokens: &mut Tokens,
+    at: Place,
+    rest: &[Further],
+) -> Result<(), AllocError>
     ensures { OnOk result (tokens.new ≡ tokens.old ++ joined (map (further_words at) rest.now)) }
 {
     'parts: for next in rest {
@@ -167,7 +189,12 @@ fn push_further(alloc: Global, tokens: &mut Tokens, at: Place, rest: &[Further])
 }
 
 #[cycle(spelling)]
-pub(crate) fn push_suffixes(alloc: Global, tokens: &mut Tokens, at: Place, suffixes: &[Suffix]) -> Result<(), AllocError>
+pub(crate) fn push_suffixes(
+    alloc: Global,
+    tokens: &mut Tokens,
+    at: Place,
+    suffixes: &[Suffix],
+) -> Result<(), AllocError>
     ensures { OnOk result (tokens.new ≡ tokens.old ++ joined (map (suffix_words at) suffixes.now)) }
 {
     'suffixes: for suffix in suffixes {
@@ -177,7 +204,12 @@ pub(crate) fn push_suffixes(alloc: Global, tokens: &mut Tokens, at: Place, suffi
 }
 
 #[cycle(spelling)]
-fn push_suffix(alloc: Global, tokens: &mut Tokens, at: Place, suffix: &Suffix) -> Result<(), AllocError>
+fn push_suffix(
+    alloc: Global,
+    tokens: &mut Tokens,
+    at: Place,
+    suffix: &Suffix,
+) -> Result<(), AllocError>
     ensures { OnOk result (tokens.new ≡ tokens.old ++ suffix_words at suffix.now) }
 {
     match suffix {
@@ -194,7 +226,12 @@ fn push_suffix(alloc: Global, tokens: &mut Tokens, at: Place, suffix: &Suffix) -
 }
 
 #[cycle(spelling)]
-fn push_items(alloc: Global, tokens: &mut Tokens, at: Place, items: &[Expr]) -> Result<(), AllocError>
+fn push_items(
+    alloc: Global,
+    tokens: &mut Tokens,
+    at: Place,
+    items: &[Expr],
+) -> Result<(), AllocError>
     ensures { OnOk result (tokens.new ≡ tokens.old ++ comma_joined at (map (expr_words at) items.now)) }
 {
     match items {

@@ -3,16 +3,23 @@ ghost use Rattle.dsl_tree.specs.Codes.{si_text, factor_text, offset_text};
 ghost use Rattle.dsl_tree.specs.Words.{one, mark, newline, word, ident, joined, comma_joined, block_words, with_words, rule_words, dotted_words, field_type_words, initial_words, field_words, member_words, body_words, second_words, qualified_words, condition_value_words, condition_words, heir_words, compound_word, compound_words, more_members_words, item_number_words, item_words, items_words, more_enum_words, enum_words, minus_words, signed_words, base_words, bases_words, type_words, further_part_words, unit_words, declaration_words, name_row_words, import_name_words, import_words};
 
 use crate::spell_expr::{push, push_digits, push_expr, push_ident, push_mark, push_word};
-use crate::spell_phase::{push_dotted, push_field_end, push_newline, push_opened, push_phase, push_rule};
+use crate::spell_phase::{
+    push_dotted, push_field_end, push_newline, push_opened, push_phase, push_rule,
+};
 use crate::{
-    BasePart, CompoundDecl, CompoundKind, ConditionValue, Declaration, Digits, EnumDecl, EnumItem, Expr,
-    FieldDecl, Heir, HeirCondition, Ident, Import, MarkKind, Member, MoreEnum, MoreMembers, PhysicalDecl,
-    QName, Signed, TokenKind, Tokens, UnitDecl, WordKind,
+    BasePart, CompoundDecl, CompoundKind, ConditionValue, Declaration, Digits, EnumDecl, EnumItem,
+    Expr, FieldDecl, Heir, HeirCondition, Ident, Import, MarkKind, Member, MoreEnum, MoreMembers,
+    PhysicalDecl, QName, Signed, TokenKind, Tokens, UnitDecl, WordKind,
 };
 use osc_base::{Place, Text};
 use std::alloc::{AllocError, Global};
 
-fn push_names(alloc: Global, tokens: &mut Tokens, at: Place, names: &[Ident]) -> Result<(), AllocError>
+fn push_names(
+    alloc: Global,
+    tokens: &mut Tokens,
+    at: Place,
+    names: &[Ident],
+) -> Result<(), AllocError>
     ensures { OnOk result (tokens.new ≡ tokens.old ++ comma_joined at (map ident names.now)) }
 {
     match names {
@@ -28,7 +35,13 @@ fn push_names(alloc: Global, tokens: &mut Tokens, at: Place, names: &[Ident]) ->
     }
 }
 
-fn push_field_type(alloc: Global, tokens: &mut Tokens, at: Place, list: &Option<Place>, of: &Ident) -> Result<(), AllocError>
+fn push_field_type(
+    alloc: Global,
+    tokens: &mut Tokens,
+    at: Place,
+    list: &Option<Place>,
+    of: &Ident,
+) -> Result<(), AllocError>
     ensures { OnOk result (tokens.new ≡ tokens.old ++ field_type_words at list.now of.now) }
 {
     match list {
@@ -41,7 +54,12 @@ fn push_field_type(alloc: Global, tokens: &mut Tokens, at: Place, list: &Option<
     }
 }
 
-fn push_initial(alloc: Global, tokens: &mut Tokens, at: Place, initial: &Option<Expr>) -> Result<(), AllocError>
+fn push_initial(
+    alloc: Global,
+    tokens: &mut Tokens,
+    at: Place,
+    initial: &Option<Expr>,
+) -> Result<(), AllocError>
     ensures { OnOk result (tokens.new ≡ tokens.old ++ initial_words at initial.now) }
 {
     match initial {
@@ -53,7 +71,12 @@ fn push_initial(alloc: Global, tokens: &mut Tokens, at: Place, initial: &Option<
     }
 }
 
-fn push_field(alloc: Global, tokens: &mut Tokens, at: Place, field: &FieldDecl) -> Result<(), AllocError>
+fn push_field(
+    alloc: Global,
+    tokens: &mut Tokens,
+    at: Place,
+    field: &FieldDecl,
+) -> Result<(), AllocError>
     ensures { OnOk result (tokens.new ≡ tokens.old ++ field_words at field.now) }
 {
     push_names(alloc, tokens, at, field.names.as_slice())?;
@@ -63,7 +86,12 @@ fn push_field(alloc: Global, tokens: &mut Tokens, at: Place, field: &FieldDecl) 
     push_field_end(alloc, tokens, at, field.rules.as_slice())
 }
 
-fn push_member(alloc: Global, tokens: &mut Tokens, at: Place, member: &Member) -> Result<(), AllocError>
+fn push_member(
+    alloc: Global,
+    tokens: &mut Tokens,
+    at: Place,
+    member: &Member,
+) -> Result<(), AllocError>
     ensures { OnOk result (tokens.new ≡ tokens.old ++ member_words at member.now) }
 {
     match member {
@@ -76,7 +104,12 @@ fn push_member(alloc: Global, tokens: &mut Tokens, at: Place, member: &Member) -
     }
 }
 
-fn push_members(alloc: Global, tokens: &mut Tokens, at: Place, members: &[Member]) -> Result<(), AllocError>
+fn push_members(
+    alloc: Global,
+    tokens: &mut Tokens,
+    at: Place,
+    members: &[Member],
+) -> Result<(), AllocError>
     ensures { OnOk result (tokens.new ≡ tokens.old ++ joined (map (member_words at) members.now)) }
 {
     'members: for member in members {
@@ -85,7 +118,12 @@ fn push_members(alloc: Global, tokens: &mut Tokens, at: Place, members: &[Member
     Ok(())
 }
 
-fn push_block(alloc: Global, tokens: &mut Tokens, at: Place, members: &[Member]) -> Result<(), AllocError>
+fn push_block(
+    alloc: Global,
+    tokens: &mut Tokens,
+    at: Place,
+    members: &[Member],
+) -> Result<(), AllocError>
     ensures { OnOk result (tokens.new ≡ tokens.old ++ block_words at (map (member_words at) members.now)) }
 {
     push_opened(tokens, at)?;
@@ -93,7 +131,12 @@ fn push_block(alloc: Global, tokens: &mut Tokens, at: Place, members: &[Member])
     push(tokens, at, TokenKind::Dedent)
 }
 
-fn push_body(alloc: Global, tokens: &mut Tokens, at: Place, members: &[Member]) -> Result<(), AllocError>
+fn push_body(
+    alloc: Global,
+    tokens: &mut Tokens,
+    at: Place,
+    members: &[Member],
+) -> Result<(), AllocError>
     ensures { OnOk result (tokens.new ≡ tokens.old ++ body_words at (map (member_words at) members.now)) }
 {
     match members {
@@ -105,7 +148,12 @@ fn push_body(alloc: Global, tokens: &mut Tokens, at: Place, members: &[Member]) 
     }
 }
 
-fn push_second(alloc: Global, tokens: &mut Tokens, at: Place, second: &Option<Ident>) -> Result<(), AllocError>
+fn push_second(
+    alloc: Global,
+    tokens: &mut Tokens,
+    at: Place,
+    second: &Option<Ident>,
+) -> Result<(), AllocError>
     ensures { OnOk result (tokens.new ≡ tokens.old ++ second_words at second.now) }
 {
     match second {
@@ -117,19 +165,33 @@ fn push_second(alloc: Global, tokens: &mut Tokens, at: Place, second: &Option<Id
     }
 }
 
-fn push_qualified(alloc: Global, tokens: &mut Tokens, at: Place, name: &QName) -> Result<(), AllocError>
+fn push_qualified(
+    alloc: Global,
+    tokens: &mut Tokens,
+    at: Place,
+    name: &QName,
+) -> Result<(), AllocError>
     ensures { OnOk result (tokens.new ≡ tokens.old ++ qualified_words at name.now) }
 {
     push_ident(alloc, tokens, &name.first)?;
     push_second(alloc, tokens, at, &name.second)
 }
 
-fn push_condition_value(alloc: Global, tokens: &mut Tokens, at: Place, value: &ConditionValue) -> Result<(), AllocError>
+fn push_condition_value(
+    alloc: Global,
+    tokens: &mut Tokens,
+    at: Place,
+    value: &ConditionValue,
+) -> Result<(), AllocError>
     ensures { OnOk result (tokens.new ≡ tokens.old ++ condition_value_words at value.now) }
 {
     match value {
         ConditionValue::Truth { place, value } => {
-            let word = if *value { WordKind::TrueWord } else { WordKind::FalseWord };
+            let word = if *value {
+                WordKind::TrueWord
+            } else {
+                WordKind::FalseWord
+            };
             push_word(tokens, *place, word)
         }
         ConditionValue::Name(name) => push_ident(alloc, tokens, name),
@@ -141,7 +203,12 @@ fn push_condition_value(alloc: Global, tokens: &mut Tokens, at: Place, value: &C
     }
 }
 
-fn push_condition(alloc: Global, tokens: &mut Tokens, at: Place, condition: &Option<HeirCondition>) -> Result<(), AllocError>
+fn push_condition(
+    alloc: Global,
+    tokens: &mut Tokens,
+    at: Place,
+    condition: &Option<HeirCondition>,
+) -> Result<(), AllocError>
     ensures { OnOk result (tokens.new ≡ tokens.old ++ condition_words at condition.now) }
 {
     match condition {
@@ -156,7 +223,12 @@ fn push_condition(alloc: Global, tokens: &mut Tokens, at: Place, condition: &Opt
     }
 }
 
-fn push_heir(alloc: Global, tokens: &mut Tokens, at: Place, heir: &Option<Heir>) -> Result<(), AllocError>
+fn push_heir(
+    alloc: Global,
+    tokens: &mut Tokens,
+    at: Place,
+    heir: &Option<Heir>,
+) -> Result<(), AllocError>
     ensures { OnOk result (tokens.new ≡ tokens.old ++ heir_words at heir.now) }
 {
     match heir {
@@ -180,7 +252,12 @@ fn word_of_compound(kind: CompoundKind) -> WordKind
     }
 }
 
-fn push_compound(alloc: Global, tokens: &mut Tokens, at: Place, compound: &CompoundDecl) -> Result<(), AllocError>
+fn push_compound(
+    alloc: Global,
+    tokens: &mut Tokens,
+    at: Place,
+    compound: &CompoundDecl,
+) -> Result<(), AllocError>
     ensures { OnOk result (tokens.new ≡ tokens.old ++ compound_words at compound.now) }
 {
     push_word(tokens, compound.place, word_of_compound(compound.kind))?;
@@ -189,7 +266,12 @@ fn push_compound(alloc: Global, tokens: &mut Tokens, at: Place, compound: &Compo
     push_body(alloc, tokens, at, compound.members.as_slice())
 }
 
-fn push_more_members(alloc: Global, tokens: &mut Tokens, at: Place, more: &MoreMembers) -> Result<(), AllocError>
+fn push_more_members(
+    alloc: Global,
+    tokens: &mut Tokens,
+    at: Place,
+    more: &MoreMembers,
+) -> Result<(), AllocError>
     ensures { OnOk result (tokens.new ≡ tokens.old ++ more_members_words at more.now) }
 {
     push_word(tokens, more.place, WordKind::ExtendWord)?;
@@ -198,7 +280,11 @@ fn push_more_members(alloc: Global, tokens: &mut Tokens, at: Place, more: &MoreM
     push_block(alloc, tokens, at, more.members.as_slice())
 }
 
-fn push_item_number(tokens: &mut Tokens, at: Place, number: &Option<Digits>) -> Result<(), AllocError>
+fn push_item_number(
+    tokens: &mut Tokens,
+    at: Place,
+    number: &Option<Digits>,
+) -> Result<(), AllocError>
     ensures { OnOk result (tokens.new ≡ tokens.old ++ item_number_words at number.now) }
 {
     match number {
@@ -210,14 +296,24 @@ fn push_item_number(tokens: &mut Tokens, at: Place, number: &Option<Digits>) -> 
     }
 }
 
-fn push_item(alloc: Global, tokens: &mut Tokens, at: Place, item: &EnumItem) -> Result<(), AllocError>
+fn push_item(
+    alloc: Global,
+    tokens: &mut Tokens,
+    at: Place,
+    item: &EnumItem,
+) -> Result<(), AllocError>
     ensures { OnOk result (tokens.new ≡ tokens.old ++ item_words at item.now) }
 {
     push_ident(alloc, tokens, &item.name)?;
     push_item_number(tokens, at, &item.number)
 }
 
-fn push_comma_items(alloc: Global, tokens: &mut Tokens, at: Place, items: &[EnumItem]) -> Result<(), AllocError>
+fn push_comma_items(
+    alloc: Global,
+    tokens: &mut Tokens,
+    at: Place,
+    items: &[EnumItem],
+) -> Result<(), AllocError>
     ensures { OnOk result (tokens.new ≡ tokens.old ++ comma_joined at (map (item_words at) items.now)) }
 {
     match items {
@@ -233,7 +329,12 @@ fn push_comma_items(alloc: Global, tokens: &mut Tokens, at: Place, items: &[Enum
     }
 }
 
-fn push_items(alloc: Global, tokens: &mut Tokens, at: Place, items: &[EnumItem]) -> Result<(), AllocError>
+fn push_items(
+    alloc: Global,
+    tokens: &mut Tokens,
+    at: Place,
+    items: &[EnumItem],
+) -> Result<(), AllocError>
     ensures { OnOk result (tokens.new ≡ tokens.old ++ items_words at items.now) }
 {
     push_mark(tokens, at, MarkKind::OpenSquare)?;
@@ -241,7 +342,12 @@ fn push_items(alloc: Global, tokens: &mut Tokens, at: Place, items: &[EnumItem])
     push_mark(tokens, at, MarkKind::CloseSquare)
 }
 
-fn push_more_enum(alloc: Global, tokens: &mut Tokens, at: Place, more: &MoreEnum) -> Result<(), AllocError>
+fn push_more_enum(
+    alloc: Global,
+    tokens: &mut Tokens,
+    at: Place,
+    more: &MoreEnum,
+) -> Result<(), AllocError>
     ensures { OnOk result (tokens.new ≡ tokens.old ++ more_enum_words at more.now) }
 {
     push_word(tokens, more.place, WordKind::ExtendWord)?;
@@ -251,7 +357,12 @@ fn push_more_enum(alloc: Global, tokens: &mut Tokens, at: Place, more: &MoreEnum
     push_newline(tokens, at)
 }
 
-fn push_enum(alloc: Global, tokens: &mut Tokens, at: Place, decl: &EnumDecl) -> Result<(), AllocError>
+fn push_enum(
+    alloc: Global,
+    tokens: &mut Tokens,
+    at: Place,
+    decl: &EnumDecl,
+) -> Result<(), AllocError>
     ensures { OnOk result (tokens.new ≡ tokens.old ++ enum_words at decl.now) }
 {
     push_word(tokens, decl.place, WordKind::EnumWord)?;
@@ -278,7 +389,12 @@ fn push_signed(tokens: &mut Tokens, number: &Signed) -> Result<(), AllocError>
     push_digits(tokens, &number.number)
 }
 
-fn push_base(alloc: Global, tokens: &mut Tokens, at: Place, base: &BasePart) -> Result<(), AllocError>
+fn push_base(
+    alloc: Global,
+    tokens: &mut Tokens,
+    at: Place,
+    base: &BasePart,
+) -> Result<(), AllocError>
     ensures { OnOk result (tokens.new ≡ tokens.old ++ base_words at base.now) }
 {
     push_ident(alloc, tokens, &base.name)?;
@@ -286,7 +402,12 @@ fn push_base(alloc: Global, tokens: &mut Tokens, at: Place, base: &BasePart) -> 
     push_signed(tokens, &base.exponent)
 }
 
-fn push_comma_bases(alloc: Global, tokens: &mut Tokens, at: Place, bases: &[BasePart]) -> Result<(), AllocError>
+fn push_comma_bases(
+    alloc: Global,
+    tokens: &mut Tokens,
+    at: Place,
+    bases: &[BasePart],
+) -> Result<(), AllocError>
     ensures { OnOk result (tokens.new ≡ tokens.old ++ comma_joined at (map (base_words at) bases.now)) }
 {
     match bases {
@@ -309,7 +430,12 @@ fn push_known(alloc: Global, tokens: &mut Tokens, at: Place, name: &str) -> Resu
     push(tokens, at, TokenKind::Name(text))
 }
 
-fn push_bases(alloc: Global, tokens: &mut Tokens, at: Place, bases: &[BasePart]) -> Result<(), AllocError>
+fn push_bases(
+    alloc: Global,
+    tokens: &mut Tokens,
+    at: Place,
+    bases: &[BasePart],
+) -> Result<(), AllocError>
     ensures { OnOk result (tokens.new ≡ tokens.old ++ bases_words at bases.now) }
 {
     push_word(tokens, at, WordKind::IsWord)?;
@@ -325,7 +451,12 @@ fn push_bases_end(tokens: &mut Tokens, at: Place) -> Result<(), AllocError>
     push_newline(tokens, at)
 }
 
-fn push_type(alloc: Global, tokens: &mut Tokens, at: Place, decl: &PhysicalDecl) -> Result<(), AllocError>
+fn push_type(
+    alloc: Global,
+    tokens: &mut Tokens,
+    at: Place,
+    decl: &PhysicalDecl,
+) -> Result<(), AllocError>
     ensures { OnOk result (tokens.new ≡ tokens.old ++ type_words at decl.now) }
 {
     push_word(tokens, decl.place, WordKind::TypeWord)?;
@@ -334,7 +465,13 @@ fn push_type(alloc: Global, tokens: &mut Tokens, at: Place, decl: &PhysicalDecl)
     push_bases_end(tokens, at)
 }
 
-fn push_further_part(alloc: Global, tokens: &mut Tokens, at: Place, name: &str, part: &Option<Signed>) -> Result<(), AllocError>
+fn push_further_part(
+    alloc: Global,
+    tokens: &mut Tokens,
+    at: Place,
+    name: &str,
+    part: &Option<Signed>,
+) -> Result<(), AllocError>
     ensures { OnOk result (tokens.new ≡ tokens.old ++ further_part_words at name.now part.now) }
 {
     match part {
@@ -348,7 +485,12 @@ fn push_further_part(alloc: Global, tokens: &mut Tokens, at: Place, name: &str, 
     }
 }
 
-fn push_unit(alloc: Global, tokens: &mut Tokens, at: Place, decl: &UnitDecl) -> Result<(), AllocError>
+fn push_unit(
+    alloc: Global,
+    tokens: &mut Tokens,
+    at: Place,
+    decl: &UnitDecl,
+) -> Result<(), AllocError>
     ensures { OnOk result (tokens.new ≡ tokens.old ++ unit_words at decl.now) }
 {
     push_word(tokens, decl.place, WordKind::UnitWord)?;
@@ -361,7 +503,12 @@ fn push_unit(alloc: Global, tokens: &mut Tokens, at: Place, decl: &UnitDecl) -> 
     push_bases_end(tokens, at)
 }
 
-fn push_declaration(alloc: Global, tokens: &mut Tokens, at: Place, decl: &Declaration) -> Result<(), AllocError>
+fn push_declaration(
+    alloc: Global,
+    tokens: &mut Tokens,
+    at: Place,
+    decl: &Declaration,
+) -> Result<(), AllocError>
     ensures { OnOk result (tokens.new ≡ tokens.old ++ declaration_words at decl.now) }
 {
     match decl {
@@ -374,7 +521,12 @@ fn push_declaration(alloc: Global, tokens: &mut Tokens, at: Place, decl: &Declar
     }
 }
 
-pub(crate) fn push_declarations(alloc: Global, tokens: &mut Tokens, at: Place, decls: &[Declaration]) -> Result<(), AllocError>
+pub(crate) fn push_declarations(
+    alloc: Global,
+    tokens: &mut Tokens,
+    at: Place,
+    decls: &[Declaration],
+) -> Result<(), AllocError>
     ensures { OnOk result (tokens.new ≡ tokens.old ++ joined (map (declaration_words at) decls.now)) }
 {
     'decls: for decl in decls {
@@ -383,7 +535,12 @@ pub(crate) fn push_declarations(alloc: Global, tokens: &mut Tokens, at: Place, d
     Ok(())
 }
 
-fn push_name_row(alloc: Global, tokens: &mut Tokens, at: Place, names: &[Ident]) -> Result<(), AllocError>
+fn push_name_row(
+    alloc: Global,
+    tokens: &mut Tokens,
+    at: Place,
+    names: &[Ident],
+) -> Result<(), AllocError>
     ensures { OnOk result (tokens.new ≡ tokens.old ++ name_row_words at names.now) }
 {
     match names {
@@ -395,7 +552,12 @@ fn push_name_row(alloc: Global, tokens: &mut Tokens, at: Place, names: &[Ident])
     }
 }
 
-fn push_import_name(alloc: Global, tokens: &mut Tokens, at: Place, import: &Import) -> Result<(), AllocError>
+fn push_import_name(
+    alloc: Global,
+    tokens: &mut Tokens,
+    at: Place,
+    import: &Import,
+) -> Result<(), AllocError>
     ensures { OnOk result (tokens.new ≡ tokens.old ++ import_name_words at import.now) }
 {
     match import {
@@ -407,7 +569,12 @@ fn push_import_name(alloc: Global, tokens: &mut Tokens, at: Place, import: &Impo
     }
 }
 
-fn push_import(alloc: Global, tokens: &mut Tokens, at: Place, import: &Import) -> Result<(), AllocError>
+fn push_import(
+    alloc: Global,
+    tokens: &mut Tokens,
+    at: Place,
+    import: &Import,
+) -> Result<(), AllocError>
     ensures { OnOk result (tokens.new ≡ tokens.old ++ import_words at import.now) }
 {
     push_word(tokens, at, WordKind::ImportWord)?;
@@ -415,7 +582,12 @@ fn push_import(alloc: Global, tokens: &mut Tokens, at: Place, import: &Import) -
     push_newline(tokens, at)
 }
 
-pub(crate) fn push_imports(alloc: Global, tokens: &mut Tokens, at: Place, imports: &[Import]) -> Result<(), AllocError>
+pub(crate) fn push_imports(
+    alloc: Global,
+    tokens: &mut Tokens,
+    at: Place,
+    imports: &[Import],
+) -> Result<(), AllocError>
     ensures { OnOk result (tokens.new ≡ tokens.old ++ joined (map (import_words at) imports.now)) }
 {
     'imports: for import in imports {
@@ -423,4 +595,3 @@ pub(crate) fn push_imports(alloc: Global, tokens: &mut Tokens, at: Place, import
     }
     Ok(())
 }
-

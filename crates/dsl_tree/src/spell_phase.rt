@@ -41,7 +41,12 @@ fn push_path_head(alloc: Global, tokens: &mut Tokens, head: &PathHead) -> Result
     }
 }
 
-fn push_path(alloc: Global, tokens: &mut Tokens, at: Place, path: &PathNode) -> Result<(), AllocError>
+fn push_path(
+    alloc: Global,
+    tokens: &mut Tokens,
+    at: Place,
+    path: &PathNode,
+) -> Result<(), AllocError>
     ensures { OnOk result (tokens.new ≡ tokens.old ++ path_words at path.now) }
 {
     push_path_head(alloc, tokens, &path.head)?;
@@ -58,7 +63,12 @@ fn push_keep_kind(tokens: &mut Tokens, at: Place, kind: KeepKind) -> Result<(), 
     }
 }
 
-pub(crate) fn push_rule(alloc: Global, tokens: &mut Tokens, at: Place, rule: &RuleDecl) -> Result<(), AllocError>
+pub(crate) fn push_rule(
+    alloc: Global,
+    tokens: &mut Tokens,
+    at: Place,
+    rule: &RuleDecl,
+) -> Result<(), AllocError>
     ensures { OnOk result (tokens.new ≡ tokens.old ++ rule_words at rule.now) }
 {
     match rule {
@@ -80,7 +90,12 @@ pub(crate) fn push_rule(alloc: Global, tokens: &mut Tokens, at: Place, rule: &Ru
     }
 }
 
-pub(crate) fn push_rules(alloc: Global, tokens: &mut Tokens, at: Place, rules: &[RuleDecl]) -> Result<(), AllocError>
+pub(crate) fn push_rules(
+    alloc: Global,
+    tokens: &mut Tokens,
+    at: Place,
+    rules: &[RuleDecl],
+) -> Result<(), AllocError>
     ensures { OnOk result (tokens.new ≡ tokens.old ++ joined (map (rule_words at) rules.now)) }
 {
     'rules: for rule in rules {
@@ -90,7 +105,12 @@ pub(crate) fn push_rules(alloc: Global, tokens: &mut Tokens, at: Place, rules: &
 }
 
 /// The rules below a field, or the end of its line.
-pub(crate) fn push_field_end(alloc: Global, tokens: &mut Tokens, at: Place, rules: &[RuleDecl]) -> Result<(), AllocError>
+pub(crate) fn push_field_end(
+    alloc: Global,
+    tokens: &mut Tokens,
+    at: Place,
+    rules: &[RuleDecl],
+) -> Result<(), AllocError>
     ensures { OnOk result (tokens.new ≡ tokens.old ++ with_words at (map (rule_words at) rules.now)) }
 {
     match rules {
@@ -103,7 +123,12 @@ pub(crate) fn push_field_end(alloc: Global, tokens: &mut Tokens, at: Place, rule
     }
 }
 
-fn push_label(alloc: Global, tokens: &mut Tokens, at: Place, label: &Option<Ident>) -> Result<(), AllocError>
+fn push_label(
+    alloc: Global,
+    tokens: &mut Tokens,
+    at: Place,
+    label: &Option<Ident>,
+) -> Result<(), AllocError>
     ensures { OnOk result (tokens.new ≡ tokens.old ++ label_words at label.now) }
 {
     match label {
@@ -115,14 +140,24 @@ fn push_label(alloc: Global, tokens: &mut Tokens, at: Place, label: &Option<Iden
     }
 }
 
-fn push_argument(alloc: Global, tokens: &mut Tokens, at: Place, argument: &Argument) -> Result<(), AllocError>
+fn push_argument(
+    alloc: Global,
+    tokens: &mut Tokens,
+    at: Place,
+    argument: &Argument,
+) -> Result<(), AllocError>
     ensures { OnOk result (tokens.new ≡ tokens.old ++ argument_words at argument.now) }
 {
     push_label(alloc, tokens, at, &argument.name)?;
     push_expr(alloc, tokens, at, &argument.value)
 }
 
-fn push_comma_arguments(alloc: Global, tokens: &mut Tokens, at: Place, arguments: &[Argument]) -> Result<(), AllocError>
+fn push_comma_arguments(
+    alloc: Global,
+    tokens: &mut Tokens,
+    at: Place,
+    arguments: &[Argument],
+) -> Result<(), AllocError>
     ensures { OnOk result (tokens.new ≡ tokens.old ++ comma_joined at (map (argument_words at) arguments.now)) }
 {
     match arguments {
@@ -138,14 +173,24 @@ fn push_comma_arguments(alloc: Global, tokens: &mut Tokens, at: Place, arguments
     }
 }
 
-fn push_arguments(alloc: Global, tokens: &mut Tokens, at: Place, arguments: &[Argument]) -> Result<(), AllocError>
+fn push_arguments(
+    alloc: Global,
+    tokens: &mut Tokens,
+    at: Place,
+    arguments: &[Argument],
+) -> Result<(), AllocError>
     ensures { OnOk result (tokens.new ≡ tokens.old ++ argument_list_words at arguments.now) }
 {
     push_comma_arguments(alloc, tokens, at, arguments)?;
     push_mark(tokens, at, MarkKind::CloseRound)
 }
 
-fn push_brackets(alloc: Global, tokens: &mut Tokens, at: Place, arguments: &[Argument]) -> Result<(), AllocError>
+fn push_brackets(
+    alloc: Global,
+    tokens: &mut Tokens,
+    at: Place,
+    arguments: &[Argument],
+) -> Result<(), AllocError>
     ensures { OnOk result (tokens.new ≡ tokens.old ++ bracket_words at arguments.now) }
 {
     match arguments {
@@ -157,7 +202,12 @@ fn push_brackets(alloc: Global, tokens: &mut Tokens, at: Place, arguments: &[Arg
     }
 }
 
-fn push_modifier(alloc: Global, tokens: &mut Tokens, at: Place, modifier: &ModifierNode) -> Result<(), AllocError>
+fn push_modifier(
+    alloc: Global,
+    tokens: &mut Tokens,
+    at: Place,
+    modifier: &ModifierNode,
+) -> Result<(), AllocError>
     ensures { OnOk result (tokens.new ≡ tokens.old ++ modifier_words at modifier.now) }
 {
     push_ident(alloc, tokens, &modifier.name)?;
@@ -166,7 +216,12 @@ fn push_modifier(alloc: Global, tokens: &mut Tokens, at: Place, modifier: &Modif
     push_newline(tokens, at)
 }
 
-fn push_part(alloc: Global, tokens: &mut Tokens, at: Place, part: &InvokePart) -> Result<(), AllocError>
+fn push_part(
+    alloc: Global,
+    tokens: &mut Tokens,
+    at: Place,
+    part: &InvokePart,
+) -> Result<(), AllocError>
     ensures { OnOk result (tokens.new ≡ tokens.old ++ part_words at part.now) }
 {
     match part {
@@ -175,7 +230,12 @@ fn push_part(alloc: Global, tokens: &mut Tokens, at: Place, part: &InvokePart) -
     }
 }
 
-fn push_parts(alloc: Global, tokens: &mut Tokens, at: Place, parts: &[InvokePart]) -> Result<(), AllocError>
+fn push_parts(
+    alloc: Global,
+    tokens: &mut Tokens,
+    at: Place,
+    parts: &[InvokePart],
+) -> Result<(), AllocError>
     ensures { OnOk result (tokens.new ≡ tokens.old ++ joined (map (part_words at) parts.now)) }
 {
     'parts: for part in parts {
@@ -184,7 +244,12 @@ fn push_parts(alloc: Global, tokens: &mut Tokens, at: Place, parts: &[InvokePart
     Ok(())
 }
 
-fn push_invocation_end(alloc: Global, tokens: &mut Tokens, at: Place, parts: &[InvokePart]) -> Result<(), AllocError>
+fn push_invocation_end(
+    alloc: Global,
+    tokens: &mut Tokens,
+    at: Place,
+    parts: &[InvokePart],
+) -> Result<(), AllocError>
     ensures { OnOk result (tokens.new ≡ tokens.old ++ with_words at (map (part_words at) parts.now)) }
 {
     match parts {
@@ -206,7 +271,12 @@ fn push_invoke_head(alloc: Global, tokens: &mut Tokens, head: &InvokeHead) -> Re
     }
 }
 
-pub(crate) fn push_dotted(alloc: Global, tokens: &mut Tokens, at: Place, names: &[Ident]) -> Result<(), AllocError>
+pub(crate) fn push_dotted(
+    alloc: Global,
+    tokens: &mut Tokens,
+    at: Place,
+    names: &[Ident],
+) -> Result<(), AllocError>
     ensures { OnOk result (tokens.new ≡ tokens.old ++ joined (map (dotted_words at) names.now)) }
 {
     'names: for name in names {
@@ -216,7 +286,12 @@ pub(crate) fn push_dotted(alloc: Global, tokens: &mut Tokens, at: Place, names: 
     Ok(())
 }
 
-fn push_invocation(alloc: Global, tokens: &mut Tokens, at: Place, node: &InvokeNode) -> Result<(), AllocError>
+fn push_invocation(
+    alloc: Global,
+    tokens: &mut Tokens,
+    at: Place,
+    node: &InvokeNode,
+) -> Result<(), AllocError>
     ensures { OnOk result (tokens.new ≡ tokens.old ++ invocation_words at node.now) }
 {
     push_label(alloc, tokens, at, &node.label)?;
@@ -227,7 +302,12 @@ fn push_invocation(alloc: Global, tokens: &mut Tokens, at: Place, node: &InvokeN
     push_invocation_end(alloc, tokens, at, node.parts.as_slice())
 }
 
-fn push_wait(alloc: Global, tokens: &mut Tokens, at: Place, node: &WaitNode) -> Result<(), AllocError>
+fn push_wait(
+    alloc: Global,
+    tokens: &mut Tokens,
+    at: Place,
+    node: &WaitNode,
+) -> Result<(), AllocError>
     ensures { OnOk result (tokens.new ≡ tokens.old ++ wait_words at node.now) }
 {
     push_label(alloc, tokens, at, &node.label)?;
@@ -250,7 +330,12 @@ fn word_of_comp(kind: CompKind) -> WordKind
 }
 
 #[cycle(spelling_phases)]
-pub(crate) fn push_phase(alloc: Global, tokens: &mut Tokens, at: Place, phase: &Phase) -> Result<(), AllocError>
+pub(crate) fn push_phase(
+    alloc: Global,
+    tokens: &mut Tokens,
+    at: Place,
+    phase: &Phase,
+) -> Result<(), AllocError>
     ensures { OnOk result (tokens.new ≡ tokens.old ++ phase_words at phase.now) }
 {
     match phase {
@@ -261,7 +346,12 @@ pub(crate) fn push_phase(alloc: Global, tokens: &mut Tokens, at: Place, phase: &
 }
 
 #[cycle(spelling_phases)]
-fn push_comp(alloc: Global, tokens: &mut Tokens, at: Place, node: &CompNode) -> Result<(), AllocError>
+fn push_comp(
+    alloc: Global,
+    tokens: &mut Tokens,
+    at: Place,
+    node: &CompNode,
+) -> Result<(), AllocError>
     ensures { OnOk result (tokens.new ≡ tokens.old ++ comp_words at node.now) }
 {
     push_label(alloc, tokens, at, &node.label)?;
@@ -274,7 +364,12 @@ fn push_comp(alloc: Global, tokens: &mut Tokens, at: Place, node: &CompNode) -> 
 }
 
 #[cycle(spelling_phases)]
-fn push_phases(alloc: Global, tokens: &mut Tokens, at: Place, phases: &[Phase]) -> Result<(), AllocError>
+fn push_phases(
+    alloc: Global,
+    tokens: &mut Tokens,
+    at: Place,
+    phases: &[Phase],
+) -> Result<(), AllocError>
     ensures { OnOk result (tokens.new ≡ tokens.old ++ joined (map (phase_words at) phases.now)) }
 {
     'phases: for phase in phases {

@@ -29,3 +29,39 @@ fn file_tokens(alloc: Global, file: &File) -> Result<Tokens, AllocError>
     push(&mut tokens, file.end, TokenKind::End)?;
     Ok(tokens)
 }
+
+#[cfg(test)]
+mod tests {
+    use super::*;
+    use crate::Import;
+    use osc_base::{Place, Text};
+    use std::test::*;
+
+    // `import "a"` and the line end behind it
+    #[test]
+    fn spells_an_import(rt: HostRuntime) -> Result<(), Fail> {
+        let place = Place {
+            file: 0,
+            line: 1,
+            column: 8,
+            token: 1,
+        };
+        let name = Text::copy(rt.alloc(), "a")?;
+        let mut imports = Row::new(rt.alloc());
+        imports.push(Import::Named { place, name })?;
+        let file = File {
+            imports,
+            decls: Row::new(rt.alloc()),
+            end: place,
+        };
+        let tokens = spell(rt.alloc(), &file)?;
+        let [word, text, line_end, end] = tokens.as_slice() else {
+            return Err(Fail::from("four tokens"));
+        };
+        assert!(rt; matches!(&word.kind, TokenKind::Word(crate::WordKind::ImportWord)));
+        assert!(rt; matches!(&text.kind, TokenKind::Chars(_)));
+        assert!(rt; matches!(&line_end.kind, TokenKind::Newline));
+        assert!(rt; matches!(&end.kind, TokenKind::End));
+        Ok(())
+    }
+}

@@ -9,4 +9,4 @@ use Rattle.dsl_tree.proofs.spell_tree.spell.Goals as goal
 pub returns : goal.returns
 returns c =
     IfOk-weaker c.file_tokens.result (λ tokens. tokens ≡ file_words c.args.file.now) (Spelled (file_tree c.args.file.now))
-      (λ tokens e. pushed_spells c.args.file.now tokens c.requires e) c.file_tokens.ensures
+    (λ tokens e. pushed_spells c.args.file.now tokens c.requires e) c.file_tokens.ensures
