@@ -1,6 +1,33 @@
 //! The tokens of the source and the trees that they spell.
 #![tactic(auto)]
 
+mod compounds;
+mod enums;
+mod expr;
+mod file;
+mod laws;
+mod parts;
+mod phases;
+mod rules;
+mod spell_expr;
+mod spell_file;
+mod spell_phase;
+mod spell_tree;
 mod token;
+mod units;
 
+pub use compounds::{
+    CompoundDecl, CompoundKind, ConditionValue, FieldDecl, Heir, HeirCondition, Member, MoreMembers,
+};
+pub use enums::{EnumDecl, EnumItem, MoreEnum};
+pub use expr::{Expr, Further, Operator, RelationSign, Suffix};
+pub use file::{Declaration, File, Import};
+pub use laws::{faults_spell_nothing, one_spelling, one_tree};
+pub use parts::{Digits, Ident, QName, Signed};
+pub use phases::{
+    Argument, CompKind, CompNode, InvokeHead, InvokeNode, InvokePart, ModifierNode, Phase, WaitNode,
+};
+pub use rules::{KeepKind, PathHead, PathNode, RuleDecl};
+pub use spell_tree::spell;
 pub use token::{LeftKind, MarkKind, Token, TokenKind, Tokens, WordKind};
+pub use units::{BasePart, PhysicalDecl, UnitDecl};

@@ -1,0 +1,73 @@
+-- The laws of spelling: one tree at most for a list of tokens, one list of kinds for a tree.
+use Rattle.std.proofs.Common.{◌≡◌, List, [], ◌∷◌, true, map, refl, sym, ◌∙◌, ap, ap₂, subst, append_assoc}
+use Rattle.dsl_tree.specs.declared.token.Token.{Token}
+use Rattle.dsl_tree.specs.declared.token.TokenKind.{TokenKind}
+use Rattle.dsl_tree.specs.declared.file.File.{File}
+use Rattle.dsl_tree.specs.Grammar.{Part, Symbol, Seen, Bare, Of}
+use Rattle.dsl_tree.specs.Forest.{Forest, nil, seen, bare, sub, wrong, Spells, Follows, IsOf}
+use Rattle.dsl_tree.specs.FileTree.{FileTree}
+use Rattle.dsl_tree.specs.Views.{file_tree}
+use Rattle.dsl_tree.specs.Words.{file_words}
+use Rattle.dsl_tree.specs.WrittenFile.{file}
+use Rattle.dsl_tree.specs.Language.{FollowsGrammar, Spelled, OneTree, OneSpelling, FaultsSpellNothing}
+use Rattle.dsl_tree.proofs.Tests.{is_whole}
+use Rattle.dsl_tree.proofs.Sets.{and_both}
+use Rattle.dsl_tree.proofs.Fits.{by_rules}
+use Rattle.dsl_tree.proofs.Law.{one_forest}
+use Rattle.dsl_tree.proofs.FileReaders.{read_file, file_back}
+use Rattle.dsl_tree.proofs.Leaves.{leaves, Spells-leaves}
+use Rattle.dsl_tree.proofs.FileWords.{file_leaves}
+
+-- `wrong` stands nowhere in a forest that follows a rule
+pub follows_is_whole : (f : Forest) (ss : List Symbol) → Follows f ss → is_whole f ≡ true
+follows_is_whole nil [] h = refl
+follows_is_whole (seen place kind f) (Seen codes ∷ ss) (h, h') = follows_is_whole f ss h'
+follows_is_whole (bare kind f) (Bare codes ∷ ss) (h, h') = follows_is_whole f ss h'
+follows_is_whole (sub a g) (Of p ∷ ss) (any, h) =
+    and_both (is_whole a) (is_whole g) (by_rules p (Follows a) (is_whole a ≡ true) any (λ r fit does. follows_is_whole a r does)) (follows_is_whole g ss h)
+follows_is_whole _ _ h = absurd h
+
+pub is_is_whole : (p : Part) (f : Forest) → IsOf p f → is_whole f ≡ true
+is_is_whole p f is = by_rules p (Follows f) (is_whole f ≡ true) is (λ r fit does. follows_is_whole f r does)
+
+pub spelled_once : OneTree
+spelled_once tree other tokens s s' =
+    sym (file_back tree (is_is_whole Part.File (file tree) s.follows))
+    ∙ (ap read_file (one_forest Part.File (file tree) (file other) tokens s.follows s'.follows s.spells s'.spells)
+    ∙ file_back other (is_is_whole Part.File (file other) s'.follows))
+
+-- a tree that follows the grammar is spelled by the tokens of its forest
+pub spelled_by : (tree : FileTree) → FollowsGrammar tree → (tokens : List Token) × Spelled tree tokens
+spelled_by tree follows =
+    (leaves tree.end (file tree) [], record { follows = follows; spells = Spells-leaves tree.end (file tree) [] (is_is_whole Part.File (file tree) follows) })
+
+same_kinds : (f : Forest) (ts us z y : List Token) → Spells f ts z → Spells f us y → map (λ t. t.kind) z ≡ map (λ t. t.kind) y → map (λ t. t.kind) ts ≡ map (λ t. t.kind) us
+same_kinds nil ts us z y s s' e = ap (map (λ (t : Token). t.kind)) s ∙ (e ∙ sym (ap (map (λ (t : Token). t.kind)) s'))
+same_kinds (seen place kind f) (t ∷ ts) (u ∷ us) z y (p, k, s) (p', k', s') e = ap₂ (λ (a : TokenKind) (b : List TokenKind). a ∷ b) (k ∙ sym k') (same_kinds f ts us z y s s' e)
+same_kinds (bare kind f) (t ∷ ts) (u ∷ us) z y (k, s) (k', s') e = ap₂ (λ (a : TokenKind) (b : List TokenKind). a ∷ b) (k ∙ sym k') (same_kinds f ts us z y s s' e)
+same_kinds (sub a g) ts us z y (m, s, s2) (n, s', s2') e = same_kinds a ts us m n s s' (same_kinds g m n z y s2 s2' e)
+same_kinds (seen place kind f) [] us z y s s' e = absurd s
+same_kinds (seen place kind f) (t ∷ ts) [] z y s s' e = absurd s'
+same_kinds (bare kind f) [] us z y s s' e = absurd s
+same_kinds (bare kind f) (t ∷ ts) [] z y s s' e = absurd s'
+same_kinds wrong ts us z y s s' e = absurd s
+
+pub one_spelling_holds : OneSpelling
+one_spelling_holds = (spelled_by, λ tree tokens others s s'. same_kinds (file tree) tokens others [] [] s.spells s'.spells refl)
+
+pub no_tree_at_fault : FaultsSpellNothing
+no_tree_at_fault tokens fault tree first spelled =
+    first.dead (record {
+      tree = tree;
+      back = first.back;
+      spelled = subst (Spelled tree) (first.split ∙ sym (append_assoc first.front (first.token ∷ []) first.back)) spelled;
+    })
+
+-- the tokens that `spell` pushes
+pub pushed_spells : (f : File) (tokens : List Token) → FollowsGrammar (file_tree f) → tokens ≡ file_words f → Spelled (file_tree f) tokens
+pushed_spells f tokens follows e =
+    let whole : is_whole (file (file_tree f)) ≡ true = is_is_whole Part.File (file (file_tree f)) follows in
+    record {
+      follows = follows;
+      spells = subst (λ (v : List Token). Spells (file (file_tree f)) v []) (file_leaves f whole ∙ sym e) (Spells-leaves f.end (file (file_tree f)) [] whole);
+    }

@@ -1,0 +1,91 @@
+-- Worked trees, with the tokens that they are spelled by.
+use Rattle.std.specs.Prelude.{ℕ, ◌+◌, List, [], ◌∷◌, None, true, codes}
+use Rattle.osc_base.specs.declared.fault.Place.{Place}
+use Rattle.dsl_tree.specs.declared.parts.Ident.{Ident}
+use Rattle.dsl_tree.specs.declared.token.Token.{Token}
+use Rattle.dsl_tree.specs.declared.token.TokenKind.{TokenKind}
+use Rattle.dsl_tree.specs.declared.token.MarkKind.{MarkKind}
+use Rattle.dsl_tree.specs.declared.token.WordKind.{WordKind}
+use Rattle.dsl_tree.specs.declared.expr.Operator.{Operator}
+use Rattle.dsl_tree.specs.declared.expr.RelationSign.{RelationSign}
+use Rattle.dsl_tree.specs.declared.rules.KeepKind.{KeepKind}
+use Rattle.dsl_tree.specs.declared.compounds.CompoundKind.{CompoundKind}
+use Rattle.dsl_tree.specs.ExprTree.{ExprTree}
+use Rattle.dsl_tree.specs.PhaseTree.{RuleTree}
+use Rattle.dsl_tree.specs.FileTree.{MemberTree, DeclarationTree, FileTree}
+
+-- some place with this number of tokens before it
+abbrev pub at : ℕ → Place
+at n = record { file = 0; line = 1; column = n + 1; token = n }
+
+-- tokens of these kinds, one after another
+abbrev pub tokens_from : ℕ → List TokenKind → List Token
+tokens_from n [] = []
+tokens_from n (kind ∷ kinds) = record { place = at n; kind = kind } ∷ tokens_from (n + 1) kinds
+
+abbrev pub named : List ℕ → TokenKind
+named text = TokenKind.Name text
+
+abbrev pub whole : ℕ → TokenKind
+whole n = TokenKind.Number n 0
+
+abbrev pub ident_at : ℕ → List ℕ → Ident
+ident_at n text = record { place = at n; text = text }
+
+abbrev pub number_at : ℕ → ℕ → ExprTree
+number_at n digits = ExprTree.Number (record { place = at n; digits = digits; places = 0 })
+
+-- scenario top:
+--     x: int
+--     keep(x in [1..2])
+abbrev pub scenario_front : List TokenKind
+scenario_front =
+    TokenKind.Word WordKind.ScenarioWord ∷ named (codes "top") ∷ TokenKind.Mark MarkKind.Colon ∷ TokenKind.Newline ∷ TokenKind.Indent
+    ∷ named (codes "x") ∷ TokenKind.Mark MarkKind.Colon ∷ named (codes "int") ∷ TokenKind.Newline
+    ∷ TokenKind.Word WordKind.KeepWord ∷ TokenKind.Mark MarkKind.OpenRound ∷ named (codes "x") ∷ TokenKind.Word WordKind.InWord
+    ∷ TokenKind.Mark MarkKind.OpenSquare ∷ whole 1 ∷ TokenKind.Mark MarkKind.TwoDots ∷ whole 2 ∷ []
+
+abbrev pub scenario_back : List TokenKind
+scenario_back =
+    TokenKind.Mark MarkKind.CloseSquare ∷ TokenKind.Mark MarkKind.CloseRound ∷ TokenKind.Newline ∷ TokenKind.Dedent ∷ TokenKind.End ∷ []
+
+abbrev pub scenario_tree : FileTree
+scenario_tree = record {
+  imports = [];
+  decls = DeclarationTree.CompoundDeclaration (record {
+    place = at 0;
+    kind = CompoundKind.Scenario;
+    name = record { first = ident_at 1 (codes "top"); second = None };
+    heir = None;
+    members =
+        MemberTree.Field (record { names = ident_at 5 (codes "x") ∷ []; list = None; of = ident_at 7 (codes "int"); initial = None; rules = [] })
+        ∷ MemberTree.Rule (RuleTree.Keep (at 9) KeepKind.Plain
+        (ExprTree.Relation (at 12) RelationSign.Within (ExprTree.Name (ident_at 11 (codes "x"))) (ExprTree.Span (at 13) (number_at 14 1) (number_at 16 2))))
+        ∷ [];
+  }) ∷ [];
+  end = at 21;
+}
+
+-- not a == 1 + 2 * -b.c[0] => true
+abbrev pub levels_tokens : List TokenKind
+levels_tokens =
+    TokenKind.Word WordKind.NotWord ∷ named (codes "a") ∷ TokenKind.Mark MarkKind.Equal ∷ whole 1 ∷ TokenKind.Mark MarkKind.Plus ∷ whole 2
+    ∷ TokenKind.Mark MarkKind.Star ∷ TokenKind.Mark MarkKind.Dash ∷ named (codes "b") ∷ TokenKind.Mark MarkKind.Dot ∷ named (codes "c")
+    ∷ TokenKind.Mark MarkKind.OpenSquare ∷ whole 0 ∷ TokenKind.Mark MarkKind.CloseSquare ∷ TokenKind.Mark MarkKind.Arrow
+    ∷ TokenKind.Word WordKind.TrueWord ∷ []
+
+abbrev pub levels_tree : ExprTree
+levels_tree =
+    ExprTree.Implies (at 14)
+    (ExprTree.Not (at 0) (ExprTree.Relation (at 2) RelationSign.Equal (ExprTree.Name (ident_at 1 (codes "a")))
+    (ExprTree.Sum (at 4) Operator.Plus (ExprTree.Start (number_at 3 1))
+    (ExprTree.Product (at 6) Operator.Star (ExprTree.Start (number_at 5 2))
+    (ExprTree.Minus (at 7) (ExprTree.Index (at 11) (ExprTree.Dot (ExprTree.Start (ExprTree.Name (ident_at 8 (codes "b")))) (ident_at 10 (codes "c"))) (number_at 12 0)))))))
+    (ExprTree.Truth (at 15) true)
+
+-- 1 + 2 - 3
+abbrev pub sum_tokens : List TokenKind
+sum_tokens = whole 1 ∷ TokenKind.Mark MarkKind.Plus ∷ whole 2 ∷ TokenKind.Mark MarkKind.Dash ∷ whole 3 ∷ []
+
+abbrev pub sum_tree : ExprTree
+sum_tree = ExprTree.Sum (at 3) Operator.Dash (ExprTree.Sum (at 1) Operator.Plus (ExprTree.Start (number_at 0 1)) (number_at 2 2)) (number_at 4 3)

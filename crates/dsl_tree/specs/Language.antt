@@ -1,0 +1,66 @@
+-- The language: which lists of tokens spell a tree, and where a list that spells none goes wrong.
+use Rattle.std.specs.Prelude.{◌≡◌, ℕ, List, [], ◌∷◌, ◌++◌, Bool, true, false, map}
+use Rattle.osc_base.specs.declared.fault.Fault.{Fault}
+use Rattle.dsl_tree.specs.declared.token.Token.{Token}
+use Rattle.dsl_tree.specs.declared.token.TokenKind.{TokenKind}
+use Rattle.dsl_tree.specs.FileTree.{FileTree}
+use Rattle.dsl_tree.specs.Grammar.{Part}
+use Rattle.dsl_tree.specs.Forest.{IsOf, Spells}
+use Rattle.dsl_tree.specs.WrittenFile.{file}
+
+-- The tree follows the grammar. Such a tree is spelled by some list of tokens, and no other tree is.
+abbrev pub FollowsGrammar : FileTree → Type 0
+FollowsGrammar tree = IsOf Part.File (file tree)
+
+-- the tree follows the grammar, and the tokens are those it is written as, with its places
+pub record Spelled (tree : FileTree) (tokens : List Token) : Type 0 where
+  pub follows : FollowsGrammar tree
+  pub spells : Spells (file tree) tokens []
+
+-- The last token is `End`, and no other one is: so the lexer gives them.
+abbrev pub is_end : TokenKind → Bool
+is_end TokenKind.End = true
+is_end _ = false
+
+abbrev pub Ended : List Token → Type 0
+Ended [] = ⊥
+Ended (token ∷ []) = is_end token.kind ≡ true
+Ended (token ∷ next ∷ others) = (is_end token.kind ≡ false) × Ended (next ∷ others)
+
+-- The spelling of some tree begins with these tokens. Numbers and texts have no ranges here. That
+-- changes nothing: those of the front are the tokens' own, and of those behind it the grammar asks
+-- no more than that a number is whole, or at most 9, or that a name is one of three.
+pub record IsViable (front : List Token) : Type 0 where
+  pub tree : FileTree
+  pub back : List Token
+  pub spelled : Spelled tree (front ++ back)
+
+-- the code of a fault at a token: 202 where it is a left-out word, else 201
+abbrev pub fault_code : TokenKind → ℕ
+fault_code (TokenKind.LeftOut word) = 202
+fault_code _ = 201
+
+-- the fault is at the first token with which no spelling of a tree goes on
+pub record FirstFault (tokens : List Token) (fault : Fault) : Type 0 where
+  pub front : List Token
+  pub token : Token
+  pub back : List Token
+  pub split : tokens ≡ front ++ token ∷ back
+  pub viable : IsViable front
+  pub dead : IsViable (front ++ token ∷ []) → ⊥
+  pub place : fault.place ≡ token.place
+  pub code : fault.code ≡ fault_code token.kind
+
+-- a list of tokens spells one tree at most
+abbrev pub OneTree : Type 0
+OneTree = (tree other : FileTree) (tokens : List Token) → Spelled tree tokens → Spelled other tokens → tree ≡ other
+
+-- a tree that follows the grammar is spelled, and apart from the places that it doesn't hold by one list
+abbrev pub OneSpelling : Type 0
+OneSpelling =
+    ((tree : FileTree) → FollowsGrammar tree → (tokens : List Token) × Spelled tree tokens)
+    × ((tree : FileTree) (tokens others : List Token) → Spelled tree tokens → Spelled tree others → map (λ t. t.kind) tokens ≡ map (λ t. t.kind) others)
+
+-- a list with a fault spells no tree
+abbrev pub FaultsSpellNothing : Type 0
+FaultsSpellNothing = (tokens : List Token) (fault : Fault) (tree : FileTree) → FirstFault tokens fault → Spelled tree tokens → ⊥

@@ -1,0 +1,15 @@
+pub mod ExprTree
+pub mod PhaseTree
+pub mod FileTree
+pub mod Views
+pub mod Codes
+pub mod Grammar
+pub mod Forest
+pub mod Written
+pub mod WrittenPhases
+pub mod WrittenFile
+pub mod Language
+pub mod Examples
+pub mod Tables
+pub mod Reading
+pub mod Words

@@ -1,0 +1,16 @@
+ghost use Rattle.dsl_tree.specs.Language.{OneTree, OneSpelling, FaultsSpellNothing};
+
+/// The law that a list of tokens is spelled by one tree at most.
+pub fn one_tree()
+    ensures { OneTree }
+{}
+
+/// The law that each tree of the grammar is spelled, and always by tokens of the same kinds.
+pub fn one_spelling()
+    ensures { OneSpelling }
+{}
+
+/// The law that a list of tokens with a first fault spells no tree.
+pub fn faults_spell_nothing()
+    ensures { FaultsSpellNothing }
+{}
