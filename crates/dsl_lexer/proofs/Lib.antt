@@ -1,4 +1,3 @@
-pub mod Runs
 pub mod Walks
 pub mod Inside
 pub mod Tables

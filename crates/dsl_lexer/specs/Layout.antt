@@ -37,6 +37,7 @@ abbrev pub line : List Piece → List Piece
 line [] = []
 line (p ∷ before) = if ends_line p before then [] else p ∷ line before
 
+-- whether a token is among these pieces
 abbrev pub has_lexeme : List Piece → Bool
 has_lexeme pieces = list_any (λ p. is_lexeme p.shape) pieces
 
@@ -86,6 +87,7 @@ opened widths = opened_since [] widths
 
 -- The rest is said of the opened widths above 0.
 
+-- whether a line of width w is wider than all that is opened, 0 too
 abbrev pub is_widest : ℕ → List ℕ → Bool
 is_widest w ws = nat_lt 0 w && list_all (λ v. nat_lt v w) ws
 
@@ -118,7 +120,8 @@ abbrev pub own_token : ℕ → Option TokenKind → List OffsetToken
 own_token at None = []
 own_token at (Some kind) = (at, kind) ∷ []
 
--- the tokens that p brings behind the pieces before it
+-- the tokens that p brings behind the pieces before it: where it is the first token of its line those of the blocks,
+-- then itself; where it ends a logical line the NEWLINE of that line
 abbrev pub brought : Piece → List Piece → List OffsetToken
 brought p before =
     (if begins_line p before then map (λ kind. (p.at, kind)) (blocks (width (line before)) (opened (widths before))) else [])

@@ -56,7 +56,6 @@ pub fn first_shape(b: u8) -> Shape
     }
 }
 
-#[tactic(auto, using(crate::proofs::Runs::run_more, crate::proofs::Runs::run_none, crate::proofs::Runs::run_end))]
 /// How many name characters stand at the front.
 pub fn name_run(rest: &[u8]) -> usize
     ensures run { result ≡ scan.name_run rest.now }
