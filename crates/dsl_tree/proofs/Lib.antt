@@ -22,3 +22,4 @@ pub mod Leaves
 pub mod ExprWords
 pub mod PhaseWords
 pub mod FileWords
+pub mod WrittenRows
