@@ -23,3 +23,4 @@ pub mod ExprWords
 pub mod PhaseWords
 pub mod FileWords
 pub mod WrittenRows
+pub mod FirstNames
