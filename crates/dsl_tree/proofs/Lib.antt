@@ -24,3 +24,4 @@ pub mod PhaseWords
 pub mod FileWords
 pub mod WrittenRows
 pub mod FirstNames
+pub mod Values
