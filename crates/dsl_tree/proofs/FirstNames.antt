@@ -4,8 +4,8 @@ use Rattle.dsl_tree.specs.declared.token.Token.{Token}
 use Rattle.dsl_tree.specs.declared.token.TokenKind.{TokenKind}
 use Rattle.dsl_tree.specs.declared.token.MarkKind.{MarkKind}
 use Rattle.dsl_tree.specs.Codes.{code, has, mark_code, si_name, factor_name, offset_name, other_name}
-use Rattle.dsl_tree.specs.Grammar.{Part, Symbol, Seen, Bare, Of}
-use Rattle.dsl_tree.specs.Forest.{Forest, nil, seen, bare, sub, Follows, IsOf, Spells}
+use Rattle.dsl_tree.specs.Grammar.{Part, Symbol, Of}
+use Rattle.dsl_tree.specs.Forest.{Forest, nil, seen, bare, sub, Follows, IsOf}
 use Rattle.dsl_tree.specs.Written.{raised}
 use Rattle.dsl_tree.specs.Reading.{Stops, Taken, CanBegin, PartFault, RowFault}
 use Rattle.dsl_tree.proofs.Tests.{Spells-tokens_of}

@@ -25,3 +25,4 @@ pub mod FileWords
 pub mod WrittenRows
 pub mod FirstNames
 pub mod Values
+pub mod FileValues

@@ -1,8 +1,7 @@
 -- The program's expressions, read back from their trees.
-use Rattle.std.proofs.Common.{◌≡◌, ℕ, List, [], ◌∷◌, ◌++◌, Bool, true, false, map, refl, sym, ◌∙◌, ap, ap₂, subst, append_assoc, ◌&&◌}
+use Rattle.std.proofs.Common.{◌≡◌, ℕ, List, [], ◌∷◌, ◌++◌, Bool, true, map, refl, ◌∙◌, ap, ap₂, subst, append_assoc, ◌&&◌}
 use Rattle.std.proofs.lemmas.Bool.{false≢true}
 use Rattle.osc_base.specs.declared.fault.Place.{Place}
-use Rattle.dsl_tree.specs.declared.parts.Ident.{Ident}
 use Rattle.dsl_tree.specs.declared.expr.Operator.{Operator}
 use Rattle.dsl_tree.specs.declared.expr.Expr.{Expr}
 use Rattle.dsl_tree.specs.declared.expr.Suffix.{Suffix}
@@ -12,13 +11,13 @@ use Rattle.dsl_tree.specs.declared.expr.Expr.TheFolds.{fold-roll-Expr, fold-roll
 use Rattle.dsl_tree.specs.declared.expr.Expr.TheViews
 use Rattle.dsl_tree.specs.declared.expr.Expr.TheViews.{roll-Expr, roll-Suffix, roll-Further}
 use Rattle.dsl_tree.specs.ExprTree.{ExprTree, ExprRow, row_of}
-use Rattle.dsl_tree.specs.Forest.{Forest, nil, seen, bare, sub, wrong}
-use Rattle.dsl_tree.specs.Written.{level, at, written, listed_tail, expr, next_index}
+use Rattle.dsl_tree.specs.Forest.{Forest, nil, sub}
+use Rattle.dsl_tree.specs.Written.{at, written, listed_tail, expr}
 use Rattle.dsl_tree.specs.Views as Views
 use Rattle.dsl_tree.specs.Views.{SuffixTree, FurtherTree, Named, At, grouped, with_suffixes, named_row, indexed_row, expr_tree, suffix_tree, further_tree}
 use Rattle.dsl_tree.proofs.Tests.{is_whole, left_of, right_of}
 use Rattle.dsl_tree.proofs.Leaves.{whole_at}
-use Rattle.dsl_tree.proofs.WrittenRows.{further_tail, suffix_tail, at_own, or_own, and_own, sum_own, product_own, post_own}
+use Rattle.dsl_tree.proofs.WrittenRows.{further_tail, suffix_tail, or_own, and_own, sum_own, product_own, post_own}
 
 -- what is read where a tree has no value
 abbrev pub no_value : Expr
@@ -290,7 +289,7 @@ expr_value = ind-Expr OfExpr OfSuffix OfFurther
     (λ x y is. subst (λ v. OfSuffix (roll-Suffix v)) is (suffix_proof y))
     (λ x y is. subst (λ v. OfFurther (roll-Further v)) is (further_proof y))
 
-suffix_back : (s : Suffix) → suffix_whole (suffix_tree s) ≡ true → suffix_value (suffix_tree s) ≡ s
+pub suffix_back : (s : Suffix) → suffix_whole (suffix_tree s) ≡ true → suffix_value (suffix_tree s) ≡ s
 suffix_back = ind-Suffix OfExpr OfSuffix OfFurther
     (λ x y is. subst (λ v. OfExpr (roll-Expr v)) is (expr_proof y))
     (λ x y is. subst (λ v. OfSuffix (roll-Suffix v)) is (suffix_proof y))

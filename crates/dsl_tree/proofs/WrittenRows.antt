@@ -1,12 +1,11 @@
 -- What rows are written as, by the lists that they are read into.
-use Rattle.std.proofs.Common.{◌≡◌, ◌⊎◌, ℕ, zero, suc, ◌+◌, ◌-◌, ◌≤◌, ◌<◌, List, [], ◌∷◌, Bool, true, false, cond, refl, sym, ◌∙◌, ap, subst, arith}
+use Rattle.std.proofs.Common.{◌≡◌, ℕ, zero, suc, ◌-◌, ◌≤◌, ◌<◌, List, [], ◌∷◌, Bool, true, false, cond, refl, sym, ◌∙◌, ap, arith}
 use Rattle.std.specs.Prelude.{nat_lt}
 use Rattle.std.proofs.lemmas.Bool.{ltb-true}
-use Rattle.dsl_tree.specs.ExprTree.{ExprTree, ExprRow, row_of}
-use Rattle.dsl_tree.specs.Views.{FurtherTree, SuffixTree, Named, At, grouped, with_suffixes, named_row, indexed_row}
-use Rattle.dsl_tree.specs.Forest.{Forest, nil, seen, bare, sub, wrong}
+use Rattle.dsl_tree.specs.ExprTree.{ExprTree}
+use Rattle.dsl_tree.specs.Views.{FurtherTree, SuffixTree, Named, At, grouped, with_suffixes}
+use Rattle.dsl_tree.specs.Forest.{Forest, nil, sub, wrong}
 use Rattle.dsl_tree.specs.Written.{level, lifted, raised, at, next_part, next_name, next_index, written, or_row, and_row, sum_row, product_row, post_row, expr}
-use Rattle.dsl_tree.proofs.Sets.{both_ways}
 
 -- Levels
 
