@@ -26,3 +26,4 @@ pub mod WrittenRows
 pub mod FirstNames
 pub mod Values
 pub mod FileValues
+pub mod TreeValues
