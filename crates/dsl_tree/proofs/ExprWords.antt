@@ -35,7 +35,7 @@ abbrev pub OfFurther : Place → Further → Type 0
 OfFurther p f = (z : List Token) → tok (further_tree f).place (operator_kind (further_tree f).operator) ∷ tree_words p (further_tree f).part z ≡ further_words p f ++ z
 
 -- layers with a proof beside each part
-abbrev SuchExpr : Place → Type 0
+abbrev pub SuchExpr : Place → Type 0
 SuchExpr p = (e : Expr) × OfExpr p e
 
 abbrev SuchSuffix : Place → Type 0

@@ -102,6 +102,13 @@ at_words p l t f z y back = go (nat_lt (level t) l)
     go true h = absurd (false≢true h)
     go false h = leaves_raised p (level t - l) l f z ∙ back (whole_raised (level t - l) l f h)
 
+pub whole_at : (l : ℕ) (t : ExprTree) (f : Forest) → is_whole (at l t f) ≡ true → is_whole f ≡ true
+whole_at l t f = go (nat_lt (level t) l)
+  where
+    go : (b : Bool) → is_whole (cond b wrong (raised (level t - l) l f)) ≡ true → is_whole f ≡ true
+    go true h = absurd (false≢true h)
+    go false h = whole_raised (level t - l) l f h
+
 mutual
   pub written_words : (p : Place) (t : ExprTree) (z : List Token) → is_whole (written t) ≡ true → leaves p (written t) z ≡ tree_words p t z
   written_words p (Implies place left right) z h =

@@ -22,3 +22,8 @@ pub mod Leaves
 pub mod ExprWords
 pub mod PhaseWords
 pub mod FileWords
+pub mod WrittenRows
+pub mod FirstNames
+pub mod Values
+pub mod FileValues
+pub mod TreeValues

@@ -9,7 +9,7 @@ use Rattle.dsl_tree.specs.FileTree.{FileTree}
 use Rattle.dsl_tree.specs.Views.{file_tree}
 use Rattle.dsl_tree.specs.Words.{file_words}
 use Rattle.dsl_tree.specs.WrittenFile.{file}
-use Rattle.dsl_tree.specs.Language.{FollowsGrammar, Spelled, OneTree, OneSpelling, FaultsSpellNothing}
+use Rattle.dsl_tree.specs.Language.{OneFile, FollowsGrammar, Spelled, OneTree, OneSpelling, FaultsSpellNothing}
 use Rattle.dsl_tree.proofs.Tests.{is_whole}
 use Rattle.dsl_tree.proofs.Sets.{and_both}
 use Rattle.dsl_tree.proofs.Fits.{by_rules}
@@ -17,6 +17,7 @@ use Rattle.dsl_tree.proofs.Law.{one_forest}
 use Rattle.dsl_tree.proofs.FileReaders.{read_file, file_back}
 use Rattle.dsl_tree.proofs.Leaves.{leaves, Spells-leaves}
 use Rattle.dsl_tree.proofs.FileWords.{file_leaves}
+use Rattle.dsl_tree.proofs.FileValues.{file_value, file_back_value}
 
 -- `wrong` stands nowhere in a forest that follows a rule
 pub follows_is_whole : (f : Forest) (ss : List Symbol) → Follows f ss → is_whole f ≡ true
@@ -71,3 +72,12 @@ pushed_spells f tokens follows e =
       follows = follows;
       spells = subst (λ (v : List Token). Spells (file (file_tree f)) v []) (file_leaves f whole ∙ sym e) (Spells-leaves f.end (file (file_tree f)) [] whole);
     }
+
+-- two files with one tree that follows the grammar are one
+pub same_file : (f g : File) → FollowsGrammar (file_tree f) → file_tree f ≡ file_tree g → f ≡ g
+same_file f g follows e =
+    sym (file_back_value f (is_is_whole Part.File (file (file_tree f)) follows))
+      ∙ (ap file_value e ∙ file_back_value g (is_is_whole Part.File (file (file_tree g)) (subst FollowsGrammar e follows)))
+
+pub one_file_spelled : OneFile
+one_file_spelled f g tokens s s' = same_file f g s.follows (spelled_once (file_tree f) (file_tree g) tokens s s')

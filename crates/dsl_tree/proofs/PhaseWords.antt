@@ -222,7 +222,7 @@ head_case p None (InvokeHead.Actor place) rest z w e = ap (λ (v : List Token). 
 head_case p (Some l) (InvokeHead.Name name) rest z w e = ap (λ (v : List Token). tok l.place (TokenKind.Name l.text) ∷ (tok p (TokenKind.Mark MarkKind.Colon) ∷ (tok name.place (TokenKind.Name name.text) ∷ v))) e
 head_case p (Some l) (InvokeHead.Actor place) rest z w e = ap (λ (v : List Token). tok l.place (TokenKind.Name l.text) ∷ (tok p (TokenKind.Mark MarkKind.Colon) ∷ (tok place (TokenKind.Word WordKind.ActorWord) ∷ v))) e
 
-head_whole : (label : Option Ident) (head : InvokeHead) (rest : Forest) → is_whole (labelled label (invocation head rest) (labelled_invocation head rest)) ≡ true → is_whole rest ≡ true
+pub head_whole : (label : Option Ident) (head : InvokeHead) (rest : Forest) → is_whole (labelled label (invocation head rest) (labelled_invocation head rest)) ≡ true → is_whole rest ≡ true
 head_whole None (InvokeHead.Name name) rest h = left_of _ true (left_of _ true h)
 head_whole None (InvokeHead.Actor place) rest h = left_of _ true h
 head_whole (Some l) (InvokeHead.Name name) rest h = left_of _ true (left_of _ true (left_of _ true h))
@@ -244,7 +244,7 @@ label_case : (p : Place) (label : Option Ident) (core : Forest) (z w : List Toke
 label_case p None core z w e = e
 label_case p (Some l) core z w e = ap (λ (v : List Token). tok l.place (TokenKind.Name l.text) ∷ (tok p (TokenKind.Mark MarkKind.Colon) ∷ v)) e
 
-label_whole : (label : Option Ident) (core : Forest) → is_whole (labelled label core core) ≡ true → is_whole core ≡ true
+pub label_whole : (label : Option Ident) (core : Forest) → is_whole (labelled label core core) ≡ true → is_whole core ≡ true
 label_whole None core h = h
 label_whole (Some l) core h = left_of _ true (left_of _ true h)
 

@@ -235,7 +235,7 @@ read_expr_back t h = read_part 0 t (written t) (read_written t) h
 
 -- Paths
 
-path_head_whole : (t : ExprTree) (rest : Forest) → is_whole (path_row t rest) ≡ true → is_whole rest ≡ true
+pub path_head_whole : (t : ExprTree) (rest : Forest) → is_whole (path_row t rest) ≡ true → is_whole rest ≡ true
 path_head_whole (Name name) rest h = left_of (is_whole rest) true h
 path_head_whole (It place) rest h = left_of (is_whole rest) true h
 path_head_whole (Actor place) rest h = left_of (is_whole rest) true h

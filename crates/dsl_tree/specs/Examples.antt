@@ -1,7 +1,11 @@
 -- Worked trees, with the tokens that they are spelled by.
-use Rattle.std.specs.Prelude.{ℕ, ◌+◌, List, [], ◌∷◌, None, true, codes}
+use Rattle.std.specs.Prelude.{ℕ, ◌+◌, List, [], ◌∷◌, None, Some, true, false, codes}
 use Rattle.osc_base.specs.declared.fault.Place.{Place}
 use Rattle.dsl_tree.specs.declared.parts.Ident.{Ident}
+use Rattle.dsl_tree.specs.declared.parts.Signed.{Signed}
+use Rattle.dsl_tree.specs.declared.units.BasePart.{BasePart}
+use Rattle.dsl_tree.specs.declared.phases.CompKind.{CompKind}
+use Rattle.dsl_tree.specs.declared.phases.InvokeHead.{InvokeHead}
 use Rattle.dsl_tree.specs.declared.token.Token.{Token}
 use Rattle.dsl_tree.specs.declared.token.TokenKind.{TokenKind}
 use Rattle.dsl_tree.specs.declared.token.MarkKind.{MarkKind}
@@ -11,7 +15,7 @@ use Rattle.dsl_tree.specs.declared.expr.RelationSign.{RelationSign}
 use Rattle.dsl_tree.specs.declared.rules.KeepKind.{KeepKind}
 use Rattle.dsl_tree.specs.declared.compounds.CompoundKind.{CompoundKind}
 use Rattle.dsl_tree.specs.ExprTree.{ExprTree}
-use Rattle.dsl_tree.specs.PhaseTree.{RuleTree}
+use Rattle.dsl_tree.specs.PhaseTree.{RuleTree, PartTree, PhaseTree, PhaseRow}
 use Rattle.dsl_tree.specs.FileTree.{MemberTree, DeclarationTree, FileTree}
 
 -- some place with this number of tokens before it
@@ -89,3 +93,82 @@ sum_tokens = whole 1 ∷ TokenKind.Mark MarkKind.Plus ∷ whole 2 ∷ TokenKind.
 
 abbrev pub sum_tree : ExprTree
 sum_tree = ExprTree.Sum (at 3) Operator.Dash (ExprTree.Sum (at 1) Operator.Plus (ExprTree.Start (number_at 0 1)) (number_at 2 2)) (number_at 4 3)
+
+-- type t is SI(m: 1, s: -2)
+-- unit u of t is SI(m: 1, factor: 0.1, offset: -3)
+abbrev pub units_tokens : List TokenKind
+units_tokens =
+    TokenKind.Word WordKind.TypeWord ∷ named (codes "t") ∷ TokenKind.Word WordKind.IsWord ∷ named (codes "SI") ∷ TokenKind.Mark MarkKind.OpenRound
+    ∷ named (codes "m") ∷ TokenKind.Mark MarkKind.Colon ∷ whole 1 ∷ TokenKind.Mark MarkKind.Comma
+    ∷ named (codes "s") ∷ TokenKind.Mark MarkKind.Colon ∷ TokenKind.Mark MarkKind.Dash ∷ whole 2 ∷ TokenKind.Mark MarkKind.CloseRound ∷ TokenKind.Newline
+    ∷ TokenKind.Word WordKind.UnitWord ∷ named (codes "u") ∷ TokenKind.Word WordKind.OfWord ∷ named (codes "t") ∷ TokenKind.Word WordKind.IsWord
+    ∷ named (codes "SI") ∷ TokenKind.Mark MarkKind.OpenRound ∷ named (codes "m") ∷ TokenKind.Mark MarkKind.Colon ∷ whole 1 ∷ TokenKind.Mark MarkKind.Comma
+    ∷ named (codes "factor") ∷ TokenKind.Mark MarkKind.Colon ∷ TokenKind.Number 1 1 ∷ TokenKind.Mark MarkKind.Comma
+    ∷ named (codes "offset") ∷ TokenKind.Mark MarkKind.Colon ∷ TokenKind.Mark MarkKind.Dash ∷ whole 3 ∷ TokenKind.Mark MarkKind.CloseRound ∷ TokenKind.Newline
+    ∷ TokenKind.End ∷ []
+
+abbrev pub positive_at : ℕ → ℕ → ℕ → Signed
+positive_at n digits places = record { place = at n; minus = false; number = record { place = at n; digits = digits; places = places } }
+
+abbrev pub negative_at : ℕ → ℕ → Signed
+negative_at n digits = record { place = at n; minus = true; number = record { place = at (n + 1); digits = digits; places = 0 } }
+
+abbrev pub base_at : ℕ → List ℕ → Signed → BasePart
+base_at n text exponent = record { name = ident_at n text; exponent = exponent }
+
+abbrev pub units_tree : FileTree
+units_tree = record {
+  imports = [];
+  decls =
+    DeclarationTree.TypeDeclaration (record {
+      place = at 0;
+      name = ident_at 1 (codes "t");
+      bases = base_at 5 (codes "m") (positive_at 7 1 0) ∷ base_at 9 (codes "s") (negative_at 11 2) ∷ [];
+    })
+    ∷ DeclarationTree.UnitDeclaration (record {
+      place = at 15;
+      name = ident_at 16 (codes "u");
+      of = ident_at 18 (codes "t");
+      bases = base_at 22 (codes "m") (positive_at 24 1 0) ∷ [];
+      factor = Some (positive_at 28 1 1);
+      offset = Some (negative_at 32 3);
+    })
+    ∷ [];
+  end = at 36;
+}
+
+-- a: one_of(1, n: 2):
+--     b.c() with:
+--         m(3)
+abbrev pub phase_tokens : List TokenKind
+phase_tokens =
+    named (codes "a") ∷ TokenKind.Mark MarkKind.Colon ∷ TokenKind.Word WordKind.OneOfWord ∷ TokenKind.Mark MarkKind.OpenRound ∷ whole 1
+    ∷ TokenKind.Mark MarkKind.Comma ∷ named (codes "n") ∷ TokenKind.Mark MarkKind.Colon ∷ whole 2 ∷ TokenKind.Mark MarkKind.CloseRound
+    ∷ TokenKind.Mark MarkKind.Colon ∷ TokenKind.Newline ∷ TokenKind.Indent
+    ∷ named (codes "b") ∷ TokenKind.Mark MarkKind.Dot ∷ named (codes "c") ∷ TokenKind.Mark MarkKind.OpenRound ∷ TokenKind.Mark MarkKind.CloseRound
+    ∷ TokenKind.Word WordKind.WithWord ∷ TokenKind.Mark MarkKind.Colon ∷ TokenKind.Newline ∷ TokenKind.Indent
+    ∷ named (codes "m") ∷ TokenKind.Mark MarkKind.OpenRound ∷ whole 3 ∷ TokenKind.Mark MarkKind.CloseRound ∷ TokenKind.Newline
+    ∷ TokenKind.Dedent ∷ TokenKind.Dedent ∷ []
+
+abbrev pub phase_tree : PhaseTree
+phase_tree =
+    PhaseTree.Comp (Some (ident_at 0 (codes "a"))) (at 2) CompKind.OneOf
+      (record { name = None; value = number_at 4 1 } ∷ record { name = Some (ident_at 6 (codes "n")); value = number_at 8 2 } ∷ [])
+      (PhaseRow.Phase
+        (PhaseTree.Invoke None (InvokeHead.Name (ident_at 13 (codes "b"))) (ident_at 15 (codes "c") ∷ []) []
+          (PartTree.ModifierPart (record { name = ident_at 22 (codes "m"); arguments = record { name = None; value = number_at 24 3 } ∷ [] }) ∷ []))
+        PhaseRow.End)
+
+-- Trees that break the grammar: a sum with nothing behind its first part, a sum as a part of a
+-- product, an exponent of 10, and a number without a minus that stands at two places
+abbrev pub empty_sum : ExprTree
+empty_sum = ExprTree.Start (number_at 0 1)
+
+abbrev pub sum_in_product : ExprTree
+sum_in_product = ExprTree.Product (at 3) Operator.Star (ExprTree.Start (ExprTree.Sum (at 1) Operator.Plus (ExprTree.Start (number_at 0 1)) (number_at 2 2))) (number_at 4 3)
+
+abbrev pub large_exponent : BasePart
+large_exponent = base_at 0 (codes "m") (positive_at 2 10 0)
+
+abbrev pub two_places : Signed
+two_places = record { place = at 0; minus = false; number = record { place = at 1; digits = 1; places = 0 } }

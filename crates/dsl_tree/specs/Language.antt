@@ -3,7 +3,9 @@ use Rattle.std.specs.Prelude.{◌≡◌, ℕ, List, [], ◌∷◌, ◌++◌, Boo
 use Rattle.osc_base.specs.declared.fault.Fault.{Fault}
 use Rattle.dsl_tree.specs.declared.token.Token.{Token}
 use Rattle.dsl_tree.specs.declared.token.TokenKind.{TokenKind}
+use Rattle.dsl_tree.specs.declared.file.File.{File}
 use Rattle.dsl_tree.specs.FileTree.{FileTree}
+use Rattle.dsl_tree.specs.Views.{file_tree}
 use Rattle.dsl_tree.specs.Grammar.{Part}
 use Rattle.dsl_tree.specs.Forest.{IsOf, Spells}
 use Rattle.dsl_tree.specs.WrittenFile.{file}
@@ -54,6 +56,10 @@ pub record FirstFault (tokens : List Token) (fault : Fault) : Type 0 where
 -- a list of tokens spells one tree at most
 abbrev pub OneTree : Type 0
 OneTree = (tree other : FileTree) (tokens : List Token) → Spelled tree tokens → Spelled other tokens → tree ≡ other
+
+-- and so it does of the program's own files, in every field of every node
+abbrev pub OneFile : Type 0
+OneFile = (f g : File) (tokens : List Token) → Spelled (file_tree f) tokens → Spelled (file_tree g) tokens → f ≡ g
 
 -- a tree that follows the grammar is spelled, and apart from the places that it doesn't hold by one list
 abbrev pub OneSpelling : Type 0

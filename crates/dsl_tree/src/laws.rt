@@ -1,9 +1,15 @@
-ghost use Rattle.dsl_tree.specs.Language.{OneTree, OneSpelling, FaultsSpellNothing};
+ghost use Rattle.dsl_tree.specs.Language.{OneTree, OneFile, OneSpelling, FaultsSpellNothing};
 
 /// The law that a list of tokens is spelled by one tree at most.
 pub fn one_tree()
     ensures { OneTree }
 {}
+
+/// The same of files as the program holds them: two that are spelled by one list are equal.
+pub fn one_file()
+    ensures { OneFile }
+{
+}
 
 /// The law that each tree of the grammar is spelled, and always by tokens of the same kinds.
 pub fn one_spelling()
