@@ -106,8 +106,8 @@ path_back head (s ∷ rest) h =
     let e = path_of_row (ExprTree.Start (head_tree head)) (suffix_tree s) (map suffix_tree rest) ∙ front_of_row (ExprTree.Start (head_tree head)) (map suffix_tree (s ∷ rest)) in
     let w = path_head_whole (head_tree head) (suffix_tail (map suffix_tree (s ∷ rest))) (subst (λ (f : Forest). is_whole f ≡ true) e h) in
     ap₂ (λ (a : PathHead) (b : List Suffix). record { head = a; suffixes = b })
-      (head_of_row (ExprTree.Start (head_tree head)) (map suffix_tree (s ∷ rest)) ∙ head_back head)
-      (rest_of_row (ExprTree.Start (head_tree head)) (map suffix_tree (s ∷ rest)) ∙ suffixes_back (s ∷ rest) w)
+    (head_of_row (ExprTree.Start (head_tree head)) (map suffix_tree (s ∷ rest)) ∙ head_back head)
+    (rest_of_row (ExprTree.Start (head_tree head)) (map suffix_tree (s ∷ rest)) ∙ suffixes_back (s ∷ rest) w)
 
 -- Rules and arguments
 
@@ -226,8 +226,8 @@ phase_case (Phase-F.Comp c) h = c.1 h
 phase_case (Phase-F.Invoke i) h =
     let w : is_whole (invocation_rest i.names (map argument_tree i.arguments) (map part_tree i.parts)) ≡ true = head_whole i.label i.head (invocation_rest i.names (map argument_tree i.arguments) (map part_tree i.parts)) h in
     ap₂ (λ (a : List Argument) (b : List InvokePart). Phase.Invoke (record { label = i.label; head = i.head; names = i.names; arguments = a; parts = b }))
-      (invocation_arguments_back i.arguments (left_of _ _ (right_of (is_whole (dotted_names i.names)) _ w)))
-      (end_back i.parts (left_of _ _ (right_of _ _ (right_of (is_whole (dotted_names i.names)) _ w))))
+    (invocation_arguments_back i.arguments (left_of _ _ (right_of (is_whole (dotted_names i.names)) _ w)))
+    (end_back i.parts (left_of _ _ (right_of _ _ (right_of (is_whole (dotted_names i.names)) _ w))))
 phase_case (Phase-F.Wait w) h =
     ap (λ (e : Expr). Phase.Wait (record { label = w.label; place = w.place; elapsed = e })) (expr_back w.elapsed (left_of _ _ (left_of _ _ (label_whole w.label (wait w.place (expr_tree w.elapsed)) h))))
 
@@ -236,10 +236,10 @@ comp_case : (y : CompNode-F SuchPhase SuchComp) → is_whole (phase (Views.comp_
 unfolding denote.Hole.Carrier.roll
 comp_case y h =
     let w : is_whole (composition y.place y.kind (map argument_tree y.arguments) (block_phases (row_of (map phase_tree (map (λ x. x.0) y.members))))) ≡ true =
-          label_whole y.label (composition y.place y.kind (map argument_tree y.arguments) (block_phases (row_of (map phase_tree (map (λ x. x.0) y.members))))) h in
+    label_whole y.label (composition y.place y.kind (map argument_tree y.arguments) (block_phases (row_of (map phase_tree (map (λ x. x.0) y.members))))) h in
     ap₂ (λ (a : List Argument) (b : List Phase). TheViews.Comp (comp_of y.label y.place y.kind a b))
-      (composition_arguments_back y.arguments (left_of _ _ (left_of _ _ w)))
-      (block_back y.members (right_of (is_whole (composition_arguments (map argument_tree y.arguments))) _ (left_of _ _ w)))
+    (composition_arguments_back y.arguments (left_of _ _ (left_of _ _ w)))
+    (block_back y.members (right_of (is_whole (composition_arguments (map argument_tree y.arguments))) _ (left_of _ _ w)))
 
 phase_proof : (y : Phase-F SuchPhase SuchComp) → OfPhase (roll-Phase (mapped_phase y))
 phase_proof y h =
@@ -273,10 +273,11 @@ field_back : (names : List Ident) (f : FieldDecl) → is_whole (field names (fie
 field_back [] f h = absurd (false≢true h)
 field_back (n ∷ ns) f h =
     ap₂ (λ (e : Option Expr) (rs : List RuleDecl). record { names = f.names; list = f.list; of = f.of; initial = e; rules = rs })
-      (optional_back f.initial (left_of _ _ h3)) (field_end_back f.rules (left_of _ _ (right_of (is_whole (initial (option_map expr_tree f.initial))) _ h3)))
+    (optional_back f.initial (left_of _ _ h3)) (field_end_back f.rules (left_of _ _ (right_of (is_whole (initial (option_map expr_tree f.initial))) _ h3)))
   where
     h2 : (is_whole (field_type f.list f.of) && (is_whole (initial (option_map expr_tree f.initial)) && (is_whole (field_end (map rule_tree f.rules)) && true))) ≡ true
     h2 = right_of (is_whole (names_tail ns)) _ h
+
     h3 : (is_whole (initial (option_map expr_tree f.initial)) && (is_whole (field_end (map rule_tree f.rules)) && true)) ≡ true
     h3 = right_of (is_whole (field_type f.list f.of)) _ h2
 
@@ -329,10 +330,10 @@ declaration_back (Declaration.Unit d) h = refl
 declaration_back (Declaration.Enum d) h = refl
 declaration_back (Declaration.Compound c) h =
     ap (λ (ms : List Member). Declaration.Compound (record { place = c.place; kind = c.kind; name = c.name; heir = c.heir; members = ms }))
-      (body_members c.members (left_of _ _ (right_of (is_whole (optional_heir c.heir)) _ (heading_whole c.kind c h))))
+    (body_members c.members (left_of _ _ (right_of (is_whole (optional_heir c.heir)) _ (heading_whole c.kind c h))))
 declaration_back (Declaration.MoreMembers e) h =
     ap (λ (ms : List Member). Declaration.MoreMembers (record { place = e.place; name = e.name; members = ms }))
-      (block_members e.members (left_of _ _ (left_of _ _ (right_of (is_whole (qualified_name e.name)) _ h))))
+    (block_members e.members (left_of _ _ (left_of _ _ (right_of (is_whole (qualified_name e.name)) _ h))))
 declaration_back (Declaration.MoreEnum e) h = refl
 
 declarations_back : (ds : List Declaration) → is_whole (declarations (map declaration_tree ds)) ≡ true → map declaration_value (map declaration_tree ds) ≡ ds

@@ -42,8 +42,10 @@ begins_plain t h = record {
   where
     operand : IsOf Part.Primary (seen t.place t.kind (sub nil nil))
     operand = inr (inr (inr (inr (inr (inr (inl (h, (inl tt, tt))))))))
+
     relation : IsOf Part.Relation (raised 5 4 (seen t.place t.kind (sub nil nil)))
     relation = inl (inl (inl (inr (inl (inl (operand, (inl tt, tt)), tt)), (inl tt, tt)), (inl tt, tt)), (inl tt, tt))
+
     expr : IsOf Part.Expr (name_expr t)
     expr = inl (inl (inl (inr (inl (relation, tt)), (inl tt, tt)), (inl tt, tt)), (inl tt, tt))
 

@@ -77,7 +77,7 @@ pushed_spells f tokens follows e =
 pub same_file : (f g : File) → FollowsGrammar (file_tree f) → file_tree f ≡ file_tree g → f ≡ g
 same_file f g follows e =
     sym (file_back_value f (is_is_whole Part.File (file (file_tree f)) follows))
-      ∙ (ap file_value e ∙ file_back_value g (is_is_whole Part.File (file (file_tree g)) (subst FollowsGrammar e follows)))
+    ∙ (ap file_value e ∙ file_back_value g (is_is_whole Part.File (file (file_tree g)) (subst FollowsGrammar e follows)))
 
 pub one_file_spelled : OneFile
 one_file_spelled f g tokens s s' = same_file f g s.follows (spelled_once (file_tree f) (file_tree g) tokens s s')

@@ -31,9 +31,9 @@ row_more : (join : Join) (first left right : ExprTree) (rest : List Further) (pl
     → grouped join first (map further_tree (rest ++ record { place = place; operator = operator; part = value } ∷ [])) ≡ join place operator left right
 row_more join first left right rest place operator value e e' =
     ap (grouped join first) (map-append further_tree rest (record { place = place; operator = operator; part = value } ∷ []))
-      ∙ (grouped-append join first (map further_tree rest) (further_tree (record { place = place; operator = operator; part = value }))
-      ∙ (ap (λ (f : FurtherTree). join f.place f.operator (grouped join first (map further_tree rest)) f.part) (seen_further (record { place = place; operator = operator; part = value }))
-      ∙ ap₂ (λ (l r : ExprTree). join place operator l r) e e'))
+    ∙ (grouped-append join first (map further_tree rest) (further_tree (record { place = place; operator = operator; part = value }))
+    ∙ (ap (λ (f : FurtherTree). join f.place f.operator (grouped join first (map further_tree rest)) f.part) (seen_further (record { place = place; operator = operator; part = value }))
+    ∙ ap₂ (λ (l r : ExprTree). join place operator l r) e e'))
 
 with_suffixes-append : (head : ExprTree) (ss ts : List SuffixTree) → with_suffixes head (ss ++ ts) ≡ with_suffixes (with_suffixes head ss) ts
 with_suffixes-append head [] ts = refl
@@ -58,25 +58,25 @@ name_more : (first head : ExprTree) (rest : List Suffix) (name : Ident) → with
     → with_suffixes first (map suffix_tree (rest ++ Suffix.Suffix::Dot name ∷ [])) ≡ Dot head name
 name_more first head rest name e =
     ap (with_suffixes first) (map-append suffix_tree rest (Suffix.Suffix::Dot name ∷ []))
-      ∙ (with_suffixes-append first (map suffix_tree rest) (suffix_tree (Suffix.Suffix::Dot name) ∷ [])
-      ∙ (ap (λ (s : SuffixTree). with_suffixes (with_suffixes first (map suffix_tree rest)) (s ∷ [])) (seen_dot_suffix name) ∙ ap (λ (t : ExprTree). Dot t name) e))
+    ∙ (with_suffixes-append first (map suffix_tree rest) (suffix_tree (Suffix.Suffix::Dot name) ∷ [])
+    ∙ (ap (λ (s : SuffixTree). with_suffixes (with_suffixes first (map suffix_tree rest)) (s ∷ [])) (seen_dot_suffix name) ∙ ap (λ (t : ExprTree). Dot t name) e))
 
 index_more : (first head index : ExprTree) (rest : List Suffix) (place : Place) (value : Expr) → with_suffixes first (map suffix_tree rest) ≡ head → expr_tree value ≡ index
     → with_suffixes first (map suffix_tree (rest ++ Suffix.Suffix::Index place value ∷ [])) ≡ Index place head index
 index_more first head index rest place value e e' =
     ap (with_suffixes first) (map-append suffix_tree rest (Suffix.Suffix::Index place value ∷ []))
-      ∙ (with_suffixes-append first (map suffix_tree rest) (suffix_tree (Suffix.Suffix::Index place value) ∷ [])
-      ∙ (ap (λ (s : SuffixTree). with_suffixes (with_suffixes first (map suffix_tree rest)) (s ∷ [])) (seen_index_suffix place value) ∙ ap₂ (λ (t i : ExprTree). Index place t i) e e'))
+    ∙ (with_suffixes-append first (map suffix_tree rest) (suffix_tree (Suffix.Suffix::Index place value) ∷ [])
+    ∙ (ap (λ (s : SuffixTree). with_suffixes (with_suffixes first (map suffix_tree rest)) (s ∷ [])) (seen_index_suffix place value) ∙ ap₂ (λ (t i : ExprTree). Index place t i) e e'))
 
 named_more : (tree : ExprTree) (rest : List Suffix) (name : Ident) → named_row tree (map suffix_tree (rest ++ Suffix.Suffix::Dot name ∷ [])) ≡ tree
 named_more tree rest name =
     ap (named_row tree) (map-append suffix_tree rest (Suffix.Suffix::Dot name ∷ []))
-      ∙ (ap (λ (s : SuffixTree). named_row tree (map suffix_tree rest ++ s ∷ [])) (seen_dot_suffix name) ∙ named_last tree (map suffix_tree rest) name)
+    ∙ (ap (λ (s : SuffixTree). named_row tree (map suffix_tree rest ++ s ∷ [])) (seen_dot_suffix name) ∙ named_last tree (map suffix_tree rest) name)
 
 indexed_more : (tree : ExprTree) (rest : List Suffix) (place : Place) (value : Expr) → indexed_row tree (map suffix_tree (rest ++ Suffix.Suffix::Index place value ∷ [])) ≡ tree
 indexed_more tree rest place value =
     ap (indexed_row tree) (map-append suffix_tree rest (Suffix.Suffix::Index place value ∷ []))
-      ∙ (ap (λ (s : SuffixTree). indexed_row tree (map suffix_tree rest ++ s ∷ [])) (seen_index_suffix place value) ∙ indexed_last tree (map suffix_tree rest) place (expr_tree value))
+    ∙ (ap (λ (s : SuffixTree). indexed_row tree (map suffix_tree rest ++ s ∷ [])) (seen_index_suffix place value) ∙ indexed_last tree (map suffix_tree rest) place (expr_tree value))
 
 mutual
   pub tree_back : (t : ExprTree) → is_whole (written t) ≡ true → expr_tree (value_of t) ≡ t
@@ -86,33 +86,33 @@ mutual
   tree_back (Minus place part) h = seen_minus place (value_of part) ∙ ap (λ (x : ExprTree). Minus place x) (tree_back part (whole_at 8 part (written part) (left_of _ _ h)))
   tree_back (Or place operator left right) h =
       seen_or (row_first left) (row_rest left ++ record { place = place; operator = operator; part = value_of right } ∷ [])
-        ∙ row_more Or (Start (expr_tree (row_first left))) left right (row_rest left) place operator (value_of right)
-          (or_tree left (next_part place operator (at 2 right (written right)) nil) h)
-          (tree_back right (whole_at 2 right (written right) (left_of _ _ (or_whole left (next_part place operator (at 2 right (written right)) nil) h))))
+      ∙ row_more Or (Start (expr_tree (row_first left))) left right (row_rest left) place operator (value_of right)
+      (or_tree left (next_part place operator (at 2 right (written right)) nil) h)
+      (tree_back right (whole_at 2 right (written right) (left_of _ _ (or_whole left (next_part place operator (at 2 right (written right)) nil) h))))
   tree_back (And place operator left right) h =
       seen_and (row_first left) (row_rest left ++ record { place = place; operator = operator; part = value_of right } ∷ [])
-        ∙ row_more And (Start (expr_tree (row_first left))) left right (row_rest left) place operator (value_of right)
-          (and_tree left (next_part place operator (at 3 right (written right)) nil) h)
-          (tree_back right (whole_at 3 right (written right) (left_of _ _ (and_whole left (next_part place operator (at 3 right (written right)) nil) h))))
+      ∙ row_more And (Start (expr_tree (row_first left))) left right (row_rest left) place operator (value_of right)
+      (and_tree left (next_part place operator (at 3 right (written right)) nil) h)
+      (tree_back right (whole_at 3 right (written right) (left_of _ _ (and_whole left (next_part place operator (at 3 right (written right)) nil) h))))
   tree_back (Sum place operator left right) h =
       seen_sum (row_first left) (row_rest left ++ record { place = place; operator = operator; part = value_of right } ∷ [])
-        ∙ row_more Sum (Start (expr_tree (row_first left))) left right (row_rest left) place operator (value_of right)
-          (sum_tree left (next_part place operator (at 6 right (written right)) nil) h)
-          (tree_back right (whole_at 6 right (written right) (left_of _ _ (sum_whole left (next_part place operator (at 6 right (written right)) nil) h))))
+      ∙ row_more Sum (Start (expr_tree (row_first left))) left right (row_rest left) place operator (value_of right)
+      (sum_tree left (next_part place operator (at 6 right (written right)) nil) h)
+      (tree_back right (whole_at 6 right (written right) (left_of _ _ (sum_whole left (next_part place operator (at 6 right (written right)) nil) h))))
   tree_back (Product place operator left right) h =
       seen_product (row_first left) (row_rest left ++ record { place = place; operator = operator; part = value_of right } ∷ [])
-        ∙ row_more Product (Start (expr_tree (row_first left))) left right (row_rest left) place operator (value_of right)
-          (product_tree left (next_part place operator (at 7 right (written right)) nil) h)
-          (tree_back right (whole_at 7 right (written right) (left_of _ _ (product_whole left (next_part place operator (at 7 right (written right)) nil) h))))
+      ∙ row_more Product (Start (expr_tree (row_first left))) left right (row_rest left) place operator (value_of right)
+      (product_tree left (next_part place operator (at 7 right (written right)) nil) h)
+      (tree_back right (whole_at 7 right (written right) (left_of _ _ (product_whole left (next_part place operator (at 7 right (written right)) nil) h))))
   tree_back (Dot head name) h =
       seen_dot (row_first head) (suffix_rest head ++ Suffix.Suffix::Dot name ∷ [])
-        ∙ (named_more (with_suffixes (Start (expr_tree (row_first head))) (map suffix_tree (suffix_rest head ++ Suffix.Suffix::Dot name ∷ []))) (suffix_rest head) name
-        ∙ name_more (Start (expr_tree (row_first head))) head (suffix_rest head) name (post_tree head (next_name name nil) h))
+      ∙ (named_more (with_suffixes (Start (expr_tree (row_first head))) (map suffix_tree (suffix_rest head ++ Suffix.Suffix::Dot name ∷ []))) (suffix_rest head) name
+      ∙ name_more (Start (expr_tree (row_first head))) head (suffix_rest head) name (post_tree head (next_name name nil) h))
   tree_back (Index place head index) h =
       seen_index (row_first head) (suffix_rest head ++ Suffix.Suffix::Index place (value_of index) ∷ [])
-        ∙ (indexed_more (with_suffixes (Start (expr_tree (row_first head))) (map suffix_tree (suffix_rest head ++ Suffix.Suffix::Index place (value_of index) ∷ []))) (suffix_rest head) place (value_of index)
-        ∙ index_more (Start (expr_tree (row_first head))) head index (suffix_rest head) place (value_of index) (post_tree head (next_index place (at 0 index (written index)) nil) h)
-          (tree_back index (whole_at 0 index (written index) (left_of _ _ (left_of _ _ (post_whole head (next_index place (at 0 index (written index)) nil) h))))))
+      ∙ (indexed_more (with_suffixes (Start (expr_tree (row_first head))) (map suffix_tree (suffix_rest head ++ Suffix.Suffix::Index place (value_of index) ∷ []))) (suffix_rest head) place (value_of index)
+      ∙ index_more (Start (expr_tree (row_first head))) head index (suffix_rest head) place (value_of index) (post_tree head (next_index place (at 0 index (written index)) nil) h)
+      (tree_back index (whole_at 0 index (written index) (left_of _ _ (left_of _ _ (post_whole head (next_index place (at 0 index (written index)) nil) h))))))
   tree_back (Number number) h = seen_number number
   tree_back (Physical number unit) h = seen_physical number unit
   tree_back (Chars place text) h = seen_chars place text
@@ -126,7 +126,7 @@ mutual
   tree_back (Listed place End) h = absurd (false≢true h)
   tree_back (Listed place (Item item others)) h =
       seen_listed place (value_of item ∷ values_of others)
-        ∙ ap₂ (λ (x : ExprTree) (y : ExprRow). Listed place (Item x y)) (tree_back item (whole_at 0 item (written item) (left_of _ _ h))) (items_tree others (left_of _ _ (left_of _ _ (right_of _ _ h))))
+      ∙ ap₂ (λ (x : ExprTree) (y : ExprRow). Listed place (Item x y)) (tree_back item (whole_at 0 item (written item) (left_of _ _ h))) (items_tree others (left_of _ _ (left_of _ _ (right_of _ _ h))))
   tree_back (RangeCall place low high) h = seen_range_call place (value_of low) (value_of high) ∙ ap₂ (λ (x y : ExprTree). RangeCall place x y) (tree_back low (whole_at 0 low (written low) (left_of _ _ h))) (tree_back high (whole_at 0 high (written high) (left_of _ _ (right_of _ _ h))))
   tree_back (Start first) h = absurd (false≢true h)
 
@@ -134,32 +134,32 @@ mutual
   or_tree (Start first) rest h = ap Start (tree_back first (whole_at 2 first (written first) (left_of _ _ h)))
   or_tree (Or place operator left right) rest h =
       row_more Or (Start (expr_tree (row_first left))) left right (row_rest left) place operator (value_of right)
-        (or_tree left (next_part place operator (at 2 right (written right)) rest) h)
-        (tree_back right (whole_at 2 right (written right) (left_of _ _ (or_whole left (next_part place operator (at 2 right (written right)) rest) h))))
+      (or_tree left (next_part place operator (at 2 right (written right)) rest) h)
+      (tree_back right (whole_at 2 right (written right) (left_of _ _ (or_whole left (next_part place operator (at 2 right (written right)) rest) h))))
   or_tree _ rest h = absurd (false≢true h)
 
   and_tree : (t : ExprTree) (rest : Forest) → is_whole (and_row t rest) ≡ true → grouped And (Start (expr_tree (row_first t))) (map further_tree (row_rest t)) ≡ t
   and_tree (Start first) rest h = ap Start (tree_back first (whole_at 3 first (written first) (left_of _ _ h)))
   and_tree (And place operator left right) rest h =
       row_more And (Start (expr_tree (row_first left))) left right (row_rest left) place operator (value_of right)
-        (and_tree left (next_part place operator (at 3 right (written right)) rest) h)
-        (tree_back right (whole_at 3 right (written right) (left_of _ _ (and_whole left (next_part place operator (at 3 right (written right)) rest) h))))
+      (and_tree left (next_part place operator (at 3 right (written right)) rest) h)
+      (tree_back right (whole_at 3 right (written right) (left_of _ _ (and_whole left (next_part place operator (at 3 right (written right)) rest) h))))
   and_tree _ rest h = absurd (false≢true h)
 
   sum_tree : (t : ExprTree) (rest : Forest) → is_whole (sum_row t rest) ≡ true → grouped Sum (Start (expr_tree (row_first t))) (map further_tree (row_rest t)) ≡ t
   sum_tree (Start first) rest h = ap Start (tree_back first (whole_at 6 first (written first) (left_of _ _ h)))
   sum_tree (Sum place operator left right) rest h =
       row_more Sum (Start (expr_tree (row_first left))) left right (row_rest left) place operator (value_of right)
-        (sum_tree left (next_part place operator (at 6 right (written right)) rest) h)
-        (tree_back right (whole_at 6 right (written right) (left_of _ _ (sum_whole left (next_part place operator (at 6 right (written right)) rest) h))))
+      (sum_tree left (next_part place operator (at 6 right (written right)) rest) h)
+      (tree_back right (whole_at 6 right (written right) (left_of _ _ (sum_whole left (next_part place operator (at 6 right (written right)) rest) h))))
   sum_tree _ rest h = absurd (false≢true h)
 
   product_tree : (t : ExprTree) (rest : Forest) → is_whole (product_row t rest) ≡ true → grouped Product (Start (expr_tree (row_first t))) (map further_tree (row_rest t)) ≡ t
   product_tree (Start first) rest h = ap Start (tree_back first (whole_at 7 first (written first) (left_of _ _ h)))
   product_tree (Product place operator left right) rest h =
       row_more Product (Start (expr_tree (row_first left))) left right (row_rest left) place operator (value_of right)
-        (product_tree left (next_part place operator (at 7 right (written right)) rest) h)
-        (tree_back right (whole_at 7 right (written right) (left_of _ _ (product_whole left (next_part place operator (at 7 right (written right)) rest) h))))
+      (product_tree left (next_part place operator (at 7 right (written right)) rest) h)
+      (tree_back right (whole_at 7 right (written right) (left_of _ _ (product_whole left (next_part place operator (at 7 right (written right)) rest) h))))
   product_tree _ rest h = absurd (false≢true h)
 
   post_tree : (t : ExprTree) (rest : Forest) → is_whole (post_row t rest) ≡ true → with_suffixes (Start (expr_tree (row_first t))) (map suffix_tree (suffix_rest t)) ≡ t
@@ -167,7 +167,7 @@ mutual
   post_tree (Dot head name) rest h = name_more (Start (expr_tree (row_first head))) head (suffix_rest head) name (post_tree head (next_name name rest) h)
   post_tree (Index place head index) rest h =
       index_more (Start (expr_tree (row_first head))) head index (suffix_rest head) place (value_of index) (post_tree head (next_index place (at 0 index (written index)) rest) h)
-        (tree_back index (whole_at 0 index (written index) (left_of _ _ (left_of _ _ (post_whole head (next_index place (at 0 index (written index)) rest) h)))))
+      (tree_back index (whole_at 0 index (written index) (left_of _ _ (left_of _ _ (post_whole head (next_index place (at 0 index (written index)) rest) h)))))
   post_tree _ rest h = absurd (false≢true h)
 
   items_tree : (items : ExprRow) → is_whole (listed_tail items) ≡ true → row_of (map expr_tree (values_of items)) ≡ items

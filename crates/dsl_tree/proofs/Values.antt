@@ -115,36 +115,36 @@ or_value : (left : ExprTree) (next : FurtherTree) (rest : List FurtherTree)
 or_value left next [] = refl
 or_value left next (other ∷ rest) =
     or_value (ExprTree.Or next.place next.operator left next.part) other rest
-      ∙ ap (TheViews.Or (row_first left)) (append_assoc (row_rest left) (further_value next ∷ []) (map further_value (other ∷ rest)))
+    ∙ ap (TheViews.Or (row_first left)) (append_assoc (row_rest left) (further_value next ∷ []) (map further_value (other ∷ rest)))
 
 and_value : (left : ExprTree) (next : FurtherTree) (rest : List FurtherTree)
     → value_of (grouped ExprTree.And left (next ∷ rest)) ≡ TheViews.And (row_first left) (row_rest left ++ map further_value (next ∷ rest))
 and_value left next [] = refl
 and_value left next (other ∷ rest) =
     and_value (ExprTree.And next.place next.operator left next.part) other rest
-      ∙ ap (TheViews.And (row_first left)) (append_assoc (row_rest left) (further_value next ∷ []) (map further_value (other ∷ rest)))
+    ∙ ap (TheViews.And (row_first left)) (append_assoc (row_rest left) (further_value next ∷ []) (map further_value (other ∷ rest)))
 
 sum_value : (left : ExprTree) (next : FurtherTree) (rest : List FurtherTree)
     → value_of (grouped ExprTree.Sum left (next ∷ rest)) ≡ TheViews.Sum (row_first left) (row_rest left ++ map further_value (next ∷ rest))
 sum_value left next [] = refl
 sum_value left next (other ∷ rest) =
     sum_value (ExprTree.Sum next.place next.operator left next.part) other rest
-      ∙ ap (TheViews.Sum (row_first left)) (append_assoc (row_rest left) (further_value next ∷ []) (map further_value (other ∷ rest)))
+    ∙ ap (TheViews.Sum (row_first left)) (append_assoc (row_rest left) (further_value next ∷ []) (map further_value (other ∷ rest)))
 
 product_value : (left : ExprTree) (next : FurtherTree) (rest : List FurtherTree)
     → value_of (grouped ExprTree.Product left (next ∷ rest)) ≡ TheViews.Product (row_first left) (row_rest left ++ map further_value (next ∷ rest))
 product_value left next [] = refl
 product_value left next (other ∷ rest) =
     product_value (ExprTree.Product next.place next.operator left next.part) other rest
-      ∙ ap (TheViews.Product (row_first left)) (append_assoc (row_rest left) (further_value next ∷ []) (map further_value (other ∷ rest)))
+    ∙ ap (TheViews.Product (row_first left)) (append_assoc (row_rest left) (further_value next ∷ []) (map further_value (other ∷ rest)))
 
 further_back : (l : ℕ) (rest : List SuchFurther) → is_whole (further_tail l (map further_tree (map (λ f. f.0) rest))) ≡ true
     → map further_value (map further_tree (map (λ f. f.0) rest)) ≡ map (λ f. f.0) rest
 further_back l [] h = refl
 further_back l (f ∷ rest) h =
     ap₂ (λ (a : Further) (b : List Further). a ∷ b)
-      (f.1 (whole_at l (further_tree f.0).part (written (further_tree f.0).part) (left_of _ _ h)))
-      (further_back l rest (left_of _ _ (right_of (is_whole (at l (further_tree f.0).part (written (further_tree f.0).part))) _ h)))
+    (f.1 (whole_at l (further_tree f.0).part (written (further_tree f.0).part) (left_of _ _ h)))
+    (further_back l rest (left_of _ _ (right_of (is_whole (at l (further_tree f.0).part (written (further_tree f.0).part))) _ h)))
 
 suffixes_back : (suffixes : List SuchSuffix) → is_whole (suffix_tail (map suffix_tree (map (λ s. s.0) suffixes))) ≡ true
     → map suffix_value (map suffix_tree (map (λ s. s.0) suffixes)) ≡ map (λ s. s.0) suffixes
@@ -207,43 +207,43 @@ expr_case : (y : Expr-F SuchExpr SuchSuffix SuchFurther) → is_whole (written (
 unfolding roll-Expr denote.Hole.Carrier.roll
 expr_case (Expr-F.Implies place l r) h = ap₂ (TheViews.Implies place) (part_back 1 l (left_of _ _ h)) (part_back 1 r (left_of _ _ (left_of _ _ (right_of _ _ h))))
 expr_case (Expr-F.Or first []) h = absurd (false≢true h)
-expr_case (Expr-F.Or first (next ∷ rest)) h = 
+expr_case (Expr-F.Or first (next ∷ rest)) h =
     let w : is_whole (sub (at 2 (expr_tree first.0) (written (expr_tree first.0))) (sub (further_tail 2 (map further_tree (map (λ f. f.0) (next ∷ rest)))) nil)) ≡ true =
-          subst (λ (f : Forest). is_whole f ≡ true) (or_own (expr_tree first.0) (further_tree next.0) (map further_tree (map (λ f. f.0) rest))) h in
+    subst (λ (f : Forest). is_whole f ≡ true) (or_own (expr_tree first.0) (further_tree next.0) (map further_tree (map (λ f. f.0) rest))) h in
     or_value (ExprTree.Start (expr_tree first.0)) (further_tree next.0) (map further_tree (map (λ f. f.0) rest))
-      ∙ ap₂ TheViews.Or (part_back 2 first (left_of _ _ w)) (further_back 2 (next ∷ rest) (left_of _ _ (right_of _ _ w)))
+    ∙ ap₂ TheViews.Or (part_back 2 first (left_of _ _ w)) (further_back 2 (next ∷ rest) (left_of _ _ (right_of _ _ w)))
 expr_case (Expr-F.And first []) h = absurd (false≢true h)
-expr_case (Expr-F.And first (next ∷ rest)) h = 
+expr_case (Expr-F.And first (next ∷ rest)) h =
     let w : is_whole (sub (at 3 (expr_tree first.0) (written (expr_tree first.0))) (sub (further_tail 3 (map further_tree (map (λ f. f.0) (next ∷ rest)))) nil)) ≡ true =
-          subst (λ (f : Forest). is_whole f ≡ true) (and_own (expr_tree first.0) (further_tree next.0) (map further_tree (map (λ f. f.0) rest))) h in
+    subst (λ (f : Forest). is_whole f ≡ true) (and_own (expr_tree first.0) (further_tree next.0) (map further_tree (map (λ f. f.0) rest))) h in
     and_value (ExprTree.Start (expr_tree first.0)) (further_tree next.0) (map further_tree (map (λ f. f.0) rest))
-      ∙ ap₂ TheViews.And (part_back 3 first (left_of _ _ w)) (further_back 3 (next ∷ rest) (left_of _ _ (right_of _ _ w)))
+    ∙ ap₂ TheViews.And (part_back 3 first (left_of _ _ w)) (further_back 3 (next ∷ rest) (left_of _ _ (right_of _ _ w)))
 expr_case (Expr-F.Sum first []) h = absurd (false≢true h)
-expr_case (Expr-F.Sum first (next ∷ rest)) h = 
+expr_case (Expr-F.Sum first (next ∷ rest)) h =
     let w : is_whole (sub (at 6 (expr_tree first.0) (written (expr_tree first.0))) (sub (further_tail 6 (map further_tree (map (λ f. f.0) (next ∷ rest)))) nil)) ≡ true =
-          subst (λ (f : Forest). is_whole f ≡ true) (sum_own (expr_tree first.0) (further_tree next.0) (map further_tree (map (λ f. f.0) rest))) h in
+    subst (λ (f : Forest). is_whole f ≡ true) (sum_own (expr_tree first.0) (further_tree next.0) (map further_tree (map (λ f. f.0) rest))) h in
     sum_value (ExprTree.Start (expr_tree first.0)) (further_tree next.0) (map further_tree (map (λ f. f.0) rest))
-      ∙ ap₂ TheViews.Sum (part_back 6 first (left_of _ _ w)) (further_back 6 (next ∷ rest) (left_of _ _ (right_of _ _ w)))
+    ∙ ap₂ TheViews.Sum (part_back 6 first (left_of _ _ w)) (further_back 6 (next ∷ rest) (left_of _ _ (right_of _ _ w)))
 expr_case (Expr-F.Product first []) h = absurd (false≢true h)
-expr_case (Expr-F.Product first (next ∷ rest)) h = 
+expr_case (Expr-F.Product first (next ∷ rest)) h =
     let w : is_whole (sub (at 7 (expr_tree first.0) (written (expr_tree first.0))) (sub (further_tail 7 (map further_tree (map (λ f. f.0) (next ∷ rest)))) nil)) ≡ true =
-          subst (λ (f : Forest). is_whole f ≡ true) (product_own (expr_tree first.0) (further_tree next.0) (map further_tree (map (λ f. f.0) rest))) h in
+    subst (λ (f : Forest). is_whole f ≡ true) (product_own (expr_tree first.0) (further_tree next.0) (map further_tree (map (λ f. f.0) rest))) h in
     product_value (ExprTree.Start (expr_tree first.0)) (further_tree next.0) (map further_tree (map (λ f. f.0) rest))
-      ∙ ap₂ TheViews.Product (part_back 7 first (left_of _ _ w)) (further_back 7 (next ∷ rest) (left_of _ _ (right_of _ _ w)))
+    ∙ ap₂ TheViews.Product (part_back 7 first (left_of _ _ w)) (further_back 7 (next ∷ rest) (left_of _ _ (right_of _ _ w)))
 expr_case (Expr-F.Not place part) h = ap (TheViews.Not place) (part_back 4 part (left_of _ _ h))
 expr_case (Expr-F.Relation place sign l r) h = ap₂ (TheViews.Relation place sign) (part_back 5 l (left_of _ _ h)) (part_back 5 r (left_of _ _ (left_of _ _ (right_of _ _ h))))
 expr_case (Expr-F.Minus place part) h = ap (TheViews.Minus place) (part_back 8 part (left_of _ _ h))
 expr_case (Expr-F.Expr::Dot head []) h = absurd (false≢true h)
-expr_case (Expr-F.Expr::Dot head (next ∷ rest)) h = 
+expr_case (Expr-F.Expr::Dot head (next ∷ rest)) h =
     let both = named_value (ExprTree.Start (expr_tree head.0)) (map suffix_tree (map (λ s. s.0) (next ∷ rest))) h in
     let w : is_whole (sub (at 9 (expr_tree head.0) (written (expr_tree head.0))) (sub (suffix_tail (map suffix_tree (map (λ s. s.0) (next ∷ rest)))) nil)) ≡ true =
-          subst (λ (f : Forest). is_whole f ≡ true) (ap written both.1 ∙ post_own (expr_tree head.0) (suffix_tree next.0) (map suffix_tree (map (λ s. s.0) rest))) h in
+    subst (λ (f : Forest). is_whole f ≡ true) (ap written both.1 ∙ post_own (expr_tree head.0) (suffix_tree next.0) (map suffix_tree (map (λ s. s.0) rest))) h in
     both.0 ∙ ap₂ TheViews.Expr::Dot (part_back 9 head (left_of _ _ w)) (suffixes_back (next ∷ rest) (left_of _ _ (right_of _ _ w)))
 expr_case (Expr-F.Expr::Index head []) h = absurd (false≢true h)
-expr_case (Expr-F.Expr::Index head (next ∷ rest)) h = 
+expr_case (Expr-F.Expr::Index head (next ∷ rest)) h =
     let both = indexed_value (ExprTree.Start (expr_tree head.0)) (map suffix_tree (map (λ s. s.0) (next ∷ rest))) h in
     let w : is_whole (sub (at 9 (expr_tree head.0) (written (expr_tree head.0))) (sub (suffix_tail (map suffix_tree (map (λ s. s.0) (next ∷ rest)))) nil)) ≡ true =
-          subst (λ (f : Forest). is_whole f ≡ true) (ap written both.1 ∙ post_own (expr_tree head.0) (suffix_tree next.0) (map suffix_tree (map (λ s. s.0) rest))) h in
+    subst (λ (f : Forest). is_whole f ≡ true) (ap written both.1 ∙ post_own (expr_tree head.0) (suffix_tree next.0) (map suffix_tree (map (λ s. s.0) rest))) h in
     both.0 ∙ ap₂ TheViews.Expr::Index (part_back 9 head (left_of _ _ w)) (suffixes_back (next ∷ rest) (left_of _ _ (right_of _ _ w)))
 expr_case (Expr-F.Number number) h = refl
 expr_case (Expr-F.Physical number unit) h = refl

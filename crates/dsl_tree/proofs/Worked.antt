@@ -70,7 +70,7 @@ sum_seen : expr_tree (TheViews.Sum (number 0 1) (next 1 Operator.Plus (number 2 
 unfolding number next
 sum_seen =
     seen_sum (number 0 1) (next 1 Operator.Plus (number 2 2) ∷ next 3 Operator.Dash (number 4 3) ∷ [])
-      ∙ (ap₂ (λ (a b : FurtherTree). grouped ExprTree.Sum (ExprTree.Start (expr_tree (number 0 1))) (a ∷ b ∷ [])) (seen_further (next 1 Operator.Plus (number 2 2))) (seen_further (next 3 Operator.Dash (number 4 3)))
-      ∙ (ap (λ (t : ExprTree). ExprTree.Sum (at 3) Operator.Dash (ExprTree.Sum (at 1) Operator.Plus (ExprTree.Start t) (expr_tree (number 2 2))) (expr_tree (number 4 3))) (seen_number (record { place = at 0; digits = 1; places = 0 }))
-      ∙ ap₂ (λ (t u : ExprTree). ExprTree.Sum (at 3) Operator.Dash (ExprTree.Sum (at 1) Operator.Plus (ExprTree.Start (ExprTree.Number (record { place = at 0; digits = 1; places = 0 }))) t) u)
-        (seen_number (record { place = at 2; digits = 2; places = 0 })) (seen_number (record { place = at 4; digits = 3; places = 0 }))))
+    ∙ (ap₂ (λ (a b : FurtherTree). grouped ExprTree.Sum (ExprTree.Start (expr_tree (number 0 1))) (a ∷ b ∷ [])) (seen_further (next 1 Operator.Plus (number 2 2))) (seen_further (next 3 Operator.Dash (number 4 3)))
+    ∙ (ap (λ (t : ExprTree). ExprTree.Sum (at 3) Operator.Dash (ExprTree.Sum (at 1) Operator.Plus (ExprTree.Start t) (expr_tree (number 2 2))) (expr_tree (number 4 3))) (seen_number (record { place = at 0; digits = 1; places = 0 }))
+    ∙ ap₂ (λ (t u : ExprTree). ExprTree.Sum (at 3) Operator.Dash (ExprTree.Sum (at 1) Operator.Plus (ExprTree.Start (ExprTree.Number (record { place = at 0; digits = 1; places = 0 }))) t) u)
+    (seen_number (record { place = at 2; digits = 2; places = 0 })) (seen_number (record { place = at 4; digits = 3; places = 0 }))))

@@ -28,7 +28,7 @@ at_own l t f e =
 pub at_lower : (l : ℕ) (t : ExprTree) (f : Forest) → suc l ≤ level t → at l t f ≡ lifted l (at (suc l) t f)
 at_lower l t f h =
     at_raised l t f (omega arith)
-      ∙ (ap (λ (n : ℕ). raised n l f) (let e : level t - l ≡ suc (level t - suc l) = omega arith in e) ∙ ap (lifted l) (sym (at_raised (suc l) t f h)))
+    ∙ (ap (λ (n : ℕ). raised n l f) (let e : level t - l ≡ suc (level t - suc l) = omega arith in e) ∙ ap (lifted l) (sym (at_raised (suc l) t f h)))
 
 -- operators and their parts, at the level of the parts
 abbrev pub further_tail : ℕ → List FurtherTree → Forest
@@ -52,10 +52,10 @@ or_of_row left next (other ∷ rest) = or_of_row (ExprTree.Or next.place next.op
 -- a row of one operator or more
 pub or_written : (first : ExprTree) (next : FurtherTree) (rest : List FurtherTree)
     → at 1 (grouped ExprTree.Or (ExprTree.Start first) (next ∷ rest)) (written (grouped ExprTree.Or (ExprTree.Start first) (next ∷ rest)))
-      ≡ sub (at 2 first (written first)) (sub (further_tail 2 (next ∷ rest)) nil)
+    ≡ sub (at 2 first (written first)) (sub (further_tail 2 (next ∷ rest)) nil)
 or_written first next rest =
     at_own 1 (grouped ExprTree.Or (ExprTree.Start first) (next ∷ rest)) (written (grouped ExprTree.Or (ExprTree.Start first) (next ∷ rest))) (or_of_row (ExprTree.Start first) next rest).1
-      ∙ ((or_of_row (ExprTree.Start first) next rest).0 ∙ or_grouped (ExprTree.Start first) (next ∷ rest))
+    ∙ ((or_of_row (ExprTree.Start first) next rest).0 ∙ or_grouped (ExprTree.Start first) (next ∷ rest))
 
 and_grouped : (left : ExprTree) (rest : List FurtherTree) → and_row (grouped ExprTree.And left rest) nil ≡ and_row left (further_tail 3 rest)
 and_grouped left [] = refl
@@ -69,10 +69,10 @@ and_of_row left next (other ∷ rest) = and_of_row (ExprTree.And next.place next
 -- a row of one operator or more
 pub and_written : (first : ExprTree) (next : FurtherTree) (rest : List FurtherTree)
     → at 2 (grouped ExprTree.And (ExprTree.Start first) (next ∷ rest)) (written (grouped ExprTree.And (ExprTree.Start first) (next ∷ rest)))
-      ≡ sub (at 3 first (written first)) (sub (further_tail 3 (next ∷ rest)) nil)
+    ≡ sub (at 3 first (written first)) (sub (further_tail 3 (next ∷ rest)) nil)
 and_written first next rest =
     at_own 2 (grouped ExprTree.And (ExprTree.Start first) (next ∷ rest)) (written (grouped ExprTree.And (ExprTree.Start first) (next ∷ rest))) (and_of_row (ExprTree.Start first) next rest).1
-      ∙ ((and_of_row (ExprTree.Start first) next rest).0 ∙ and_grouped (ExprTree.Start first) (next ∷ rest))
+    ∙ ((and_of_row (ExprTree.Start first) next rest).0 ∙ and_grouped (ExprTree.Start first) (next ∷ rest))
 
 sum_grouped : (left : ExprTree) (rest : List FurtherTree) → sum_row (grouped ExprTree.Sum left rest) nil ≡ sum_row left (further_tail 6 rest)
 sum_grouped left [] = refl
@@ -86,10 +86,10 @@ sum_of_row left next (other ∷ rest) = sum_of_row (ExprTree.Sum next.place next
 -- a row of one operator or more
 pub sum_written : (first : ExprTree) (next : FurtherTree) (rest : List FurtherTree)
     → at 5 (grouped ExprTree.Sum (ExprTree.Start first) (next ∷ rest)) (written (grouped ExprTree.Sum (ExprTree.Start first) (next ∷ rest)))
-      ≡ sub (at 6 first (written first)) (sub (further_tail 6 (next ∷ rest)) nil)
+    ≡ sub (at 6 first (written first)) (sub (further_tail 6 (next ∷ rest)) nil)
 sum_written first next rest =
     at_own 5 (grouped ExprTree.Sum (ExprTree.Start first) (next ∷ rest)) (written (grouped ExprTree.Sum (ExprTree.Start first) (next ∷ rest))) (sum_of_row (ExprTree.Start first) next rest).1
-      ∙ ((sum_of_row (ExprTree.Start first) next rest).0 ∙ sum_grouped (ExprTree.Start first) (next ∷ rest))
+    ∙ ((sum_of_row (ExprTree.Start first) next rest).0 ∙ sum_grouped (ExprTree.Start first) (next ∷ rest))
 
 product_grouped : (left : ExprTree) (rest : List FurtherTree) → product_row (grouped ExprTree.Product left rest) nil ≡ product_row left (further_tail 7 rest)
 product_grouped left [] = refl
@@ -103,10 +103,10 @@ product_of_row left next (other ∷ rest) = product_of_row (ExprTree.Product nex
 -- a row of one operator or more
 pub product_written : (first : ExprTree) (next : FurtherTree) (rest : List FurtherTree)
     → at 6 (grouped ExprTree.Product (ExprTree.Start first) (next ∷ rest)) (written (grouped ExprTree.Product (ExprTree.Start first) (next ∷ rest)))
-      ≡ sub (at 7 first (written first)) (sub (further_tail 7 (next ∷ rest)) nil)
+    ≡ sub (at 7 first (written first)) (sub (further_tail 7 (next ∷ rest)) nil)
 product_written first next rest =
     at_own 6 (grouped ExprTree.Product (ExprTree.Start first) (next ∷ rest)) (written (grouped ExprTree.Product (ExprTree.Start first) (next ∷ rest))) (product_of_row (ExprTree.Start first) next rest).1
-      ∙ ((product_of_row (ExprTree.Start first) next rest).0 ∙ product_grouped (ExprTree.Start first) (next ∷ rest))
+    ∙ ((product_of_row (ExprTree.Start first) next rest).0 ∙ product_grouped (ExprTree.Start first) (next ∷ rest))
 
 -- suffixes, one or more
 
@@ -124,10 +124,10 @@ post_of_row head (At place index) (s ∷ rest) = post_of_row (ExprTree.Index pla
 
 pub post_written : (head : ExprTree) (s : SuffixTree) (rest : List SuffixTree)
     → at 8 (with_suffixes (ExprTree.Start head) (s ∷ rest)) (written (with_suffixes (ExprTree.Start head) (s ∷ rest)))
-      ≡ sub (at 9 head (written head)) (sub (suffix_tail (s ∷ rest)) nil)
+    ≡ sub (at 9 head (written head)) (sub (suffix_tail (s ∷ rest)) nil)
 post_written head s rest =
     at_own 8 (with_suffixes (ExprTree.Start head) (s ∷ rest)) (written (with_suffixes (ExprTree.Start head) (s ∷ rest))) (post_of_row (ExprTree.Start head) s rest).1
-      ∙ ((post_of_row (ExprTree.Start head) s rest).0 ∙ post_grouped (ExprTree.Start head) (s ∷ rest))
+    ∙ ((post_of_row (ExprTree.Start head) s rest).0 ∙ post_grouped (ExprTree.Start head) (s ∷ rest))
 
 -- the same at its own level
 pub or_own : (first : ExprTree) (next : FurtherTree) (rest : List FurtherTree)

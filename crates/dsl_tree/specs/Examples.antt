@@ -120,20 +120,20 @@ abbrev pub units_tree : FileTree
 units_tree = record {
   imports = [];
   decls =
-    DeclarationTree.TypeDeclaration (record {
-      place = at 0;
-      name = ident_at 1 (codes "t");
-      bases = base_at 5 (codes "m") (positive_at 7 1 0) ∷ base_at 9 (codes "s") (negative_at 11 2) ∷ [];
-    })
-    ∷ DeclarationTree.UnitDeclaration (record {
-      place = at 15;
-      name = ident_at 16 (codes "u");
-      of = ident_at 18 (codes "t");
-      bases = base_at 22 (codes "m") (positive_at 24 1 0) ∷ [];
-      factor = Some (positive_at 28 1 1);
-      offset = Some (negative_at 32 3);
-    })
-    ∷ [];
+      DeclarationTree.TypeDeclaration (record {
+        place = at 0;
+        name = ident_at 1 (codes "t");
+        bases = base_at 5 (codes "m") (positive_at 7 1 0) ∷ base_at 9 (codes "s") (negative_at 11 2) ∷ [];
+      })
+      ∷ DeclarationTree.UnitDeclaration (record {
+        place = at 15;
+        name = ident_at 16 (codes "u");
+        of = ident_at 18 (codes "t");
+        bases = base_at 22 (codes "m") (positive_at 24 1 0) ∷ [];
+        factor = Some (positive_at 28 1 1);
+        offset = Some (negative_at 32 3);
+      })
+      ∷ [];
   end = at 36;
 }
 
@@ -153,11 +153,11 @@ phase_tokens =
 abbrev pub phase_tree : PhaseTree
 phase_tree =
     PhaseTree.Comp (Some (ident_at 0 (codes "a"))) (at 2) CompKind.OneOf
-      (record { name = None; value = number_at 4 1 } ∷ record { name = Some (ident_at 6 (codes "n")); value = number_at 8 2 } ∷ [])
-      (PhaseRow.Phase
-        (PhaseTree.Invoke None (InvokeHead.Name (ident_at 13 (codes "b"))) (ident_at 15 (codes "c") ∷ []) []
-          (PartTree.ModifierPart (record { name = ident_at 22 (codes "m"); arguments = record { name = None; value = number_at 24 3 } ∷ [] }) ∷ []))
-        PhaseRow.End)
+    (record { name = None; value = number_at 4 1 } ∷ record { name = Some (ident_at 6 (codes "n")); value = number_at 8 2 } ∷ [])
+    (PhaseRow.Phase
+    (PhaseTree.Invoke None (InvokeHead.Name (ident_at 13 (codes "b"))) (ident_at 15 (codes "c") ∷ []) []
+    (PartTree.ModifierPart (record { name = ident_at 22 (codes "m"); arguments = record { name = None; value = number_at 24 3 } ∷ [] }) ∷ []))
+    PhaseRow.End)
 
 -- Trees that break the grammar: a sum with nothing behind its first part, a sum as a part of a
 -- product, an exponent of 10, and a number without a minus that stands at two places

@@ -8,8 +8,7 @@ pub fn one_tree()
 /// The same of files as the program holds them: two that are spelled by one list are equal.
 pub fn one_file()
     ensures { OneFile }
-{
-}
+{}
 
 /// The law that each tree of the grammar is spelled, and always by tokens of the same kinds.
 pub fn one_spelling()
