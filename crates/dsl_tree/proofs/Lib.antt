@@ -27,3 +27,10 @@ pub mod FirstNames
 pub mod Values
 pub mod FileValues
 pub mod TreeValues
+pub mod Classes
+pub mod Made
+pub mod MadeExprs
+pub mod MadePhases
+pub mod MadeFiles
+pub mod Inverse
+pub mod Tops

@@ -152,3 +152,18 @@ product_own first next rest = (product_of_row (ExprTree.Start first) next rest).
 pub post_own : (head : ExprTree) (s : SuffixTree) (rest : List SuffixTree)
     → written (with_suffixes (ExprTree.Start head) (s ∷ rest)) ≡ sub (at 9 head (written head)) (sub (suffix_tail (s ∷ rest)) nil)
 post_own head s rest = (post_of_row (ExprTree.Start head) s rest).0 ∙ post_grouped (ExprTree.Start head) (s ∷ rest)
+
+pub or_level : (first : ExprTree) (next : FurtherTree) (rest : List FurtherTree) → level (grouped ExprTree.Or (ExprTree.Start first) (next ∷ rest)) ≡ 1
+or_level first next rest = (or_of_row (ExprTree.Start first) next rest).1
+
+pub and_level : (first : ExprTree) (next : FurtherTree) (rest : List FurtherTree) → level (grouped ExprTree.And (ExprTree.Start first) (next ∷ rest)) ≡ 2
+and_level first next rest = (and_of_row (ExprTree.Start first) next rest).1
+
+pub sum_level : (first : ExprTree) (next : FurtherTree) (rest : List FurtherTree) → level (grouped ExprTree.Sum (ExprTree.Start first) (next ∷ rest)) ≡ 5
+sum_level first next rest = (sum_of_row (ExprTree.Start first) next rest).1
+
+pub product_level : (first : ExprTree) (next : FurtherTree) (rest : List FurtherTree) → level (grouped ExprTree.Product (ExprTree.Start first) (next ∷ rest)) ≡ 6
+product_level first next rest = (product_of_row (ExprTree.Start first) next rest).1
+
+pub post_level : (head : ExprTree) (s : SuffixTree) (rest : List SuffixTree) → level (with_suffixes (ExprTree.Start head) (s ∷ rest)) ≡ 8
+post_level head s rest = (post_of_row (ExprTree.Start head) s rest).1
