@@ -27,6 +27,7 @@ pub mod FirstNames
 pub mod Values
 pub mod FileValues
 pub mod TreeValues
+pub mod TreeFiles
 pub mod Classes
 pub mod Made
 pub mod MadeExprs

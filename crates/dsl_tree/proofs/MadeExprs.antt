@@ -7,8 +7,8 @@ use Rattle.dsl_tree.specs.ExprTree.{ExprTree, ExprRow}
 use Rattle.dsl_tree.specs.Views.{SuffixTree, grouped, with_suffixes}
 use Rattle.dsl_tree.specs.Grammar.{Part}
 use Rattle.dsl_tree.specs.Forest.{nil}
-use Rattle.dsl_tree.specs.Written.{level, lifted, at, written, path_row, path_front, path}
-use Rattle.dsl_tree.proofs.WrittenRows.{at_own, at_lower, suffix_tail, or_written, and_written, sum_written, product_written, post_written, or_level, and_level, sum_level, product_level, post_level}
+use Rattle.dsl_tree.specs.Written.{level, lifted, at, written, path_row, path}
+use Rattle.dsl_tree.proofs.WrittenRows.{at_own, at_lower, suffix_tail, or_written, and_written, sum_written, product_written, post_written, or_level, and_level, sum_level, product_level, post_level, front_of_row, path_of_row}
 use Rattle.dsl_tree.proofs.Made.{Level, High, Items, Makes}
 
 -- a tree at its own level
@@ -134,21 +134,10 @@ listed_tail_made (inr (comma, (item, (others, u)))) = (ExprRow.Item item others,
 
 -- Paths
 
-front_of : (head : ExprTree) (ss : List SuffixTree) → path_front (with_suffixes head ss) nil ≡ path_front head (suffix_tail ss)
-front_of head [] = refl
-front_of head (SuffixTree.Named name ∷ rest) = front_of (ExprTree.Dot head name) rest
-front_of head (SuffixTree.At place index ∷ rest) = front_of (ExprTree.Index place head index) rest
-
-path_of_row : (head : ExprTree) (s : SuffixTree) (rest : List SuffixTree) → path (with_suffixes head (s ∷ rest)) ≡ path_front (with_suffixes head (s ∷ rest)) nil
-path_of_row head (SuffixTree.Named name) [] = refl
-path_of_row head (SuffixTree.At place index) [] = refl
-path_of_row head (SuffixTree.Named name) (s ∷ rest) = path_of_row (ExprTree.Dot head name) s rest
-path_of_row head (SuffixTree.At place index) (s ∷ rest) = path_of_row (ExprTree.Index place head index) s rest
-
 -- a head of a path, which is written as a path itself
 with_tail : (head : ExprTree) (ss : List SuffixTree) → path head ≡ path_row head nil → (t : ExprTree) × (path t ≡ path_row head (suffix_tail ss))
 with_tail head [] e = (head, e)
-with_tail head (s ∷ rest) e = (with_suffixes (ExprTree.Start head) (s ∷ rest), path_of_row (ExprTree.Start head) s rest ∙ front_of (ExprTree.Start head) (s ∷ rest))
+with_tail head (s ∷ rest) e = (with_suffixes (ExprTree.Start head) (s ∷ rest), path_of_row (ExprTree.Start head) s rest ∙ front_of_row (ExprTree.Start head) (s ∷ rest))
 
 pub path_made : Makes Part.Path
 path_made ((place, inl text), (ss, u)) = with_tail (ExprTree.Name (record { place = place; text = text })) ss refl

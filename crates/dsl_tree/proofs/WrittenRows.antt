@@ -5,7 +5,7 @@ use Rattle.std.proofs.lemmas.Bool.{ltb-true}
 use Rattle.dsl_tree.specs.ExprTree.{ExprTree}
 use Rattle.dsl_tree.specs.Views.{FurtherTree, SuffixTree, Named, At, grouped, with_suffixes}
 use Rattle.dsl_tree.specs.Forest.{Forest, nil, sub, wrong}
-use Rattle.dsl_tree.specs.Written.{level, lifted, raised, at, next_part, next_name, next_index, written, or_row, and_row, sum_row, product_row, post_row, expr}
+use Rattle.dsl_tree.specs.Written.{level, lifted, raised, at, next_part, next_name, next_index, written, or_row, and_row, sum_row, product_row, post_row, expr, path, path_front}
 
 -- Levels
 
@@ -167,3 +167,16 @@ product_level first next rest = (product_of_row (ExprTree.Start first) next rest
 
 pub post_level : (head : ExprTree) (s : SuffixTree) (rest : List SuffixTree) → level (with_suffixes (ExprTree.Start head) (s ∷ rest)) ≡ 8
 post_level head s rest = (post_of_row (ExprTree.Start head) s rest).1
+
+-- Paths
+
+pub front_of_row : (t : ExprTree) (ss : List SuffixTree) → path_front (with_suffixes t ss) nil ≡ path_front t (suffix_tail ss)
+front_of_row t [] = refl
+front_of_row t (Named name ∷ rest) = front_of_row (ExprTree.Dot t name) rest
+front_of_row t (At place index ∷ rest) = front_of_row (ExprTree.Index place t index) rest
+
+pub path_of_row : (t : ExprTree) (s : SuffixTree) (ss : List SuffixTree) → path (with_suffixes t (s ∷ ss)) ≡ path_front (with_suffixes t (s ∷ ss)) nil
+path_of_row t (Named name) [] = refl
+path_of_row t (At place index) [] = refl
+path_of_row t (Named name) (s ∷ rest) = path_of_row (ExprTree.Dot t name) s rest
+path_of_row t (At place index) (s ∷ rest) = path_of_row (ExprTree.Index place t index) s rest
