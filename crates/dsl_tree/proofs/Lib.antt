@@ -28,3 +28,11 @@ pub mod Values
 pub mod FileValues
 pub mod TreeValues
 pub mod Ends
+pub mod TreeFiles
+pub mod Classes
+pub mod Made
+pub mod MadeExprs
+pub mod MadePhases
+pub mod MadeFiles
+pub mod Inverse
+pub mod Tops

@@ -54,14 +54,14 @@ indexed_last t (At p i ∷ []) place index = refl
 indexed_last t (Named n ∷ (s ∷ rest)) place index = indexed_last t (s ∷ rest) place index
 indexed_last t (At p i ∷ (s ∷ rest)) place index = indexed_last t (s ∷ rest) place index
 
-name_more : (first head : ExprTree) (rest : List Suffix) (name : Ident) → with_suffixes first (map suffix_tree rest) ≡ head
+pub name_more : (first head : ExprTree) (rest : List Suffix) (name : Ident) → with_suffixes first (map suffix_tree rest) ≡ head
     → with_suffixes first (map suffix_tree (rest ++ Suffix.Suffix::Dot name ∷ [])) ≡ Dot head name
 name_more first head rest name e =
     ap (with_suffixes first) (map-append suffix_tree rest (Suffix.Suffix::Dot name ∷ []))
     ∙ (with_suffixes-append first (map suffix_tree rest) (suffix_tree (Suffix.Suffix::Dot name) ∷ [])
     ∙ (ap (λ (s : SuffixTree). with_suffixes (with_suffixes first (map suffix_tree rest)) (s ∷ [])) (seen_dot_suffix name) ∙ ap (λ (t : ExprTree). Dot t name) e))
 
-index_more : (first head index : ExprTree) (rest : List Suffix) (place : Place) (value : Expr) → with_suffixes first (map suffix_tree rest) ≡ head → expr_tree value ≡ index
+pub index_more : (first head index : ExprTree) (rest : List Suffix) (place : Place) (value : Expr) → with_suffixes first (map suffix_tree rest) ≡ head → expr_tree value ≡ index
     → with_suffixes first (map suffix_tree (rest ++ Suffix.Suffix::Index place value ∷ [])) ≡ Index place head index
 index_more first head index rest place value e e' =
     ap (with_suffixes first) (map-append suffix_tree rest (Suffix.Suffix::Index place value ∷ []))

@@ -1,4 +1,4 @@
-ghost use Rattle.dsl_tree.specs.Language.{OneTree, OneFile, OneSpelling, FaultsSpellNothing, OneFirstFault, TreeOrFault};
+ghost use Rattle.dsl_tree.specs.Language.{OneTree, OneFile, OneSpelling, FaultsSpellNothing, OneFirstFault, TreeOrFault, ForestsAreTrees, TreesAreFiles};
 
 /// The law that a list of tokens is spelled by one tree at most.
 pub fn one_tree()
@@ -28,4 +28,14 @@ pub fn one_first_fault()
 /// The law that a list whose last token, and no other, is END has a tree or a first fault.
 pub fn tree_or_fault()
     ensures { TreeOrFault }
+{}
+
+/// The law that each forest of the grammar is what some tree is written as.
+pub fn forests_are_trees()
+    ensures { ForestsAreTrees }
+{}
+
+/// The law that each tree that follows the grammar is the tree of some `File`.
+pub fn trees_are_files()
+    ensures { TreesAreFiles }
 {}

@@ -23,7 +23,8 @@ pub use enums::{EnumDecl, EnumItem, MoreEnum};
 pub use expr::{Expr, Further, Operator, RelationSign, Suffix};
 pub use file::{Declaration, File, Import};
 pub use laws::{
-    faults_spell_nothing, one_file, one_first_fault, one_spelling, one_tree, tree_or_fault,
+    faults_spell_nothing, forests_are_trees, one_file, one_first_fault, one_spelling, one_tree,
+    tree_or_fault, trees_are_files,
 };
 pub use parts::{Digits, Ident, QName, Signed};
 pub use phases::{
