@@ -38,12 +38,12 @@ fn set_all(trail: &mut Trail, rounds: u32) -> u64
 
 /// Lowers the high end of each slot, takes all of that back, and counts the sets.
 fn set_and_undo(trail: &mut Trail) -> u32
-    requires { length trail.old.boxes ≡ 1 }
-    ensures sets { result ≤ length (present trail.old) }
+    requires fresh { length trail.old.boxes ≡ 1 }
+    requires slots { length (present trail.old) ≡ 32 }
+    ensures sets { result ≤ 32 }
     ensures back { trail.new ≡ trail.old }
 {
-    let slots = trail.len();
-    for slot in 0..slots {
+    for slot in 0..SLOTS {
         lower(trail, slot);
     }
     let sets = trail.mark();
