@@ -1,10 +1,9 @@
 -- The rule that is judged stays within 1,000 in small boxes.
-use Rattle.std.proofs.Common.{◌≡◌, refl, sym, ap, ◌∙◌, ℕ, zero, suc, ◌+◌, ◌*◌, ◌<◌, ◌≤◌, ◌^◌, max, List, [], ◌∷◌, length, ℤ, pos, ◌≤ℤ◌, arith}
+use Rattle.std.proofs.Common.{◌≡◌, refl, ap, ℕ, zero, suc, ◌+◌, ◌*◌, ◌<◌, ◌≤◌, max, List, ℤ, pos, ◌≤ℤ◌, arith}
 use Rattle.std.specs.Prelude.{replicate}
 use Rattle.std.proofs.lemmas.Int.{ints}
 use Rattle.std.proofs.Math.Nat.{mul-le-mul_left}
 use Rattle.box_eval.specs.declared.rule.Rule.{Rule}
-use Rattle.box_eval.specs.declared.rule.Term.{Term}
 use Rattle.box_eval.specs.declared.rule.Rule.TheVariants.{Always, AtMost, Both, Not}
 use Rattle.box_eval.specs.declared.rule.Term.TheVariants.{Whole, Slot, Sum}
 use Rattle.box_eval.specs.declared.rule.Rule.TheOpen as O
@@ -79,9 +78,19 @@ module _ (ends : List Pair) (slot : ℕ) where
   near_judged = simp folds
 
   near_reach : IsSmall ends → reach_of ends (near slot) ≤ 1000
-  near_reach small = omega (arith, ints, ap (λ j. j.reach) near_judged,
-    small.low slot, small.low_most slot, small.high slot, small.high_most slot,
-    small.low (slot + 1), small.low_most (slot + 1), small.high (slot + 1), small.high_most (slot + 1))
+  near_reach small = omega (
+    arith,
+    ints,
+    ap (λ j. j.reach) near_judged,
+    small.low slot,
+    small.low_most slot,
+    small.high slot,
+    small.high_most slot,
+    small.low (slot + 1),
+    small.low_most (slot + 1),
+    small.high (slot + 1),
+    small.high_most (slot + 1),
+  )
 
 near_slots : (slot : ℕ) → slots_of (near slot) ≡ max (slot + 1) (max (slot + 1 + 1) 0)
 near_slots slot = simp folds

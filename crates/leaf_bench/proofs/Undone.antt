@@ -1,5 +1,5 @@
 -- What is left of a trail after sets and their undoing.
-use Rattle.std.proofs.Common.{◌≡◌, refl, sym, ap, ap₂, ◌∙◌, subst, ℕ, zero, suc, ◌+◌, ◌-◌, ◌<◌, ◌≤◌, Bool, true, false, ◌&&◌, List, [], ◌∷◌, ◌++◌, length, get_or, take, slice_set, pos, arith, length-append}
+use Rattle.std.proofs.Common.{◌≡◌, refl, ap, ap₂, ◌∙◌, ℕ, ◌+◌, ◌<◌, ◌≤◌, Bool, true, false, ◌&&◌, List, [], ◌∷◌, ◌++◌, length, get_or, take, pos, arith, length-append}
 use Rattle.std.specs.Prelude.{nat_lt, int_lt, ◌-ℤ◌, if◌then◌else◌}
 use Rattle.std.proofs.Math.Seq.{get_or-append_seam}
 use Rattle.std.proofs.lemmas.List.{length-set}
@@ -50,13 +50,13 @@ module _ (base h : History) (slot : ℕ) (one : length base.boxes ≡ 1) (above 
 
   pub lowered_above : IsAbove base (lowered h slot)
   lowered_above = elim may as (λ b. IsAbove base (if b then after else h)) [
-    true ↦ with_box_above base h (up_to (present h) slot (high_at (present h) slot -ℤ pos 1)) one above (length-set (present h) slot (pair (low_at (present h) slot) (high_at (present h) slot -ℤ pos 1)))
+    | true ↦ with_box_above base h (up_to (present h) slot (high_at (present h) slot -ℤ pos 1)) one above (length-set (present h) slot (pair (low_at (present h) slot) (high_at (present h) slot -ℤ pos 1)))
     | false ↦ above
   ]
 
 pub lowered_few : (h : History) (slot n : ℕ) → length h.boxes ≤ n → length (lowered h slot).boxes ≤ n + 1
 lowered_few h slot n few = elim (nat_lt (mark_of h) h.room && int_lt (low_at (present h) slot) (high_at (present h) slot)) as (λ b. length (if b then with_box h (up_to (present h) slot (high_at (present h) slot -ℤ pos 1)) else h).boxes ≤ n + 1) [
-  true ↦ omega (arith, few, length-append h.boxes (up_to (present h) slot (high_at (present h) slot -ℤ pos 1) ∷ []))
+  | true ↦ omega (arith, few, length-append h.boxes (up_to (present h) slot (high_at (present h) slot -ℤ pos 1) ∷ []))
   | false ↦ omega (arith, few)
 ]
 

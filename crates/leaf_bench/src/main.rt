@@ -14,7 +14,10 @@ fn main(rt: HostRuntime) -> Result<()> {
     let (Some(part), Some(rounds), None) = (words.next(), words.next(), words.next()) else {
         bail!("the words are a part, which is judge, trail or ring, and a number of rounds");
     };
-    let rounds = rounds.as_str().parse::<u32>().context("the number of rounds")?;
+    let rounds = rounds
+        .as_str()
+        .parse::<u32>()
+        .context("the number of rounds")?;
     let total = match part.as_str() {
         "judge" => judgements::open_verdicts(rt.alloc(), rounds)?,
         "trail" => trails::sets(rt.alloc(), rounds)?,

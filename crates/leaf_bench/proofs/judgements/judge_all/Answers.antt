@@ -1,6 +1,5 @@
-use Rattle.std.proofs.Common.{◌≡◌, ◌≤◌, arith}
+use Rattle.std.proofs.Common.{◌≡◌, arith}
 use Rattle.box_eval.specs.Verdict.{verdict_of}
-use Rattle.leaf_bench.specs.Small.{number_open}
 use Rattle.leaf_bench.proofs.Modest.{one_at_most, round_more}
 use Rattle.leaf_bench.proofs.judgements.judge_all.Goals as goal
 

@@ -1,7 +1,3 @@
-use Rattle.std.proofs.Common.{subst, sym}
-use Rattle.box_eval.specs.declared.rule.Rule.{Rule}
-use Rattle.box_eval.specs.declared.rule.Rule.TheVariants.{Not}
-use Rattle.leaf_bench.specs.Small.{IsModest}
 use Rattle.leaf_bench.proofs.Modest.{modest_always, modest_not}
 use Rattle.leaf_bench.proofs.judgements.make_rule.Goals as goal
 

@@ -1,5 +1,5 @@
-use Rattle.std.proofs.Common.{◌≡◌, ◌∙◌, sym, subst, ap, length, ◌+◌, ◌≤◌, arith}
-use Rattle.bound_trail.specs.History.{History, back_to}
+use Rattle.std.proofs.Common.{◌∙◌, sym, subst, length, ◌+◌, ◌≤◌, arith}
+use Rattle.bound_trail.specs.History.{History}
 use Rattle.leaf_bench.specs.Rounds.{IsAbove}
 use Rattle.leaf_bench.proofs.Undone.{above_self, lowered_above, lowered_few, all_undone}
 use Rattle.leaf_bench.proofs.trails.set_and_undo.Goals as goal
@@ -13,9 +13,9 @@ loop-slot-init c = record { above = above_self c.args.trail.now c.requires.fresh
 pub loop-slot-preserved : goal.loop-slot-preserved
 loop-slot-preserved c = record {
   above = subst (IsAbove c.args.trail.now) (sym c.lower.ensures)
-    (lowered_above c.args.trail.now c.loop-slot.trail c.loop-slot.slot c.requires.fresh c.loop-slot.invariant.above);
+      (lowered_above c.args.trail.now c.loop-slot.trail c.loop-slot.slot c.requires.fresh c.loop-slot.invariant.above);
   few = subst (λ (h : History). length h.boxes ≤ c.loop-slot.slot + 1 + 1) (sym c.lower.ensures)
-    (lowered_few c.loop-slot.trail c.loop-slot.slot (c.loop-slot.slot + 1) c.loop-slot.invariant.few);
+      (lowered_few c.loop-slot.trail c.loop-slot.slot (c.loop-slot.slot + 1) c.loop-slot.invariant.few);
 }
 
 pub returns : goal.returns
