@@ -1,6 +1,5 @@
 //! `judge` on a rule of fifty nodes and two boxes in turn, at which each node is looked at.
-ghost use Rattle.std.specs.Prelude.{◌≡◌, ◌+◌, ◌*◌, ◌<◌, ◌≤◌, ◌≤ℤ◌, pos, replicate, IfOk};
-ghost use Rattle.box_eval.specs.Box.{pair};
+ghost use Rattle.std.specs.Prelude.{◌≡◌, ◌+◌, ◌*◌, ◌<◌, ◌≤◌, ◌≤ℤ◌, pos, IfOk};
 ghost use Rattle.box_eval.specs.Rules.{CanJudge};
 ghost use Rattle.box_eval.specs.Verdict.{verdict_of};
 ghost use Rattle.leaf_bench.specs.Small.{IsSmall, IsModest, number_open};
