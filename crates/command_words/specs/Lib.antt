@@ -1,0 +1,4 @@
+pub mod Texts
+pub mod Match
+pub mod Words
+pub mod Seen
