@@ -1,1 +1,3 @@
+mod OneFault
+mod FaultAnswers
 mod Worked

@@ -2,3 +2,4 @@ pub mod Texts
 pub mod Match
 pub mod Words
 pub mod Seen
+pub mod Parse
