@@ -1,3 +1,4 @@
 mod OneFault
 mod FaultAnswers
+pub mod ValueReads
 mod Worked
