@@ -1,19 +1,18 @@
 -- An option with a default holds a value that passed its parser, for any command.
-use Rattle.std.proofs.Common.{◌≡◌, ◌⊎◌, ◌∙◌, ◌<◌, ◌≤◌, ◌&&◌, ◌||◌, not, ap, ℕ, Bool, true, false, cond, zero, suc, List, [], ◌∷◌, map, length, is_some, Option, Some, None, refl, sym, subst, inl, inr, arith, codes}
+use Rattle.std.proofs.Common.{◌≡◌, ◌⊎◌, ◌∙◌, ◌<◌, ◌≤◌, ◌&&◌, ◌||◌, not, ap, ℕ, Bool, true, false, cond, zero, suc, List, [], ◌∷◌, map, length, Option, Some, None, refl, sym, subst, inl, inr, arith, codes}
 use Rattle.std.specs.List.{All, list_all, list_any, slice_index_or}
 use Rattle.std.specs.Str.{bytes_eq}
 use Rattle.std.specs.Prelude.{find, option_map, slice_get, unwrap_or}
 use Rattle.std.specs.Borrow.{Bor}
 use Rattle.std.proofs.lemmas.Slice.Eq.{bytes_eq-Decides}
 use Rattle.std.proofs.lemmas.List.Elements.{All-get_or}
-use Rattle.clap.specs.Facts.{args_of, groups_of, Entry, EntryPasses, ValuesPass, PassesArg, WantsDefault, least_values, parser_of, parser_of_value, unwrap_or_range}
-use Rattle.clap.specs.Built.{IsAuto, IsParsedFrom, SameRules}
+use Rattle.clap.specs.Facts.{args_of, groups_of, Entry, EntryPasses, ValuesPass, PassesArg, least_values, parser_of, parser_of_value, unwrap_or_range}
+use Rattle.clap.specs.Built.{IsParsedFrom, SameRules}
 use Rattle.clap.specs.Matches.{found_of, matched_of, one_text}
-use Rattle.clap.specs.Simple.{App, Shape, app_of, has_simple_rules, is_ready, is_ready_leaf, shape_of}
+use Rattle.clap.specs.Simple.{App, app_of, has_simple_rules, is_ready, is_ready_leaf, shape_of}
 use Rattle.clap.specs.Texts.{items_of}
-use Rattle.clap.specs.Values.{Accepts, IsUnsignedIn, read_as, reading_of}
+use Rattle.clap.specs.Values.{Accepts, read_as, reading_of}
 use Rattle.clap.specs.Walk.{Rule, Text, arg_by_id, is_empty, rule_of, texts}
-use Rattle.clap.specs.declared.builder.action.ArgAction.{ArgAction}
 use Rattle.clap.specs.declared.builder.action.ArgAction.TheVariants.{Count, Set}
 use Rattle.clap.specs.declared.builder.arg.Arg.{Arg}
 use Rattle.clap.specs.declared.builder.command.Command.{Command}

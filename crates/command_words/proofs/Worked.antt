@@ -3,8 +3,7 @@ use Rattle.std.proofs.Common.{◌≡◌, ℕ, List, [], ◌∷◌, codes, refl, 
 use Rattle.clap.specs.Words.{Text, is_simple_and_free}
 use Rattle.clap.proofs.OnLiterals.{clap_on_literals}
 use Rattle.command_words.specs.Match.{number_in, text_in}
-use Rattle.command_words.specs.Texts.{general_help, generate_help, version_text}
-use Rattle.command_words.specs.Words.{Asked, Wanted, Help, Generate, Refused, generate, generate_asked, generate_wanted, request}
+use Rattle.command_words.specs.Words.{Wanted, Generate, generate, generate_asked, generate_wanted, request}
 
 abbrev run : ℕ → ℕ → ℕ → ℕ → ℕ → Wanted
 run ticks lanes road seed cuts = Generate (record {

@@ -3,3 +3,4 @@ pub mod Match
 pub mod Words
 pub mod Seen
 pub mod Parse
+pub mod Taken

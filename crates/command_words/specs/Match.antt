@@ -1,7 +1,7 @@
 -- The words with which the match definition of a command is written, and how its matches are read.
 use Rattle.std.specs.Prelude.{ℕ, List, [], ◌∷◌, true, Some, unwrap_or}
 use Rattle.std.specs.Str.Parse.{digits_value, without_leading_plus}
-use Rattle.clap.specs.Words.{App, Rule, Text, first_of, matches_of, new_app, new_rule, one_of}
+use Rattle.clap.specs.Words.{App, Rule, Text, first_of, matches_of, new_app, new_rule, one_of, with_rule}
 use Rattle.clap.specs.declared.builder.action.ArgAction.TheVariants.{Set}
 use Rattle.clap.specs.declared.builder.value_parser.ValueParser.TheVariants.{Unsigned}
 
@@ -24,6 +24,11 @@ command_of name rules = record {
   top = record (new_app name).top { no_binary_name = true; rules = rules };
   subs = [];
 }
+
+-- a command with these arguments more
+abbrev pub with_rules : App → List Rule → App
+with_rules command [] = command
+with_rules command (r ∷ rest) = with_rules (with_rule command r) rest
 
 -- the text that the command matches with a word of this name
 unfoldable pub text_in : App → List Text → Text → Text

@@ -1,7 +1,7 @@
 -- What the words after the program's name ask for.
-use Rattle.std.specs.Prelude.{ℕ, ◌≤◌, Bool, ◌||◌, if◌then◌else◌, List, [], ◌∷◌, codes, ⊤}
+use Rattle.std.specs.Prelude.{ℕ, ◌≤◌, Bool, ◌||◌, if◌then◌else◌, List, [], ◌∷◌, ◌++◌, codes, ⊤}
 use Rattle.std.specs.Str.{bytes_eq}
-use Rattle.clap.specs.Words.{App, Kinds, Text, fault_of}
+use Rattle.clap.specs.Words.{App, Kinds, Rule, Text, fault_of}
 use Rattle.clap.specs.declared.error.kind.ErrorKind.TheVariants.{DisplayHelp}
 use Rattle.command_words.specs.Match.{command_of, number_in, number_rule, text_in, word_rule}
 use Rattle.command_words.specs.Texts.{general_help, generate_help, version_text}
@@ -24,14 +24,17 @@ pub data Wanted : Type 0 where
 
 -- ---- `generate`
 
-unfoldable pub generate : App
-generate = command_of (codes "generate") (
-    word_rule (codes "FILE")
-    ∷ word_rule (codes "SCENARIO")
-    ∷ number_rule (codes "ticks") 1 600 (codes "100")
+-- the options of a setting
+abbrev pub setting_rules : List Rule
+setting_rules = number_rule (codes "ticks") 1 600 (codes "100")
     ∷ number_rule (codes "lanes") 1 8 (codes "3")
     ∷ number_rule (codes "road") 1 10000 (codes "1000")
-    ∷ number_rule (codes "seed") 0 18446744073709551615 (codes "0")
+    ∷ []
+
+unfoldable pub generate : App
+generate = command_of (codes "generate") (
+    word_rule (codes "FILE") ∷ word_rule (codes "SCENARIO") ∷ setting_rules
+    ++ number_rule (codes "seed") 0 18446744073709551615 (codes "0")
     ∷ number_rule (codes "cuts") 1 1000000 (codes "200000")
     ∷ [])
 

@@ -37,19 +37,11 @@ pub fn word<'a>(alloc: Global, name: &'a str) -> Arg<'a>
     ensures rule { rule_of result ≡ word_rule name.entry.now }
     ensures local { result.global ≡ false }
 {
-    Arg::new(alloc, name)
-        .action(ArgAction::Set)
-        .required(true)
+    Arg::new(alloc, name).action(ArgAction::Set).required(true)
 }
 
 /// An option `--name` with a whole number from `least` to `most`, which is `default` where it isn't given.
-pub fn number<'a>(
-    alloc: Global,
-    name: &'a str,
-    least: u64,
-    most: u64,
-    default: &'a str,
-) -> Arg<'a>
+pub fn number<'a>(alloc: Global, name: &'a str, least: u64, most: u64, default: &'a str) -> Arg<'a>
     ensures rule { rule_of result ≡ number_rule name.entry.now least most default.entry.now }
     ensures local { result.global ≡ false }
 {

@@ -2,6 +2,8 @@ ghost use Rattle.std.specs.Prelude.{◌≡◌, IfOk, map, string_bytes};
 ghost use Rattle.command_words.specs.Seen.{seen};
 ghost use Rattle.command_words.specs.Words.{HasRanges, request};
 
+use crate::generate::read_generate;
+use crate::texts::{general_help, version_text};
 use std::alloc::{AllocError, Global};
 
 /// What the words after the program's name ask for.
@@ -41,5 +43,13 @@ pub fn read_words(alloc: Global, words: &[String]) -> Result<Request<'_>, AllocE
     ensures request { IfOk result (λ r. seen r ≡ request (map string_bytes words.now)) }
     ensures ranges { IfOk result (λ r. HasRanges (seen r)) }
 {
-    Err(AllocError)
+    let Some((first, rest)) = words.split_first() else {
+        return Ok(Request::Refused);
+    };
+    match first.as_str() {
+        "help" | "--help" | "-h" => Ok(Request::Help(general_help())),
+        "--version" | "-V" => Ok(Request::Help(version_text())),
+        "generate" => read_generate(alloc, rest),
+        _ => Ok(Request::Refused),
+    }
 }
