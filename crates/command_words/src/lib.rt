@@ -8,3 +8,6 @@ mod texts;
 
 pub use requests::{GenerateWords, Request, read_words};
 pub use texts::{general_help, generate_help, version_text};
+
+#[cfg(test)]
+mod tests;
