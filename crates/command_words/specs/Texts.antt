@@ -22,7 +22,7 @@ general_help = lined (
     ∷ codes "  --version  write the version; so does -V"
     ∷ []
     ∷ codes "Statuses, and what is written to standard output:"
-    ∷ codes "  0  what was asked for: a run, or a help text"
+    ∷ codes "  0  a run, a help text or the version"
     ∷ codes "  3  the source is refused: fault CODE FILE:LINE:COLUMN"
     ∷ codes "  4  the words are refused: words"
     ∷ codes "  6  a file isn't there, is longer than 1048576 bytes, or can't be read:"
@@ -55,6 +55,12 @@ generate_help = lined (
     ∷ codes "  -h, --help write this text"
     ∷ []
     ∷ codes "Behind -- each word is FILE or SCENARIO, also where it begins with -."
+    ∷ []
+    ∷ codes "A source file with a scenario named top:"
+    ∷ codes "  scenario top:"
+    ∷ codes "      x: int"
+    ∷ codes "      keep(x in [3..3])"
+    ∷ []
     ∷ codes "Today runs are of scenarios of ranged whole numbers; the options are checked"
     ∷ codes "and don't change the run yet."
     ∷ []

@@ -16,7 +16,7 @@ const GENERAL_HELP: &str = concat!(
     "  --version  write the version; so does -V\n",
     "\n",
     "Statuses, and what is written to standard output:\n",
-    "  0  what was asked for: a run, or a help text\n",
+    "  0  a run, a help text or the version\n",
     "  3  the source is refused: fault CODE FILE:LINE:COLUMN\n",
     "  4  the words are refused: words\n",
     "  6  a file isn't there, is longer than 1048576 bytes, or can't be read:\n",
@@ -48,6 +48,12 @@ const GENERATE_HELP: &str = concat!(
     "  -h, --help write this text\n",
     "\n",
     "Behind -- each word is FILE or SCENARIO, also where it begins with -.\n",
+    "\n",
+    "A source file with a scenario named top:\n",
+    "  scenario top:\n",
+    "      x: int\n",
+    "      keep(x in [3..3])\n",
+    "\n",
     "Today runs are of scenarios of ranged whole numbers; the options are checked\n",
     "and don't change the run yet.\n",
     "\n",
@@ -62,7 +68,7 @@ const GENERATE_HELP: &str = concat!(
     "  9  the words can't be read, as where one isn't UTF-8: nothing\n",
 );
 
-const VERSION_TEXT: &str = concat!("osc 0.1.0\n",);
+const VERSION_TEXT: &str = "osc 0.1.0\n";
 
 /// What `osc` does, its commands and its statuses. Each line is at most 80 bytes long and ended by a line
 /// feed, here and in the other texts.
