@@ -1,0 +1,161 @@
+-- What some words ask for, by computing.
+use Rattle.std.proofs.Common.{◌≡◌, ◌+◌, ◌==◌, ◌&&◌, if◌then◌else◌, nat_le, ℕ, Bool, List, [], ◌∷◌, codes, refl, true}
+use Rattle.clap.specs.Words.{Text}
+use Rattle.clap.proofs.OnLiterals.{clap_on_literals}
+use Rattle.command_words.specs.Match.{number_in, text_in}
+use Rattle.command_words.specs.Texts.{general_help, generate_help, version_text}
+use Rattle.command_words.specs.Words.{Wanted, Help, Generate, Refused, generate, generate_asked, generate_wanted, request}
+
+-- a run of `top` of `a.osc`, with these numbers
+abbrev run : ℕ → ℕ → ℕ → ℕ → ℕ → Wanted
+run ticks lanes road seed cuts = Generate (record {
+  file = codes "a.osc";
+  scenario = codes "top";
+  ticks = ticks;
+  lanes = lanes;
+  road = road;
+  seed = seed;
+  cuts = cuts;
+})
+
+-- what `generate a.osc top` with these words behind it asks for
+abbrev of_top : List Text → Wanted
+of_top words = request (codes "generate" ∷ codes "a.osc" ∷ codes "top" ∷ words)
+
+-- options that aren't given have their defaults
+defaults : of_top [] ≡ run 100 3 1000 0 200000
+unfolding request generate_wanted generate_asked text_in number_in generate clap_on_literals
+defaults = refl
+
+-- each option can be given, also before the other words and with `=`
+all_given : request (codes "generate" ∷ codes "--ticks=600" ∷ codes "a.osc" ∷ codes "--lanes" ∷ codes "8" ∷ codes "--road" ∷ codes "10000" ∷ codes "top" ∷ codes "--seed" ∷ codes "18446744073709551615" ∷ codes "--cuts" ∷ codes "1000000" ∷ []) ≡ run 600 8 10000 18446744073709551615 1000000
+unfolding request generate_wanted generate_asked text_in number_in generate clap_on_literals
+all_given = refl
+
+-- zeros and a plus before a number are passed over
+zeros : of_top (codes "--ticks" ∷ codes "005" ∷ []) ≡ run 5 3 1000 0 200000
+unfolding request generate_wanted generate_asked text_in number_in generate clap_on_literals
+zeros = refl
+
+plus : of_top (codes "--ticks" ∷ codes "+5" ∷ []) ≡ run 5 3 1000 0 200000
+unfolding request generate_wanted generate_asked text_in number_in generate clap_on_literals
+plus = refl
+
+-- numbers outside their ranges
+no_cuts : of_top (codes "--cuts" ∷ codes "0" ∷ []) ≡ Refused
+unfolding request generate_wanted generate clap_on_literals
+no_cuts = refl
+
+more_ticks : of_top (codes "--ticks" ∷ codes "601" ∷ []) ≡ Refused
+unfolding request generate_wanted generate clap_on_literals
+more_ticks = refl
+
+more_lanes : of_top (codes "--lanes" ∷ codes "9" ∷ []) ≡ Refused
+unfolding request generate_wanted generate clap_on_literals
+more_lanes = refl
+
+negative_seed : of_top (codes "--seed=-1" ∷ []) ≡ Refused
+unfolding request generate_wanted generate clap_on_literals
+negative_seed = refl
+
+wide_seed : of_top (codes "--seed" ∷ codes "18446744073709551616" ∷ []) ≡ Refused
+unfolding request generate_wanted generate clap_on_literals
+wide_seed = refl
+
+-- an option twice, without its number, cut short, and one that isn't known
+repeated : of_top (codes "--ticks" ∷ codes "5" ∷ codes "--ticks" ∷ codes "6" ∷ []) ≡ Refused
+unfolding request generate_wanted generate clap_on_literals
+repeated = refl
+
+no_number : of_top (codes "--ticks" ∷ []) ≡ Refused
+unfolding request generate_wanted generate clap_on_literals
+no_number = refl
+
+cut_short : of_top (codes "--tick" ∷ codes "5" ∷ []) ≡ Refused
+unfolding request generate_wanted generate clap_on_literals
+cut_short = refl
+
+unknown_option : of_top (codes "--version" ∷ []) ≡ Refused
+unfolding request generate_wanted generate clap_on_literals
+unknown_option = refl
+
+-- a word too few and one too many
+missing_word : request (codes "generate" ∷ codes "a.osc" ∷ []) ≡ Refused
+unfolding request generate_wanted generate clap_on_literals
+missing_word = refl
+
+third_word : of_top (codes "other" ∷ []) ≡ Refused
+unfolding request generate_wanted generate clap_on_literals
+third_word = refl
+
+-- behind `--` a word may begin with a dash
+behind_dashes : request (codes "generate" ∷ codes "--" ∷ codes "-f" ∷ codes "--ticks" ∷ []) ≡ Generate (record { file = codes "-f"; scenario = codes "--ticks"; ticks = 100; lanes = 3; road = 1000; seed = 0; cuts = 200000 })
+unfolding request generate_wanted generate_asked text_in number_in generate clap_on_literals
+behind_dashes = refl
+
+-- a file may be called `help`, and an empty word or `-` is a word like others
+help_as_file : request (codes "generate" ∷ codes "help" ∷ codes "-" ∷ []) ≡ Generate (record { file = codes "help"; scenario = codes "-"; ticks = 100; lanes = 3; road = 1000; seed = 0; cuts = 200000 })
+unfolding request generate_wanted generate_asked text_in number_in generate clap_on_literals
+help_as_file = refl
+
+empty_file : request (codes "generate" ∷ [] ∷ [] ∷ []) ≡ Generate (record { file = []; scenario = []; ticks = 100; lanes = 3; road = 1000; seed = 0; cuts = 200000 })
+unfolding request generate_wanted generate_asked text_in number_in generate clap_on_literals
+empty_file = refl
+
+-- help of the command, also behind what would be too few words, and not behind a fault
+help_of_generate : request (codes "generate" ∷ codes "--help" ∷ []) ≡ Help generate_help
+unfolding request generate_wanted generate clap_on_literals
+help_of_generate = refl
+
+short_help : of_top (codes "-h" ∷ codes "third" ∷ []) ≡ Help generate_help
+unfolding request generate_wanted generate clap_on_literals
+short_help = refl
+
+fault_before_help : of_top (codes "third" ∷ codes "--help" ∷ []) ≡ Refused
+unfolding request generate_wanted generate clap_on_literals
+fault_before_help = refl
+
+-- the general help and the version, whatever follows
+help : request (codes "help" ∷ codes "generate" ∷ []) ≡ Help general_help
+unfolding request
+help = refl
+
+help_option : request (codes "--help" ∷ []) ≡ Help general_help
+unfolding request
+help_option = refl
+
+help_letter : request (codes "-h" ∷ codes "--bad" ∷ []) ≡ Help general_help
+unfolding request
+help_letter = refl
+
+version : request (codes "--version" ∷ codes "help" ∷ []) ≡ Help version_text
+unfolding request
+version = refl
+
+version_letter : request (codes "-V" ∷ []) ≡ Help version_text
+unfolding request
+version_letter = refl
+
+-- no word, an empty one, and one that is no command
+no_words : request [] ≡ Refused
+unfolding request
+no_words = refl
+
+empty_word : request ([] ∷ []) ≡ Refused
+unfolding request
+empty_word = refl
+
+no_command : request (codes "Generate" ∷ codes "a.osc" ∷ codes "top" ∷ []) ≡ Refused
+unfolding request
+no_command = refl
+
+-- ---- no line of a help text is wider than 80 bytes
+
+-- so it is from the byte on that has n others before it in its line
+abbrev is_narrow : ℕ → Text → Bool
+is_narrow n [] = true
+is_narrow n (byte ∷ rest) = nat_le n 80 && is_narrow (if byte == 10 then 0 else (n + 1)) rest
+
+narrow : (is_narrow 0 general_help && is_narrow 0 generate_help) ≡ true
+unfolding general_help generate_help
+narrow = refl

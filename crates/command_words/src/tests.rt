@@ -1,0 +1,59 @@
+use crate::{Request, read_words};
+use std::io;
+
+/// The words of a line, which has one space between any two.
+fn words_of(rt: &HostRuntime, line: &str) -> io::Result<Vec<String>> {
+    let alloc = rt.alloc();
+    let mut words = Vec::new(alloc);
+    for word in line.split(' ') {
+        words.push(String::from_str(alloc, word)?)?;
+    }
+    Ok(words)
+}
+
+/// What the words ask for; of a text of help its last line.
+fn shown(rt: &HostRuntime, line: &str) -> io::Result<String> {
+    let alloc = rt.alloc();
+    let words = words_of(rt, line)?;
+    let shown = match read_words(alloc, words.as_slice())? {
+        Request::Help(text) => {
+            let last = text.lines().last().unwrap_or("");
+            format!(in alloc; "help: {last}")?
+        }
+        Request::Generate(asked) => format!(in alloc;
+            "{} {} {} {} {} {} {}",
+            asked.file, asked.scenario, asked.ticks, asked.lanes, asked.road, asked.seed, asked.cuts
+        )?,
+        Request::Refused => String::from_str(alloc, "refused")?,
+    };
+    Ok(shown)
+}
+
+#[test]
+fn reads_words(rt: HostRuntime) -> io::Result<()> {
+    let rows = [
+        ("generate f s", "f s 100 3 1000 0 200000"),
+        (
+            "generate --ticks 005 f --lanes=+8 s",
+            "f s 5 8 1000 0 200000",
+        ),
+        (
+            "generate f s --road 1 --cuts 1 --seed 18446744073709551615",
+            "f s 100 3 1 18446744073709551615 1",
+        ),
+        ("generate -- --ticks s", "--ticks s 100 3 1000 0 200000"),
+        ("generate f s --seed -0", "refused"),
+        ("generate f s --ticks 0", "refused"),
+        ("generate f s --road 10001", "refused"),
+        ("generate f s --lanes 2 --lanes 2", "refused"),
+        ("generate f s -V", "refused"),
+        ("generate f", "refused"),
+        ("", "refused"),
+        ("make 1", "refused"),
+        ("--version", "help: osc 0.1.0"),
+    ];
+    for (line, want) in rows {
+        assert_eq!(rt; shown(&rt, line)?.as_str(), want, "at {line}");
+    }
+    Ok(())
+}
