@@ -5,9 +5,9 @@ use Rattle.std.proofs.lemmas.Bool.Decides.{nat_tests}
 use Rattle.osc_base.specs.declared.fault.Fault.{Fault}
 use Rattle.name_scope.specs.FaultRows.{FaultRow, IsFault, Precedes, IsFirst, is_before, first_of, row_fault, first_from, first_fault}
 
-pub first_from-append : (first : Option Fault) (rs ss : List FaultRow) → first_from first (rs ++ ss) ≡ first_from (first_from first rs) ss
-first_from-append first [] ss = refl
-first_from-append first (r ∷ rs) ss = first_from-append (first_of first (row_fault r)) rs ss
+pub first_from_joined : (first : Option Fault) (rs ss : List FaultRow) → first_from first (rs ++ ss) ≡ first_from (first_from first rs) ss
+first_from_joined first [] ss = refl
+first_from_joined first (r ∷ rs) ss = first_from_joined (first_of first (row_fault r)) rs ss
 
 before_precedes : (f g : Fault) → is_before f g ≡ true → Precedes f g
 before_precedes f g h = grind (arith, nat_tests)

@@ -3,6 +3,8 @@
 
 mod find;
 mod headings;
+mod known;
+mod least;
 mod ids;
 mod library;
 mod names;
