@@ -2,3 +2,5 @@ pub mod Tables
 pub mod Firsts
 pub mod Numbering
 pub mod Mentions
+pub mod Places
+pub mod HeadingRows
