@@ -4,3 +4,4 @@ pub mod Numbering
 pub mod Mentions
 pub mod Places
 pub mod HeadingRows
+pub mod Worked
