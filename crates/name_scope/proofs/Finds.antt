@@ -1,5 +1,5 @@
 -- What is found is a declaration of the name.
-use Rattle.std.proofs.Common.{◌≡◌, ◌∙◌, refl, sym, ap, ℕ, zero, suc, ◌+◌, Bool, true, false, cond, List, [], ◌∷◌, Option, Some, None, slice_get, option_map, arith}
+use Rattle.std.proofs.Common.{◌≡◌, ◌∙◌, refl, ap, ℕ, suc, ◌+◌, Bool, true, false, cond, List, [], ◌∷◌, Option, Some, None, slice_get, option_map, arith}
 use Rattle.std.specs.Option.{option_or, IfSome}
 use Rattle.name_scope.specs.declared.ids.DeclId.{DeclId}
 use Rattle.name_scope.specs.declared.ids.NameKind.{NameKind}

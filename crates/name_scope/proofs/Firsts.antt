@@ -1,6 +1,5 @@
 -- The first fault of a list of rows is the least of the faults that are there.
-use Rattle.std.proofs.Common.{◌≡◌, ◌∙◌, refl, sym, ap, ◌<◌, ◌≤◌, ◌⊎◌, inl, inr, ◌&&◌, ◌||◌, Bool, true, false, cond, List, [], ◌∷◌, ◌++◌, Option, Some, None, nat_lt, nat_eq, arith, true≢false, subst}
-use Rattle.std.proofs.lemmas.Bool.{cases_lt, cases_order, eqb-true, eq-eqb, false≢true}
+use Rattle.std.proofs.Common.{◌≡◌, ◌∙◌, refl, sym, ◌⊎◌, inl, inr, Bool, true, false, cond, List, [], ◌∷◌, ◌++◌, Option, Some, None, arith, true≢false, subst}
 use Rattle.std.proofs.lemmas.Bool.Decides.{nat_tests}
 use Rattle.osc_base.specs.declared.fault.Fault.{Fault}
 use Rattle.name_scope.specs.FaultRows.{FaultRow, IsFault, Precedes, IsFirst, is_before, first_of, row_fault, first_from, first_fault}
@@ -37,6 +36,7 @@ row_first r = by r.holds refl
   where
     precedes_itself : (f : Fault) → Precedes f f
     precedes_itself f = grind arith
+
     by : (b : Bool) → r.holds ≡ b → IsFirst (λ f. (r.holds ≡ true) × (f ≡ r.fault)) (cond b (Some r.fault) None)
     by true e = ((e, refl), λ g h. subst (Precedes r.fault) (sym h.1) (precedes_itself r.fault))
     by false e = λ f h. true≢false (sym h.0 ∙ e)
@@ -46,10 +46,10 @@ first_from_is P first [] h = same_set P (λ f. P f ⊎ ⊥) (λ f x. inl x) (λ 
 first_from_is P first (r ∷ rs) h =
     let Here : Fault → Type 0 = λ f. (r.holds ≡ true) × (f ≡ r.fault) in
     same_set (λ f. (P f ⊎ Here f) ⊎ IsFault rs f) (λ f. P f ⊎ (Here f ⊎ IsFault rs f))
-        (λ f s. elim s [ inl x ↦ elim x [ inl p ↦ inl p | inr q ↦ inr (inl q) ] | inr y ↦ inr (inr y) ])
-        (λ f s. elim s [ inl p ↦ inl (inl p) | inr x ↦ elim x [ inl q ↦ inl (inr q) | inr y ↦ inr y ] ])
-        (first_from (first_of first (row_fault r)) rs)
-        (first_from_is (λ f. P f ⊎ Here f) (first_of first (row_fault r)) rs (union P Here first (row_fault r) h (row_first r)))
+    (λ f s. elim s [ inl x ↦ elim x [ inl p ↦ inl p | inr q ↦ inr (inl q) ] | inr y ↦ inr (inr y) ])
+    (λ f s. elim s [ inl p ↦ inl (inl p) | inr x ↦ elim x [ inl q ↦ inl (inr q) | inr y ↦ inr y ] ])
+    (first_from (first_of first (row_fault r)) rs)
+    (first_from_is (λ f. P f ⊎ Here f) (first_of first (row_fault r)) rs (union P Here first (row_fault r) h (row_first r)))
 
 pub is_first : (rs : List FaultRow) → IsFirst (IsFault rs) (first_fault rs)
 is_first rs = same_set (λ f. ⊥ ⊎ IsFault rs f) (IsFault rs) (λ f s. elim s [ inl x ↦ absurd x | inr y ↦ y ]) (λ f y. inr y) (first_fault rs) (first_from_is (λ f. ⊥) None rs (λ f h. h))

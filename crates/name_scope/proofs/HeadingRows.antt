@@ -1,5 +1,5 @@
 -- Going through the rows of headings, declaration after declaration and file after file.
-use Rattle.std.proofs.Common.{◌≡◌, ◌∙◌, refl, sym, ap, ap₂, ℕ, ◌+◌, ◌<◌, List, [], ◌∷◌, ◌++◌, Option, flat_map, take, drop, length, get_or, append_assoc, append-nil, subst}
+use Rattle.std.proofs.Common.{◌≡◌, ◌∙◌, sym, ap, ℕ, ◌+◌, ◌<◌, List, [], ◌∷◌, ◌++◌, Option, take, drop, length, get_or, append_assoc, append-nil, subst}
 use Rattle.std.proofs.lemmas.List.{take_more, drop_more}
 use Rattle.std.proofs.lemmas.List.Concat.{flat_map-append}
 use Rattle.osc_base.specs.declared.fault.Fault.{Fault}
@@ -24,7 +24,7 @@ next_declaration all files ds items i n d found found' goal same less count is m
     let here : get_or ds n d ≡ d = ap (λ k. get_or ds k d) count ∙ ap (λ xs. get_or xs i d) (sym same) ∙ sym is in
     let first : drop n ds ≡ d ∷ drop (n + 1) ds = drop_more ds n d less' ∙ ap (λ x. x ∷ drop (n + 1) ds) here in
     let front : (files ++ take n ds) ++ d ∷ [] ≡ files ++ take (n + 1) ds
-        = append_assoc files (take n ds) (d ∷ []) ∙ ap (λ x. files ++ (take n ds ++ x ∷ [])) (sym here) ∙ ap (λ xs. files ++ xs) (sym (take_more ds n d less')) in
+    = append_assoc files (take n ds) (d ∷ []) ∙ ap (λ x. files ++ (take n ds ++ x ∷ [])) (sym here) ∙ ap (λ xs. files ++ xs) (sym (take_more ds n d less')) in
     let now : List FaultRow = twice_rows (files ++ take n ds) (declared_name d) ++ reference_rows all d in
     rest
     ∙ ap (λ xs. first_from found (rows_behind all (files ++ take n ds) xs)) first
@@ -48,12 +48,12 @@ pub next_file : (all : List Declaration) (fs : List AddedFile) (n : ℕ) (f : Ad
     goal ≡ first_from found' (rows_behind all (declarations (take (n + 1) fs)) (declarations (drop (n + 1) fs)))
 next_file all fs n f found found' goal less is more rest =
     let first : declarations (drop n fs) ≡ f.file.decls ++ declarations (drop (n + 1) fs)
-        = ap declarations (drop_more fs n f less) ∙ ap (λ g. g.file.decls ++ declarations (drop (n + 1) fs)) (sym is) in
+    = ap declarations (drop_more fs n f less) ∙ ap (λ g. g.file.decls ++ declarations (drop (n + 1) fs)) (sym is) in
     let front : declarations (take n fs) ++ f.file.decls ≡ declarations (take (n + 1) fs)
-        = ap (λ ds. declarations (take n fs) ++ ds) (sym (append-nil f.file.decls))
-        ∙ ap (λ g. declarations (take n fs) ++ declarations (g ∷ [])) is
-        ∙ sym (flat_map-append (λ g. g.file.decls) (take n fs) (get_or fs n f ∷ []))
-        ∙ ap declarations (sym (take_more fs n f less)) in
+    = ap (λ ds. declarations (take n fs) ++ ds) (sym (append-nil f.file.decls))
+    ∙ ap (λ g. declarations (take n fs) ++ declarations (g ∷ [])) is
+    ∙ sym (flat_map-append (λ g. g.file.decls) (take n fs) (get_or fs n f ∷ []))
+    ∙ ap declarations (sym (take_more fs n f less)) in
     let now : List FaultRow = rows_behind all (declarations (take n fs)) f.file.decls in
     rest
     ∙ ap (λ ds. first_from found (rows_behind all (declarations (take n fs)) ds)) first

@@ -1,5 +1,5 @@
 -- Each numbered name but the main file's is mentioned by an import.
-use Rattle.std.proofs.Common.{◌≡◌, ◌∙◌, refl, sym, ap, ℕ, zero, suc, ◌+◌, ◌<◌, ◌≤◌, ◌⊎◌, inl, inr, Bool, true, false, cond, List, [], ◌∷◌, ◌++◌, Option, Some, None, length, slice_get, arith, true≢false, length-append, codes, bytes_eq}
+use Rattle.std.proofs.Common.{◌≡◌, ◌∙◌, refl, sym, ap, ℕ, zero, suc, ◌<◌, ◌≤◌, ◌⊎◌, inl, inr, Bool, true, false, cond, List, [], ◌∷◌, ◌++◌, Option, Some, None, length, slice_get, arith, true≢false, length-append}
 use Rattle.std.specs.Option.{is_some, option_or}
 use Rattle.std.proofs.lemmas.Bool.{cases_lt}
 use Rattle.std.proofs.lemmas.Slice.Eq.{bytes_eq-Decides}
@@ -7,7 +7,7 @@ use Rattle.osc_base.specs.declared.fault.Place.{Place}
 use Rattle.dsl_tree.specs.declared.parts.Ident.{Ident}
 use Rattle.dsl_tree.specs.declared.file.Import.{Import}
 use Rattle.name_scope.specs.declared.names.FileName.{FileName}
-use Rattle.name_scope.specs.Loading.{AddedFile, meant_name, dotted_name, import_place, is_meant, same_name, is_numbered, with_name, with_imports, with_files, numbered_names, wanted_name, wanted_mention, first_mention_in, first_mention, mention_of}
+use Rattle.name_scope.specs.Loading.{AddedFile, meant_name, dotted_name, import_place, is_meant, same_name, is_numbered, with_name, with_imports, with_files, wanted_name, wanted_mention, first_mention_in, first_mention, mention_of}
 use Rattle.name_scope.proofs.Numbering.{below, imports_stay, files_stay}
 
 same_itself : (n : FileName) → same_name n n ≡ true
@@ -43,13 +43,14 @@ module _ (i : Import) (is : List Import) (k : ℕ) (n : FileName)
       is_some (cond (same_name n m) (import_place i) (first_mention_in n is)) ≡ true
   numbered names m e le true s = either (same_name n m) (import_place i) (first_mention_in n is) (there i m e) (rest names le s)
   numbered names m e le false s = elim (cases_lt (length names) k) [
-        inl l ↦ either (same_name n m) (import_place i) (first_mention_in n is) (there i m e) (rest (names ++ m ∷ []) (let p = length-append names (m ∷ []) in omega arith) s)
-      | inr l ↦
-          (let same : k ≡ length names = omega arith in
-          let found : Some n ≡ Some m = sym s ∙ ap (slice_get (with_imports (names ++ m ∷ []) is)) same ∙ imports_stay (names ++ m ∷ []) is (length names) m (last_at names m) in
-          let equal : n ≡ m = cc in
-          ap (λ x. is_some (cond (same_name n x) (import_place i) (first_mention_in n is))) (sym equal)
-          ∙ ap (λ b. is_some (cond b (import_place i) (first_mention_in n is))) (same_itself n) ∙ there i m e) ]
+    | inl l ↦ either (same_name n m) (import_place i) (first_mention_in n is) (there i m e) (rest (names ++ m ∷ []) (let p = length-append names (m ∷ []) in omega arith) s)
+    | inr l ↦
+        (let same : k ≡ length names = omega arith in
+        let found : Some n ≡ Some m = sym s ∙ ap (slice_get (with_imports (names ++ m ∷ []) is)) same ∙ imports_stay (names ++ m ∷ []) is (length names) m (last_at names m) in
+        let equal : n ≡ m = cc in
+        ap (λ x. is_some (cond (same_name n x) (import_place i) (first_mention_in n is))) (sym equal)
+        ∙ ap (λ b. is_some (cond b (import_place i) (first_mention_in n is))) (same_itself n) ∙ there i m e)
+  ]
 
   step : (names : List FileName) → length names ≤ k → (o : Option FileName) → meant_name i ≡ o → slice_get (with_imports (with_name names o) is) k ≡ Some n →
       is_some (cond (is_meant n o) (import_place i) (first_mention_in n is)) ≡ true
@@ -69,11 +70,12 @@ within (x ∷ xs) (suc k) l = within xs k (omega arith)
 pub mentioned : (fs : List AddedFile) (names : List FileName) (k : ℕ) (n : FileName) → length names ≤ k → slice_get (with_files names fs) k ≡ Some n → is_some (first_mention n fs) ≡ true
 mentioned [] names k n le h = let l = below names k n h in absurd (omega arith)
 mentioned (f ∷ fs) names k n le h = some_or (first_mention_in n f.file.imports) (first_mention n fs) (elim (cases_lt k (length (with_imports names f.file.imports))) [
-      inl l ↦
-        (let found = within (with_imports names f.file.imports) k l in
-        let same : Some n ≡ Some found.0 = sym h ∙ files_stay (with_imports names f.file.imports) fs k found.0 found.1 in
-        inl (mentioned_in f.file.imports k n names le (found.1 ∙ sym same)))
-    | inr l ↦ inr (mentioned fs (with_imports names f.file.imports) k n l h) ])
+  | inl l ↦
+      (let found = within (with_imports names f.file.imports) k l in
+      let same : Some n ≡ Some found.0 = sym h ∙ files_stay (with_imports names f.file.imports) fs k found.0 found.1 in
+      inl (mentioned_in f.file.imports k n names le (found.1 ∙ sym same)))
+  | inr l ↦ inr (mentioned fs (with_imports names f.file.imports) k n l h)
+])
 
 -- a wanted file is mentioned
 wanted_there : (fs : List AddedFile) (o : Option FileName) → wanted_name fs ≡ o → is_some (mention_of o fs) ≡ is_some o

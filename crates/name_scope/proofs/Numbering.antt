@@ -1,6 +1,5 @@
 -- The numbers of names stay when more files are added.
-use Rattle.std.proofs.Common.{◌≡◌, ◌∙◌, refl, sym, ap, ℕ, zero, suc, ◌+◌, ◌<◌, ◌≤◌, ◌⊎◌, inl, inr, ◌||◌, Bool, true, false, cond, List, [], ◌∷◌, ◌++◌, Option, Some, None, length, slice_get, option_map, arith, true≢false, append_assoc, length-append}
-use Rattle.std.specs.Option.{is_some, option_or}
+use Rattle.std.proofs.Common.{◌≡◌, ◌∙◌, refl, sym, ap, ℕ, zero, suc, ◌<◌, ◌≤◌, ◌⊎◌, inl, inr, Bool, true, false, cond, List, [], ◌∷◌, ◌++◌, Option, Some, None, length, slice_get, option_map, arith, length-append}
 use Rattle.dsl_tree.specs.declared.file.Import.{Import}
 use Rattle.name_scope.specs.declared.names.FileName.{FileName}
 use Rattle.name_scope.specs.Loading.{AddedFile, name_text, meant_name, is_numbered, with_name, with_imports, with_files, numbered_names, names_before, wanted_name}
@@ -75,12 +74,13 @@ grown_by files before added called next numbered few = record {
   numbered = numbered;
   few = few;
   enough =
-    (let l = named_below (with_imports before added.file.imports) (length files) added.name (named_stays before added.file.imports (length files) added.name next) in
-    let e = length-append files (added ∷ []) in omega arith);
+      (let l = named_below (with_imports before added.file.imports) (length files) added.name (named_stays before added.file.imports (length files) added.name next) in
+      let e = length-append files (added ∷ []) in omega arith);
   called = λ k f h. elim (pushed_at files added k f h) [
-      inl e ↦ named_stays before added.file.imports k f.name (called k f e)
+    | inl e ↦ named_stays before added.file.imports k f.name (called k f e)
     | inr e ↦ ap (λ n. option_map name_text (slice_get (with_imports before added.file.imports) n)) e.0
-        ∙ named_stays before added.file.imports (length files) added.name next ∙ ap (λ g. Some g.name) (sym e.1) ];
+        ∙ named_stays before added.file.imports (length files) added.name next ∙ ap (λ g. Some g.name) (sym e.1)
+  ];
 }
 
 pub grown : (files : List AddedFile) (names : List FileName) (added : AddedFile) → IsProgram files names →
@@ -89,7 +89,8 @@ pub grown : (files : List AddedFile) (names : List FileName) (added : AddedFile)
     IsProgram (files ++ added ∷ []) (with_imports (names_before files added.name) added.file.imports)
 grown [] names added program next few = grown_by [] (FileName.Named added.name ∷ []) added (λ k f h. absurd (cc)) refl (sym (numbered_more [] added)) few
 grown (g ∷ fs) names added program next few = elim next [
-      inl e ↦ absurd (cc)
-    | inr e ↦ grown_by (g ∷ fs) (numbered_names (g ∷ fs)) added
-        (λ k f h. ap (λ ns. option_map name_text (slice_get ns k)) (sym program.numbered) ∙ program.called k f h)
-        e (sym (numbered_more (g ∷ fs) added)) few ]
+  | inl e ↦ absurd (cc)
+  | inr e ↦ grown_by (g ∷ fs) (numbered_names (g ∷ fs)) added
+      (λ k f h. ap (λ ns. option_map name_text (slice_get ns k)) (sym program.numbered) ∙ program.called k f h)
+      e (sym (numbered_more (g ∷ fs) added)) few
+]

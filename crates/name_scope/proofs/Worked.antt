@@ -1,5 +1,5 @@
 -- Worked programs, by computation.
-use Rattle.std.proofs.Common.{◌≡◌, refl, ℕ, List, [], ◌∷◌, Option, Some, None, codes, replicate}
+use Rattle.std.proofs.Common.{◌≡◌, refl, ℕ, List, [], ◌∷◌, Option, Some, None, codes}
 use Rattle.osc_base.specs.declared.fault.Place.{Place}
 use Rattle.osc_base.specs.declared.fault.Fault.{Fault}
 use Rattle.dsl_tree.specs.declared.parts.Ident.{Ident}
@@ -8,8 +8,6 @@ use Rattle.dsl_tree.specs.declared.compounds.CompoundKind.{CompoundKind}
 use Rattle.dsl_tree.specs.declared.compounds.Heir.{Heir}
 use Rattle.dsl_tree.specs.declared.file.Declaration.{Declaration}
 use Rattle.dsl_tree.specs.declared.file.Import.{Import}
-use Rattle.dsl_tree.specs.declared.file.File.{File}
-use Rattle.name_scope.specs.declared.ids.DeclId.{DeclId}
 use Rattle.name_scope.specs.declared.ids.NameKind.{NameKind}
 use Rattle.name_scope.specs.declared.names.FileName.{FileName}
 use Rattle.name_scope.specs.Loading.{AddedFile, numbered_names, wanted_name, wanted_mention, adding_fault}

@@ -1,9 +1,7 @@
 -- The faults of names in headings: 311 where a name is declared twice, 312 where a name isn't declared.
 use Rattle.std.specs.Prelude.{ℕ, ◌&&◌, ◌||◌, Bool, not, List, [], ◌∷◌, ◌++◌, Option, Some, None, flat_map, codes, bytes_eq}
 use Rattle.std.specs.List.{list_any}
-use Rattle.osc_base.specs.declared.fault.Place.{Place}
 use Rattle.dsl_tree.specs.declared.parts.Ident.{Ident}
-use Rattle.dsl_tree.specs.declared.parts.QName.{QName}
 use Rattle.dsl_tree.specs.declared.compounds.ConditionValue.{ConditionValue}
 use Rattle.dsl_tree.specs.declared.compounds.HeirCondition.{HeirCondition}
 use Rattle.dsl_tree.specs.declared.compounds.Heir.{Heir}

@@ -59,12 +59,7 @@ fn with_unknown(first: Option<Fault>, all: &[Source], name: &Ident) -> Option<Fa
     )
 }
 
-fn with_unowned(
-    first: Option<Fault>,
-    all: &[Source],
-    owner: &Ident,
-    name: &Ident,
-) -> Option<Fault>
+fn with_unowned(first: Option<Fault>, all: &[Source], owner: &Ident, name: &Ident) -> Option<Fault>
     ensures { result ≡ first_from first (unowned_row (declarations all.now) owner.now name.now ∷ []) }
 {
     let owner = owner.text.as_str();
@@ -154,11 +149,7 @@ fn with_compound(first: Option<Fault>, all: &[Source], compound: &CompoundDecl) 
 }
 
 /// Faults of the names that a declaration uses.
-fn with_references(
-    first: Option<Fault>,
-    all: &[Source],
-    declaration: &Declaration,
-) -> Option<Fault>
+fn with_references(first: Option<Fault>, all: &[Source], declaration: &Declaration) -> Option<Fault>
     ensures { result ≡ first_from first (reference_rows (declarations all.now) declaration.now) }
 {
     match declaration {
@@ -186,12 +177,7 @@ fn with_declaration(
 }
 
 /// Faults of the headings of a file that stands behind others.
-fn with_file(
-    first: Option<Fault>,
-    all: &[Source],
-    files: &[Source],
-    file: &Source,
-) -> Option<Fault>
+fn with_file(first: Option<Fault>, all: &[Source], files: &[Source], file: &Source) -> Option<Fault>
     ensures { result ≡ first_from first (rows_behind (declarations all.now) (declarations files.now) file.now.file.decls) }
 {
     let mut found = first;

@@ -35,13 +35,7 @@ fn is_in(source: &Source, kind: NameKind, owner: Option<&str>, name: &str) -> bo
 }
 
 /// Whether one of the first declarations of a file declares the name.
-fn is_in_front(
-    source: &Source,
-    index: u32,
-    kind: NameKind,
-    owner: Option<&str>,
-    name: &str,
-) -> bool
+fn is_in_front(source: &Source, index: u32, kind: NameKind, owner: Option<&str>, name: &str) -> bool
     ensures { result ≡ list_any (declares kind (option_copied owner.entry) name.now) (take index source.now.file.decls) }
 {
     match source.find(kind, owner, name) {
@@ -85,12 +79,7 @@ pub fn is_owned_in(sources: &[Source], owner: &str, name: &str) -> bool
     declares_in(sources, NameKind::BehaviourName, Some(owner), name)
 }
 
-fn declares_before(
-    earlier: Earlier<'_>,
-    kind: NameKind,
-    owner: Option<&str>,
-    name: &str,
-) -> bool
+fn declares_before(earlier: Earlier<'_>, kind: NameKind, owner: Option<&str>, name: &str) -> bool
     ensures { result ≡ list_any (declares kind (option_copied owner.entry) name.now) (earlier_of earlier.entry) }
 {
     declares_in(earlier.files, kind, owner, name)

@@ -3,9 +3,9 @@
 
 mod find;
 mod headings;
+mod ids;
 mod known;
 mod least;
-mod ids;
 mod library;
 mod names;
 mod program;

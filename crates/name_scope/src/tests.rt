@@ -1,5 +1,4 @@
 ghost use Rattle.std.specs.Prelude.{◌≡◌, option_map, IfOk};
-
 ghost use Rattle.dsl_tree.specs.Language.{FollowsGrammar};
 ghost use Rattle.dsl_tree.specs.Views.{file_tree};
 ghost use Rattle.name_scope.specs.Loading.{name_text, wanted_name};
@@ -109,7 +108,10 @@ fn files_that_import_each_other(rt: HostRuntime) -> Result<(), Fail> {
     assert_eq!(rt; program.name(1).unwrap_or(""), "b.osc");
     let top = program.find(NameKind::BehaviourName, None, "top");
     assert_eq!(rt; top, Some(DeclId { file: 0, index: 0 }));
-    assert_eq!(rt; program.find(NameKind::BehaviourName, Some("top"), "top"), None);
+    assert_eq!(rt;
+        program.find(NameKind::BehaviourName, Some("top"), "top"),
+        None
+    );
     let twice = Fault {
         place: place(1, 2, 10, 4),
         code: 311,

@@ -1,4 +1,4 @@
-use Rattle.std.proofs.Common.{◌≡◌, ◌∙◌, ap, flat_map}
+use Rattle.std.proofs.Common.{◌∙◌, ap, flat_map}
 use Rattle.name_scope.specs.FaultRows.{first_from}
 use Rattle.name_scope.specs.Headings.{declarations, owner_rows, heir_rows, member_rows}
 use Rattle.name_scope.proofs.HeadingRows.{three}
@@ -12,4 +12,4 @@ returns c =
     ∙ ap (λ f. first_from f rows) c.with_heir-first.ensures
     ∙ ap (λ f. first_from (first_from f (heir_rows (declarations c.args.all.now) c.args.compound.now.heir)) rows) c.with_owner-first.ensures
     ∙ three c.args.first (owner_rows (declarations c.args.all.now) c.args.compound.now.name.first c.args.compound.now.name.second)
-        (heir_rows (declarations c.args.all.now) c.args.compound.now.heir) rows
+    (heir_rows (declarations c.args.all.now) c.args.compound.now.heir) rows

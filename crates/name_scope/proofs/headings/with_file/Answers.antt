@@ -1,4 +1,4 @@
-use Rattle.std.proofs.Common.{◌≡◌, ◌∙◌, ◌+◌, ap, arith}
+use Rattle.std.proofs.Common.{◌∙◌, ◌+◌, ap}
 use Rattle.name_scope.specs.Headings.{declarations}
 use Rattle.name_scope.proofs.HeadingRows.{next_declaration}
 use Rattle.name_scope.proofs.headings.with_file.Goals as goal

@@ -1,4 +1,4 @@
-use Rattle.std.proofs.Common.{◌≡◌, ◌∙◌, sym, option_copied}
+use Rattle.std.proofs.Common.{◌∙◌, sym, option_copied}
 use Rattle.name_scope.specs.Declaring.{declares}
 use Rattle.name_scope.proofs.Places.{any_of_files}
 use Rattle.name_scope.proofs.known.declares_in.Goals as goal

@@ -1,4 +1,4 @@
-use Rattle.std.proofs.Common.{◌≡◌, ◌∙◌, ap, option_copied}
+use Rattle.std.proofs.Common.{◌∙◌, ap, option_copied}
 use Rattle.std.specs.Option.{is_some}
 use Rattle.name_scope.specs.Declaring.{declares}
 use Rattle.name_scope.proofs.Places.{any_of_place}

@@ -1,4 +1,4 @@
-use Rattle.std.proofs.Common.{◌≡◌, ◌∙◌, ap, option_copied}
+use Rattle.std.proofs.Common.{◌∙◌, ap, option_copied}
 use Rattle.name_scope.specs.Declaring.{declares}
 use Rattle.name_scope.proofs.Places.{is_below, front_of_place}
 use Rattle.name_scope.proofs.known.is_in_front.Goals as goal

@@ -1,4 +1,4 @@
-use Rattle.std.proofs.Common.{◌≡◌, ◌∙◌, ap, refl, string_bytes, Some, bytes_eq, cond}
+use Rattle.std.proofs.Common.{◌∙◌, ap, refl, string_bytes, Some, bytes_eq, cond}
 use Rattle.std.specs.HashMap.{get_by_text}
 use Rattle.std.proofs.lemmas.Map.Text.{hash_map_updates_text}
 use Rattle.name_scope.specs.declared.table.DeclTable.{DeclTable}

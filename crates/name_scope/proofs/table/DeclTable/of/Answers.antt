@@ -1,4 +1,4 @@
-use Rattle.std.proofs.Common.{◌≡◌, ◌∙◌, ◌+◌, ap, cond, Some, None, arith, take_all}
+use Rattle.std.proofs.Common.{◌∙◌, ◌+◌, ap, cond, Some, None, arith, take_all}
 use Rattle.std.specs.Option.{option_or}
 use Rattle.name_scope.specs.Declaring.{declares, first_place}
 use Rattle.name_scope.proofs.Tables.{place_next}

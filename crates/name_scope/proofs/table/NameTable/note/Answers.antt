@@ -1,4 +1,4 @@
-use Rattle.std.proofs.Common.{◌≡◌, ◌∙◌, sym, ap, refl, string_bytes, Some, bytes_eq, cond}
+use Rattle.std.proofs.Common.{◌∙◌, sym, ap, string_bytes, Some, bytes_eq, cond}
 use Rattle.std.proofs.lemmas.Map.Text.{hash_map_updates_text}
 use Rattle.name_scope.specs.Tables.{place_in}
 use Rattle.name_scope.proofs.Tables.{present, placed}
