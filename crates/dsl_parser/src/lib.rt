@@ -1,0 +1,13 @@
+//! From the tokens of a source file to the tree that they spell, or to the first token with which no
+//! tree goes on.
+#![tactic(auto)]
+
+mod layout_tokens;
+mod literals;
+mod names;
+mod parser;
+mod stop;
+mod tokens;
+
+pub use parser::parse;
+pub use stop::ParseStop;
