@@ -2,10 +2,13 @@
 //! tree goes on.
 #![tactic(auto)]
 
+mod arguments;
+mod expressions;
 mod layout_tokens;
 mod literals;
 mod names;
 mod parser;
+mod paths;
 mod stop;
 mod tokens;
 
