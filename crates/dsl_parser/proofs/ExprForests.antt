@@ -1,5 +1,5 @@
 -- What expressions are written as, by what their parts are.
-use Rattle.std.proofs.Common.{◌≡◌, ℕ, zero, suc, ◌+◌, ◌-◌, ◌≤◌, ◌<◌, List, [], ◌∷◌, length, map, Bool, true, false, cond, Some, refl, sym, ◌∙◌, ap, ap₂, subst, inl, inr, arith}
+use Rattle.std.proofs.Common.{◌≡◌, ℕ, zero, suc, ◌+◌, ◌-◌, ◌≤◌, List, [], ◌∷◌, length, map, Bool, true, false, cond, Some, refl, sym, ◌∙◌, ap, subst, inl, inr, arith}
 use Rattle.std.specs.Prelude.{nat_lt, ◌==◌, slice_get}
 use Rattle.std.proofs.lemmas.Bool.{ltb-false, eqb-true, false≢true}
 use Rattle.std.proofs.lemmas.Option.{none-some, same_Some}
@@ -16,7 +16,7 @@ use Rattle.dsl_tree.specs.ExprTree.{ExprTree, row_of}
 use Rattle.dsl_tree.specs.Views.{FurtherTree, SuffixTree, grouped, with_suffixes, named_row, indexed_row, expr_tree, suffix_tree, further_tree}
 use Rattle.dsl_tree.specs.Grammar.{Part, Symbol, rules}
 use Rattle.dsl_tree.specs.Forest.{Forest, nil, seen, sub, wrong, AnyRule}
-use Rattle.dsl_tree.specs.Written.{level, lifted, raised, at, written, operator_kind, sign_kind, next_part, mark, word, mark_at, word_at, expr, listed_tail}
+use Rattle.dsl_tree.specs.Written.{level, lifted, raised, at, written, operator_kind, sign_kind, next_part, mark, mark_at, word_at, expr, listed_tail}
 use Rattle.dsl_tree.specs.Reading.{Whole, Parsed}
 use Rattle.dsl_tree.proofs.Seen.{seen_implies, seen_or, seen_and, seen_not, seen_relation, seen_sum, seen_product, seen_minus, seen_dot, seen_index, seen_group, seen_span, seen_listed, seen_range_call, seen_further}
 use Rattle.dsl_tree.proofs.WrittenRows.{at_own, at_lower, further_tail, suffix_tail, or_written, and_written, sum_written, product_written, post_written}

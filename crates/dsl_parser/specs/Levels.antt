@@ -94,8 +94,12 @@ abbrev pub enum_member : Option Ident → Forest
 enum_member None = nil
 enum_member (Some name) = mark MarkKind.Bang (ident name nil)
 
--- the codes of operands that have no part with brackets
+-- the codes of operands that are one token, but for names; and with names
+abbrev pub truth_codes : List ℕ
+truth_codes = word_code TrueWord ∷ word_code FalseWord ∷ word_code ItWord ∷ word_code ActorWord ∷ []
+
+abbrev pub simple_codes : List ℕ
+simple_codes = small_number ∷ large_number ∷ point_number ∷ physical_code ∷ text_code ∷ truth_codes
+
 abbrev pub leaf_codes : List ℕ
-leaf_codes =
-    si_name ∷ factor_name ∷ offset_name ∷ other_name ∷ small_number ∷ large_number ∷ point_number ∷ physical_code ∷ text_code
-    ∷ word_code ActorWord ∷ word_code ItWord ∷ word_code TrueWord ∷ word_code FalseWord ∷ []
+leaf_codes = si_name ∷ factor_name ∷ offset_name ∷ other_name ∷ simple_codes

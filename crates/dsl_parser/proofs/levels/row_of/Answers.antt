@@ -1,4 +1,4 @@
-use Rattle.std.proofs.Common.{◌≡◌, sym, ◌∙◌, ap, subst, List, length, true, false}
+use Rattle.std.proofs.Common.{◌≡◌, sym, ◌∙◌, subst, List, length, true, false}
 use Rattle.std.specs.Prelude.{◌==◌}
 use Rattle.dsl_tree.specs.declared.expr.Expr.TheViews
 use Rattle.dsl_tree.specs.declared.expr.Further.{Further}
