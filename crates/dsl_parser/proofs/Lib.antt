@@ -3,3 +3,9 @@ pub mod Taking
 pub mod ExprForests
 pub mod Exits
 pub mod LeafForests
+pub mod Productions
+pub mod Listings
+pub mod RowReaders
+pub mod ExprReaders
+pub mod OperandReaders
+pub mod BracketReaders
