@@ -9,3 +9,4 @@ pub mod RowReaders
 pub mod ExprReaders
 pub mod OperandReaders
 pub mod BracketReaders
+pub mod Ranks

@@ -3,7 +3,7 @@
 //! Each part of the grammar has its reader; those of the four rows of operators are one, by the level
 //! of the row. What stands in a row is read by a loop, so that calls nest only as brackets do.
 
-ghost use Rattle.std.specs.Prelude.{◌≡◌, ◌<◌, ◌≤◌, length, IfOk, IfErr, IfSome, IfNone};
+ghost use Rattle.std.specs.Prelude.{◌≡◌, ◌<◌, ◌≤◌, [], ◌∷◌, length, IfOk, IfErr, IfSome, IfNone};
 ghost use Rattle.dsl_tree.specs.declared.token.MarkKind.{MarkKind};
 ghost use Rattle.dsl_tree.specs.declared.token.WordKind.{WordKind};
 ghost use Rattle.dsl_tree.specs.Codes.{mark_code, word_code};
@@ -11,33 +11,36 @@ ghost use Rattle.dsl_tree.specs.Grammar.{Part};
 ghost use Rattle.dsl_tree.specs.Tables.{first};
 ghost use Rattle.dsl_tree.specs.Reading.{starts, Starts, Stops, Parsed, PartFault};
 ghost use Rattle.dsl_tree.specs.Language.{Ended};
+ghost use Rattle.dsl_tree.specs.Views.{expr_tree};
+ghost use Rattle.dsl_tree.specs.Written as written;
 ghost use Rattle.dsl_parser.specs.Readers.{OnStop};
 ghost use Rattle.dsl_parser.specs.Levels.{at_level, row_part, row_level, item_part, item_level, tail_part, tail_of, suffix_of, suffixes_of, items_of, IsBracketed, IsListing};
-ghost use Rattle.std.specs.Prelude.{[], ◌∷◌};
 
 use crate::levels::{row_of, starts_operator, take_operator, take_sign, RowLevel};
 use crate::names::expect_name;
-use crate::nodes;
+use crate::nodes::{self, closed};
 use crate::operands::leaf;
 use crate::stop::Stop;
-use crate::nodes::closed;
 use crate::tokens::{expect_mark, take_mark, take_word};
 use dsl_tree::{Expr, Further, MarkKind, Suffix, Token, WordKind};
 use osc_base::{Boxed, Place, Row};
 use std::alloc::Global;
 
-/// A whole expression.
-pub fn whole(alloc: Global, tokens: &[Token]) -> Result<(Expr, &[Token]), Stop>
+/// An expression.
+#[tactic(auto, unfolding(crate::specs::Levels::at_level))]
+pub fn expr(alloc: Global, tokens: &[Token]) -> Result<(Expr, &[Token]), Stop>
     requires { Ended tokens.now }
-    ensures ok { IfOk result (λ x. Parsed Part.Expr (at_level 0 x.0) tokens.now x.1.now) }
+    ensures ok { IfOk result (λ x. Parsed Part.Expr (written.expr (expr_tree x.0)) tokens.now x.1.now) }
     ensures ended { IfOk result (λ x. Ended x.1.now) }
     ensures shorter { IfOk result (λ x. length x.1.now < length tokens.now) }
     ensures fault { IfErr result (λ e. OnStop e (PartFault Part.Expr tokens.now)) }
 {
-    Err(Stop::Memory)
+    whole(alloc, tokens)
 }
 
-pub fn whole_real(alloc: Global, tokens: &[Token]) -> Result<(Expr, &[Token]), Stop>
+/// A whole expression.
+#[cycle(expressions)]
+pub fn whole(alloc: Global, tokens: &[Token]) -> Result<(Expr, &[Token]), Stop>
     requires { Ended tokens.now }
     ensures ok { IfOk result (λ x. Parsed Part.Expr (at_level 0 x.0) tokens.now x.1.now) }
     ensures ended { IfOk result (λ x. Ended x.1.now) }
@@ -55,6 +58,7 @@ pub fn whole_real(alloc: Global, tokens: &[Token]) -> Result<(Expr, &[Token]), S
 }
 
 /// An item of a row.
+#[cycle(expressions)]
 fn item(alloc: Global, tokens: &[Token], level: RowLevel) -> Result<(Expr, &[Token]), Stop>
     requires { Ended tokens.now }
     ensures ok { IfOk result (λ x. Parsed (item_part level) (at_level (item_level level) x.0) tokens.now x.1.now) }
@@ -62,10 +66,16 @@ fn item(alloc: Global, tokens: &[Token], level: RowLevel) -> Result<(Expr, &[Tok
     ensures shorter { IfOk result (λ x. length x.1.now < length tokens.now) }
     ensures fault { IfErr result (λ e. OnStop e (PartFault (item_part level) tokens.now)) }
 {
-    Err(Stop::Memory)
+    match level {
+        RowLevel::OrRow => row(alloc, tokens, RowLevel::AndRow),
+        RowLevel::AndRow => not(alloc, tokens),
+        RowLevel::SumRow => row(alloc, tokens, RowLevel::ProductRow),
+        RowLevel::ProductRow => minus(alloc, tokens),
+    }
 }
 
 /// A row of operators, or one item.
+#[cycle(expressions)]
 fn row(alloc: Global, tokens: &[Token], level: RowLevel) -> Result<(Expr, &[Token]), Stop>
     requires { Ended tokens.now }
     ensures ok { IfOk result (λ x. Parsed (row_part level) (at_level (row_level level) x.0) tokens.now x.1.now) }
@@ -83,6 +93,7 @@ fn row(alloc: Global, tokens: &[Token], level: RowLevel) -> Result<(Expr, &[Toke
 }
 
 /// The operators of a row, each with the item behind it.
+#[cycle(expressions)]
 fn tail(alloc: Global, tokens: &[Token], level: RowLevel) -> Result<(Row<Further>, &[Token]), Stop>
     requires { Ended tokens.now }
     ensures ok { IfOk result (λ x. Parsed (tail_part level) (tail_of (item_level level) x.0) tokens.now x.1.now) }
@@ -105,6 +116,7 @@ fn tail(alloc: Global, tokens: &[Token], level: RowLevel) -> Result<(Row<Further
 }
 
 /// A relation with `not` before it, or without.
+#[cycle(expressions)]
 fn not(alloc: Global, tokens: &[Token]) -> Result<(Expr, &[Token]), Stop>
     requires { Ended tokens.now }
     ensures ok { IfOk result (λ x. Parsed Part.Not (at_level 3 x.0) tokens.now x.1.now) }
@@ -121,6 +133,7 @@ fn not(alloc: Global, tokens: &[Token]) -> Result<(Expr, &[Token]), Stop>
 }
 
 /// A relation, or its left side alone.
+#[cycle(expressions)]
 fn relation(alloc: Global, tokens: &[Token]) -> Result<(Expr, &[Token]), Stop>
     requires { Ended tokens.now }
     ensures ok { IfOk result (λ x. Parsed Part.Relation (at_level 4 x.0) tokens.now x.1.now) }
@@ -145,6 +158,7 @@ fn relation(alloc: Global, tokens: &[Token]) -> Result<(Expr, &[Token]), Stop>
 }
 
 /// An operand with a minus before it, or without.
+#[cycle(expressions)]
 fn minus(alloc: Global, tokens: &[Token]) -> Result<(Expr, &[Token]), Stop>
     requires { Ended tokens.now }
     ensures ok { IfOk result (λ x. Parsed Part.Minus (at_level 7 x.0) tokens.now x.1.now) }
@@ -161,6 +175,7 @@ fn minus(alloc: Global, tokens: &[Token]) -> Result<(Expr, &[Token]), Stop>
 }
 
 /// An operand with its suffixes.
+#[cycle(expressions)]
 fn postfix(alloc: Global, tokens: &[Token]) -> Result<(Expr, &[Token]), Stop>
     requires { Ended tokens.now }
     ensures ok { IfOk result (λ x. Parsed Part.Postfix (at_level 8 x.0) tokens.now x.1.now) }
@@ -178,6 +193,7 @@ fn postfix(alloc: Global, tokens: &[Token]) -> Result<(Expr, &[Token]), Stop>
 }
 
 /// The suffixes that the tokens begin with.
+#[cycle(expressions)]
 pub fn suffixes(alloc: Global, tokens: &[Token]) -> Result<(Row<Suffix>, &[Token]), Stop>
     requires { Ended tokens.now }
     ensures ok { IfOk result (λ x. Parsed Part.SuffixesTail (suffixes_of x.0) tokens.now x.1.now) }
@@ -202,6 +218,7 @@ fn starts_suffix(tokens: &[Token]) -> bool
 }
 
 /// A suffix, if the tokens begin with one.
+#[cycle(expressions)]
 fn suffix(alloc: Global, tokens: &[Token]) -> Result<Option<(Suffix, &[Token])>, Stop>
     requires { Ended tokens.now }
     ensures some { IfOk result (λ o. IfSome o (λ x. Parsed Part.Suffix (suffix_of x.0) tokens.now x.1.now)) }
@@ -224,6 +241,7 @@ fn suffix(alloc: Global, tokens: &[Token]) -> Result<Option<(Suffix, &[Token])>,
 }
 
 /// An operand.
+#[cycle(expressions)]
 fn primary(alloc: Global, tokens: &[Token]) -> Result<(Expr, &[Token]), Stop>
     requires { Ended tokens.now }
     ensures ok { IfOk result (λ x. Parsed Part.Primary (at_level 9 x.0) tokens.now x.1.now) }
@@ -247,6 +265,7 @@ fn primary(alloc: Global, tokens: &[Token]) -> Result<(Expr, &[Token]), Stop>
 }
 
 /// An expression in round brackets, if the tokens begin with one.
+#[cycle(expressions)]
 fn group(alloc: Global, tokens: &[Token]) -> Result<Option<(Expr, &[Token])>, Stop>
     requires { Ended tokens.now }
     ensures some { IfOk result (λ o. IfSome o (λ x. Parsed Part.Primary (at_level 9 x.0) tokens.now x.1.now)) }
@@ -265,6 +284,7 @@ fn group(alloc: Global, tokens: &[Token]) -> Result<Option<(Expr, &[Token])>, St
 }
 
 /// `range(LOW, HIGH)`, if the tokens begin with it.
+#[cycle(expressions)]
 fn range_call(alloc: Global, tokens: &[Token]) -> Result<Option<(Expr, &[Token])>, Stop>
     requires { Ended tokens.now }
     ensures some { IfOk result (λ o. IfSome o (λ x. Parsed Part.Primary (at_level 9 x.0) tokens.now x.1.now)) }
@@ -287,6 +307,7 @@ fn range_call(alloc: Global, tokens: &[Token]) -> Result<Option<(Expr, &[Token])
 }
 
 /// A range or list in square brackets, if the tokens begin with one.
+#[cycle(expressions)]
 fn bracket(alloc: Global, tokens: &[Token]) -> Result<Option<(Expr, &[Token])>, Stop>
     requires { Ended tokens.now }
     ensures some { IfOk result (λ o. IfSome o (λ x. Parsed Part.Primary (at_level 9 x.0) tokens.now x.1.now)) }
@@ -304,6 +325,7 @@ fn bracket(alloc: Global, tokens: &[Token]) -> Result<Option<(Expr, &[Token])>, 
 }
 
 /// A range or list, of which the opening bracket and the first expression were read.
+#[cycle(expressions)]
 fn bracket_rest(
     alloc: Global,
     place: Place,
@@ -329,6 +351,7 @@ fn bracket_rest(
 }
 
 /// The items of a list, of which the first was read.
+#[cycle(expressions)]
 fn listed(alloc: Global, first: Expr, tokens: &[Token]) -> Result<(Row<Expr>, &[Token]), Stop>
     requires { Ended tokens.now }
     ensures ok { IfOk result (λ x. IsListing first x.0 tokens.now x.1.now) }
