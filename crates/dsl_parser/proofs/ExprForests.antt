@@ -35,7 +35,7 @@ pub level_own : (n : ℕ) (e : Expr) (t : ExprTree) → expr_tree e ≡ t → le
 unfolding at_level
 level_own n e t is own = ap (λ (x : ExprTree). at n x (written x)) is ∙ at_own n t (written t) own
 
-no_wrong : (rs : List (List Symbol)) (z : List Token) → AnyRule rs (λ r. Whole wrong r z) → ⊥
+pub no_wrong : (rs : List (List Symbol)) (z : List Token) → AnyRule rs (λ r. Whole wrong r z) → ⊥
 no_wrong [] z any = absurd any
 no_wrong ([] ∷ rs) z (inl does) = absurd does
 no_wrong ((s ∷ r) ∷ rs) z (inl does) = absurd does

@@ -10,3 +10,5 @@ pub mod ExprReaders
 pub mod OperandReaders
 pub mod BracketReaders
 pub mod Ranks
+pub mod PathReaders
+pub mod ArgumentReaders
