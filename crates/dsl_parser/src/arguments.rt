@@ -11,7 +11,7 @@ ghost use Rattle.dsl_tree.specs.Views.{argument_tree};
 ghost use Rattle.dsl_tree.specs.WrittenPhases as written;
 ghost use Rattle.dsl_parser.specs.declared.stop.Stop.{Stop};
 ghost use Rattle.dsl_parser.specs.Readers.{OnStop};
-ghost use Rattle.dsl_parser.specs.Arguments.{named_of, named_rest, IsLabel, NoLabel, IsNext, IsNamedTail, IsNamedRest};
+ghost use Rattle.dsl_parser.specs.Arguments.{arguments_of, named_of, named_rest, IsLabel, NoLabel, IsNext, IsNamedTail, IsNamedRest};
 
 use crate::expressions::whole;
 use crate::names::expect_name;
@@ -111,6 +111,7 @@ fn named(
 }
 
 /// Arguments, one or more, and the closing bracket behind them.
+#[tactic(auto, unfolding(crate::specs::Arguments::arguments_of))]
 pub fn arguments(alloc: Global, tokens: &[Token]) -> Result<(Row<Argument>, &[Token]), Stop>
     requires { Ended tokens.now }
     ensures ok { IfOk result (λ x. Parsed Part.Arguments (written.arguments (map argument_tree x.0)) tokens.now x.1.now) }
@@ -118,5 +119,28 @@ pub fn arguments(alloc: Global, tokens: &[Token]) -> Result<(Row<Argument>, &[To
     ensures shorter { IfOk result (λ x. length x.1.now < length tokens.now) }
     ensures fault { IfErr result (λ e. OnStop e (PartFault Part.Arguments tokens.now)) }
 {
-    Err(Stop::Memory)
+    all(alloc, tokens)
+}
+
+fn all(alloc: Global, tokens: &[Token]) -> Result<(Row<Argument>, &[Token]), Stop>
+    requires { Ended tokens.now }
+    ensures ok { IfOk result (λ x. Parsed Part.Arguments (arguments_of x.0) tokens.now x.1.now) }
+    ensures ended { IfOk result (λ x. Ended x.1.now) }
+    ensures shorter { IfOk result (λ x. length x.1.now < length tokens.now) }
+    ensures fault { IfErr result (λ e. OnStop e (PartFault Part.Arguments tokens.now)) }
+{
+    let mut items = Row::new(alloc);
+    let mut rest = tokens;
+    'plain: loop {
+        if let Some((name, start)) = take_label(alloc, rest)? {
+            return named(alloc, items, name, start);
+        }
+        let (value, behind) = whole(alloc, rest)?;
+        items.push(Argument { name: None, value })?;
+        let Some((_, more)) = take_mark(behind, MarkKind::Comma) else {
+            let (_, end) = expect_mark(behind, MarkKind::CloseRound)?;
+            return Ok((items, end));
+        };
+        rest = more;
+    }
 }
