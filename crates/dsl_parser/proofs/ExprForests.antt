@@ -1,7 +1,7 @@
 -- What expressions are written as, by what their parts are.
 use Rattle.std.proofs.Common.{◌≡◌, ℕ, zero, suc, ◌+◌, ◌-◌, ◌≤◌, List, [], ◌∷◌, length, map, Bool, true, false, cond, Some, refl, sym, ◌∙◌, ap, subst, inl, inr, arith}
-use Rattle.std.specs.Prelude.{nat_lt, ◌==◌, slice_get}
-use Rattle.std.proofs.lemmas.Bool.{ltb-false, eqb-true, false≢true}
+use Rattle.std.specs.Prelude.{nat_lt, slice_get}
+use Rattle.std.proofs.lemmas.Bool.{ltb-false, false≢true}
 use Rattle.std.proofs.lemmas.Option.{none-some, same_Some}
 use Rattle.osc_base.specs.declared.fault.Place.{Place}
 use Rattle.dsl_tree.specs.declared.expr.Expr.{Expr}

@@ -1,13 +1,8 @@
-use Rattle.std.proofs.Common.{◌≡◌, List, [], ◌∷◌, refl, sym, ◌∙◌, subst, arith}
-use Rattle.dsl_tree.specs.declared.phases.Argument.{Argument}
-use Rattle.dsl_tree.specs.declared.token.MarkKind.{MarkKind}
-use Rattle.dsl_tree.specs.Codes.{mark_code}
 use Rattle.dsl_tree.specs.Grammar.{Part}
-use Rattle.dsl_tree.specs.Reading.{NotTaken, Parsed, PartFault, RowFault}
-use Rattle.dsl_tree.proofs.Build.{along_start}
+use Rattle.dsl_tree.specs.Reading.{NotTaken, PartFault}
 use Rattle.dsl_parser.specs.Readers.{names}
-use Rattle.dsl_parser.specs.Arguments.{colon, arguments_of, named_rest, IsNamedTail, IsNamedRest}
-use Rattle.dsl_parser.proofs.Exits.{exits, ok_as, stop_as}
+use Rattle.dsl_parser.specs.Arguments.{colon}
+use Rattle.dsl_parser.proofs.Exits.{exits}
 use Rattle.dsl_parser.proofs.ArgumentReaders.{name_fault, colon_fault, value_fault, next_read}
 use Rattle.dsl_parser.proofs.arguments.next_named.Goals as goal
 
