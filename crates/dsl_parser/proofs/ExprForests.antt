@@ -73,7 +73,7 @@ row_alone RowLevel.ProductRow first h = level_lower 6 first h
 from_tree : (n m : ℕ) (e first : Expr) (next : Further) (rest : List Further) (join : Place → Rattle.dsl_tree.specs.declared.expr.Operator.Operator → ExprTree → ExprTree → ExprTree)
     → expr_tree e ≡ grouped join (ExprTree.Start (expr_tree first)) (map further_tree (next ∷ rest))
     → ((f : ExprTree) (x : FurtherTree) (xs : List FurtherTree)
-      → at n (grouped join (ExprTree.Start f) (x ∷ xs)) (written (grouped join (ExprTree.Start f) (x ∷ xs))) ≡ sub (at m f (written f)) (sub (further_tail m (x ∷ xs)) nil))
+    → at n (grouped join (ExprTree.Start f) (x ∷ xs)) (written (grouped join (ExprTree.Start f) (x ∷ xs))) ≡ sub (at m f (written f)) (sub (further_tail m (x ∷ xs)) nil))
     → at_level n e ≡ sub (at_level m first) (sub (tail_of m (next ∷ rest)) nil)
 unfolding at_level
 from_tree n m e first next rest join is written_so =

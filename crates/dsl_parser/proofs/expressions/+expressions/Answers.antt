@@ -32,7 +32,7 @@ whole-returns-in_default-clause-ok t c = read_left c.in_ok-left.left c.args.toke
 pub whole-returns-in_err-right-clause-fault : goal.whole-returns-in_err-right-clause-fault
 whole-returns-in_err-right-clause-fault t c =
     exits c.from_residual-in_err-right.result c.in_err-right.field-0.0 (PartFault Part.Or c.in-Some.behind.now) (PartFault Part.Expr c.args.tokens.now)
-    c.in_err-right.ensures.fault c.from_residual-in_err-right.ensures.1 
+    c.in_err-right.ensures.fault c.from_residual-in_err-right.ensures.1
     (λ left fault. right_fault Part.Expr Part.Or Part.ImpliesTail Part.Or (first Part.ImpliesTail) (at_level 1 c.in_ok-left.left) c.in-Some.place (TokenKind.Mark MarkKind.Arrow) c.args.tokens.now c.in_ok-left.rest.now c.in-Some.behind.now left signed_expr
     c.in_ok-left.ensures.ok c.in-Some.ensures.some refl fault)
 
@@ -123,7 +123,7 @@ relation-returns-in_default-clause-ok t c = read_relation_left c.in_ok-left.left
 pub relation-returns-in_err-right-clause-fault : goal.relation-returns-in_err-right-clause-fault
 relation-returns-in_err-right-clause-fault t c =
     exits c.from_residual-in_err-right.result c.in_err-right.field-0.0 (PartFault Part.Sum c.in-Some.behind.now) (PartFault Part.Relation c.args.tokens.now)
-    c.in_err-right.ensures.fault c.from_residual-in_err-right.ensures.1 
+    c.in_err-right.ensures.fault c.from_residual-in_err-right.ensures.1
     (λ left fault. read_right_fault c.in-Some.place c.in-Some.sign c.in_ok-left.left c.args.tokens.now c.in_ok-left.rest.now c.in-Some.behind.now left c.in_ok-left.ensures.ok c.in-Some.ensures.some fault)
 
 pub relation-returns-clause-ok : goal.relation-returns-clause-ok
