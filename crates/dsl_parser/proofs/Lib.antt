@@ -1,0 +1,14 @@
+pub mod OtherKinds
+pub mod Taking
+pub mod ExprForests
+pub mod Exits
+pub mod LeafForests
+pub mod Productions
+pub mod Listings
+pub mod RowReaders
+pub mod ExprReaders
+pub mod OperandReaders
+pub mod BracketReaders
+pub mod Ranks
+pub mod PathReaders
+pub mod ArgumentReaders
