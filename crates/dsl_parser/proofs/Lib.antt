@@ -1,0 +1,5 @@
+pub mod OtherKinds
+pub mod Taking
+pub mod ExprForests
+pub mod Exits
+pub mod LeafForests
