@@ -1,0 +1,9 @@
+pub mod Loading
+pub mod Wanted
+pub mod Declaring
+pub mod FaultRows
+pub mod Headings
+pub mod Library
+pub mod Tables
+pub mod Sources
+pub mod Seen

@@ -1,0 +1,16 @@
+//! The files of a program and the names that they declare.
+#![tactic(auto)]
+
+mod find;
+mod headings;
+mod ids;
+mod library;
+mod names;
+mod program;
+mod source;
+mod table;
+
+pub use ids::{DeclId, NameKind};
+pub use library::library_text;
+pub use names::Wanted;
+pub use program::{AddStop, Program};
