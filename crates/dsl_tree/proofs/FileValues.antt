@@ -299,9 +299,9 @@ plain_whole : (second : Option Ident) (first : Ident) (f : Forest) → is_whole 
 plain_whole None first f h = h
 plain_whole (Some s) first f h = absurd (false≢true h)
 
-heading_whole : (kind : CompoundKind) (c : CompoundDecl) → is_whole (compound_heading kind (compound_tree c)) ≡ true → is_whole (heading_rest (compound_tree c)) ≡ true
-heading_whole CompoundKind.Struct c h = plain_whole c.name.second c.name.first (heading_rest (compound_tree c)) h
-heading_whole CompoundKind.Actor c h = plain_whole c.name.second c.name.first (heading_rest (compound_tree c)) h
+pub heading_whole : (kind : CompoundKind) (c : CompoundTree) → is_whole (compound_heading kind c) ≡ true → is_whole (heading_rest c) ≡ true
+heading_whole CompoundKind.Struct c h = plain_whole c.name.second c.name.first (heading_rest c) h
+heading_whole CompoundKind.Actor c h = plain_whole c.name.second c.name.first (heading_rest c) h
 heading_whole CompoundKind.Action c h = right_of (is_whole (qualified_name c.name)) _ h
 heading_whole CompoundKind.Scenario c h = right_of (is_whole (qualified_name c.name)) _ h
 
@@ -319,7 +319,7 @@ declaration_back (Declaration.Unit d) h = refl
 declaration_back (Declaration.Enum d) h = refl
 declaration_back (Declaration.Compound c) h =
     ap (λ (ms : List Member). Declaration.Compound (record { place = c.place; kind = c.kind; name = c.name; heir = c.heir; members = ms }))
-    (body_members c.members (left_of _ _ (right_of (is_whole (optional_heir c.heir)) _ (heading_whole c.kind c h))))
+    (body_members c.members (left_of _ _ (right_of (is_whole (optional_heir c.heir)) _ (heading_whole c.kind (compound_tree c) h))))
 declaration_back (Declaration.MoreMembers e) h =
     ap (λ (ms : List Member). Declaration.MoreMembers (record { place = e.place; name = e.name; members = ms }))
     (block_members e.members (left_of _ _ (left_of _ _ (right_of (is_whole (qualified_name e.name)) _ h))))

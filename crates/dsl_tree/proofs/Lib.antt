@@ -2,6 +2,7 @@ pub mod Seen
 pub mod SeenPhases
 pub mod Tests
 mod Worked
+mod WorkedFaults
 pub mod Checked
 pub mod Sets
 pub mod Fits

@@ -6,14 +6,13 @@ use Rattle.dsl_tree.specs.declared.parts.Ident.{Ident}
 use Rattle.dsl_tree.specs.declared.expr.Suffix.{Suffix}
 use Rattle.dsl_tree.specs.declared.phases.InvokeHead.{InvokeHead}
 use Rattle.dsl_tree.specs.declared.phases.CompKind.{CompKind}
-use Rattle.dsl_tree.specs.declared.compounds.CompoundKind.{CompoundKind}
 use Rattle.dsl_tree.specs.ExprTree.{ExprTree}
 use Rattle.dsl_tree.specs.PhaseTree.{RuleTree, ArgumentTree, PartTree, PhaseTree, PhaseRow, row_of}
-use Rattle.dsl_tree.specs.FileTree.{FieldTree, MemberTree, CompoundTree, DeclarationTree, FileTree}
-use Rattle.dsl_tree.specs.Forest.{Forest, nil, sub, wrong}
-use Rattle.dsl_tree.specs.Written.{expr, path, path_row, path_front, next_name, next_index, ident}
+use Rattle.dsl_tree.specs.FileTree.{FieldTree, MemberTree, DeclarationTree, FileTree}
+use Rattle.dsl_tree.specs.Forest.{Forest, nil, sub}
+use Rattle.dsl_tree.specs.Written.{expr, path, path_row, path_front, next_name, next_index}
 use Rattle.dsl_tree.specs.WrittenPhases.{by_option, keep_kind, rule, rules_tail, named_argument, named_tail, arguments_tail, arguments, dotted_names, invocation_arguments, invocation_part, parts_tail, invocation_end, invocation_rest, composition_arguments, composition, wait, phase, block_phases, phases_tail}
-use Rattle.dsl_tree.specs.WrittenFile.{imports, initial, field_end, field_type, names_tail, field, member, members_tail, block, body, heading_rest, optional_heir, qualified_name, compound_heading, declaration, declarations, file}
+use Rattle.dsl_tree.specs.WrittenFile.{imports, initial, field_end, field_type, names_tail, field, member, members_tail, block, body, optional_heir, qualified_name, declaration, declarations, file}
 use Rattle.dsl_tree.specs.Grammar.{Part}
 use Rattle.dsl_tree.specs.Language.{TreesAreFiles}
 use Rattle.dsl_tree.specs.Views as Views
@@ -24,7 +23,7 @@ use Rattle.dsl_tree.proofs.OneTrees.{is_is_whole}
 use Rattle.dsl_tree.proofs.PhaseWords.{head_whole, label_whole}
 use Rattle.dsl_tree.proofs.SeenPhases.{seen_comp, seen_invoke, seen_wait}
 use Rattle.dsl_tree.proofs.Values.{value_of, suffix_rest}
-use Rattle.dsl_tree.proofs.FileValues.{head_of, path_value, rule_value, argument_value, named_parts, part_value, comp_of, phase_value, phases_value, field_value, member_value, declaration_value, file_value}
+use Rattle.dsl_tree.proofs.FileValues.{heading_whole, head_of, path_value, rule_value, argument_value, named_parts, part_value, comp_of, phase_value, phases_value, field_value, member_value, declaration_value, file_value}
 use Rattle.dsl_tree.proofs.TreeValues.{name_more, index_more, expr_tree_back}
 
 -- Paths
@@ -190,16 +189,6 @@ body_tree_back [] h = refl
 body_tree_back (m ∷ ms) h = members_tree_back (m ∷ ms) (left_of _ _ h)
 
 -- Declarations and files
-
-plain_whole : (second : Option Ident) (first : Ident) (f : Forest) → is_whole (by_option second (ident first f) (λ s. wrong)) ≡ true → is_whole f ≡ true
-plain_whole None first f h = h
-plain_whole (Some s) first f h = absurd (false≢true h)
-
-heading_whole : (kind : CompoundKind) (c : CompoundTree) → is_whole (compound_heading kind c) ≡ true → is_whole (heading_rest c) ≡ true
-heading_whole CompoundKind.Struct c h = plain_whole c.name.second c.name.first (heading_rest c) h
-heading_whole CompoundKind.Actor c h = plain_whole c.name.second c.name.first (heading_rest c) h
-heading_whole CompoundKind.Action c h = right_of (is_whole (qualified_name c.name)) _ h
-heading_whole CompoundKind.Scenario c h = right_of (is_whole (qualified_name c.name)) _ h
 
 declaration_tree_back : (d : DeclarationTree) → is_whole (declaration d) ≡ true → declaration_tree (declaration_value d) ≡ d
 declaration_tree_back (DeclarationTree.TypeDeclaration d) h = refl

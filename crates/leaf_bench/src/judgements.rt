@@ -1,0 +1,101 @@
+//! `judge` on a rule of fifty nodes and two boxes in turn, at which each node is looked at.
+ghost use Rattle.std.specs.Prelude.{◌≡◌, ◌+◌, ◌*◌, ◌<◌, ◌≤◌, ◌≤ℤ◌, pos, replicate, IfOk};
+ghost use Rattle.box_eval.specs.Box.{pair};
+ghost use Rattle.box_eval.specs.Rules.{CanJudge};
+ghost use Rattle.box_eval.specs.Verdict.{verdict_of};
+ghost use Rattle.leaf_bench.specs.Small.{IsSmall, IsModest, number_open};
+
+use box_eval::{Bounds, Pair, Rule, Term, Verdict, judge};
+use osc_base::{Boxed, Row};
+use std::alloc::{AllocError, Global};
+
+/// The number of slots of a box.
+const SLOTS: u32 = 9;
+
+/// How many of the verdicts of `rounds` rounds are open, of which each round has two.
+pub(crate) fn open_verdicts(alloc: Global, rounds: u32) -> Result<u64, AllocError>
+    ensures { IfOk result (λ n. n ≤ rounds * 2) }
+{
+    let rule = make_rule(alloc)?;
+    judge_boxes(alloc, &rule, rounds)
+}
+
+/// Makes a narrow and a wide box, and judges a rule on both in each round.
+fn judge_boxes(alloc: Global, rule: &Rule, rounds: u32) -> Result<u64, AllocError>
+    requires { IsModest rule.now }
+    ensures { IfOk result (λ n. n ≤ rounds * 2) }
+{
+    let narrow = make_box(alloc, 3)?;
+    let wide = make_box(alloc, 20)?;
+    Ok(judge_all(rule, &narrow, &wide, rounds))
+}
+
+/// Judges a rule on two boxes in each round, and counts the open verdicts.
+fn judge_all(rule: &Rule, narrow: &Bounds, wide: &Bounds, rounds: u32) -> u64
+    requires narrow { CanJudge narrow.now.pairs rule.now }
+    requires wide { CanJudge wide.now.pairs rule.now }
+    ensures { result ≡ rounds * (number_open (verdict_of narrow.now.pairs rule.now) + number_open (verdict_of wide.now.pairs rule.now)) }
+{
+    let mut count = 0;
+    for _ in 0..rounds {
+        count += judge_once(rule, narrow);
+        count += judge_once(rule, wide);
+    }
+    count
+}
+
+/// 1 where the verdict is open, and else 0.
+fn judge_once(rule: &Rule, bounds: &Bounds) -> u64
+    requires { CanJudge bounds.now.pairs rule.now }
+    ensures { result ≡ number_open (verdict_of bounds.now.pairs rule.now) }
+{
+    match judge(rule, bounds) {
+        Verdict::Open => 1,
+        Verdict::True | Verdict::False => 0,
+    }
+}
+
+/// A box whose slots are each from 0 to `high`.
+fn make_box(alloc: Global, high: i64) -> Result<Bounds, AllocError>
+    requires least { pos 0 ≤ℤ high }
+    requires most { high ≤ℤ pos 100 }
+    ensures { IfOk result (λ b. IsSmall b.pairs) }
+{
+    let pairs = vec![in alloc; Pair { low: 0, high }; SLOTS as usize]?;
+    Ok(Bounds {
+        pairs: Row::of(pairs),
+    })
+}
+
+/// Not all of: each of the first eight slots is at most nine more than the next. It has fifty nodes.
+fn make_rule(alloc: Global) -> Result<Rule, AllocError>
+    ensures { IfOk result (λ rule. IsModest rule) }
+{
+    let mut rule = Rule::Always;
+    for slot in 0..SLOTS - 1 {
+        let near = make_near(alloc, slot)?;
+        rule = both(alloc, near, rule)?;
+    }
+    Ok(Rule::Not(Boxed::new(alloc, rule)?))
+}
+
+/// Both are true.
+fn both(alloc: Global, first: Rule, second: Rule) -> Result<Rule, AllocError>
+    requires first { IsModest first }
+    requires second { IsModest second }
+    ensures { IfOk result (λ r. IsModest r) }
+{
+    let first = Boxed::new(alloc, first)?;
+    let second = Boxed::new(alloc, second)?;
+    Ok(Rule::Both(first, second))
+}
+
+/// The slot is at most nine more than the next.
+fn make_near(alloc: Global, slot: u32) -> Result<Rule, AllocError>
+    requires { slot < 8 }
+    ensures { IfOk result (λ r. IsModest r) }
+{
+    let next = Boxed::new(alloc, Term::Slot(slot + 1))?;
+    let nine = Boxed::new(alloc, Term::Whole(9))?;
+    Ok(Rule::AtMost(Term::Slot(slot), Term::Sum(next, nine)))
+}

@@ -1,0 +1,42 @@
+//! A `WakeRing` of 64 numbers: in each round two pushes, one removal and one number taken.
+ghost use Rattle.std.specs.Prelude.{◌≡◌, ◌*◌, ◌<◌, ◌≤◌, IfOk};
+ghost use Rattle.wake_ring.specs.Queue.{queue};
+ghost use Rattle.leaf_bench.specs.Turns.{turned};
+
+use std::alloc::{AllocError, Global};
+use wake_ring::WakeRing;
+
+/// What the answers of `rounds` rounds add up to.
+pub(crate) fn answers(alloc: Global, rounds: u32) -> Result<u64, AllocError>
+    ensures { IfOk result (λ n. n ≤ rounds * 66) }
+{
+    let mut ring = WakeRing::new(alloc, 64)?;
+    Ok(turn_all(&mut ring, rounds))
+}
+
+/// Makes so many rounds, and adds up their answers.
+fn turn_all(ring: &mut WakeRing, rounds: u32) -> u64
+    requires { ring.old.bound ≡ 64 }
+    ensures { result ≤ rounds * 66 }
+{
+    let mut sum = 0;
+    for round in 0..rounds {
+        sum += u64::from(turn(ring, round % 64));
+    }
+    sum
+}
+
+/// Pushes two numbers, removes one, takes one, and adds up 1 for each of the first three calls that answers true and the
+/// number that is taken.
+fn turn(ring: &mut WakeRing, number: u32) -> u32
+    requires bound { ring.old.bound ≡ 64 }
+    requires number { number < 64 }
+    ensures few { result ≤ 66 }
+    ensures queue { ring.new ≡ queue 64 (turned number ring.old.items) }
+{
+    let first = ring.push_back(number);
+    let second = ring.push_back((number * 5 + 17) % 64);
+    let removed = ring.remove((number * 3) % 64);
+    let taken = ring.pop_front().unwrap_or(0);
+    u32::from(first) + u32::from(second) + u32::from(removed) + taken
+}
