@@ -7,3 +7,4 @@ pub mod Library
 pub mod Tables
 pub mod Sources
 pub mod Seen
+pub mod Earlier

@@ -3,6 +3,8 @@
 
 mod find;
 mod headings;
+mod known;
+mod least;
 mod ids;
 mod library;
 mod names;
@@ -14,3 +16,6 @@ pub use ids::{DeclId, NameKind};
 pub use library::library_text;
 pub use names::Wanted;
 pub use program::{AddStop, Program};
+
+#[cfg(test)]
+mod tests;

@@ -2,7 +2,7 @@ ghost use Rattle.std.specs.Prelude.{◌≡◌, [], ◌∷◌, ◌++◌, ◌⊎�
 ghost use Rattle.osc_base.specs.declared.fault.Fault.{Fault};
 ghost use Rattle.dsl_tree.specs.Language.{FollowsGrammar};
 ghost use Rattle.dsl_tree.specs.Views.{file_tree};
-ghost use Rattle.name_scope.specs.Loading.{name_text, numbered_names, adding_fault, wanted_name, wanted_mention};
+ghost use Rattle.name_scope.specs.Loading.{name_text, numbered_names, names_before, adding_fault, wanted_name, wanted_mention};
 ghost use Rattle.name_scope.specs.Wanted.{file_name};
 ghost use Rattle.name_scope.specs.Declaring.{found};
 ghost use Rattle.name_scope.specs.FaultRows.{IsFault, IsFirst, first_fault};
@@ -187,12 +187,29 @@ fn take(
     ensures kept { OnErr result (sources.new.items ≡ sources.old.items) }
     ensures front { take_front (length names.old.items) names.new.items ≡ names.old.items }
 {
-    if sources.is_empty() {
-        push_name(alloc, names, Wanted::Named(name.as_str()))?;
-    }
+    number_main(alloc, names, sources.as_slice(), name.as_str())?;
     number_imports(alloc, names, file.imports.as_slice())?;
     push_source(alloc, sources, name, file)?;
     Ok(())
+}
+
+/// Gives the main file its number.
+fn number_main(
+    alloc: Global,
+    names: &mut Vec<FileName>,
+    sources: &[Source],
+    name: &str,
+) -> Result<(), AllocError>
+    requires { IsProgram sources.now names.old.items }
+    ensures ok { OnOk result (names.new.items ≡ names_before sources.now name.now) }
+    ensures few { length names.new.items ≤ 64 }
+    ensures front { take_front (length names.old.items) names.new.items ≡ names.old.items }
+{
+    if sources.is_empty() {
+        push_name(alloc, names, Wanted::Named(name))
+    } else {
+        Ok(())
+    }
 }
 
 fn push_source(
