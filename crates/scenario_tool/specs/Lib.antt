@@ -1,6 +1,5 @@
 pub mod Answers
-pub mod Entries
-pub mod Fields
 pub mod PairForm
+pub mod Ranges
 pub mod Sources
 pub mod Words

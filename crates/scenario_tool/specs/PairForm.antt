@@ -1,8 +1,8 @@
 -- What is built today of the language: scenarios without an owner and without an heir, whose members go in pairs: a field
 -- of whole numbers, and the constraint that holds it in a range.
-use Rattle.std.specs.Prelude.{ℕ, ◌==◌, nat_le, ◌&&◌, not, cond, Bool, true, false, List, [], ◌∷◌, Option, Some, None, codes}
-use Rattle.std.specs.List.{list_any}
-use Rattle.std.specs.Option.{option_map_or}
+use Rattle.std.specs.Prelude.{ℕ, ◌==◌, nat_le, ◌&&◌, not, cond, Bool, true, false, List, [], ◌∷◌, ◌++◌, Option, Some, None, codes}
+use Rattle.std.specs.List.{list_any, find}
+use Rattle.std.specs.Option.{option_map, option_map_or}
 use Rattle.std.specs.Str.{bytes_eq}
 use Rattle.osc_base.specs.declared.fault.Place.{Place}
 use Rattle.composition.specs.Instance.{RangedField}
@@ -33,10 +33,13 @@ only_name [] = None
 only_name (name ∷ []) = Some name
 only_name (name ∷ other ∷ others) = None
 
+-- a field of type `int` with nothing else
+abbrev pub is_bare_whole_number : FieldTree → Bool
+is_bare_whole_number f = bytes_eq f.of.text (codes "int") && (is_absent f.list && (is_absent f.initial && is_empty f.rules))
+
 -- the name that `NAME: int` declares, with nothing else
 abbrev pub whole_number_field : MemberTree → Option Ident
-whole_number_field (MemberTree.Field f) =
-    cond (bytes_eq f.of.text (codes "int") && (is_absent f.list && (is_absent f.initial && is_empty f.rules))) (only_name f.names) None
+whole_number_field (MemberTree.Field f) = cond (is_bare_whole_number f) (only_name f.names) None
 whole_number_field _ = None
 
 -- a whole number that is written out, at most 1000000000
@@ -49,8 +52,13 @@ abbrev pub range_of : List ℕ → Option ℕ → Option ℕ → Option RangedFi
 range_of name (Some least) (Some greatest) = cond (nat_le least greatest) (Some (record { name = name; least = least; greatest = greatest })) None
 range_of name _ _ = None
 
+abbrev pub range_between : ExprTree → ExprTree → Option RangedField
+range_between (ExprTree.Name name) (ExprTree.Span from low high) = range_of name.text (whole_number low) (whole_number high)
+range_between _ _ = None
+
+-- the range of `NAME in [LOW..HIGH]`
 abbrev pub range_in : ExprTree → Option RangedField
-range_in (ExprTree.Relation place RelationSign.Within (ExprTree.Name name) (ExprTree.Span from low high)) = range_of name.text (whole_number low) (whole_number high)
+range_in (ExprTree.Relation place RelationSign.Within left right) = range_between left right
 range_in _ = None
 
 -- the field and the range of `keep(NAME in [LOW..HIGH])`
@@ -73,11 +81,14 @@ abbrev pub first_place : Ident → List Ident → Place
 first_place of [] = of.place
 first_place of (name ∷ names) = name.place
 
+abbrev pub rule_place : RuleTree → Place
+rule_place (RuleTree.Keep place kind tree) = place
+rule_place (RuleTree.Remove place path) = place
+
 -- the place of a member's first token
 abbrev pub member_place : MemberTree → Place
 member_place (MemberTree.Field f) = first_place f.of f.names
-member_place (MemberTree.Rule (RuleTree.Keep place kind tree)) = place
-member_place (MemberTree.Rule (RuleTree.Remove place path)) = place
+member_place (MemberTree.Rule rule) = rule_place rule
 member_place (MemberTree.Do place phase) = place
 
 -- whether fields of these names leave the name free, which may not be `duration`
@@ -91,7 +102,7 @@ unpaired names (field ∷ []) = Some (member_place field)
 unpaired names (field ∷ keep ∷ members) =
     option_map_or
     (λ (name : Ident). cond (is_free names name.text)
-    (cond (holds name.text keep) (unpaired (name.text ∷ names) members) (Some (member_place keep)))
+    (cond (holds name.text keep) (unpaired (names ++ name.text ∷ []) members) (Some (member_place keep)))
     (Some (member_place field)))
     (whole_number_field field) (Some (member_place field))
 
@@ -127,16 +138,22 @@ first_of (Some place) other = Some place
 abbrev pub basic_types : List (List ℕ)
 basic_types = codes "int" ∷ codes "uint" ∷ codes "float" ∷ codes "bool" ∷ codes "string" ∷ []
 
--- a scenario that is named as a basic type
+abbrev pub is_basic_type : List ℕ → Bool
+is_basic_type name = list_any (bytes_eq name) basic_types
+
+-- a declaration with members that is named as a basic type
 abbrev pub is_named_as_type : DeclarationTree → Bool
-is_named_as_type (DeclarationTree.CompoundDeclaration c) = list_any (bytes_eq c.name.first.text) basic_types
+is_named_as_type (DeclarationTree.CompoundDeclaration c) = is_basic_type c.name.first.text
 is_named_as_type _ = false
+
+abbrev pub unbuilt_first : DeclarationTree → Option Place
+unbuilt_first d = cond (is_named_as_type d) (Some (declaration_place d)) (unbuilt d)
 
 -- the first place at which declarations aren't one plain scenario whose name is free
 abbrev pub unbuilt_declarations : List DeclarationTree → Option Place
 unbuilt_declarations [] = None
-unbuilt_declarations (d ∷ []) = cond (is_named_as_type d) (Some (declaration_place d)) (unbuilt d)
-unbuilt_declarations (d ∷ second ∷ ds) = first_of (cond (is_named_as_type d) (Some (declaration_place d)) (unbuilt d)) (Some (declaration_place second))
+unbuilt_declarations (d ∷ []) = unbuilt_first d
+unbuilt_declarations (d ∷ second ∷ ds) = first_of (unbuilt_first d) (Some (declaration_place second))
 
 abbrev pub is_import : TokenKind → Bool
 is_import (TokenKind.Word WordKind.ImportWord) = true
@@ -144,8 +161,7 @@ is_import _ = false
 
 -- the place of the first word `import`
 abbrev pub import_place : List Token → Option Place
-import_place [] = None
-import_place (token ∷ others) = cond (is_import token.kind) (Some token.place) (import_place others)
+import_place tokens = option_map (λ (token : Token). token.place) (find (λ (token : Token). is_import token.kind) tokens)
 
 -- the first place of a file at which what isn't built yet stands
 abbrev pub not_built_at : List Token → FileTree → Option Place

@@ -1,13 +1,7 @@
 //! The top call of `osc`.
 #![tactic(auto)]
 
-mod compile;
-mod laws;
-mod line_form;
 mod load;
+mod pair_form;
 mod replies;
-mod top;
 mod words;
-
-pub use laws::{one_answer, some_answer};
-pub use top::command;
