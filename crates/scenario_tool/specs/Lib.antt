@@ -2,4 +2,5 @@ pub mod Answers
 pub mod PairForm
 pub mod Ranges
 pub mod Sources
+pub mod Stops
 pub mod Words

@@ -135,7 +135,7 @@ first_of (Some place) other = Some place
 
 -- ---- A file
 
-abbrev pub basic_types : List (List ℕ)
+unfoldable pub basic_types : List (List ℕ)
 basic_types = codes "int" ∷ codes "uint" ∷ codes "float" ∷ codes "bool" ∷ codes "string" ∷ []
 
 abbrev pub is_basic_type : List ℕ → Bool

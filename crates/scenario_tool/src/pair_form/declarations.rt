@@ -3,7 +3,7 @@ ghost use Rattle.std.specs.List.{list_any};
 ghost use Rattle.std.specs.Str.{bytes_eq};
 ghost use Rattle.std.specs.Option.{option_map};
 ghost use Rattle.dsl_tree.specs.Views.{compound_tree, declaration_tree, file_tree};
-ghost use Rattle.scenario_tool.specs.PairForm.{is_plain, declaration_place, unbuilt, basic_types, is_basic_type, is_named_as_type, unbuilt_first, unbuilt_declarations, import_place, not_built_at, is_named, scenario_named};
+ghost use Rattle.scenario_tool.specs.PairForm.{is_import, is_plain, declaration_place, unbuilt, basic_types, is_basic_type, is_named_as_type, unbuilt_first, unbuilt_declarations, import_place, not_built_at, is_named, scenario_named};
 
 use super::members::unpaired;
 use dsl_tree::{CompoundDecl, CompoundKind, Declaration, File, Token, TokenKind, Tokens, WordKind};
@@ -119,7 +119,13 @@ fn is_named_as_type(declaration: &Declaration) -> bool
 fn is_basic_type(name: &str) -> bool
     ensures { result ≡ is_basic_type name.now }
 {
-    BASIC_TYPES.iter().any(|known| name == *known)
+    is_among(&BASIC_TYPES, name)
+}
+
+fn is_among(words: &[&str], name: &str) -> bool
+    ensures { result ≡ list_any (λ word. bytes_eq name.now word.now) words.now }
+{
+    words.iter().any(|word| name == *word)
 }
 
 /// The first plain scenario of a name.

@@ -1,8 +1,10 @@
-ghost use Rattle.std.specs.Prelude.{◌≡◌, [], ◌∷◌, ◌++◌, false, map, List, Some, IfOk, IfErr, IsTrue};
+ghost use Rattle.std.specs.Prelude.{◌≡◌, [], ◌∷◌, ◌++◌, ◌<◌, false, map, ℕ, List, Some, length, IfOk, IfErr, IsTrue};
+ghost use Rattle.std.specs.List.{list_any};
+ghost use Rattle.std.specs.Str.{bytes_eq};
 ghost use Rattle.std.specs.Option.{option_map};
 ghost use Rattle.dsl_tree.specs.FileTree.{MemberTree};
-ghost use Rattle.dsl_tree.specs.Views.{field_tree, member_tree};
-ghost use Rattle.scenario_tool.specs.PairForm.{is_bare_whole_number, only_name, whole_number_field, first_place, member_place, is_free, holds, unpaired};
+ghost use Rattle.dsl_tree.specs.Views.{field_tree, rule_tree, member_tree};
+ghost use Rattle.scenario_tool.specs.PairForm.{is_bare_whole_number, only_name, whole_number_field, first_place, rule_place, member_place, is_free, holds, unpaired};
 
 use super::names::Names;
 use super::ranges::held_range;
@@ -23,7 +25,18 @@ pub fn unpaired(alloc: Global, members: &[Member]) -> Result<Option<Place>, Allo
         }
         rest = later;
     }
-    Ok(rest.first().map(member_place))
+    Ok(leftover(rest))
+}
+
+/// The place of the field that is left behind the pairs.
+fn leftover(members: &[Member]) -> Option<Place>
+    requires { length members.now < 2 }
+    ensures { (names : List (List ℕ)) → result ≡ unpaired names (map member_tree members.now) }
+{
+    match members {
+        [] => None,
+        [field, ..] => Some(member_place(field)),
+    }
 }
 
 /// The name of a pair of members, or the place of the member that breaks the form.

@@ -1,4 +1,4 @@
-ghost use Rattle.std.specs.Prelude.{◌≡◌, ◌≤◌, IfSome};
+ghost use Rattle.std.specs.Prelude.{◌≡◌, ◌==◌, ◌≤◌, ◌&&◌, nat_le, cond, Some, None, IfSome};
 ghost use Rattle.std.specs.Option.{option_map};
 ghost use Rattle.dsl_tree.specs.Views.{expr_tree, member_tree};
 ghost use Rattle.scenario_tool.specs.PairForm.{whole_number, range_of, range_between, range_in, held_range};
@@ -36,13 +36,14 @@ fn range_in(expr: &Expr) -> Option<HeldRange<'_>>
     ensures range { option_map ranged result ≡ range_in (expr_tree expr.now) }
     ensures ordered { IfSome result (λ range. range.least ≤ range.greatest) }
 {
-    match expr {
-        Expr::Relation {
-            sign: RelationSign::Within,
-            left,
-            right,
-            ..
-        } => range_between(left.get(), right.get()),
+    let Expr::Relation {
+        sign, left, right, ..
+    } = expr
+    else {
+        return None;
+    };
+    match sign {
+        RelationSign::Within => range_between(left.get(), right.get()),
         _ => None,
     }
 }

@@ -25,7 +25,7 @@ pub fn least_values(alloc: Global, members: &[Member]) -> Result<Row<Value>, All
 
 fn least_value(alloc: Global, range: HeldRange<'_>) -> Result<Value, AllocError>
     requires { range.least ≤ range.greatest }
-    ensures { IfOk result (HoldsField (ranged range)) }
+    ensures { IfOk result (HoldsField (ranged range.entry)) }
 {
     let mut steps = Row::new(alloc);
     steps.push(Step::Name(Text::copy(alloc, range.name)?))?;
