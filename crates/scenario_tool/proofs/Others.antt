@@ -15,6 +15,7 @@ use Rattle.dsl_tree.specs.declared.expr.Expr.TheViews
 use Rattle.dsl_tree.specs.declared.expr.Expr.TheViews.{roll-Expr}
 use Rattle.dsl_tree.specs.ExprTree.{ExprTree}
 use Rattle.dsl_tree.specs.Views.{SuffixTree, FurtherTree, Named, At, grouped, with_suffixes, named_row, indexed_row, expr_step, suffix_step, further_step, expr_tree, suffix_tree, further_tree}
+use Rattle.dsl_tree.proofs.Seen.{seen_name}
 use Rattle.scenario_tool.specs.PairForm.{whole_number, range_between, range_in}
 
 -- an expression is one of its kinds
@@ -134,6 +135,10 @@ span_case name (Expr-F.Expr::Index head rest) other = indexed_none (behind_name 
     (suffixes_none (behind_name name) (λ h n. refl) (λ p h i. refl) (ExprTree.Start (expr_tree head)) (map suffix_tree rest) refl)
 span_case name _ other = refl
 
-pub no_span : (name : Ident) (e : Expr) → ((p : Place) (low high : Expr) → e ≡ TheViews.Span p low high → ⊥) → range_between (ExprTree.Name name) (expr_tree e) ≡ None
+no_span : (name : Ident) (e : Expr) → ((p : Place) (low high : Expr) → e ≡ TheViews.Span p low high → ⊥) → range_between (ExprTree.Name name) (expr_tree e) ≡ None
 no_span name = by_kind (λ e. ((p : Place) (low high : Expr) → e ≡ TheViews.Span p low high → ⊥) → behind_name name (expr_tree e) ≡ None)
     (λ x other. ap (behind_name name) (seen_step x) ∙ span_case name x other)
+
+pub no_range : (left right : Expr) (name : Ident) → left ≡ Expr.Name name → ((p : Place) (low high : Expr) → right ≡ TheViews.Span p low high → ⊥) →
+    range_between (expr_tree left) (expr_tree right) ≡ None
+no_range left right name is other = ap (of_name (expr_tree right)) (ap expr_tree is ∙ seen_name name) ∙ no_span name right other

@@ -1,8 +1,7 @@
 -- Pairs of members, one after another, and the values of their fields.
 use Rattle.std.proofs.Common.{◌≡◌, ◌∙◌, refl, sym, ap, subst, ℕ, suc, ◌+◌, ◌-◌, ◌≤◌, ◌<◌, List, [], ◌∷◌, ◌++◌, length, take, drop, get_or, map, Option, Some, None, arith, append_assoc, append-nil}
-use Rattle.std.specs.Option.{option_map}
+use Rattle.std.specs.Option.{option_map, option_map_or}
 use Rattle.std.proofs.lemmas.List.{drop_more, at_drop_all}
-use Rattle.std.proofs.Math.Seq.{take-all}
 use Rattle.osc_base.specs.declared.fault.Place.{Place}
 use Rattle.composition.specs.Instance.{RangedField, HoldsField, HoldFields}
 use Rattle.composition.specs.declared.run.Value.{Value}
@@ -22,7 +21,9 @@ whole_take (x ∷ xs) = ap (λ v. x ∷ v) (whole_take xs)
 two_front : {X : Type 0} (xs : List X) (a b : X) → 2 ≤ length xs → a ≡ get_or xs 0 a → b ≡ get_or xs 1 b → xs ≡ a ∷ b ∷ take (length xs - 2) (drop 2 xs)
 two_front [] a b few first second = absurd (omega arith)
 two_front (x ∷ []) a b few first second = absurd (omega arith)
-two_front (x ∷ y ∷ xs) a b few first second = rw (first, second) (ap (λ v. x ∷ y ∷ v) (sym (whole_take xs)))
+two_front (x ∷ y ∷ xs) a b few first second =
+    let later : length (x ∷ y ∷ xs) - 2 ≡ length xs = omega arith in
+    rw (first, second, later) (ap (λ v. x ∷ y ∷ v) (sym (whole_take xs)))
 
 -- the pair at the front of what is left
 abbrev front_pair : List Member → Member → Member → List MemberTree
@@ -58,7 +59,7 @@ left_over names rest field place some few first is = is ∙ sym (ap (λ ms. unpa
 
 -- ---- Values
 
-hold_more : (fields : List RangedField) (values : List Value) (field : RangedField) (value : Value) →
+pub hold_more : (fields : List RangedField) (values : List Value) (field : RangedField) (value : Value) →
     HoldFields fields values → HoldsField field value → HoldFields (fields ++ field ∷ []) (values ++ value ∷ [])
 hold_more [] [] field value held one = (one, tt)
 hold_more [] (v ∷ vs) field value held one = absurd held
@@ -78,33 +79,43 @@ step_left : (members : List Member) (i : ℕ) (member : Member) → i < length m
     map member_tree (drop i members) ≡ member_tree member ∷ map member_tree (drop (i + 1) members)
 step_left members i member more is = ap (map member_tree) (drop_more members i member more ∙ ap (λ m. m ∷ drop (i + 1) members) (sym is))
 
-pub held_more : (fields : List RangedField) (members : List Member) (i : ℕ) (member : Member) (range : HeldRange) (values values' : List Value) (value : Value) →
-    HeldSoFar fields (map member_tree (drop i members)) values → i < length members → member ≡ get_or members i member →
-    option_map ranged (Some range) ≡ held_range (member_tree member) → HoldsField (ranged range) value → values' ≡ values ++ value ∷ [] →
-    HeldSoFar fields (map member_tree (drop (i + 1) members)) values'
-held_more fields members i member range values values' value h more is found one pushed =
-    let later = map member_tree (drop (i + 1) members) in
-    let front : ranged_fields (map member_tree (drop i members)) ≡ ranged range ∷ ranged_fields later
-    = ap ranged_fields (step_left members i member more is)
-        ∙ sym (ap (λ o. Rattle.std.specs.Option.option_map_or (λ (r : RangedField). r ∷ ranged_fields later) o (ranged_fields later)) found) in
-    record {
-      done = h.done ++ ranged range ∷ [];
-      split = append_assoc h.done (ranged range ∷ []) (ranged_fields later) ∙ ap (λ fs. h.done ++ fs) (sym front) ∙ h.split;
-      held = rw pushed (hold_more h.done values (ranged range) value h.held one);
-    }
+one_field : (m : MemberTree) (later : List RangedField) (o : Option RangedField) →
+    option_map_or (λ (r : RangedField). r ∷ later) o later ≡ option_map_or (λ (r : RangedField). r ∷ []) o [] ++ later
+one_field m later (Some r) = refl
+one_field m later None = refl
 
-pub held_no_more : (fields : List RangedField) (members : List Member) (i : ℕ) (member : Member) (values : List Value) →
+-- one member more
+pub held_more : (fields : List RangedField) (members : List Member) (i : ℕ) (member : Member) (values values' : List Value) →
     HeldSoFar fields (map member_tree (drop i members)) values → i < length members → member ≡ get_or members i member →
-    None ≡ held_range (member_tree member) → HeldSoFar fields (map member_tree (drop (i + 1) members)) values
-held_no_more fields members i member values h more is found =
+    ((done : List RangedField) → HoldFields done values → HoldFields (done ++ ranged_fields (member_tree member ∷ [])) values') →
+    HeldSoFar fields (map member_tree (drop (i + 1) members)) values'
+held_more fields members i member values values' h more is push =
     let later = map member_tree (drop (i + 1) members) in
-    let front : ranged_fields (map member_tree (drop i members)) ≡ ranged_fields later
-    = ap ranged_fields (step_left members i member more is)
-        ∙ sym (ap (λ o. Rattle.std.specs.Option.option_map_or (λ (r : RangedField). r ∷ ranged_fields later) o (ranged_fields later)) found) in
-    record { done = h.done; split = ap (λ fs. h.done ++ fs) (sym front) ∙ h.split; held = h.held }
+    let own = ranged_fields (member_tree member ∷ []) in
+    let front : ranged_fields (map member_tree (drop i members)) ≡ own ++ ranged_fields later
+    = ap ranged_fields (step_left members i member more is) ∙ one_field (member_tree member) (ranged_fields later) (held_range (member_tree member)) in
+    record {
+      done = h.done ++ own;
+      split = append_assoc h.done own (ranged_fields later) ∙ ap (λ fs. h.done ++ fs) (sym front) ∙ h.split;
+      held = push h.done h.held;
+    }
 
 pub held_all : (fields : List RangedField) (members : List Member) (i : ℕ) (values : List Value) → HeldSoFar fields (map member_tree (drop i members)) values →
     length members ≤ i → HoldFields fields values
 held_all fields members i values h end =
     subst (λ fs. HoldFields fs values)
     (sym (append-nil h.done) ∙ ap (λ fs. h.done ++ fs) (sym (at_drop_all (λ ms. ranged_fields (map member_tree ms)) members i end)) ∙ h.split) h.held
+
+-- a member with a range has one value, and another has none
+pub pushed_one : (done : List RangedField) (member : MemberTree) (range : HeldRange) (values values' : List Value) (value : Value) →
+    option_map ranged (Some range) ≡ held_range member → HoldsField (ranged range) value → values' ≡ values ++ value ∷ [] → HoldFields done values →
+    HoldFields (done ++ ranged_fields (member ∷ [])) values'
+pushed_one done member range values values' value found one pushed held =
+    subst (λ o. HoldFields (done ++ option_map_or (λ (r : RangedField). r ∷ []) o []) values') found
+    (rw pushed (hold_more done values (ranged range) value held one))
+
+pub pushed_none : (done : List RangedField) (member : MemberTree) (values : List Value) → None ≡ held_range member → HoldFields done values →
+    HoldFields (done ++ ranged_fields (member ∷ [])) values
+pushed_none done member values found held =
+    subst (λ o. HoldFields (done ++ option_map_or (λ (r : RangedField). r ∷ []) o []) values) found
+    (subst (λ fs. HoldFields fs values) (sym (append-nil done)) held)

@@ -1,5 +1,5 @@
-ghost use Rattle.std.specs.Prelude.{◌≡◌, ◌≤◌, map, IfOk};
-ghost use Rattle.composition.specs.Instance.{HoldFields, HoldsField};
+ghost use Rattle.std.specs.Prelude.{◌≤◌, [], ◌∷◌, ◌++◌, List, map, IfOk, OnOk};
+ghost use Rattle.composition.specs.Instance.{RangedField, HoldFields, HoldsField};
 ghost use Rattle.dsl_tree.specs.Views.{member_tree};
 ghost use Rattle.scenario_tool.specs.PairForm.{ranged_fields};
 ghost use Rattle.scenario_tool.specs.Ranges.{ranged};
@@ -16,11 +16,25 @@ pub fn least_values(alloc: Global, members: &[Member]) -> Result<Row<Value>, All
 {
     let mut values = Row::new(alloc);
     for member in members {
-        if let Some(range) = held_range(member) {
-            values.push(least_value(alloc, range)?)?;
-        }
+        push_value(alloc, &mut values, member)?;
     }
     Ok(values)
+}
+
+/// Pushes the value of the field that the member holds in a range, where it holds one.
+fn push_value(
+    alloc: Global,
+    values: &mut Row<Value>,
+    member: &Member,
+) -> Result<(), AllocError>
+    ensures { OnOk result ((done : List RangedField) → HoldFields done values.old →
+        HoldFields (done ++ ranged_fields (member_tree member.now ∷ [])) values.new) }
+{
+    let Some(range) = held_range(member) else {
+        return Ok(());
+    };
+    values.push(least_value(alloc, range)?)?;
+    Ok(())
 }
 
 fn least_value(alloc: Global, range: HeldRange<'_>) -> Result<Value, AllocError>
