@@ -106,16 +106,10 @@ held_all fields members i values h end =
     subst (λ fs. HoldFields fs values)
     (sym (append-nil h.done) ∙ ap (λ fs. h.done ++ fs) (sym (at_drop_all (λ ms. ranged_fields (map member_tree ms)) members i end)) ∙ h.split) h.held
 
--- a member with a range has one value, and another has none
+-- a member with a range has one value
 pub pushed_one : (done : List RangedField) (member : MemberTree) (range : HeldRange) (values values' : List Value) (value : Value) →
     option_map ranged (Some range) ≡ held_range member → HoldsField (ranged range) value → values' ≡ values ++ value ∷ [] → HoldFields done values →
     HoldFields (done ++ ranged_fields (member ∷ [])) values'
 pushed_one done member range values values' value found one pushed held =
     subst (λ o. HoldFields (done ++ option_map_or (λ (r : RangedField). r ∷ []) o []) values') found
     (rw pushed (hold_more done values (ranged range) value held one))
-
-pub pushed_none : (done : List RangedField) (member : MemberTree) (values : List Value) → None ≡ held_range member → HoldFields done values →
-    HoldFields (done ++ ranged_fields (member ∷ [])) values
-pushed_none done member values found held =
-    subst (λ o. HoldFields (done ++ option_map_or (λ (r : RangedField). r ∷ []) o []) values) found
-    (subst (λ fs. HoldFields fs values) (sym (append-nil done)) held)
