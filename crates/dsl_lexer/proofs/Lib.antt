@@ -20,3 +20,4 @@ pub mod LawProofs
 pub mod Ending
 pub mod Running
 pub mod Worked
+pub mod Total

@@ -16,6 +16,10 @@ OneList = (file : ℕ) (bytes : List ℕ) (xs ys : List Token) → TokensCut fil
 abbrev pub CutOrFault : Type 0
 CutOrFault = (file : ℕ) (bytes : List ℕ) (xs : List Token) (n code count : ℕ) → TokensCut file bytes xs → FaultAt bytes n code count → ⊥
 
+-- a source has tokens or a first fault
+abbrev pub CutOrFirstFault : Type 0
+CutOrFirstFault = (file : ℕ) (bytes : List ℕ) → ((found : List Token) × TokensCut file bytes found) ⊎ ((fault : Fault) × IsFirstFault file bytes fault)
+
 -- there is at most one first fault
 abbrev pub OneFault : Type 0
 OneFault = (file : ℕ) (bytes : List ℕ) (x y : Fault) → IsFirstFault file bytes x → IsFirstFault file bytes y → x ≡ y

@@ -6,7 +6,7 @@ ghost use Rattle.dsl_lexer.specs.Kinds as kinds_of;
 ghost use Rattle.dsl_lexer.specs.Room.{HasRoom};
 ghost use Rattle.dsl_lexer.specs.Steps as steps;
 ghost use Rattle.dsl_lexer.specs.Progress.{CanTake, CanTakeFront, Valid, Reached, Gives, GivesStop};
-ghost use Rattle.dsl_lexer.specs.Laws.{OneList, CutOrFault, OneFault, EndIsLast, OpenedLaw, CharsLaw};
+ghost use Rattle.dsl_lexer.specs.Laws.{OneList, CutOrFault, CutOrFirstFault, OneFault, EndIsLast, OpenedLaw, CharsLaw};
 ghost use Rattle.dsl_lexer.specs.Language.{OnFault, TokensCut, IsFirstFault, IsUncut, EndsOnce};
 
 use crate::layout::{self, Layout};
@@ -244,11 +244,13 @@ pub fn lex(alloc: Global, file: u32, bytes: &[u8]) -> Result<Tokens, LexStop>
     Ok(layout.finish(file)?)
 }
 
-/// At most one token list cuts some bytes, and where one does there is no fault; there is at most one first fault; END
+/// At most one token list cuts some bytes, and where one does there is no fault; where none does there is a first fault,
+/// and at most one; END
 /// is the last token; and the list of the opened widths and the text of a string are what they are said to be.
 pub fn laws()
     ensures one_list { OneList }
     ensures cut_or_fault { CutOrFault }
+    ensures cut_or_first_fault { CutOrFirstFault }
     ensures one_fault { OneFault }
     ensures end_is_last { EndIsLast }
     ensures opened_widths { OpenedLaw }

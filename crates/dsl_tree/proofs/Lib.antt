@@ -27,3 +27,4 @@ pub mod FirstNames
 pub mod Values
 pub mod FileValues
 pub mod TreeValues
+pub mod Ends

@@ -70,3 +70,13 @@ OneSpelling =
 -- a list with a fault spells no tree
 abbrev pub FaultsSpellNothing : Type 0
 FaultsSpellNothing = (tokens : List Token) (fault : Fault) (tree : FileTree) → FirstFault tokens fault → Spelled tree tokens → ⊥
+
+-- a list of tokens has one first fault at most
+abbrev pub OneFirstFault : Type 0
+OneFirstFault = (tokens : List Token) (fault other : Fault) → FirstFault tokens fault → FirstFault tokens other → fault ≡ other
+
+-- a list whose last token, and no other, is END has a tree or a first fault: it can't be that it has neither
+abbrev pub TreeOrFault : Type 0
+TreeOrFault = (tokens : List Token) → Ended tokens
+    → ((tree : FileTree) → Spelled tree tokens → ⊥)
+    → ((fault : Fault) → FirstFault tokens fault → ⊥) → ⊥

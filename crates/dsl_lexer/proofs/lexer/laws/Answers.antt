@@ -1,5 +1,6 @@
 use Rattle.dsl_lexer.proofs.LawProofs as laws
 use Rattle.dsl_lexer.proofs.Inside.{chars_law}
+use Rattle.dsl_lexer.proofs.Total.{cut_or_first_fault}
 use Rattle.dsl_lexer.proofs.lexer.laws.Goals as goal
 
 pub returns-clause-one_list : goal.returns-clause-one_list
@@ -19,3 +20,6 @@ returns-clause-opened_widths c = laws.opened_law
 
 pub returns-clause-chars : goal.returns-clause-chars
 returns-clause-chars c = chars_law
+
+pub returns-clause-cut_or_first_fault : goal.returns-clause-cut_or_first_fault
+returns-clause-cut_or_first_fault c = cut_or_first_fault
