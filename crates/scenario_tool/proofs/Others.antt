@@ -1,5 +1,5 @@
 -- What isn't found in an expression that isn't of the kind that is looked for.
-use Rattle.std.proofs.Common.{◌≡◌, ◌∙◌, refl, ap, ℕ, List, [], ◌∷◌, map, Option, Some, None}
+use Rattle.std.proofs.Common.{◌≡◌, ◌∙◌, refl, ap, List, [], ◌∷◌, map, Option, None}
 use Rattle.osc_base.specs.declared.fault.Place.{Place}
 use Rattle.composition.specs.Instance.{RangedField}
 use Rattle.dsl_tree.specs.declared.parts.Ident.{Ident}

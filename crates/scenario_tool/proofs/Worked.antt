@@ -1,7 +1,6 @@
 -- Worked members and declarations, by computation.
 use Rattle.std.proofs.Common.{◌≡◌, refl, ℕ, ◌+◌, List, [], ◌∷◌, Some, None, codes}
 use Rattle.osc_base.specs.declared.fault.Place.{Place}
-use Rattle.composition.specs.Instance.{RangedField}
 use Rattle.dsl_tree.specs.declared.parts.Ident.{Ident}
 use Rattle.dsl_tree.specs.declared.rules.KeepKind.{KeepKind}
 use Rattle.dsl_tree.specs.declared.expr.RelationSign.{RelationSign}

@@ -1,6 +1,6 @@
 -- What `command` may answer: a status and a text. A status is 0 for a run, 3 for a refused source, 4 for refused words, 6 for
 -- a file, 7 where the sink failed and 8 where memory is missing.
-use Rattle.std.specs.Prelude.{◌≡◌, ◌<◌, ◌≤◌, ℕ, List, ◌++◌, Option, Some, None, IfSome, length, map, codes, ◌⊎◌}
+use Rattle.std.specs.Prelude.{◌≡◌, ◌<◌, ◌≤◌, ℕ, List, ◌++◌, Option, Some, None, IfSome, length, codes, ◌⊎◌}
 use Rattle.std.specs.Fmt.{decimal}
 use Rattle.std.specs.Io.KnownBytes.{append_known}
 use Rattle.outside_io.specs.declared.shelf.NamedBytes.{NamedBytes}

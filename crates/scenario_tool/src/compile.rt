@@ -38,12 +38,7 @@ pub fn compile(
 }
 
 /// What a file that was read is answered with.
-fn answer(
-    alloc: Global,
-    name: &str,
-    scenario: &str,
-    file: &SourceFile,
-) -> Result<Reply, AllocError>
+fn answer(alloc: Global, name: &str, scenario: &str, file: &SourceFile) -> Result<Reply, AllocError>
     ensures { IfOk result (λ reply. (source : List ℕ) → IsRead 0 source file.now.tokens (file_tree file.now.tree) →
         Compiles name.now scenario.now source reply.status reply.text) }
 {

@@ -13,11 +13,7 @@ use std::alloc::{AllocError, Global};
 const BASIC_TYPES: [&str; 5] = ["int", "uint", "float", "bool", "string"];
 
 /// The first place of a file at which what isn't built yet stands.
-pub fn not_built(
-    alloc: Global,
-    tokens: &Tokens,
-    file: &File,
-) -> Result<Option<Place>, AllocError>
+pub fn not_built(alloc: Global, tokens: &Tokens, file: &File) -> Result<Option<Place>, AllocError>
     ensures { IfOk result (λ place. place ≡ not_built_at tokens.now (file_tree file.now)) }
 {
     if let Some(place) = import_place(tokens.as_slice()) {

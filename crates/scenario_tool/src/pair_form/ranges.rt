@@ -23,11 +23,13 @@ pub fn held_range(member: &Member) -> Option<HeldRange<'_>>
     ensures ordered { IfSome result (λ range. range.least ≤ range.greatest) }
 {
     match member {
-        Member::Rule(RuleDecl::Keep {
-            kind: KeepKind::Plain,
-            expr,
-            ..
-        }) => range_in(expr),
+        Member::Rule(
+            RuleDecl::Keep {
+                kind: KeepKind::Plain,
+                expr,
+                ..
+            },
+        ) => range_in(expr),
         _ => None,
     }
 }
@@ -37,7 +39,10 @@ fn range_in(expr: &Expr) -> Option<HeldRange<'_>>
     ensures ordered { IfSome result (λ range. range.least ≤ range.greatest) }
 {
     let Expr::Relation {
-        sign, left, right, ..
+        sign,
+        left,
+        right,
+        ..
     } = expr
     else {
         return None;
