@@ -1,0 +1,39 @@
+-- What the first word picks.
+use Rattle.std.proofs.Common.{◌≡◌, ◌⊎◌, refl, true, false, Bool, inl, inr, List, [], ◌∷◌, codes}
+use Rattle.std.specs.Str.{bytes_eq}
+use Rattle.std.proofs.lemmas.Slice.Eq.{bytes_eq-Decides}
+use Rattle.clap.specs.Walk.{Text}
+use Rattle.command_words.specs.Texts.{general_help, version_text}
+use Rattle.command_words.specs.Words.{Help, Refused, generate_wanted, request}
+
+other_word : (a b : Text) → (a ≡ b → ⊥) → bytes_eq a b ≡ false
+other_word a b differ = go (bytes_eq a b) refl
+  where
+    go : (t : Bool) → bytes_eq a b ≡ t → bytes_eq a b ≡ false
+    go true e = absurd (differ ((bytes_eq-Decides a b).0 e))
+    go false e = e
+
+pub no_word : request [] ≡ Refused
+unfolding request
+no_word = refl
+
+pub help_word : (first : Text) (rest : List Text) → (first ≡ codes "help") ⊎ ((first ≡ codes "--help") ⊎ (first ≡ codes "-h")) → request (first ∷ rest) ≡ Help general_help
+unfolding request
+help_word first rest (inl e) = rw e refl
+help_word first rest (inr (inl e)) = rw e refl
+help_word first rest (inr (inr e)) = rw e refl
+
+pub version_word : (first : Text) (rest : List Text) → (first ≡ codes "--version") ⊎ (first ≡ codes "-V") → request (first ∷ rest) ≡ Help version_text
+unfolding request
+version_word first rest (inl e) = rw e refl
+version_word first rest (inr e) = rw e refl
+
+pub generate_word : (first : Text) (rest : List Text) → first ≡ codes "generate" → request (first ∷ rest) ≡ generate_wanted rest
+unfolding request
+generate_word first rest e = rw e refl
+
+pub unknown_word : (first : Text) (rest : List Text) → (first ≡ codes "help" → ⊥) → (first ≡ codes "--help" → ⊥) → (first ≡ codes "-h" → ⊥)
+    → (first ≡ codes "--version" → ⊥) → (first ≡ codes "-V" → ⊥) → (first ≡ codes "generate" → ⊥) → request (first ∷ rest) ≡ Refused
+unfolding request
+unknown_word first rest a b c d e f =
+    rw (other_word _ _ a, other_word _ _ b, other_word _ _ c, other_word _ _ d, other_word _ _ e, other_word _ _ f) refl

@@ -1,0 +1,71 @@
+-- The match definition of `generate`, and what its matches hold.
+use Rattle.std.proofs.Common.{◌≡◌, ◌∙◌, refl, sym, ap, true, List, [], codes, unwrap_or}
+use Rattle.std.specs.Str.Parse.{digits_value, without_leading_plus}
+use Rattle.clap.specs.Words.{IsParsedFrom, Row, Text, app_of, fault_of, first_of, found_of, is_simple_and_free, matches_of, one_of, rows_of}
+use Rattle.clap.specs.declared.builder.command.Command.{Command}
+use Rattle.clap.specs.declared.parser.matches.ArgMatches.{ArgMatches}
+use Rattle.clap.specs.declared.parser.matches.Found.{Found}
+use Rattle.clap.proofs.WalkLemmas.{first_value-rows, one_text-rows}
+use Rattle.command_words.specs.Match.{number_in, text_in}
+use Rattle.command_words.specs.Parse.{is_leaf, number_held, text_held}
+use Rattle.command_words.specs.Taken.{HoldsNumbers, asked_in}
+use Rattle.command_words.specs.Texts.{generate_help}
+use Rattle.command_words.specs.Words.{Asked, Generate, Wanted, by_fault, generate, generate_asked, generate_wanted}
+use Rattle.command_words.proofs.ValueReads.{number_found}
+
+pub generate_simple : is_simple_and_free generate ≡ true
+unfolding generate
+generate_simple = refl
+
+pub generate_leaf : is_leaf generate ≡ true
+unfolding generate
+generate_leaf = refl
+
+-- where a parse takes the words, each option holds a number in its range
+pub holds_numbers : (c : Command) (m : ArgMatches) → app_of c ≡ generate → IsParsedFrom c m → HoldsNumbers (found_of m)
+unfolding generate
+holds_numbers c m same p = record {
+  ticks = number_found c generate m (codes "ticks") 1 600 (codes "100") same p refl refl refl;
+  lanes = number_found c generate m (codes "lanes") 1 8 (codes "3") same p refl refl refl;
+  road = number_found c generate m (codes "road") 1 10000 (codes "1000") same p refl refl refl;
+  seed = number_found c generate m (codes "seed") 0 18446744073709551615 (codes "0") same p refl refl refl;
+  cuts = number_found c generate m (codes "cuts") 1 1000000 (codes "200000") same p refl refl refl;
+}
+
+module _ (found : Found) (words : List Text) (same : rows_of found ≡ matches_of generate words) where
+  text_is : (name : Text) → text_held found name ≡ text_in generate words name
+  unfolding text_in
+  text_is name =
+      ap (λ o. unwrap_or o []) (first_value-rows found name) ∙ ap (λ (rows : List Row). unwrap_or (first_of name rows) []) same
+
+  number_is : (name : Text) → number_held found name ≡ number_in generate words name
+  unfolding number_in
+  number_is name =
+      ap (λ o. digits_value 10 (without_leading_plus (unwrap_or o []))) (one_text-rows found name)
+      ∙ ap (λ (rows : List Row). digits_value 10 (without_leading_plus (unwrap_or (one_of name rows) []))) same
+
+  asked_is : asked_in found ≡ generate_asked words
+  unfolding generate_asked
+  asked_is = λ i. record {
+    file = text_is (codes "FILE") i;
+    scenario = text_is (codes "SCENARIO") i;
+    ticks = number_is (codes "ticks") i;
+    lanes = number_is (codes "lanes") i;
+    road = number_is (codes "road") i;
+    seed = number_is (codes "seed") i;
+    cuts = number_is (codes "cuts") i;
+  }
+
+-- words that are taken
+pub taken_is : (found : Found) (words : List Text) (asked : Asked) → fault_of generate words ≡ [] → rows_of found ≡ matches_of generate words → asked ≡ asked_in found
+    → Generate asked ≡ generate_wanted words
+unfolding generate_wanted
+taken_is found words asked none rows is =
+    ap Generate (is ∙ asked_is found words rows)
+    ∙ sym (ap (λ kinds. by_fault kinds generate_help (Generate (generate_asked words))) none)
+
+-- words with a fault
+pub fault_is : (words : List Text) (help : Text) (answer : Text → Wanted) → help ≡ generate_help
+    → ((h : Text) (taken : Wanted) → by_fault (fault_of generate words) h taken ≡ answer h) → answer help ≡ generate_wanted words
+unfolding generate_wanted
+fault_is words help answer is found = ap answer is ∙ sym (found generate_help (Generate (generate_asked words)))

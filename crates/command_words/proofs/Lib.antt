@@ -1,0 +1,6 @@
+mod OneFault
+mod FaultAnswers
+pub mod ValueReads
+mod GenerateMatches
+mod FirstWords
+mod Worked

@@ -1,0 +1,10 @@
+//! What the words after the program's name ask for, and the texts that help with them.
+#![tactic(auto)]
+
+mod generate;
+mod parse;
+mod requests;
+mod texts;
+
+pub use requests::{GenerateWords, Request, read_words};
+pub use texts::{general_help, generate_help, version_text};

@@ -1,0 +1,55 @@
+ghost use Rattle.std.specs.Prelude.{◌≡◌, IfOk, map, string_bytes};
+ghost use Rattle.command_words.specs.Seen.{seen};
+ghost use Rattle.command_words.specs.Words.{HasRanges, request};
+
+use crate::generate::read_generate;
+use crate::texts::{general_help, version_text};
+use std::alloc::{AllocError, Global};
+
+/// What the words after the program's name ask for.
+#[derive(Debug, Clone, Copy)]
+pub enum Request<'a> {
+    /// This text is to be written: a help text or the version.
+    Help(&'static str),
+    /// A run is to be written.
+    Generate(GenerateWords<'a>),
+    /// The words ask for nothing that is known.
+    Refused,
+}
+
+/// What the words behind `generate` ask for.
+#[derive(Debug, Clone, Copy)]
+pub struct GenerateWords<'a> {
+    /// The name of the source file. It may be any text, also an empty one.
+    pub file: &'a str,
+    /// The scenario, as `NAME` or `ACTOR.NAME`. It may be any text, also an empty one.
+    pub scenario: &'a str,
+    /// The last tick that a run may have, 1 to 600.
+    pub ticks: u32,
+    /// The number of lanes of the road, 1 to 8.
+    pub lanes: u32,
+    /// The length of the road in metres, 1 to 10000.
+    pub road: u32,
+    /// The seed of what is drawn at random, any number.
+    pub seed: u64,
+    /// The most cuts that a search makes, 1 to 1000000.
+    pub cuts: u32,
+}
+
+/// Reads the words after the program's name.
+///
+/// Its only error is want of memory.
+pub fn read_words(alloc: Global, words: &[String]) -> Result<Request<'_>, AllocError>
+    ensures request { IfOk result (λ r. seen r ≡ request (map string_bytes words.now)) }
+    ensures ranges { IfOk result (λ r. HasRanges (seen r)) }
+{
+    let Some((first, rest)) = words.split_first() else {
+        return Ok(Request::Refused);
+    };
+    match first.as_str() {
+        "help" | "--help" | "-h" => Ok(Request::Help(general_help())),
+        "--version" | "-V" => Ok(Request::Help(version_text())),
+        "generate" => read_generate(alloc, rest),
+        _ => Ok(Request::Refused),
+    }
+}

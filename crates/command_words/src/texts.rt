@@ -1,0 +1,87 @@
+ghost use Rattle.std.specs.Prelude.{◌≡◌};
+ghost use Rattle.command_words.specs.Texts.{general_help, generate_help, version_text};
+
+const GENERAL_HELP: &str = concat!(
+    "osc reads a scenario of driving, written in a profile of OpenSCENARIO DSL 2.1,\n",
+    "and writes a concrete run of it to standard output, as one line of JSON.\n",
+    "\n",
+    "Usage:\n",
+    "  osc generate FILE SCENARIO [OPTIONS]\n",
+    "  osc help\n",
+    "  osc --version\n",
+    "\n",
+    "Commands:\n",
+    "  generate   write a run of a scenario; osc generate --help has its options\n",
+    "  help       write this text; so do --help and -h\n",
+    "  --version  write the version; so does -V\n",
+    "\n",
+    "Statuses, and what is written to standard output:\n",
+    "  0  what was asked for: a run, or a help text\n",
+    "  3  the source is refused: fault CODE FILE:LINE:COLUMN\n",
+    "  4  the words are refused: words\n",
+    "  6  a file isn't there, is longer than 1048576 bytes, or can't be read:\n",
+    "     missing NAME, long NAME or shelf NAME\n",
+    "  7  standard output failed: a front of the text, or nothing\n",
+    "  8  memory is missing: nothing\n",
+    "  9  the words can't be read, as where one isn't UTF-8: nothing\n",
+);
+
+const GENERATE_HELP: &str = concat!(
+    "osc generate reads a source file and writes a run of one of its scenarios to\n",
+    "standard output, as one line of JSON.\n",
+    "\n",
+    "Usage:\n",
+    "  osc generate FILE SCENARIO [OPTIONS]\n",
+    "\n",
+    "Words:\n",
+    "  FILE       the source file\n",
+    "  SCENARIO   the name of the scenario: NAME or ACTOR.NAME\n",
+    "\n",
+    "Options, each at most once, as --ticks N or --ticks=N:\n",
+    "  --ticks N  the last tick that a run may have, of 0.1 seconds each:\n",
+    "             1 to 600, default 100\n",
+    "  --lanes N  the lanes of the road: 1 to 8, default 3\n",
+    "  --road N   the length of the road in metres: 1 to 10000, default 1000\n",
+    "  --seed N   the seed of what is drawn at random:\n",
+    "             0 to 18446744073709551615, default 0\n",
+    "  --cuts N   the most cuts of the search: 1 to 1000000, default 200000\n",
+    "  -h, --help write this text\n",
+    "\n",
+    "Behind -- each word is FILE or SCENARIO, also where it begins with -.\n",
+    "Today runs are of scenarios of ranged whole numbers; the options are checked\n",
+    "and don't change the run yet.\n",
+    "\n",
+    "Statuses, and what is written to standard output:\n",
+    "  0  a run, or this text\n",
+    "  3  the source is refused: fault CODE FILE:LINE:COLUMN\n",
+    "  4  the words are refused: words\n",
+    "  6  the file isn't there, is longer than 1048576 bytes, or can't be read:\n",
+    "     missing NAME, long NAME or shelf NAME\n",
+    "  7  standard output failed: a front of the text, or nothing\n",
+    "  8  memory is missing: nothing\n",
+    "  9  the words can't be read, as where one isn't UTF-8: nothing\n",
+);
+
+const VERSION_TEXT: &str = concat!("osc 0.1.0\n",);
+
+/// What `osc` does, its commands and its statuses. Each line is at most 80 bytes long and ended by a line
+/// feed, here and in the other texts.
+pub fn general_help() -> &'static str
+    ensures { result.now ≡ general_help }
+{
+    GENERAL_HELP
+}
+
+/// The words, options and statuses of `osc generate`.
+pub fn generate_help() -> &'static str
+    ensures { result.now ≡ generate_help }
+{
+    GENERATE_HELP
+}
+
+/// The program's name and version.
+pub fn version_text() -> &'static str
+    ensures { result.now ≡ version_text }
+{
+    VERSION_TEXT
+}
