@@ -1,0 +1,8 @@
+//! The load of a program: its main file and what its files import, from a shelf.
+#![tactic(auto)]
+
+mod loader;
+mod stop;
+
+pub use loader::load;
+pub use stop::LoadStop;
