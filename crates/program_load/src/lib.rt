@@ -2,6 +2,8 @@
 #![tactic(auto)]
 
 mod loader;
+mod read;
+mod source;
 mod stop;
 
 pub use loader::load;
