@@ -1,3 +1,4 @@
 pub mod Told
 pub mod Fetching
 pub mod Reading
+pub mod Turning

@@ -21,6 +21,6 @@ Allows files main (Err (LoadStop.Shelf name)) = IsTurn files main name
 Allows files main (Err LoadStop.Memory) = Unit {0}
 
 -- the shelf's count of faults rose, by one, exactly where the shelf is blamed
-abbrev pub Counts : Result (List AddedFile) LoadStop → ℕ → ℕ → Type 0
+abbrev pub Counts : {A : Type 0} → Result A LoadStop → ℕ → ℕ → Type 0
 Counts (Err (LoadStop.Shelf name)) before after = Rises before after
 Counts _ before after = after ≡ before

@@ -5,6 +5,7 @@ mod loader;
 mod read;
 mod source;
 mod stop;
+mod turn;
 
 pub use loader::load;
 pub use stop::LoadStop;
