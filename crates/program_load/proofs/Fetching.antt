@@ -1,5 +1,5 @@
 -- What a fetch and the reading behind it say of a name.
-use Rattle.std.proofs.Common.{◌≡◌, ◌∙◌, refl, sym, ap, subst, ℕ, ◌+◌, ◌<◌, ◌≤◌, List, [], ◌∷◌, length, Option, Some, None, IfSome, IfOk, IfErr, Result, Ok, Err, Bool, true, false, arith}
+use Rattle.std.proofs.Common.{◌≡◌, refl, subst, ℕ, ◌+◌, ◌<◌, List, [], length, Option, Some, None, IfSome, IfErr, Result, Ok, Err, true, arith}
 use Rattle.std.specs.Option.{is_some, unwrap_or}
 use Rattle.std.specs.Prelude.{replicate}
 use Rattle.std.proofs.lemmas.List.{length-replicate}
@@ -8,7 +8,7 @@ use Rattle.outside_io.specs.Files.{file_named, Finds}
 use Rattle.name_scope.specs.declared.names.FileName.{FileName}
 use Rattle.program_load.specs.declared.source.FileStop.{FileStop}
 use Rattle.program_load.specs.Loading.{source_limit}
-use Rattle.program_load.specs.Steps.{IsFound, IsCut, HasLongSource, HasNoSource}
+use Rattle.program_load.specs.Steps.{IsCut, HasLongSource, HasNoSource}
 
 there : (o : Option (List ℕ)) → true ≡ is_some o → o ≡ Some (unwrap_or o [])
 there None h = absurd cc

@@ -1,4 +1,6 @@
-pub mod Told
 pub mod Fetching
 pub mod Reading
 pub mod Turning
+pub mod Distinct
+pub mod Files
+pub mod Invariant

@@ -1,5 +1,5 @@
 -- What the file whose turn it is says of the load that stops at it.
-use Rattle.std.proofs.Common.{◌≡◌, ◌∙◌, ◌≤◌, ◌⊎◌, inl, inr, refl, sym, ap, subst, ℕ, List, [], length, Option, Some, None, IfErr, Result, Ok, Err, true, false, true≢false}
+use Rattle.std.proofs.Common.{◌≡◌, ◌∙◌, ◌⊎◌, inl, inr, refl, sym, ap, subst, ℕ, List, [], length, Option, Some, None, IfErr, Result, Ok, Err, false, true≢false}
 use Rattle.std.specs.Option.{is_some}
 use Rattle.osc_base.specs.declared.fault.Place.{Place}
 use Rattle.osc_base.specs.declared.fault.Fault.{Fault}
@@ -10,8 +10,8 @@ use Rattle.name_scope.specs.Loading.{AddedFile, name_text, wanted_name, wanted_m
 use Rattle.name_scope.proofs.Mentions.{wanted_mentioned}
 use Rattle.program_load.specs.declared.stop.LoadStop.{LoadStop}
 use Rattle.program_load.specs.Reading.{IsRead, IsRefused}
-use Rattle.program_load.specs.Loading.{Stop, StopsAt, no_main, no_file, too_long, unread, bad_import}
-use Rattle.program_load.specs.Steps.{IsFound, HasFile, HasLongSource, HasFault, Given, Stops, IsUnadded, missing_stop}
+use Rattle.program_load.specs.Loading.{Stop, no_main, no_file, too_long, unread, bad_import}
+use Rattle.program_load.specs.Steps.{IsFound, HasFile, HasLongSource, HasFault, Stops, IsUnadded, missing_stop}
 
 module _ (told : Option (List NamedBytes)) (before : List AddedFile) (name : FileName) where
   -- ---- A bad import
