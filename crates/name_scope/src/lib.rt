@@ -14,7 +14,7 @@ mod table;
 
 pub use ids::{DeclId, NameKind};
 pub use library::library_text;
-pub use names::Wanted;
+pub use names::{FileName, Wanted};
 pub use program::{AddStop, Program};
 
 #[cfg(test)]

@@ -43,7 +43,7 @@ impl FileName {
     }
 
     /// The name that is wanted, in memory of its own.
-    fn of(alloc: Global, wanted: Wanted<'_>) -> Result<FileName, AllocError>
+    pub fn of(alloc: Global, wanted: Wanted<'_>) -> Result<FileName, AllocError>
         ensures { IfOk result (λ n. n ≡ file_name wanted.entry) }
     {
         match wanted {

@@ -107,7 +107,8 @@ impl Program {
 
     /// The next file that is numbered and isn't added yet. `None` exactly where every numbered file was added.
     pub fn wanted(&self) -> Option<Wanted<'_>>
-        ensures { option_map file_name result ≡ wanted_name self.now }
+        ensures name { option_map file_name result ≡ wanted_name self.now }
+        ensures room { IfSome result (λ _. length self.now < 64) }
     {
         let name = self.names.get(self.sources.len())?;
         Some(name.wanted())

@@ -1,9 +1,8 @@
 -- Of a shelf that tells its files an answer is that of these files, of another that of some files.
-use Rattle.std.proofs.Common.{◌≡◌, ◌∙◌, refl, sym, ap, subst, ℕ, suc, ◌+◌, ◌<◌, ◌≤◌, List, [], ◌∷◌, length, Option, Some, None, IfSome, IfOk, Result, Ok, Err, Bool, true, false, arith, codes}
+use Rattle.std.proofs.Common.{◌≡◌, ◌∙◌, refl, sym, ap, subst, ℕ, ◌+◌, ◌<◌, ◌≤◌, List, [], ◌∷◌, length, Option, Some, None, IfSome, IfOk, Result, Ok, Err, Bool, true, false, arith, codes}
 use Rattle.std.proofs.lemmas.List.{length-replicate}
 use Rattle.std.specs.Str.{bytes_eq}
-use Rattle.std.specs.Option.{option_map}
-use Rattle.std.specs.Prelude.{find, replicate}
+use Rattle.std.specs.Prelude.{replicate}
 use Rattle.outside_io.specs.declared.shelf.NamedBytes.{NamedBytes}
 use Rattle.outside_io.specs.Files.{file_named}
 use Rattle.outside_io.specs.Counts.{Rises}
@@ -11,8 +10,8 @@ use Rattle.scenario_tool.specs.declared.replies.Reply.{Reply}
 use Rattle.scenario_tool.specs.Words.{AsksForRun, AskForNothing}
 use Rattle.std.specs.Io.KnownBytes.{append_known}
 use Rattle.outside_io.specs.Bytes.{AppendsPart}
-use Rattle.scenario_tool.specs.Answers.{SomeFiles, CountsOnce, Ends, written, sink_failed, no_memory, Replies, answers, shelf_failed, Answers, refused_words, missing, long, compiled, Compiles, source_limit, missing_text, long_text, shelf_text}
-use Rattle.scenario_tool.proofs.Pieces.{other_bytes}
+use Rattle.scenario_tool.specs.Answers.{SomeFiles, CountsOnce, Ends, written, sink_failed, no_memory, Replies, answers, shelf_failed, refused_words, missing, long, compiled, Compiles, source_limit, missing_text, long_text, shelf_text}
+use Rattle.scenario_tool.proofs.Bytes.{other_bytes}
 
 same_bytes : (t : Bool) (name : List ℕ) → t ≡ bytes_eq name name → t ≡ true
 same_bytes true name is = refl

@@ -1,81 +1,61 @@
 -- Words and files allow one answer.
-use Rattle.std.proofs.Common.{◌≡◌, ◌∙◌, refl, sym, ap, ap₂, subst, ℕ, ◌+◌, ◌<◌, ◌≤◌, List, [], ◌∷◌, ◌++◌, length, Option, Some, None, append_assoc, append-nil, codes, arith, map}
+use Rattle.std.proofs.Common.{◌≡◌, ◌∙◌, sym, ap, ap₂, subst, ℕ, ◌<◌, ◌≤◌, List, [], ◌∷◌, length, Option, Some, None, codes, arith}
+use Rattle.osc_base.specs.declared.fault.Fault.{Fault}
+use Rattle.osc_base.specs.declared.fault.Place.{Place}
 use Rattle.outside_io.specs.declared.shelf.NamedBytes.{NamedBytes}
 use Rattle.outside_io.specs.Files.{file_named}
-use Rattle.scenario_tool.specs.Words.{AsksForRun, AskForNothing}
-use Rattle.scenario_tool.specs.LineForm.{lines_of, head_line, lines_of_fields, field_line, keep_line, WrittenField, Declares, BreaksAt, Breaks, Fits, AllFitAfter, MayEnd, IsWholeBody, end_line, end_column}
-use Rattle.scenario_tool.specs.Answers.{OneAnswer, Answers, refused_words, missing, long, compiled, Compiles, not_built, no_scenario, runs, fault_text, missing_text, long_text, source_limit}
-use Rattle.scenario_tool.proofs.Pieces.{one_between}
+use Rattle.dsl_tree.specs.declared.token.Token.{Token}
+use Rattle.dsl_tree.specs.FileTree.{CompoundTree, FileTree}
+use Rattle.dsl_tree.specs.Language.{Spelled, FirstFault}
+use Rattle.dsl_tree.proofs.OneTrees.{spelled_once, no_tree_at_fault}
+use Rattle.dsl_tree.proofs.Ends.{one_first_fault}
+use Rattle.dsl_lexer.proofs.LawProofs as lexer
+use Rattle.scenario_tool.specs.Sources.{IsRead, IsRefused, lexical, syntactic}
+use Rattle.scenario_tool.specs.PairForm.{not_built_at, scenario_named}
+use Rattle.scenario_tool.specs.Words.{AsksForRun}
+use Rattle.scenario_tool.specs.Answers.{OneAnswer, Answers, refused_words, missing, long, compiled, Compiles, refused, not_built, no_scenario, runs, fault_text, missing_text, long_text, source_limit}
 
 -- ---- Sources
 
-abbrev Line : Type 0
-Line = List ℕ
+same_tokens : (source : List ℕ) (tokens tokens' : List Token) (tree tree' : FileTree) → IsRead 0 source tokens tree → IsRead 0 source tokens' tree' → tokens ≡ tokens'
+same_tokens source tokens tokens' tree tree' one two = lexer.one_list 0 source tokens tokens' one.cut two.cut
 
-heads : (a b : Line) (xs ys : List Line) → a ∷ xs ≡ b ∷ ys → a ≡ b
-heads a b xs ys same = cc
+same_tree : (source : List ℕ) (tokens tokens' : List Token) (tree tree' : FileTree) → IsRead 0 source tokens tree → IsRead 0 source tokens' tree' → tree ≡ tree'
+same_tree source tokens tokens' tree tree' one two =
+    spelled_once tree tree' tokens one.spelled (subst (Spelled tree') (sym (same_tokens source tokens tokens' tree tree' one two)) two.spelled)
 
-tails : (a b : Line) (xs ys : List Line) → a ∷ xs ≡ b ∷ ys → xs ≡ ys
-tails a b xs ys same = cc
+same_fault : (source : List ℕ) (fault fault' : Fault) → IsRefused 0 source fault → IsRefused 0 source fault' → fault ≡ fault'
+same_fault source fault fault' (lexical first) (lexical first') = lexer.one_fault 0 source fault fault' first first'
+same_fault source fault fault' (lexical first) (syntactic tokens' cut' first') =
+    absurd (lexer.cut_or_fault 0 source tokens' first.at fault.code first.count cut' first.is_fault)
+same_fault source fault fault' (syntactic tokens cut first) (lexical first') =
+    absurd (lexer.cut_or_fault 0 source tokens first'.at fault'.code first'.count cut first'.is_fault)
+same_fault source fault fault' (syntactic tokens cut first) (syntactic tokens' cut' first') =
+    one_first_fault tokens fault fault' first
+    (subst (λ (ts : List Token). FirstFault ts fault') (sym (lexer.one_list 0 source tokens tokens' cut cut')) first')
 
--- the lines before the first that breaks the form are as many, whoever counts them
-one_break : (done before later before' later' : List Line) → before ++ later ≡ before' ++ later' → AllFitAfter done before → AllFitAfter done before' →
-    Breaks (done ++ before) later → Breaks (done ++ before') later' → length before ≡ length before'
-one_break done [] later [] later' same fit fit' breaks breaks' = refl
-one_break done [] later (l ∷ ls) later' same fit fit' breaks breaks' =
-    let never : Fits done l → ⊥ = subst (λ b. Fits b l → ⊥) (append-nil done) (subst (λ lines. Breaks (done ++ []) lines) same breaks) in
-    absurd (never fit'.0)
-one_break done (l ∷ ls) later [] later' same fit fit' breaks breaks' =
-    let never : Fits done l → ⊥ = subst (λ b. Fits b l → ⊥) (append-nil done) (subst (λ lines. Breaks (done ++ []) lines) (sym same) breaks') in
-    absurd (never fit.0)
-one_break done (l ∷ ls) later (l' ∷ ls') later' same fit fit' breaks breaks' =
-    let head : l ≡ l' = heads l l' (ls ++ later) (ls' ++ later') same in
-    let tail = one_break (done ++ l ∷ []) ls later ls' later' (tails l l' (ls ++ later) (ls' ++ later') same) fit.1
-    (subst (λ line. AllFitAfter (done ++ line ∷ []) ls') (sym head) fit'.1)
-    (subst (λ b. Breaks b later) (sym (append_assoc done (l ∷ []) ls)) breaks)
-    (subst (λ b. Breaks b later') (ap (λ line. done ++ line ∷ ls') (sym head) ∙ sym (append_assoc done (l ∷ []) ls')) breaks') in
-    omega (arith, tail)
+never_both : (source : List ℕ) (tokens : List Token) (tree : FileTree) (fault : Fault) → IsRead 0 source tokens tree → IsRefused 0 source fault → ⊥
+never_both source tokens tree fault read (lexical first) =
+    lexer.cut_or_fault 0 source tokens first.at fault.code first.count read.cut first.is_fault
+never_both source tokens tree fault read (syntactic tokens' cut' first) =
+    no_tree_at_fault tokens' fault tree first (subst (Spelled tree) (lexer.one_list 0 source tokens tokens' read.cut cut') read.spelled)
 
--- a source all of whose lines fit, and that may end, breaks nowhere
-no_break : (done before later lines : List Line) → before ++ later ≡ lines → AllFitAfter done lines → MayEnd (done ++ lines) → Breaks (done ++ before) later → ⊥
-no_break done [] [] [] same fit may breaks = breaks may
-no_break done [] [] (m ∷ ms) same fit may breaks = cc
-no_break done [] (l ∷ ls) [] same fit may breaks = cc
-no_break done [] (l ∷ ls) (m ∷ ms) same fit may breaks =
-    let never : Fits done m → ⊥ = subst (λ line. Fits done line → ⊥) (heads l m ls ms same) (subst (λ b. Fits b l → ⊥) (append-nil done) breaks) in
-    never fit.0
-no_break done (b ∷ bs) later [] same fit may breaks = cc
-no_break done (b ∷ bs) later (m ∷ ms) same fit may breaks =
-    let head : b ≡ m = heads b m (bs ++ later) ms same in
-    no_break (done ++ m ∷ []) bs later ms (tails b m (bs ++ later) ms same) fit.1
-    (subst MayEnd (sym (append_assoc done (m ∷ []) ms)) may)
-    (subst (λ front. Breaks front later) (ap (λ line. done ++ line ∷ bs) head ∙ sym (append_assoc done (m ∷ []) bs)) breaks)
+same_unbuilt : (source : List ℕ) (tokens tokens' : List Token) (tree tree' : FileTree) (found found' : Option Place) →
+    IsRead 0 source tokens tree → IsRead 0 source tokens' tree' → not_built_at tokens tree ≡ found → not_built_at tokens' tree' ≡ found' → found ≡ found'
+same_unbuilt source tokens tokens' tree tree' found found' one two at at' =
+    sym at ∙ ap₂ not_built_at (same_tokens source tokens tokens' tree tree' one two) (same_tree source tokens tokens' tree tree' one two) ∙ at'
 
-whole_fields : (f : WrittenField) (fs : List WrittenField) → IsWholeBody (lines_of_fields (f ∷ fs))
-whole_fields f [] = tt
-whole_fields f (g ∷ gs) = whole_fields g gs
+same_named : (scenario source : List ℕ) (tokens tokens' : List Token) (tree tree' : FileTree) (found found' : Option CompoundTree) →
+    IsRead 0 source tokens tree → IsRead 0 source tokens' tree' →
+    scenario_named scenario tree.decls ≡ found → scenario_named scenario tree'.decls ≡ found' → found ≡ found'
+same_named scenario source tokens tokens' tree tree' found found' one two at at' =
+    sym at ∙ ap (λ (t : FileTree). scenario_named scenario t.decls) (same_tree source tokens tokens' tree tree' one two) ∙ at'
 
-may_end : (name : List ℕ) (fields : List WrittenField) → (fields ≡ [] → ⊥) → MayEnd (head_line name ∷ lines_of_fields fields)
-may_end name [] some = absurd (some refl)
-may_end name (f ∷ fs) some = whole_fields f fs
+some_is : {A : Type 0} (x y : A) → Some x ≡ Some y → x ≡ y
+some_is x y same = cc
 
-one_line : (source : List ℕ) (a b : ℕ) → BreaksAt source a → BreaksAt source b → a ≡ b
-one_line source a b one two =
-    let same = one_break [] one.before one.later two.before two.later (sym one.split ∙ two.split) one.fit two.fit one.breaks two.breaks in
-    let first = one.count in
-    let second = two.count in
-    omega (arith, same, first, second)
-
-never_both : (source name : List ℕ) (fields : List WrittenField) (line : ℕ) → Declares source name fields → BreaksAt source line → ⊥
-never_both source name fields line declares breaks =
-    no_break [] breaks.before breaks.later (lines_of source) (sym breaks.split) declares.fit
-    (subst MayEnd (sym declares.lines) (may_end name fields declares.some)) breaks.breaks
-
-one_name : (source a b : List ℕ) (fields fields' : List WrittenField) → Declares source a fields → Declares source b fields' → a ≡ b
-one_name source a b fields fields' one two =
-    let first : head_line a ≡ head_line b
-    = heads (head_line a) (head_line b) (lines_of_fields fields) (lines_of_fields fields') (sym one.lines ∙ two.lines) in
-    one_between (codes "scenario ") (codes ":\n") a b (head_line a) refl first
+none_some : {A : Type 0} (x : A) → None ≡ Some x → ⊥
+none_some x same = cc
 
 -- ---- Answers
 
@@ -85,26 +65,48 @@ Agree status status' text text' = (status ≡ status') × ((status ≡ 0 → ⊥
 agree : (status status' value : ℕ) (text text' : List ℕ) → status ≡ value → status' ≡ value → text ≡ text' → Agree status status' text text'
 agree status status' value text text' one two same = (one ∙ sym two, λ other. same)
 
-one_result : (file scenario source : List ℕ) (status status' : ℕ) (text text' : List ℕ) →
-    Compiles file scenario source status text → Compiles file scenario source status' text' → Agree status status' text text'
-one_result file scenario source status status' text text' (not_built line breaks s t) (not_built line' breaks' s' t') =
-    agree status status' 3 text text' s s' (t ∙ ap (λ l. fault_text 298 file l 1) (one_line source line line' breaks breaks') ∙ sym t')
-one_result file scenario source status status' text text' (not_built line breaks s t) (no_scenario name fields declares other s' t') =
-    absurd (never_both source name fields line declares breaks)
-one_result file scenario source status status' text text' (not_built line breaks s t) (runs fields run declares instance s' t') =
-    absurd (never_both source scenario fields line declares breaks)
-one_result file scenario source status status' text text' (no_scenario name fields declares other s t) (not_built line breaks s' t') =
-    absurd (never_both source name fields line declares breaks)
-one_result file scenario source status status' text text' (no_scenario name fields declares other s t) (no_scenario name' fields' declares' other' s' t') =
-    agree status status' 3 text text' s s' (t ∙ sym t')
-one_result file scenario source status status' text text' (no_scenario name fields declares other s t) (runs fields' run declares' instance s' t') =
-    absurd (other (one_name source name scenario fields fields' declares declares'))
-one_result file scenario source status status' text text' (runs fields run declares instance s t) (not_built line breaks s' t') =
-    absurd (never_both source scenario fields line declares breaks)
-one_result file scenario source status status' text text' (runs fields run declares instance s t) (no_scenario name fields' declares' other s' t') =
-    absurd (other (one_name source name scenario fields' fields declares' declares))
-one_result file scenario source status status' text text' (runs fields run declares instance s t) (runs fields' run' declares' instance' s' t') =
+one_result : (name scenario source : List ℕ) (status status' : ℕ) (text text' : List ℕ) →
+    Compiles name scenario source status text → Compiles name scenario source status' text' → Agree status status' text text'
+one_result name scenario source status status' text text' (refused fault is s t) (refused fault' is' s' t') =
+    agree status status' 3 text text' s s' (t ∙ ap (λ (f : Fault). fault_text name f.code f.place) (same_fault source fault fault' is is') ∙ sym t')
+one_result name scenario source status status' text text' (refused fault is s t) (not_built tokens tree place read at s' t') =
+    absurd (never_both source tokens tree fault read is)
+one_result name scenario source status status' text text' (refused fault is s t) (no_scenario tokens tree read at none s' t') =
+    absurd (never_both source tokens tree fault read is)
+one_result name scenario source status status' text text' (refused fault is s t) (runs tokens tree named run read at some instance s' t') =
+    absurd (never_both source tokens tree fault read is)
+one_result name scenario source status status' text text' (not_built tokens tree place read at s t) (refused fault is s' t') =
+    absurd (never_both source tokens tree fault read is)
+one_result name scenario source status status' text text' (no_scenario tokens tree read at none s t) (refused fault is s' t') =
+    absurd (never_both source tokens tree fault read is)
+one_result name scenario source status status' text text' (runs tokens tree named run read at some instance s t) (refused fault is s' t') =
+    absurd (never_both source tokens tree fault read is)
+one_result name scenario source status status' text text' (not_built tokens tree place read at s t) (not_built tokens' tree' place' read' at' s' t') =
+    agree status status' 3 text text' s s'
+    (t ∙ ap (fault_text name 298) (some_is place place' (same_unbuilt source tokens tokens' tree tree' (Some place) (Some place') read read' at at')) ∙ sym t')
+one_result name scenario source status status' text text' (not_built tokens tree place read at s t) (no_scenario tokens' tree' read' at' none' s' t') =
+    absurd (none_some place (same_unbuilt source tokens' tokens tree' tree None (Some place) read' read at' at))
+one_result name scenario source status status' text text' (not_built tokens tree place read at s t) (runs tokens' tree' named' run' read' at' some' instance' s' t') =
+    absurd (none_some place (same_unbuilt source tokens' tokens tree' tree None (Some place) read' read at' at))
+one_result name scenario source status status' text text' (no_scenario tokens tree read at none s t) (not_built tokens' tree' place' read' at' s' t') =
+    absurd (none_some place' (same_unbuilt source tokens tokens' tree tree' None (Some place') read read' at at'))
+one_result name scenario source status status' text text' (runs tokens tree named run read at some instance s t) (not_built tokens' tree' place' read' at' s' t') =
+    absurd (none_some place' (same_unbuilt source tokens tokens' tree tree' None (Some place') read read' at at'))
+one_result name scenario source status status' text text' (no_scenario tokens tree read at none s t) (no_scenario tokens' tree' read' at' none' s' t') =
+    agree status status' 3 text text' s s'
+    (t ∙ ap (λ (f : FileTree). fault_text name 324 f.end) (same_tree source tokens tokens' tree tree' read read') ∙ sym t')
+one_result name scenario source status status' text text' (no_scenario tokens tree read at none s t) (runs tokens' tree' named' run' read' at' some' instance' s' t') =
+    absurd (none_some named' (same_named scenario source tokens tokens' tree tree' None (Some named') read read' none some'))
+one_result name scenario source status status' text text' (runs tokens tree named run read at some instance s t) (no_scenario tokens' tree' read' at' none' s' t') =
+    absurd (none_some named (same_named scenario source tokens' tokens tree' tree None (Some named) read' read none' some))
+one_result name scenario source status status' text text' (runs tokens tree named run read at some instance s t) (runs tokens' tree' named' run' read' at' some' instance' s' t') =
     (s ∙ sym s', λ other. absurd (other s))
+
+heads : (a b : List ℕ) (xs ys : List (List ℕ)) → a ∷ xs ≡ b ∷ ys → a ≡ b
+heads a b xs ys same = cc
+
+tails : (a b : List ℕ) (xs ys : List (List ℕ)) → a ∷ xs ≡ b ∷ ys → xs ≡ ys
+tails a b xs ys same = cc
 
 same_file : (words : List (List ℕ)) (file file' scenario scenario' : List ℕ) → AsksForRun words file scenario → AsksForRun words file' scenario' → file ≡ file'
 same_file words file file' scenario scenario' one two =

@@ -1,149 +1,114 @@
 -- Words and files allow some answer.
-use Rattle.std.proofs.Common.{◌≡◌, ◌∙◌, refl, sym, ap, ap₂, subst, ℕ, ◌+◌, ◌<◌, ◌≤◌, pos, List, [], ◌∷◌, ◌++◌, length, map, Option, Some, None, Bool, true, false, ◌⊎◌, inl, inr, append_assoc, append-nil, codes, arith}
+use Rattle.std.proofs.Common.{◌≡◌, refl, subst, ℕ, ◌≤◌, pos, List, [], ◌∷◌, length, Option, Some, None, Bool, true, false, cond, nat_le, inl, inr, codes, arith}
+use Rattle.std.proofs.lemmas.Bool.{leb-true}
 use Rattle.std.proofs.lemmas.Bool.Decides.{leb_tells}
-use Rattle.std.specs.Str.{bytes_eq}
+use Rattle.std.specs.Option.{option_map_or}
 use Rattle.osc_base.specs.declared.path.Step.TheVariants.{Name}
+use Rattle.osc_base.specs.declared.fault.Place.{Place}
 use Rattle.outside_io.specs.declared.shelf.NamedBytes.{NamedBytes}
 use Rattle.outside_io.specs.Files.{file_named}
 use Rattle.composition.specs.declared.run.Run.{Run}
 use Rattle.composition.specs.declared.run.Value.{Value}
 use Rattle.composition.specs.declared.run.Held.TheVariants.{Number}
-use Rattle.composition.specs.Instance.{HoldFields, IsRangedInstance}
+use Rattle.composition.specs.Instance.{RangedField, HoldFields, IsRangedInstance}
 use Rattle.run_check.specs.RunText.{run_text}
+use Rattle.dsl_tree.specs.declared.token.Token.{Token}
+use Rattle.dsl_tree.specs.declared.rules.KeepKind.{KeepKind}
+use Rattle.dsl_tree.specs.declared.expr.RelationSign.{RelationSign}
+use Rattle.dsl_tree.specs.ExprTree.{ExprTree}
+use Rattle.dsl_tree.specs.PhaseTree.{RuleTree}
+use Rattle.dsl_tree.specs.FileTree.{MemberTree, CompoundTree, FileTree}
+use Rattle.dsl_tree.proofs.Ends.{tree_or_first_fault}
+use Rattle.dsl_lexer.specs.Language.{TokensCut}
+use Rattle.dsl_lexer.proofs.LawProofs as lexer
+use Rattle.dsl_lexer.proofs.Total.{cut_or_first_fault}
 use Rattle.scenario_tool.specs.Words.{AsksForRun}
-use Rattle.scenario_tool.specs.LineForm.{lines_of, head_line, field_line, keep_line, lines_of_fields, WrittenField, ranged, number_of, HasRange, AllHaveRange, Declares, BreaksAt, Fits, FitsAfter, IsKeepLine, AllFitAfter, MayEnd, IsWholeBody, end_line, end_column}
-use Rattle.scenario_tool.specs.Answers.{SomeAnswer, Answers, refused_words, missing, long, compiled, Compiles, not_built, no_scenario, runs, fault_text, missing_text, long_text, source_limit}
-use Rattle.scenario_tool.proofs.Forms.{snoc, behind_fields, field_fits, more_lines}
-use Rattle.scenario_tool.proofs.Pieces.{equal_bytes, other_bytes}
+use Rattle.scenario_tool.specs.Sources.{IsRead, lexical, syntactic}
+use Rattle.scenario_tool.specs.PairForm.{whole_number, range_of, held_range, ranged_fields, not_built_at, scenario_named}
+use Rattle.scenario_tool.specs.Answers.{SomeAnswer, Answers, refused_words, missing, long, compiled, Compiles, refused, not_built, no_scenario, runs, fault_text, missing_text, long_text, source_limit}
+use Rattle.scenario_tool.proofs.Reading.{ended}
 
--- ---- The fields of a source all of whose lines fit
+-- ---- A run for each list of members
 
--- fields that these lines write
-record Written (body : List (List ℕ)) : Type 0 where
-  fields : List WrittenField
-  lines : body ≡ lines_of_fields fields
-  ranges : AllHaveRange fields
+none_some : {A : Type 0} (x : A) → None ≡ Some x → ⊥
+none_some x same = cc
 
--- the field that a field line and its constraint line write
-record Pair (field keep : List ℕ) : Type 0 where
-  written : WrittenField
-  first : field ≡ field_line written.name
-  second : keep ≡ keep_line written
-  range : HasRange written
+least_below : (name : List ℕ) (least greatest : ℕ) (range : RangedField) (t : Bool) → nat_le least greatest ≡ t →
+    cond t (Some (record { name = name; least = least; greatest = greatest })) None ≡ Some range → range.least ≤ range.greatest
+least_below name least greatest range true below is =
+    let same : record { name = name; least = least; greatest = greatest } ≡ range = cc in
+    subst (λ (r : RangedField). r.least ≤ r.greatest) same (leb-true least greatest below)
+least_below name least greatest range false below is = absurd (none_some range is)
 
-pair_of : (written : List WrittenField) (field keep : List ℕ) → FitsAfter [] (lines_of_fields written ++ field ∷ []) keep → Pair field keep
-pair_of written field keep fits =
-    let of_field : IsKeepLine field keep = rw (behind_fields written [] (field ∷ []) keep) at fits in
-    record { written = of_field.field; first = of_field.same; second = of_field.written; range = of_field.range }
+ordered_of : (name : List ℕ) (low high : Option ℕ) (range : RangedField) → range_of name low high ≡ Some range → range.least ≤ range.greatest
+ordered_of name (Some least) (Some greatest) range is = least_below name least greatest range (nat_le least greatest) refl is
+ordered_of name (Some least) None range is = absurd (none_some range is)
+ordered_of name None high range is = absurd (none_some range is)
 
-behind_pair : (head field keep : List ℕ) (written : List WrittenField) (f : WrittenField) (rest : List (List ℕ)) → field ≡ field_line f.name → keep ≡ keep_line f →
-    AllFitAfter (head ∷ ((lines_of_fields written ++ field ∷ []) ++ keep ∷ [])) rest → AllFitAfter (head ∷ lines_of_fields (written ++ f ∷ [])) rest
-behind_pair head field keep written f rest first second fit =
-    subst (λ before. AllFitAfter (head ∷ before) rest)
-    (ap₂ (λ a b. (lines_of_fields written ++ a ∷ []) ++ b ∷ []) first second ∙ sym (more_lines written f)) fit
+ordered : (m : MemberTree) (range : RangedField) → held_range m ≡ Some range → range.least ≤ range.greatest
+ordered (MemberTree.Rule (RuleTree.Keep place KeepKind.Plain (ExprTree.Relation at RelationSign.Within (ExprTree.Name name) (ExprTree.Span from low high)))) range is =
+    ordered_of name.text (whole_number low) (whole_number high) range is
+ordered _ range is = absurd (none_some range is)
 
-fields_of : (head : List ℕ) (written : List WrittenField) (body : List (List ℕ)) → AllFitAfter (head ∷ lines_of_fields written) body → IsWholeBody body → Written body
-fields_of head written [] fit whole = absurd whole
-fields_of head written (field ∷ []) fit whole = absurd whole
-fields_of head written (field ∷ keep ∷ []) fit whole =
-    let one = pair_of written field keep fit.1.0 in
-    record { fields = one.written ∷ []; lines = ap₂ (λ a b. a ∷ b ∷ []) one.first one.second; ranges = (one.range, tt) }
-fields_of head written (field ∷ keep ∷ line ∷ rest) fit whole =
-    let one = pair_of written field keep fit.1.0 in
-    let more = fields_of head (written ++ one.written ∷ []) (line ∷ rest)
-    (behind_pair head field keep written one.written (line ∷ rest) one.first one.second fit.1.1) whole in
-    record {
-      fields = one.written ∷ more.fields;
-      lines = ap₂ (λ a b. a ∷ b ∷ line ∷ rest) one.first one.second ∙ ap (λ ls. field_line one.written.name ∷ keep_line one.written ∷ ls) more.lines;
-      ranges = (one.range, more.ranges);
-    }
+least_value : RangedField → Value
+least_value range = record { path = record { steps = Name range.name ∷ [] }; held = Number (pos range.least) }
 
-some_fields : (fields : List WrittenField) (body : List (List ℕ)) → body ≡ lines_of_fields fields → IsWholeBody body → fields ≡ [] → ⊥
-some_fields [] body same whole empty = subst IsWholeBody same whole
-some_fields (f ∷ fs) body same whole empty = cc
+-- values for the fields that the members hold in ranges
+record Held (fields : List RangedField) : Type 0 where
+  values : List Value
+  held : HoldFields fields values
 
--- a name and fields that the source declares
-record Declared (source : List ℕ) : Type 0 where
-  name : List ℕ
-  fields : List WrittenField
-  declares : Declares source name fields
+held_one : (m : MemberTree) (later : List RangedField) (o : Option RangedField) → held_range m ≡ o → Held later →
+    Held (option_map_or (λ (r : RangedField). r ∷ later) o later)
+unfolding least_value
+held_one m later None is h = h
+held_one m later (Some range) is h = record {
+  values = least_value range ∷ h.values;
+  held = (record { named = refl; number = range.least; held = refl; above = omega arith; below = ordered m range is }, h.held);
+}
 
-declared_by : (source : List ℕ) (lines : List (List ℕ)) → lines_of source ≡ lines → AllFitAfter [] lines → MayEnd lines → Declared source
-declared_by source [] same fit may = absurd may
-declared_by source (line ∷ body) same fit may =
-    let head = fit.0 in
-    let written = fields_of line [] body fit.1 may in
-    record {
-      name = head.scenario;
-      fields = written.fields;
-      declares = record {
-        lines = same ∙ ap₂ (λ a b. a ∷ b) head.written written.lines;
-        some = some_fields written.fields body written.lines may;
-        ranges = written.ranges;
-        fit = subst (AllFitAfter []) (sym same) fit;
-      };
-    }
+held_all : (ms : List MemberTree) → Held (ranged_fields ms)
+held_all [] = record { values = []; held = tt }
+held_all (m ∷ ms) = held_one m (ranged_fields ms) (held_range m) refl (held_all ms)
 
--- ---- Each source is of the form or breaks it
+run_of : List Value → Run
+run_of values = record { choices = []; end = 0; phases = []; traces = []; values = values }
 
-go_on : (source : List ℕ) (before later : List (List ℕ)) → ((line : ℕ) → BreaksAt source line → ⊥) → (Declared source → ⊥) →
-    lines_of source ≡ before ++ later → AllFitAfter [] before → ⊥
-go_on source before [] unbroken undeclared split fit =
-    let whole : lines_of source ≡ before = split ∙ append-nil before in
-    unbroken (length before + 1) (record {
-      before = before;
-      later = [];
-      split = split;
-      fit = fit;
-      count = refl;
-      breaks = λ may. undeclared (declared_by source before whole fit may);
-    })
-go_on source before (line ∷ later) unbroken undeclared split fit =
-    unbroken (length before + 1) (record {
-      before = before;
-      later = line ∷ later;
-      split = split;
-      fit = fit;
-      count = refl;
-      breaks = λ fits. go_on source (before ++ line ∷ []) later unbroken undeclared
-          (split ∙ sym (append_assoc before (line ∷ []) later)) (snoc [] before line fit fits);
-    })
-
--- ---- A run for each list of fields with ranges
-
-least_values : List WrittenField → List Value
-least_values [] = []
-least_values (f ∷ fs) = record { path = record { steps = Name f.name ∷ [] }; held = Number (pos (number_of f.low)) } ∷ least_values fs
-
-held_least : (fields : List WrittenField) → AllHaveRange fields → HoldFields (map ranged fields) (least_values fields)
-unfolding least_values
-held_least [] ranges = tt
-held_least (f ∷ fs) ranges =
-    (record { named = refl; number = number_of f.low; held = refl; above = omega arith; below = ranges.0.ordered }, held_least fs ranges.1)
-
-least_run : List WrittenField → Run
-least_run fields = record { choices = []; end = 0; phases = []; traces = []; values = least_values fields }
-
-is_instance : (fields : List WrittenField) → AllHaveRange fields → IsRangedInstance (map ranged fields) (least_run fields)
-unfolding least_run
-is_instance fields ranges = record { choices = refl; ends = refl; phases = refl; traces = refl; values = held_least fields ranges }
+is_instance : (fields : List RangedField) (h : Held fields) → IsRangedInstance fields (run_of h.values)
+unfolding run_of
+is_instance fields h = record { choices = refl; ends = refl; phases = refl; traces = refl; values = h.held }
 
 -- ---- Some answer
 
-compiled_name : (file scenario source name : List ℕ) (fields : List WrittenField) (t : Bool) → bytes_eq name scenario ≡ t → Declares source name fields →
-    ((status : ℕ) (text : List ℕ) → Compiles file scenario source status text → ⊥) → ⊥
-compiled_name file scenario source name fields true is declares none =
-    none 0 (run_text (least_run fields))
-    (runs fields (least_run fields) (subst (λ n. Declares source n fields) (equal_bytes name scenario is) declares) (is_instance fields declares.ranges) refl refl)
-compiled_name file scenario source name fields false is declares none =
-    none 3 (fault_text 324 file (end_line source) (end_column source)) (no_scenario name fields declares (other_bytes name scenario is) refl refl)
+abbrev NoAnswer : List ℕ → List ℕ → List ℕ → Type 0
+NoAnswer name scenario source = (status : ℕ) (text : List ℕ) → Compiles name scenario source status text → ⊥
 
-some_result : (file scenario source : List ℕ) → ((status : ℕ) (text : List ℕ) → Compiles file scenario source status text → ⊥) → ⊥
-some_result file scenario source none =
-    go_on source [] (lines_of source)
-    (λ line breaks. none 3 (fault_text 298 file line 1) (not_built line breaks refl refl))
-    (λ declared. compiled_name file scenario source declared.name declared.fields (bytes_eq declared.name scenario) refl declared.declares none)
-    refl tt
+some_named : (name scenario source : List ℕ) (tokens : List Token) (tree : FileTree) (named : Option CompoundTree) → IsRead 0 source tokens tree →
+    not_built_at tokens tree ≡ None → scenario_named scenario tree.decls ≡ named → NoAnswer name scenario source → ⊥
+some_named name scenario source tokens tree None read built is none =
+    none 3 (fault_text name 324 tree.end) (no_scenario tokens tree read built is refl refl)
+some_named name scenario source tokens tree (Some named) read built is none =
+    let h = held_all named.members in
+    none 0 (run_text (run_of h.values)) (runs tokens tree named (run_of h.values) read built is (is_instance (ranged_fields named.members) h) refl refl)
+
+some_read : (name scenario source : List ℕ) (tokens : List Token) (tree : FileTree) (found : Option Place) → IsRead 0 source tokens tree →
+    not_built_at tokens tree ≡ found → NoAnswer name scenario source → ⊥
+some_read name scenario source tokens tree (Some place) read is none = none 3 (fault_text name 298 place) (not_built tokens tree place read is refl refl)
+some_read name scenario source tokens tree None read is none =
+    some_named name scenario source tokens tree (scenario_named scenario tree.decls) read is refl none
+
+some_cut : (name scenario source : List ℕ) (tokens : List Token) → TokensCut 0 source tokens → NoAnswer name scenario source → ⊥
+some_cut name scenario source tokens cut none =
+    tree_or_first_fault tokens (ended tokens (lexer.end_is_last 0 source tokens cut))
+    (λ tree spelled. some_read name scenario source tokens tree (not_built_at tokens tree) (record { cut = cut; spelled = spelled }) refl none)
+    (λ fault first. none 3 (fault_text name fault.code fault.place) (refused fault (syntactic tokens cut first) refl refl))
+
+some_result : (name scenario source : List ℕ) → NoAnswer name scenario source → ⊥
+some_result name scenario source none =
+    elim (cut_or_first_fault 0 source) [
+      | inl tokens ↦ some_cut name scenario source tokens.0 tokens.1 none
+      | inr first ↦ none 3 (fault_text name first.0.code first.0.place) (refused first.0 (lexical first.1) refl refl)
+    ]
 
 some_loaded : (files : List NamedBytes) (words : List (List ℕ)) (file scenario : List ℕ) (found : Option (List ℕ)) → AsksForRun words file scenario →
     file_named files file ≡ found → ((status : ℕ) (text : List ℕ) → Answers files words status text → ⊥) → ⊥

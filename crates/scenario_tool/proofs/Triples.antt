@@ -1,5 +1,5 @@
 -- A list of three.
-use Rattle.std.proofs.Common.{◌≡◌, ◌∙◌, refl, sym, ap, ℕ, ◌≤◌, ◌<◌, List, [], ◌∷◌, length, arith}
+use Rattle.std.proofs.Common.{◌≡◌, refl, ◌≤◌, ◌<◌, List, [], ◌∷◌, length, arith}
 use Rattle.std.proofs.Math.ListN.{get_or}
 
 pub three : {X : Type 0} (xs : List X) (a b c : X) → 3 ≤ length xs → length xs < 4 →

@@ -1,6 +1,6 @@
 -- What `command` may answer: a status and a text. A status is 0 for a run, 3 for a refused source, 4 for refused words, 6 for
 -- a file, 7 where the sink failed and 8 where memory is missing.
-use Rattle.std.specs.Prelude.{◌≡◌, ◌<◌, ◌≤◌, ℕ, List, ◌++◌, Option, Some, None, IfSome, length, map, codes, ◌⊎◌}
+use Rattle.std.specs.Prelude.{◌≡◌, ◌<◌, ◌≤◌, ℕ, List, ◌++◌, Option, Some, None, IfSome, length, codes, ◌⊎◌}
 use Rattle.std.specs.Fmt.{decimal}
 use Rattle.std.specs.Io.KnownBytes.{append_known}
 use Rattle.outside_io.specs.declared.shelf.NamedBytes.{NamedBytes}
@@ -11,14 +11,19 @@ use Rattle.composition.specs.declared.run.Run.{Run}
 use Rattle.composition.specs.Instance.{IsRangedInstance}
 use Rattle.run_check.specs.RunText.{run_text}
 use Rattle.scenario_tool.specs.Words.{AsksForRun, AskForNothing}
-use Rattle.scenario_tool.specs.LineForm.{WrittenField, Declares, BreaksAt, ranged, end_line, end_column}
+use Rattle.osc_base.specs.declared.fault.Place.{Place}
+use Rattle.osc_base.specs.declared.fault.Fault.{Fault}
+use Rattle.dsl_tree.specs.declared.token.Token.{Token}
+use Rattle.dsl_tree.specs.FileTree.{FileTree, CompoundTree}
+use Rattle.scenario_tool.specs.Sources.{IsRead, IsRefused}
+use Rattle.scenario_tool.specs.PairForm.{not_built_at, scenario_named, ranged_fields}
 
 -- ---- Texts
 
 -- `fault CODE FILE:LINE:COLUMN`
-abbrev pub fault_text : ℕ → List ℕ → ℕ → ℕ → List ℕ
-fault_text code file line column =
-    codes "fault " ++ decimal code ++ codes " " ++ file ++ codes ":" ++ decimal line ++ codes ":" ++ decimal column ++ codes "\n"
+abbrev pub fault_text : List ℕ → ℕ → Place → List ℕ
+fault_text file code place =
+    codes "fault " ++ decimal code ++ codes " " ++ file ++ codes ":" ++ decimal place.line ++ codes ":" ++ decimal place.column ++ codes "\n"
 
 -- `missing NAME`, `long NAME`, `shelf NAME`
 abbrev pub missing_text : List ℕ → List ℕ
@@ -38,12 +43,15 @@ source_limit = 1048576
 
 -- what a source that was loaded is answered with
 pub data Compiles (file scenario source : List ℕ) (status : ℕ) (text : List ℕ) : Type 0 where
-  not_built : (line : ℕ) → BreaksAt source line → status ≡ 3 → text ≡ fault_text 298 file line 1 →
+  refused : (fault : Fault) → IsRefused 0 source fault → status ≡ 3 → text ≡ fault_text file fault.code fault.place →
       Compiles file scenario source status text
-  no_scenario : (name : List ℕ) (fields : List WrittenField) → Declares source name fields → (name ≡ scenario → ⊥) → status ≡ 3 →
-      text ≡ fault_text 324 file (end_line source) (end_column source) → Compiles file scenario source status text
-  runs : (fields : List WrittenField) (run : Run) → Declares source scenario fields → IsRangedInstance (map ranged fields) run → status ≡ 0 →
-      text ≡ run_text run → Compiles file scenario source status text
+  not_built : (tokens : List Token) (tree : FileTree) (place : Place) → IsRead 0 source tokens tree → not_built_at tokens tree ≡ Some place →
+      status ≡ 3 → text ≡ fault_text file 298 place → Compiles file scenario source status text
+  no_scenario : (tokens : List Token) (tree : FileTree) → IsRead 0 source tokens tree → not_built_at tokens tree ≡ None →
+      scenario_named scenario tree.decls ≡ None → status ≡ 3 → text ≡ fault_text file 324 tree.end → Compiles file scenario source status text
+  runs : (tokens : List Token) (tree : FileTree) (named : CompoundTree) (run : Run) → IsRead 0 source tokens tree →
+      not_built_at tokens tree ≡ None → scenario_named scenario tree.decls ≡ Some named → IsRangedInstance (ranged_fields named.members) run →
+      status ≡ 0 → text ≡ run_text run → Compiles file scenario source status text
 
 -- the answers that words and files allow, where nothing outside fails
 pub data Answers (files : List NamedBytes) (words : List (List ℕ)) (status : ℕ) (text : List ℕ) : Type 0 where

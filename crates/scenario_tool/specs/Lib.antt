@@ -1,6 +1,6 @@
 pub mod Answers
-pub mod Entries
-pub mod Fields
-pub mod LineForm
-pub mod Names
+pub mod PairForm
+pub mod Ranges
+pub mod Sources
+pub mod Stops
 pub mod Words

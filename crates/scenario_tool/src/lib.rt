@@ -3,8 +3,9 @@
 
 mod compile;
 mod laws;
-mod line_form;
 mod load;
+mod pair_form;
+mod read;
 mod replies;
 mod top;
 mod words;

@@ -1,7 +1,7 @@
 ghost use Rattle.std.specs.Prelude.{◌≡◌, IfOk, codes};
 ghost use Rattle.scenario_tool.specs.Answers.{fault_text, missing_text, long_text, shelf_text};
 
-use osc_base::Text;
+use osc_base::{Place, Text};
 use std::alloc::{AllocError, Global};
 
 /// A status and the text that comes with it.
@@ -12,16 +12,11 @@ pub struct Reply {
 }
 
 /// The source has a fault at this place.
-pub fn fault(
-    alloc: Global,
-    code: u16,
-    file: &str,
-    line: usize,
-    column: usize,
-) -> Result<Reply, AllocError>
+pub fn fault(alloc: Global, code: u16, file: &str, place: Place) -> Result<Reply, AllocError>
     ensures status { IfOk result (λ reply. reply.status ≡ 3) }
-    ensures text { IfOk result (λ reply. reply.text ≡ fault_text code file.now line column) }
+    ensures text { IfOk result (λ reply. reply.text ≡ fault_text file.now code place) }
 {
+    let (line, column) = (place.line, place.column);
     let text = Text::of(format!(in alloc; "fault {code} {file}:{line}:{column}\n")?);
     Ok(Reply { status: 3, text })
 }

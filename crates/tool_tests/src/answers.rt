@@ -60,7 +60,7 @@ const GENERATE: [&str; 3] = ["generate", "main.osc", "top"];
 
 #[test]
 fn sources(rt: HostRuntime) -> Result<(), Fail> {
-    let rows: [(&str, &str); 19] = [
+    let rows: [(&str, &str); 35] = [
         (
             SOURCE,
             "0 {\"choices\":[],\"end\":0,\"form\":1,\"phases\":[],\"traces\":[],\"values\":[[\"x\",3]]}\n",
@@ -70,66 +70,115 @@ fn sources(rt: HostRuntime) -> Result<(), Fail> {
             "0 {\"choices\":[],\"end\":0,\"form\":1,\"phases\":[],\"traces\":[],\"values\":[[\"x\",3],[\"y\",0]]}\n",
         ),
         (
-            "scenario top:\n    int: int\n    keep(int in [012..12])\n    n: int\n    keep(n in [999999999..999999999])\n",
-            "0 {\"choices\":[],\"end\":0,\"form\":1,\"phases\":[],\"traces\":[],\"values\":[[\"int\",12],[\"n\",999999999]]}\n",
-        ),
-        ("", "3 fault 298 main.osc:1:1\n"),
-        (
-            "scenario top:\n    x: int\n    keep(x in [1..1000000000])\n",
-            "3 fault 298 main.osc:3:1\n",
+            "scenario top:\n    int: int\n    keep(int in [0x10..020])\n    n: int\n    keep(n in [1000000000..1000000000])\n",
+            "0 {\"choices\":[],\"end\":0,\"form\":1,\"phases\":[],\"traces\":[],\"values\":[[\"int\",16],[\"n\",1000000000]]}\n",
         ),
         (
-            "scenario top:\n    x: int\n    keep(x in [..3])\n",
-            "3 fault 298 main.osc:3:1\n",
-        ),
-        (
-            "scenario top:\n    x: int\n    keep(x in [0x3..3])\n",
-            "3 fault 298 main.osc:3:1\n",
+            "scenario \\\ntop\\\n:\n    x: \\\n  int\n    keep(x in # one [\n  [007..7]) # two",
+            "0 {\"choices\":[],\"end\":0,\"form\":1,\"phases\":[],\"traces\":[],\"values\":[[\"x\",7]]}\n",
         ),
         (
             "scenario top:\r\n    x: int\r\n    keep(x in [3..3])\r\n",
-            "3 fault 298 main.osc:1:1\n",
+            "0 {\"choices\":[],\"end\":0,\"form\":1,\"phases\":[],\"traces\":[],\"values\":[[\"x\",3]]}\n",
         ),
         (
-            "scenario other:\n    9x: int\n",
-            "3 fault 298 main.osc:2:1\n",
+            "scenario top\n",
+            "0 {\"choices\":[],\"end\":0,\"form\":1,\"phases\":[],\"traces\":[],\"values\":[]}\n",
+        ),
+        ("scenario top:\n\tx: int\n", "3 fault 102 main.osc:2:1\n"),
+        (
+            "scenario top:\n        x: int\n    y: int\n",
+            "3 fault 103 main.osc:3:5\n",
         ),
         (
-            "scenario top:\n    cover: int\n    keep(cover in [3..3])\n",
-            "3 fault 298 main.osc:2:1\n",
+            "scenario top:\n    x int\n    keep(x % 3)\n",
+            "3 fault 104 main.osc:3:12\n",
+        ),
+        ("foo\n", "3 fault 201 main.osc:1:1\n"),
+        (
+            "scenario top:\n    x: int\n    keep(x ==\n",
+            "3 fault 201 main.osc:4:1\n",
+        ),
+        (
+            "scenario top:\n    x: int\n    keep(x in [1..2)\n",
+            "3 fault 201 main.osc:3:20\n",
+        ),
+        (
+            "scenario top:\n    y: float\n    cover(y)\n",
+            "3 fault 202 main.osc:3:5\n",
         ),
         (
             "scenario top:\n    y: float\n",
-            "3 fault 298 main.osc:2:1\n",
+            "3 fault 298 main.osc:2:5\n",
         ),
         (
-            "scenario top:\n    x: int\n    keep(x in [3..3])",
-            "3 fault 298 main.osc:3:1\n",
-        ),
-        (
-            "scenario other:\n    x: int\n    keep(x in [3..3])\n",
-            "3 fault 324 main.osc:4:1\n",
-        ),
-        (
-            "scenario int:\n    x: int\n    keep(x in [3..3])\n",
-            "3 fault 298 main.osc:1:1\n",
-        ),
-        ("scenario top:\n", "3 fault 298 main.osc:2:1\n"),
-        (
-            "scenario top:\n    x: int\n    keep(y in [3..3])\n",
-            "3 fault 298 main.osc:3:1\n",
-        ),
-        (
-            "scenario top:\n    x: int\n    keep(x in [4..3])\n",
-            "3 fault 298 main.osc:3:1\n",
-        ),
-        (
-            "scenario top:\n    x: int\n    keep(x in [3..3])\n    x: int\n    keep(x in [3..3])\n",
-            "3 fault 298 main.osc:4:1\n",
+            "scenario top:\n    x: int = 3\n    keep(x in [3..3])\n",
+            "3 fault 298 main.osc:2:5\n",
         ),
         (
             "scenario top:\n    duration: int\n    keep(duration in [3..3])\n",
+            "3 fault 298 main.osc:2:5\n",
+        ),
+        (
+            "scenario top:\n    do wait elapsed(1s)\n",
+            "3 fault 298 main.osc:2:5\n",
+        ),
+        ("scenario top:\n    x: int\n", "3 fault 298 main.osc:2:5\n"),
+        (
+            "scenario top:\n    x: int\n    keep(y in [3..3])\n",
+            "3 fault 298 main.osc:3:5\n",
+        ),
+        (
+            "scenario top:\n    x: int\n    keep(x in [4..3])\n",
+            "3 fault 298 main.osc:3:5\n",
+        ),
+        (
+            "scenario top:\n    x: int\n    keep(x in [3..1000000001])\n",
+            "3 fault 298 main.osc:3:5\n",
+        ),
+        (
+            "scenario top:\n    x: int\n    keep(x in [3.0..3])\n",
+            "3 fault 298 main.osc:3:5\n",
+        ),
+        (
+            "scenario top:\n    x: int\n    keep(x == 3)\n",
+            "3 fault 298 main.osc:3:5\n",
+        ),
+        (
+            "scenario top:\n    x: int\n    keep(hard x in [3..3])\n",
+            "3 fault 298 main.osc:3:5\n",
+        ),
+        (
+            "scenario top:\n    x: int\n    remove_default(x)\n",
+            "3 fault 298 main.osc:3:5\n",
+        ),
+        (
+            "scenario top:\n    x: int\n    keep(x in [3..3])\n    keep(x in [3..3])\n",
+            "3 fault 298 main.osc:4:5\n",
+        ),
+        (
+            "scenario top:\n    x: int\n    keep(x in [3..3])\n    x: int\n    keep(x in [3..3])\n",
+            "3 fault 298 main.osc:4:5\n",
+        ),
+        (
+            "import osc.standard\nimport lib\nscenario top:\n    x: int\n    keep(x in [3..3])\n",
+            "3 fault 298 main.osc:1:1\n",
+        ),
+        ("struct s\n", "3 fault 298 main.osc:1:1\n"),
+        ("scenario int\n", "3 fault 298 main.osc:1:1\n"),
+        ("scenario top inherits base\n", "3 fault 298 main.osc:1:1\n"),
+        (
+            "scenario top\nscenario other\n",
             "3 fault 298 main.osc:2:1\n",
+        ),
+        (
+            "scenario other:\n    y: float\n",
+            "3 fault 298 main.osc:2:5\n",
+        ),
+        ("", "3 fault 324 main.osc:1:1\n"),
+        (
+            "scenario other:\n    x: int\n    keep(x in [3..3])\n",
+            "3 fault 324 main.osc:4:1\n",
         ),
     ];
     for (source, want) in rows {
@@ -162,7 +211,9 @@ fn words_and_files(rt: HostRuntime) -> Result<(), Fail> {
     let got = answer(alloc, &GENERATE, Some(&long), SOUND)?;
     assert_eq!(rt; got.as_str(), "6 long main.osc\n");
     let got = answer(alloc, &GENERATE, Some(&long[1..]), SOUND)?;
-    assert_eq!(rt; got.as_str(), "3 fault 298 main.osc:1:1\n");
+    assert_eq!(rt; got.as_str(), "3 fault 324 main.osc:1:1048577\n");
+    let bytes = answer(alloc, &GENERATE, Some(b"#\xff".as_slice()), SOUND)?;
+    assert_eq!(rt; bytes.as_str(), "3 fault 101 main.osc:1:2\n");
     one_answer();
     some_answer();
     Ok(())

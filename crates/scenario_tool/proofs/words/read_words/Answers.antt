@@ -1,7 +1,5 @@
 use Rattle.std.proofs.Common.{◌≡◌, ◌∙◌, sym, ap, ap₂, ◌∷◌, [], map, string_bytes, codes, refl, true, false, not, Bool}
-use Rattle.std.specs.Str.{bytes_eq}
-use Rattle.scenario_tool.specs.Words.{has_dash}
-use Rattle.scenario_tool.proofs.Pieces.{equal_bytes}
+use Rattle.scenario_tool.proofs.Bytes.{equal_bytes}
 use Rattle.scenario_tool.proofs.Triples.{three}
 use Rattle.scenario_tool.proofs.words.read_words.Goals as goal
 

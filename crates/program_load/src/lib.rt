@@ -1,0 +1,11 @@
+//! The load of a program: its main file and what its files import, from a shelf.
+#![tactic(auto)]
+
+mod loader;
+mod read;
+mod source;
+mod stop;
+mod turn;
+
+pub use loader::load;
+pub use stop::LoadStop;

@@ -1,0 +1,9 @@
+//! What is built of the language so far: `docs/LANGUAGE.md` has the form.
+mod declarations;
+mod members;
+mod names;
+mod ranges;
+mod values;
+
+pub use declarations::{not_built, scenario_named};
+pub use values::least_values;
