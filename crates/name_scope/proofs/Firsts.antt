@@ -9,20 +9,20 @@ pub first_from_joined : (first : Option Fault) (rs ss : List FaultRow) → first
 first_from_joined first [] ss = refl
 first_from_joined first (r ∷ rs) ss = first_from_joined (first_of first (row_fault r)) rs ss
 
-before_precedes : (f g : Fault) → is_before f g ≡ true → Precedes f g
+pub before_precedes : (f g : Fault) → is_before f g ≡ true → Precedes f g
 before_precedes f g h = grind (arith, nat_tests)
 
-not_before : (f g : Fault) → is_before g f ≡ false → Precedes f g
+pub not_before : (f g : Fault) → is_before g f ≡ false → Precedes f g
 not_before f g h = grind (arith, nat_tests)
 
-follows : (f g h : Fault) → Precedes f g → Precedes g h → Precedes f h
+pub follows : (f g h : Fault) → Precedes f g → Precedes g h → Precedes f h
 follows f g h p q = grind arith
 
-same_set : (P Q : Fault → Type 0) → ((f : Fault) → P f → Q f) → ((f : Fault) → Q f → P f) → (o : Option Fault) → IsFirst P o → IsFirst Q o
+pub same_set : (P Q : Fault → Type 0) → ((f : Fault) → P f → Q f) → ((f : Fault) → Q f → P f) → (o : Option Fault) → IsFirst P o → IsFirst Q o
 same_set P Q to from None h = λ f q. h f (from f q)
 same_set P Q to from (Some f) h = (to f h.0, λ g q. h.1 g (from g q))
 
-union : (P Q : Fault → Type 0) (a b : Option Fault) → IsFirst P a → IsFirst Q b → IsFirst (λ f. P f ⊎ Q f) (first_of a b)
+pub union : (P Q : Fault → Type 0) (a b : Option Fault) → IsFirst P a → IsFirst Q b → IsFirst (λ f. P f ⊎ Q f) (first_of a b)
 union P Q None None p q = λ f h. elim h [ inl x ↦ p f x | inr y ↦ q f y ]
 union P Q None (Some g) p q = (inr q.0, λ f h. elim h [ inl x ↦ absurd (p f x) | inr y ↦ q.1 f y ])
 union P Q (Some f) None p q = (inl p.0, λ g h. elim h [ inl x ↦ p.1 g x | inr y ↦ absurd (q g y) ])
@@ -32,7 +32,7 @@ union P Q (Some f) (Some g) p q = by (is_before g f) refl
     by true e = (inr q.0, λ h s. elim s [ inl x ↦ follows g f h (before_precedes g f e) (p.1 h x) | inr y ↦ q.1 h y ])
     by false e = (inl p.0, λ h s. elim s [ inl x ↦ p.1 h x | inr y ↦ follows f g h (not_before f g e) (q.1 h y) ])
 
-row_first : (r : FaultRow) → IsFirst (λ f. (r.holds ≡ true) × (f ≡ r.fault)) (row_fault r)
+pub row_first : (r : FaultRow) → IsFirst (λ f. (r.holds ≡ true) × (f ≡ r.fault)) (row_fault r)
 row_first r = by r.holds refl
   where
     precedes_itself : (f : Fault) → Precedes f f
@@ -41,7 +41,7 @@ row_first r = by r.holds refl
     by true e = ((e, refl), λ g h. subst (Precedes r.fault) (sym h.1) (precedes_itself r.fault))
     by false e = λ f h. true≢false (sym h.0 ∙ e)
 
-first_from_is : (P : Fault → Type 0) (first : Option Fault) (rs : List FaultRow) → IsFirst P first → IsFirst (λ f. P f ⊎ IsFault rs f) (first_from first rs)
+pub first_from_is : (P : Fault → Type 0) (first : Option Fault) (rs : List FaultRow) → IsFirst P first → IsFirst (λ f. P f ⊎ IsFault rs f) (first_from first rs)
 first_from_is P first [] h = same_set P (λ f. P f ⊎ ⊥) (λ f x. inl x) (λ f s. elim s [ inl x ↦ x | inr y ↦ absurd y ]) first h
 first_from_is P first (r ∷ rs) h =
     let Here : Fault → Type 0 = λ f. (r.holds ≡ true) × (f ≡ r.fault) in

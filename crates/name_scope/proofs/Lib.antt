@@ -5,3 +5,4 @@ pub mod Mentions
 pub mod Places
 pub mod HeadingRows
 pub mod Worked
+pub mod Finds

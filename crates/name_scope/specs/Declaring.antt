@@ -1,5 +1,5 @@
 -- The names that declarations declare, and which declaration a name means.
-use Rattle.std.specs.Prelude.{ℕ, ◌+◌, ◌&&◌, Bool, true, false, cond, List, [], ◌∷◌, Option, Some, None, option_map, bytes_eq}
+use Rattle.std.specs.Prelude.{◌≡◌, ℕ, ◌+◌, ◌&&◌, Bool, true, false, cond, List, [], ◌∷◌, Option, Some, None, option_map, slice_get, bytes_eq}
 use Rattle.std.specs.Option.{option_or}
 use Rattle.osc_base.specs.declared.fault.Place.{Place}
 use Rattle.dsl_tree.specs.declared.parts.Ident.{Ident}
@@ -76,3 +76,11 @@ found_from number kind owner name (f ∷ fs) =
 
 abbrev pub found : NameKind → Option (List ℕ) → List ℕ → List AddedFile → Option DeclId
 found kind owner name files = found_from 0 kind owner name files
+
+-- the declaration is there, and declares the name
+pub record IsDeclared (kind : NameKind) (owner : Option (List ℕ)) (name : List ℕ) (files : List AddedFile) (id : DeclId) : Type 0 where
+  pub file : AddedFile
+  pub declaration : Declaration
+  pub file_stands : slice_get files id.file ≡ Some file
+  pub declaration_stands : slice_get file.file.decls id.index ≡ Some declaration
+  pub declares_it : declares kind owner name declaration ≡ true

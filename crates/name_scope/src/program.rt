@@ -4,7 +4,7 @@ ghost use Rattle.dsl_tree.specs.Language.{FollowsGrammar};
 ghost use Rattle.dsl_tree.specs.Views.{file_tree};
 ghost use Rattle.name_scope.specs.Loading.{name_text, numbered_names, names_before, adding_fault, wanted_name, wanted_mention};
 ghost use Rattle.name_scope.specs.Wanted.{file_name};
-ghost use Rattle.name_scope.specs.Declaring.{found};
+ghost use Rattle.name_scope.specs.Declaring.{found, IsDeclared};
 ghost use Rattle.name_scope.specs.FaultRows.{IsFault, IsFirst, first_fault};
 ghost use Rattle.name_scope.specs.Headings.{heading_rows};
 ghost use Rattle.name_scope.specs.Loading.{first_mention as mention_in};
@@ -127,7 +127,8 @@ impl Program {
     /// The first declaration of the name, in load order. Only behaviours have owners. `None` exactly where
     /// nothing of that kind, owner and name is declared.
     pub fn find(&self, kind: NameKind, owner: Option<&str>, name: &str) -> Option<DeclId>
-        ensures { result ≡ found kind (option_copied owner.entry) name.now self.now }
+        ensures first { result ≡ found kind (option_copied owner.entry) name.now self.now }
+        ensures there { IfSome result (IsDeclared kind (option_copied owner.entry) name.now self.now) }
     {
         find_in(self.sources.as_slice(), kind, owner, name)
     }
