@@ -59,10 +59,13 @@ fn no_scenario(alloc: Global, program: &Program) -> Result<Reply, AllocError>
     ensures status { IfOk result (λ reply. reply.status ≡ 3) }
     ensures text { IfOk result (λ reply. (main : AddedFile) → slice_get program.now 0 ≡ Some main → reply.text ≡ fault_text main.name 324 (file_tree main.file).end) }
 {
-    match (program.name(0), program.file(0)) {
-        (Some(name), Some(main)) => fault(alloc, NO_SCENARIO, name, main.end),
-        _ => unreachable!(),
-    }
+    let Some(name) = program.name(0) else {
+        unreachable!()
+    };
+    let Some(main) = program.file(0) else {
+        unreachable!()
+    };
+    fault(alloc, NO_SCENARIO, name, main.end)
 }
 
 /// Writes a run in which each field holds its least number.
