@@ -1,6 +1,6 @@
 -- Which files a program has: the names that its files mention, numbered in order, and the imports that stop the load.
 use Rattle.std.specs.Prelude.{ℕ, ◌||◌, Bool, true, false, cond, List, [], ◌∷◌, ◌++◌, Option, Some, None, length, slice_get, nat_lt, codes, bytes_eq}
-use Rattle.std.specs.Option.{option_or}
+use Rattle.std.specs.Option.{option_or, option_map_or}
 use Rattle.std.specs.List.{list_any}
 use Rattle.osc_base.specs.declared.fault.Place.{Place}
 use Rattle.osc_base.specs.declared.fault.Fault.{Fault}
@@ -89,6 +89,14 @@ names_before (main ∷ others) name = numbered_names (main ∷ others)
 -- the fault for which a file isn't added
 abbrev pub adding_fault : List AddedFile → AddedFile → Option Fault
 adding_fault files added = first_import_fault (names_before files added.name) added.file.imports
+
+-- whether the file of that number is the library
+abbrev pub is_library : FileName → Bool
+is_library FileName.Library = true
+is_library (FileName.Named text) = false
+
+abbrev pub is_library_at : List AddedFile → ℕ → Bool
+is_library_at files number = option_map_or is_library (slice_get (numbered_names files) number) false
 
 -- The name of the next file: the one whose number is the count of the added files.
 abbrev pub wanted_name : List AddedFile → Option FileName

@@ -2,7 +2,7 @@ ghost use Rattle.std.specs.Prelude.{◌≡◌, [], ◌∷◌, ◌++◌, ◌⊎�
 ghost use Rattle.osc_base.specs.declared.fault.Fault.{Fault};
 ghost use Rattle.dsl_tree.specs.Language.{FollowsGrammar};
 ghost use Rattle.dsl_tree.specs.Views.{file_tree};
-ghost use Rattle.name_scope.specs.Loading.{name_text, numbered_names, names_before, adding_fault, wanted_name, wanted_mention};
+ghost use Rattle.name_scope.specs.Loading.{name_text, is_library_at, numbered_names, names_before, adding_fault, wanted_name, wanted_mention};
 ghost use Rattle.name_scope.specs.Wanted.{file_name};
 ghost use Rattle.name_scope.specs.Declaring.{found, IsDeclared};
 ghost use Rattle.name_scope.specs.FaultRows.{IsFault, IsFirst, first_fault};
@@ -158,6 +158,13 @@ impl Program {
     {
         let source = self.sources.get(number as usize)?;
         Some(source.file())
+    }
+
+    /// Whether the file of that number is the library. A file of the shelf that is called `osc` isn't.
+    pub fn is_library(&self, number: u32) -> bool
+        ensures { result ≡ is_library_at self.now number }
+    {
+        matches!(self.names.get(number as usize), Some(FileName::Library))
     }
 
     /// The name of the file of that number, `osc` for the library. `None` exactly where the number isn't

@@ -1,32 +1,33 @@
 -- Words and files allow some answer.
-use Rattle.std.proofs.Common.{◌≡◌, refl, subst, ℕ, ◌≤◌, pos, List, [], ◌∷◌, length, Option, Some, None, Bool, true, false, cond, nat_le, inl, inr, codes, arith}
+use Rattle.std.proofs.Common.{◌≡◌, ◌∙◌, refl, sym, subst, ℕ, ◌≤◌, pos, List, [], ◌∷◌, Option, Some, None, Bool, true, false, cond, nat_le, codes, arith}
+use Rattle.std.specs.Prelude.{◌≢◌, slice_get}
 use Rattle.std.proofs.lemmas.Bool.{leb-true}
-use Rattle.std.proofs.lemmas.Bool.Decides.{leb_tells}
 use Rattle.std.specs.Option.{option_map_or}
 use Rattle.osc_base.specs.declared.path.Step.TheVariants.{Name}
 use Rattle.osc_base.specs.declared.fault.Place.{Place}
+use Rattle.osc_base.specs.declared.fault.Fault.{Fault}
 use Rattle.outside_io.specs.declared.shelf.NamedBytes.{NamedBytes}
-use Rattle.outside_io.specs.Files.{file_named}
 use Rattle.composition.specs.declared.run.Run.{Run}
 use Rattle.composition.specs.declared.run.Value.{Value}
 use Rattle.composition.specs.declared.run.Held.TheVariants.{Number}
 use Rattle.composition.specs.Instance.{RangedField, HoldFields, IsRangedInstance}
 use Rattle.run_check.specs.RunText.{run_text}
-use Rattle.dsl_tree.specs.declared.token.Token.{Token}
 use Rattle.dsl_tree.specs.declared.rules.KeepKind.{KeepKind}
 use Rattle.dsl_tree.specs.declared.expr.RelationSign.{RelationSign}
 use Rattle.dsl_tree.specs.ExprTree.{ExprTree}
 use Rattle.dsl_tree.specs.PhaseTree.{RuleTree}
-use Rattle.dsl_tree.specs.FileTree.{MemberTree, CompoundTree, FileTree}
-use Rattle.dsl_tree.proofs.Ends.{tree_or_first_fault}
-use Rattle.dsl_lexer.specs.Language.{TokensCut}
-use Rattle.dsl_lexer.proofs.LawProofs as lexer
-use Rattle.dsl_lexer.proofs.Total.{cut_or_first_fault}
-use Rattle.scenario_tool.specs.Words.{AsksForRun}
-use Rattle.scenario_tool.specs.Sources.{IsRead, lexical, syntactic}
-use Rattle.scenario_tool.specs.PairForm.{whole_number, range_of, held_range, ranged_fields, not_built_at, scenario_named}
-use Rattle.scenario_tool.specs.Answers.{SomeAnswer, Answers, refused_words, missing, long, compiled, Compiles, refused, not_built, no_scenario, runs, fault_text, missing_text, long_text, source_limit}
-use Rattle.scenario_tool.proofs.Reading.{ended}
+use Rattle.dsl_tree.specs.FileTree.{MemberTree, CompoundTree}
+use Rattle.dsl_tree.specs.Views.{file_tree}
+use Rattle.name_scope.specs.Loading.{AddedFile}
+use Rattle.name_scope.specs.FaultRows.{first_fault}
+use Rattle.name_scope.specs.Headings.{heading_rows}
+use Rattle.program_load.specs.Loading.{IsLoaded, name_at}
+use Rattle.program_load.proofs.Total.{some_load}
+use Rattle.command_words.specs.Words.{Asked, Wanted, request}
+use Rattle.scenario_tool.specs.PairForm.{whole_number, range_of, held_range, ranged_fields}
+use Rattle.scenario_tool.specs.Programs.{not_built_at, scenario_named}
+use Rattle.scenario_tool.specs.Answers.{SomeAnswer, Answers, helps, refused_words, stopped, compiled, Compiles, not_built, bad_heading, no_scenario, runs, fault_text, stop_status, stop_text}
+use Rattle.scenario_tool.proofs.Compiled.{main_there}
 
 -- ---- A run for each list of members
 
@@ -80,45 +81,40 @@ is_instance fields h = record { choices = refl; ends = refl; phases = refl; trac
 
 -- ---- Some answer
 
-abbrev NoAnswer : List ℕ → List ℕ → List ℕ → Type 0
-NoAnswer name scenario source = (status : ℕ) (text : List ℕ) → Compiles name scenario source status text → ⊥
+abbrev NoAnswer : List AddedFile → List ℕ → Type 0
+NoAnswer program scenario = (status : ℕ) (text : List ℕ) → Compiles program scenario status text → ⊥
 
-some_named : (name scenario source : List ℕ) (tokens : List Token) (tree : FileTree) (named : Option CompoundTree) → IsRead 0 source tokens tree →
-    not_built_at tokens tree ≡ None → scenario_named scenario tree.decls ≡ named → NoAnswer name scenario source → ⊥
-some_named name scenario source tokens tree None read built is none =
-    none 3 (fault_text name 324 tree.end) (no_scenario tokens tree read built is refl refl)
-some_named name scenario source tokens tree (Some named) read built is none =
-    let h = held_all named.members in
-    none 0 (run_text (run_of h.values)) (runs tokens tree named (run_of h.values) read built is (is_instance (ranged_fields named.members) h) refl refl)
+module _ (program : List AddedFile) (scenario : List ℕ) (some : program ≢ []) (none : NoAnswer program scenario) where
+  some_named : (named : Option CompoundTree) → not_built_at program ≡ None → first_fault (heading_rows program) ≡ None → scenario_named program scenario ≡ named → ⊥
+  some_named None built fine is =
+      let main = main_there program some in
+      none 3 (fault_text main.0.name 324 (file_tree main.0.file).end) (no_scenario main.0 built fine is main.1 refl refl)
+  some_named (Some named) built fine is =
+      let h = held_all named.members in
+      none 0 (run_text (run_of h.values)) (runs named (run_of h.values) built fine is (is_instance (ranged_fields named.members) h) refl refl)
 
-some_read : (name scenario source : List ℕ) (tokens : List Token) (tree : FileTree) (found : Option Place) → IsRead 0 source tokens tree →
-    not_built_at tokens tree ≡ found → NoAnswer name scenario source → ⊥
-some_read name scenario source tokens tree (Some place) read is none = none 3 (fault_text name 298 place) (not_built tokens tree place read is refl refl)
-some_read name scenario source tokens tree None read is none =
-    some_named name scenario source tokens tree (scenario_named scenario tree.decls) read is refl none
+  some_headings : (found : Option Fault) → not_built_at program ≡ None → first_fault (heading_rows program) ≡ found → ⊥
+  some_headings (Some fault) built is = none 3 (fault_text (name_at program fault.place.file) fault.code fault.place) (bad_heading fault built is refl refl)
+  some_headings None built is = some_named (scenario_named program scenario) built is refl
 
-some_cut : (name scenario source : List ℕ) (tokens : List Token) → TokensCut 0 source tokens → NoAnswer name scenario source → ⊥
-some_cut name scenario source tokens cut none =
-    tree_or_first_fault tokens (ended tokens (lexer.end_is_last 0 source tokens cut))
-    (λ tree spelled. some_read name scenario source tokens tree (not_built_at tokens tree) (record { cut = cut; spelled = spelled }) refl none)
-    (λ fault first. none 3 (fault_text name fault.code fault.place) (refused fault (syntactic tokens cut first) refl refl))
+  some_built : (found : Option Place) → not_built_at program ≡ found → ⊥
+  some_built (Some place) is = none 3 (fault_text (name_at program place.file) 298 place) (not_built place is refl refl)
+  some_built None is = some_headings (first_fault (heading_rows program)) is refl
 
-some_result : (name scenario source : List ℕ) → NoAnswer name scenario source → ⊥
-some_result name scenario source none =
-    elim (cut_or_first_fault 0 source) [
-      | inl tokens ↦ some_cut name scenario source tokens.0 tokens.1 none
-      | inr first ↦ none 3 (fault_text name first.0.code first.0.place) (refused first.0 (lexical first.1) refl refl)
-    ]
+-- a program that was loaded has its main file
+loaded_some : (files : List NamedBytes) (main : List ℕ) (program : List AddedFile) → IsLoaded files main program → program ≢ []
+loaded_some files main [] loaded empty = let same : Some _ ≡ None = loaded.whole in cc
+loaded_some files main (first ∷ others) loaded empty = cc
 
-some_loaded : (files : List NamedBytes) (words : List (List ℕ)) (file scenario : List ℕ) (found : Option (List ℕ)) → AsksForRun words file scenario →
-    file_named files file ≡ found → ((status : ℕ) (text : List ℕ) → Answers files words status text → ⊥) → ⊥
-some_loaded files words file scenario None asks is none = none 6 (missing_text file) (missing file scenario asks is refl refl)
-some_loaded files words file scenario (Some source) asks is none =
-    elim (leb_tells (length source) source_limit) [
-      | inl short ↦ some_result file scenario source (λ status text result. none status text (compiled file scenario source asks is short.1 result))
-      | inr more ↦ none 6 (long_text file) (long file scenario source asks is more.1 refl refl)
-    ]
+some_request : (files : List NamedBytes) (words : List (List ℕ)) (wanted : Wanted) → request words ≡ wanted →
+    ((status : ℕ) (text : List ℕ) → Answers files words status text → ⊥) → ⊥
+some_request files words (Wanted.Help help) is none = none 0 help (helps is refl)
+some_request files words Wanted.Refused is none = none 4 (codes "words\n") (refused_words is refl refl)
+some_request files words (Wanted.Generate asked) is none =
+    some_load files asked.file
+    (λ program loaded. some_built program asked.scenario (loaded_some files asked.file program loaded)
+    (λ status text result. none status text (compiled asked program is loaded result)) (not_built_at program) refl)
+    (λ stop stops. none (stop_status stop) (stop_text asked.file stop) (stopped asked stop is stops refl refl))
 
 pub some_answer : SomeAnswer
-some_answer files words none =
-    none 4 (codes "words\n") (refused_words (λ file scenario asks. some_loaded files words file scenario (file_named files file) asks refl none) refl refl)
+some_answer files words none = some_request files words (request words) refl none

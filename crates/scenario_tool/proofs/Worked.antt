@@ -8,7 +8,7 @@ use Rattle.dsl_tree.specs.declared.compounds.CompoundKind.{CompoundKind}
 use Rattle.dsl_tree.specs.ExprTree.{ExprTree}
 use Rattle.dsl_tree.specs.PhaseTree.{RuleTree}
 use Rattle.dsl_tree.specs.FileTree.{MemberTree, CompoundTree, DeclarationTree}
-use Rattle.scenario_tool.specs.PairForm.{unpaired, ranged_fields, unbuilt_declarations, scenario_named, basic_types}
+use Rattle.scenario_tool.specs.PairForm.{unpaired, ranged_fields, unbuilt_among}
 
 -- the place of a token in the line and column of its number
 abbrev at : ℕ → Place
@@ -77,20 +77,9 @@ scenario_at n name = record { place = at n; kind = CompoundKind.Scenario; name =
 abbrev declared : CompoundTree → DeclarationTree
 declared c = DeclarationTree.CompoundDeclaration c
 
-one_scenario : unbuilt_declarations (declared (scenario_at 1 (codes "top")) ∷ []) ≡ None
-unfolding basic_types
-one_scenario = refl
-
-named_as_type : unbuilt_declarations (declared (scenario_at 1 (codes "bool")) ∷ []) ≡ Some (at 1)
-unfolding basic_types
-named_as_type = refl
-
-two_scenarios : unbuilt_declarations (declared (scenario_at 1 (codes "top")) ∷ declared (scenario_at 5 (codes "other")) ∷ []) ≡ Some (at 5)
-unfolding basic_types
+two_scenarios : unbuilt_among (declared (scenario_at 1 (codes "top")) ∷ declared (scenario_at 5 (codes "other")) ∷ []) ≡ None
 two_scenarios = refl
 
-of_that_name : scenario_named (codes "top") (declared (scenario_at 1 (codes "top")) ∷ []) ≡ Some (scenario_at 1 (codes "top"))
-of_that_name = refl
-
-no_such_name : scenario_named (codes "other") (declared (scenario_at 1 (codes "top")) ∷ []) ≡ None
-no_such_name = refl
+-- an action behind a scenario
+action_second : unbuilt_among (declared (scenario_at 1 (codes "top")) ∷ declared (record (scenario_at 5 (codes "other")) { kind = CompoundKind.Action }) ∷ []) ≡ Some (at 5)
+action_second = refl

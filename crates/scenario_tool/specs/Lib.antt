@@ -1,6 +1,5 @@
 pub mod Answers
 pub mod PairForm
+pub mod Programs
 pub mod Ranges
-pub mod Sources
 pub mod Stops
-pub mod Words

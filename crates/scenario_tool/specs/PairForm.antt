@@ -133,47 +133,7 @@ abbrev pub first_of : Option Place → Option Place → Option Place
 first_of None other = other
 first_of (Some place) other = Some place
 
--- ---- A file
-
-unfoldable pub basic_types : List (List ℕ)
-basic_types = codes "int" ∷ codes "uint" ∷ codes "float" ∷ codes "bool" ∷ codes "string" ∷ []
-
-abbrev pub is_basic_type : List ℕ → Bool
-is_basic_type name = list_any (bytes_eq name) basic_types
-
--- a declaration with members that is named as a basic type
-abbrev pub is_named_as_type : DeclarationTree → Bool
-is_named_as_type (DeclarationTree.CompoundDeclaration c) = is_basic_type c.name.first.text
-is_named_as_type _ = false
-
-abbrev pub unbuilt_first : DeclarationTree → Option Place
-unbuilt_first d = cond (is_named_as_type d) (Some (declaration_place d)) (unbuilt d)
-
--- the first place at which declarations aren't one plain scenario whose name is free
-abbrev pub unbuilt_declarations : List DeclarationTree → Option Place
-unbuilt_declarations [] = None
-unbuilt_declarations (d ∷ []) = unbuilt_first d
-unbuilt_declarations (d ∷ second ∷ ds) = first_of (unbuilt_first d) (Some (declaration_place second))
-
-abbrev pub is_import : TokenKind → Bool
-is_import (TokenKind.Word WordKind.ImportWord) = true
-is_import _ = false
-
--- the place of the first word `import`
-abbrev pub import_place : List Token → Option Place
-import_place tokens = option_map (λ (token : Token). token.place) (find (λ (token : Token). is_import token.kind) tokens)
-
--- the first place of a file at which what isn't built yet stands
-abbrev pub not_built_at : List Token → FileTree → Option Place
-not_built_at tokens tree = first_of (import_place tokens) (unbuilt_declarations tree.decls)
-
--- ---- The named scenario
-
-abbrev pub is_named : List ℕ → CompoundTree → Bool
-is_named name c = is_plain c && bytes_eq c.name.first.text name
-
--- the first plain scenario of a name
-abbrev pub scenario_named : List ℕ → List DeclarationTree → Option CompoundTree
-scenario_named name [] = None
-scenario_named name (DeclarationTree.CompoundDeclaration c ∷ ds) = cond (is_named name c) (Some c) (scenario_named name ds)
-scenario_named name (d ∷ ds) = scenario_named name ds
+-- the same among declarations
+abbrev pub unbuilt_among : List DeclarationTree → Option Place
+unbuilt_among [] = None
+unbuilt_among (d ∷ ds) = first_of (unbuilt d) (unbuilt_among ds)

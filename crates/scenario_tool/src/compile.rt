@@ -1,17 +1,19 @@
-ghost use Rattle.std.specs.Prelude.{◌≡◌, ◌≤◌, ℕ, List, IfOk, map, length};
+ghost use Rattle.std.specs.Prelude.{◌≡◌, ◌≢◌, [], IfOk, map, Some, slice_get};
 ghost use Rattle.composition.specs.Instance.{IsRangedInstance};
 ghost use Rattle.run_check.specs.RunText.{run_text};
 ghost use Rattle.dsl_tree.specs.Views.{member_tree, file_tree};
-ghost use Rattle.scenario_tool.specs.Answers.{Compiles, source_limit};
+ghost use Rattle.name_scope.specs.Loading.{AddedFile};
+ghost use Rattle.program_load.specs.Loading.{name_at};
+ghost use Rattle.scenario_tool.specs.Answers.{Compiles, fault_text};
 ghost use Rattle.scenario_tool.specs.PairForm.{ranged_fields};
-ghost use Rattle.scenario_tool.specs.Sources.{IsRead};
 
-use crate::pair_form::{least_values, not_built, scenario_named};
-use crate::read::{SourceFile, SourceStop, read};
+use crate::pair_form::least_values;
+use crate::programs::{not_built, scenario_named};
 use crate::replies::{Reply, fault};
 use composition::Run;
 use dsl_tree::Member;
-use osc_base::Row;
+use name_scope::Program;
+use osc_base::{Place, Row};
 use run_check::write_run;
 use std::alloc::{AllocError, Global};
 
@@ -20,35 +22,50 @@ const NOT_BUILT: u16 = 298;
 /// The code of a program without the named scenario.
 const NO_SCENARIO: u16 = 324;
 
-/// What a source that was loaded is answered with.
-pub fn compile(
-    alloc: Global,
-    name: &str,
-    scenario: &str,
-    source: &[u8],
-) -> Result<Reply, AllocError>
-    requires { length source.now ≤ source_limit }
-    ensures { IfOk result (λ reply. Compiles name.now scenario.now source.now reply.status reply.text) }
+/// What a program that was loaded is answered with.
+pub fn compile(alloc: Global, program: &Program, scenario: &str) -> Result<Reply, AllocError>
+    requires { program.now ≢ [] }
+    ensures { IfOk result (λ reply. Compiles program.now scenario.now reply.status reply.text) }
 {
-    match read(alloc, 0, source) {
-        Ok(file) => answer(alloc, name, scenario, &file),
-        Err(SourceStop::At(first)) => fault(alloc, first.code, name, first.place),
-        Err(SourceStop::Memory) => Err(AllocError),
+    if let Some(place) = not_built(alloc, program)? {
+        return fault_in(alloc, program, NOT_BUILT, place);
+    }
+    if let Some(first) = program.name_faults(alloc)? {
+        return fault_in(alloc, program, first.code, first.place);
+    }
+    match scenario_named(program, scenario) {
+        Some(named) => generate(alloc, named.members.as_slice()),
+        None => no_scenario(alloc, program),
     }
 }
 
-/// What a file that was read is answered with.
-fn answer(alloc: Global, name: &str, scenario: &str, file: &SourceFile) -> Result<Reply, AllocError>
-    ensures { IfOk result (λ reply. (source : List ℕ) → IsRead 0 source file.now.tokens (file_tree file.now.tree) →
-        Compiles name.now scenario.now source reply.status reply.text) }
+/// A fault at a place of a program's files.
+fn fault_in(
+    alloc: Global,
+    program: &Program,
+    code: u16,
+    place: Place,
+) -> Result<Reply, AllocError>
+    ensures status { IfOk result (λ reply. reply.status ≡ 3) }
+    ensures text { IfOk result (λ reply. reply.text ≡ fault_text (name_at program.now place.file) code place) }
 {
-    if let Some(place) = not_built(alloc, &file.tokens, &file.tree)? {
-        return fault(alloc, NOT_BUILT, name, place);
-    }
-    match scenario_named(scenario, file.tree.decls.as_slice()) {
-        Some(named) => generate(alloc, named.members.as_slice()),
-        None => fault(alloc, NO_SCENARIO, name, file.tree.end),
-    }
+    let name = program.name(place.file).unwrap_or("");
+    fault(alloc, code, name, place)
+}
+
+/// The program has no such scenario: the fault stands at the end of its main file.
+fn no_scenario(alloc: Global, program: &Program) -> Result<Reply, AllocError>
+    requires { program.now ≢ [] }
+    ensures status { IfOk result (λ reply. reply.status ≡ 3) }
+    ensures text { IfOk result (λ reply. (main : AddedFile) → slice_get program.now 0 ≡ Some main → reply.text ≡ fault_text main.name 324 (file_tree main.file).end) }
+{
+    let Some(name) = program.name(0) else {
+        unreachable!()
+    };
+    let Some(main) = program.file(0) else {
+        unreachable!()
+    };
+    fault(alloc, NO_SCENARIO, name, main.end)
 }
 
 /// Writes a run in which each field holds its least number.

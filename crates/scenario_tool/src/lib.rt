@@ -3,12 +3,10 @@
 
 mod compile;
 mod laws;
-mod load;
 mod pair_form;
-mod read;
+mod programs;
 mod replies;
 mod top;
-mod words;
 
 pub use laws::{one_answer, some_answer};
 pub use top::command;

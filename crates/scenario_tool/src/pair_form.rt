@@ -5,5 +5,5 @@ mod names;
 mod ranges;
 mod values;
 
-pub use declarations::{not_built, scenario_named};
+pub use declarations::unbuilt_among;
 pub use values::least_values;

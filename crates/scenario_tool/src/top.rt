@@ -1,12 +1,14 @@
 ghost use Rattle.std.specs.Prelude.{◌≡◌, is_some, IfOk, List, ℕ, map, string_bytes};
-ghost use Rattle.scenario_tool.specs.Words.{AsksForRun};
-ghost use Rattle.scenario_tool.specs.Answers.{CountsOnce, Ends, Replies, SomeFiles};
+ghost use Rattle.command_words.specs.Seen.{asked_by};
+ghost use Rattle.command_words.specs.Words.{Wanted, request};
+ghost use Rattle.program_load.specs.Outcome.{SomeFiles};
+ghost use Rattle.scenario_tool.specs.Answers.{CountsOnce, Ends, Replies};
 
 use crate::compile::compile;
-use crate::load::{LoadStop, load};
-use crate::replies::{Reply, long, missing, shelf as shelf_failed, words as refused_words};
-use crate::words::read_words;
+use crate::replies::{Reply, help, stopped, words as refused_words};
+use command_words::{GenerateWords, Request, read_words};
 use outside_io::{Shelf, Sink, write_all};
+use program_load::load;
 use std::alloc::{AllocError, Global};
 
 /// The status where the sink failed.
@@ -47,29 +49,26 @@ fn reply_to<H: Shelf>(alloc: Global, words: &[String], shelf: &mut H) -> Result<
     ensures counted { CountsOnce (H.faults shelf.old) (H.faults shelf.new) }
     ensures files_kept { H.files shelf.new ≡ H.files shelf.old }
 {
-    match read_words(words) {
-        Some(asked) => reply_to_run(alloc, asked.file, asked.scenario, shelf),
-        None => refused_words(alloc),
+    match read_words(alloc, words)? {
+        Request::Help(text) => help(alloc, text),
+        Request::Generate(asked) => reply_to_run(alloc, asked, shelf),
+        Request::Refused => refused_words(alloc),
     }
 }
 
 /// The status and the text with which a run of a scenario of a file is answered.
 fn reply_to_run<H: Shelf>(
     alloc: Global,
-    file: &str,
-    scenario: &str,
+    asked: GenerateWords<'_>,
     shelf: &mut H,
 ) -> Result<Reply, AllocError>
-    ensures reply { IfOk result (λ reply. (words : List (List ℕ)) → AsksForRun words file.now scenario.now →
+    ensures reply { IfOk result (λ reply. (words : List (List ℕ)) → request words ≡ Wanted.Generate (asked_by asked.entry) →
         SomeFiles (H.files shelf.old) (λ files. Replies files words (H.faults shelf.old) (H.faults shelf.new) reply.status reply.text)) }
     ensures counted { CountsOnce (H.faults shelf.old) (H.faults shelf.new) }
     ensures files_kept { H.files shelf.new ≡ H.files shelf.old }
 {
-    match load(alloc, shelf, file) {
-        Ok(source) => compile(alloc, file, scenario, source.as_slice()),
-        Err(LoadStop::Missing) => missing(alloc, file),
-        Err(LoadStop::Long) => long(alloc, file),
-        Err(LoadStop::Shelf) => shelf_failed(alloc, file),
-        Err(LoadStop::Memory) => Err(AllocError),
+    match load(alloc, shelf, asked.file) {
+        Ok(program) => compile(alloc, &program, asked.scenario),
+        Err(stop) => stopped(alloc, asked.file, &stop),
     }
 }

@@ -1,9 +1,19 @@
-use Rattle.scenario_tool.proofs.Compiled.{refuse, read_answer}
+use Rattle.scenario_tool.proofs.Compiled.{unbuilt_answer, heading_answer, unnamed_answer, run_answer}
 use Rattle.scenario_tool.proofs.compile.compile.Goals as goal
 
-pub returns-in-Ok : goal.returns-in-Ok
-returns-in-Ok c = read_answer c.args.name.now c.args.scenario.now c.args.source.now c.in-Ok.file.tokens c.in-Ok.file.tree c.answer.result c.in-Ok.ensures.read c.answer.ensures
+pub returns-in-Some : goal.returns-in-Some
+returns-in-Some c = unbuilt_answer c.args.program.now c.args.scenario.now c.in_ok-place.field-0 c.in-Some.place c.fault_in.result
+    c.in_ok-place.ensures c.in-Some.is c.fault_in.ensures.status c.fault_in.ensures.text
 
-pub returns-in-Err-At : goal.returns-in-Err-At
-returns-in-Err-At c = refuse c.args.name.now c.args.scenario.now c.args.source.now c.in-Err-At.first c.fault.result
-    (rw c.in-Err-At.field-0-is at c.in-Err-At.ensures.refused) c.fault.ensures.status c.fault.ensures.text
+pub returns-in-Some-2 : goal.returns-in-Some-2
+returns-in-Some-2 c = heading_answer c.args.program.now c.args.scenario.now c.in_ok-place.field-0 c.in_ok-first.field-0 c.in-Some-2.first c.fault_in-in-Some-2.result
+    c.in_ok-place.ensures c.in_default.is c.in_ok-first.ensures.first c.in-Some-2.is c.fault_in-in-Some-2.ensures.status c.fault_in-in-Some-2.ensures.text
+
+pub returns-in-Some-scenario_named : goal.returns-in-Some-scenario_named
+returns-in-Some-scenario_named c = run_answer c.args.program.now c.args.scenario.now c.in_ok-place.field-0 c.in_ok-first.field-0 c.in-Some-scenario_named.named.now
+    c.as_slice.result.now c.generate.result c.in_ok-place.ensures c.in_default.is c.in_ok-first.ensures.first c.in_default-2.is
+    c.in-Some-scenario_named.ensures c.as_slice.ensures c.generate.ensures.status c.generate.ensures.text
+
+pub returns-in-None : goal.returns-in-None
+returns-in-None c = unnamed_answer c.args.program.now c.args.scenario.now c.in_ok-place.field-0 c.in_ok-first.field-0 c.no_scenario.result c.requires
+    c.in_ok-place.ensures c.in_default.is c.in_ok-first.ensures.first c.in_default-2.is c.in-None.ensures c.no_scenario.ensures.status c.no_scenario.ensures.text
