@@ -4,3 +4,6 @@ pub mod Turning
 pub mod Distinct
 pub mod Files
 pub mod Invariant
+pub mod Sources
+pub mod Sole
+pub mod Total

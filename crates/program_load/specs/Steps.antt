@@ -9,7 +9,7 @@ use Rattle.outside_io.specs.declared.shelf.NamedBytes.{NamedBytes}
 use Rattle.outside_io.specs.Files.{file_named}
 use Rattle.outside_io.specs.Counts.{Rises}
 use Rattle.name_scope.specs.declared.names.FileName.{FileName}
-use Rattle.name_scope.specs.Loading.{AddedFile, name_text, wanted_mention, adding_fault}
+use Rattle.name_scope.specs.Loading.{AddedFile, adding_fault}
 use Rattle.name_scope.specs.Library.{library_source}
 use Rattle.program_load.specs.declared.source.FileStop.{FileStop}
 use Rattle.program_load.specs.declared.stop.LoadStop.{LoadStop}
@@ -109,14 +109,7 @@ IsUnadded before added (LoadStop.Refused file fault) = (file ≡ added.name) × 
 IsUnadded before added LoadStop.Memory = Unit {0}
 IsUnadded before added _ = ⊥
 
--- what a file without a tree stops the load for
+-- why the load stops where the file whose turn it is isn't there
 abbrev pub missing_stop : List AddedFile → Option Place → LoadStop
 missing_stop taken None = LoadStop.Missing
 missing_stop taken (Some place) = LoadStop.Refused (name_at taken place.file) (record { place = place; code = 301 })
-
-abbrev pub load_stop : List AddedFile → FileName → FileStop → LoadStop
-load_stop taken name FileStop.Missing = missing_stop taken (wanted_mention taken)
-load_stop taken name FileStop.Long = LoadStop.Long (name_text name)
-load_stop taken name (FileStop.At fault) = LoadStop.Refused (name_text name) fault
-load_stop taken name FileStop.Shelf = LoadStop.Shelf (name_text name)
-load_stop taken name FileStop.Memory = LoadStop.Memory
