@@ -1,2 +1,4 @@
 pub mod OtherKinds
 pub mod Taking
+pub mod Exits
+pub mod Loops

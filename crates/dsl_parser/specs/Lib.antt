@@ -1,2 +1,4 @@
 pub mod Answers
 pub mod Readers
+pub mod Rows
+pub mod Rests
