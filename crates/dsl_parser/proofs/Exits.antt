@@ -17,7 +17,7 @@ use Rattle.dsl_tree.proofs.RuleFaults.{RuleOf, all_apart, by_rule, by_only, no_r
 use Rattle.dsl_parser.specs.declared.stop.Stop.{Stop}
 use Rattle.dsl_parser.specs.declared.stop.Stop.TheVariants.{At, Memory}
 use Rattle.dsl_parser.specs.Readers.{OnStop, IsRead}
-use Rattle.dsl_parser.proofs.Taking.{behind_seen, behind_bare}
+use Rattle.dsl_parser.proofs.Taking.{read_starts, behind_seen, behind_bare}
 
 pub on_stop : (e : Stop) (P Q : ℕ → Type 0) → ((left : ℕ) → P left → Q left) → OnStop e P → OnStop e Q
 on_stop Memory P Q go h = tt
@@ -58,6 +58,11 @@ stop_only p r ts e only = on_stop e (RowFault r ts) (PartFault p ts) (λ left fa
 
 pub stop_rule : (p : Part) (r : List Symbol) (ts : List Token) (e : Stop) → RuleOf p r → all_apart (rules p) ≡ true → Starts (firsts r) ts → OnStop e (RowFault r ts) → OnStop e (PartFault p ts)
 stop_rule p r ts e rule apart start = on_stop e (RowFault r ts) (PartFault p ts) (λ left fault. by_rule p r ts left rule apart start fault)
+
+-- the first token, which was read, begins the rule
+pub stop_read : (p : Part) (r : List Symbol) (place : Place) (kind : TokenKind) (ts us : List Token) (e : Stop)
+    → RuleOf p r → all_apart (rules p) ≡ true → IsRead place kind ts us → has (firsts r) (code kind) ≡ true → OnStop e (RowFault r ts) → OnStop e (PartFault p ts)
+stop_read p r place kind ts us e rule apart read h = stop_rule p r ts e rule apart (read_starts (firsts r) place kind ts us read h)
 
 pub stop_none : (p : Part) (ts : List Token) (e : Stop) → empty p ≡ false → OnStop e (NotTaken (first p) ts) → OnStop e (PartFault p ts)
 stop_none p ts e blank = on_stop e (NotTaken (first p) ts) (PartFault p ts) (λ left n. no_rule p ts left blank n)

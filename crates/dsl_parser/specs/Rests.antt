@@ -5,6 +5,6 @@ use Rattle.dsl_tree.specs.declared.token.MarkKind.{MarkKind}
 use Rattle.dsl_tree.specs.Forest.{Forest, nil}
 use Rattle.dsl_tree.specs.Written.{mark_at}
 
-abbrev pub dash : Option Place → Forest
-dash None = nil
-dash (Some place) = mark_at place MarkKind.Dash nil
+abbrev pub optional_dash : Option Place → Forest
+optional_dash None = nil
+optional_dash (Some place) = mark_at place MarkKind.Dash nil

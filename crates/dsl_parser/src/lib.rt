@@ -11,6 +11,7 @@ mod parser;
 mod paths;
 mod stop;
 mod tokens;
+mod units;
 
 pub use parser::parse;
 pub use stop::ParseStop;
