@@ -16,7 +16,8 @@ use Rattle.dsl_tree.proofs.Faults.{ready, wrong_seen, wrong_bare, in_part, past_
 use Rattle.dsl_tree.proofs.RuleFaults.{RuleOf, all_apart, by_rule, by_only, no_rule}
 use Rattle.dsl_parser.specs.declared.stop.Stop.{Stop}
 use Rattle.dsl_parser.specs.declared.stop.Stop.TheVariants.{At, Memory}
-use Rattle.dsl_parser.specs.Readers.{OnStop, IsRead}
+use Rattle.dsl_parser.specs.Readers.{OnStop, IsRead, names, numbers}
+use Rattle.dsl_parser.proofs.OtherKinds.{name_fits, number_fits}
 use Rattle.dsl_parser.proofs.Taking.{read_starts, behind_seen, behind_bare}
 
 pub on_stop : (e : Stop) (P Q : ℕ → Type 0) → ((left : ℕ) → P left → Q left) → OnStop e P → OnStop e Q
@@ -27,6 +28,11 @@ on_stop (At left) P Q go h = go left h
 pub raise : {X : Type 0} (r : Result X Stop) (e : Stop) (P : ℕ → Type 0) → IsErr r × IsErrAnd r (λ d. d ≡ e) → OnStop e P → IfErr r (λ d. OnStop d P)
 raise (Ok x) e P h p = tt
 raise (Err d) e P h p = subst (λ (v : Stop). OnStop v P) (sym h.1) p
+
+-- so does a call at the end
+pub pass : {X : Type 0} (r : Result X Stop) (P Q : ℕ → Type 0) → ((e : Stop) → OnStop e P → OnStop e Q) → IfErr r (λ e. OnStop e P) → IfErr r (λ e. OnStop e Q)
+pass (Ok x) P Q go h = tt
+pass (Err e) P Q go h = go e h
 
 -- In a row: the wrong token is its first one, or stands in its first part, or behind what was read
 
@@ -42,6 +48,13 @@ stop_part p ss ts e h = on_stop e (PartFault p ts) (RowFault (Of p ∷ ss) ts) (
 pub later_seen : (codes : List ℕ) (ss : List Symbol) (place : Place) (kind : TokenKind) (ts rest : List Token) (e : Stop)
     → IsRead place kind ts rest → has codes (code kind) ≡ true → OnStop e (RowFault ss rest) → OnStop e (RowFault (Seen codes ∷ ss) ts)
 later_seen codes ss place kind ts rest e read h = on_stop e (RowFault ss rest) (RowFault (Seen codes ∷ ss) ts) (λ left fault. behind_seen codes ss place kind ts rest left read h fault)
+
+pub later_name : (ss : List Symbol) (place : Place) (text : List ℕ) (ts rest : List Token) (e : Stop) → IsRead place (TokenKind.Name text) ts rest → OnStop e (RowFault ss rest) → OnStop e (RowFault (Seen names ∷ ss) ts)
+later_name ss place text ts rest e read = later_seen names ss place (TokenKind.Name text) ts rest e read (name_fits text)
+
+pub later_number : (ss : List Symbol) (place : Place) (digits places : ℕ) (ts rest : List Token) (e : Stop)
+    → IsRead place (TokenKind.Number digits places) ts rest → OnStop e (RowFault ss rest) → OnStop e (RowFault (Seen numbers ∷ ss) ts)
+later_number ss place digits places ts rest e read = later_seen numbers ss place (TokenKind.Number digits places) ts rest e read (number_fits digits places)
 
 pub later_bare : (codes : List ℕ) (ss : List Symbol) (place : Place) (kind : TokenKind) (ts rest : List Token) (e : Stop)
     → IsRead place kind ts rest → has codes (code kind) ≡ true → OnStop e (RowFault ss rest) → OnStop e (RowFault (Bare codes ∷ ss) ts)
@@ -80,7 +93,7 @@ stops_both xs ys (t ∷ ts) stop stop' = starts-cons (xs ++ ys) t ts ∙ is_fals
     ⊎_elim (λ e. both_ways (has xs (code t.kind)) e (sym (starts-cons xs t ts) ∙ stop)) (λ e. both_ways (has ys (code t.kind)) e (sym (starts-cons ys t ts) ∙ stop')) (has_either xs ys (code t.kind) h))
 
 -- The tokens begin with none of the other rules of the part: then the fault is that of this rule.
-by_rest : (p : Part) (r : List Symbol) (others : List ℕ) (ts : List Token) (left : ℕ) → RuleOf p r → all_apart (rules p) ≡ true → empty p ≡ false → empties r ≡ false
+pub by_rest : (p : Part) (r : List Symbol) (others : List ℕ) (ts : List Token) (left : ℕ) → RuleOf p r → all_apart (rules p) ≡ true → empty p ≡ false → empties r ≡ false
     → subset (first p) (firsts r ++ others) ≡ true → Stops others ts → RowFault r ts left → PartFault p ts left
 by_rest p r others ts left rule apart blank full within stop fault = ⊎_elim (λ start. by_rule p r ts left rule apart start fault) no_start (two_ways (starts (firsts r) ts))
   where

@@ -63,6 +63,16 @@ loop_end X p forest_of before now start rest loop rule none stop = record {
   read = along_end X p forest_of start loop.done rest rest loop.along (subst (λ (f : Forest). Parsed p f rest rest) (sym none) (parsed_none p rest rule stop));
 }
 
+-- the tail ends in something of its own
+pub loop_last : (X : Type 0) (p : Part) (forest_of : List X → Forest) (before now : List X) (start rest end : List Token)
+    → Continuing X p forest_of before now start rest → Parsed p (forest_of []) rest end → Continued X p forest_of before now start end
+loop_last X p forest_of before now start rest end loop last = record { others = loop.done; split = loop.split; read = along_end X p forest_of start loop.done rest end loop.along last }
+
+-- a row of its first item and those that were read behind it
+pub one_row : (X : Type 0) (p : Part) (forest_of : List X → Forest) (first : X) (before after : List X) (ts rest : List Token) (Q : List X → Type 0)
+    → before ≡ first ∷ [] → (c : Continued X p forest_of before after ts rest) → Q (first ∷ c.others) → Q after
+one_row X p forest_of first before after ts rest Q e c q = subst Q (sym (c.split ∙ ap (λ (v : List X). v ++ c.others) e)) q
+
 pub loop_stop : (X : Type 0) (p : Part) (forest_of : List X → Forest) (before now : List X) (start rest : List Token) (e : Stop)
     → Continuing X p forest_of before now start rest → OnStop e (PartFault p rest) → OnStop e (PartFault p start)
 loop_stop X p forest_of before now start rest e loop = on_stop e (PartFault p rest) (PartFault p start) loop.along.faults

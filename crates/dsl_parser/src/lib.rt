@@ -9,6 +9,7 @@ mod literals;
 mod names;
 mod parser;
 mod paths;
+mod rows;
 mod stop;
 mod tokens;
 mod units;
