@@ -1,5 +1,5 @@
 pub mod OtherKinds
 pub mod Taking
-pub mod Exits
+pub mod Stopping
 pub mod Loops
 pub mod UnitRows

@@ -20,7 +20,7 @@ use Rattle.dsl_parser.specs.declared.stop.Stop.{Stop}
 use Rattle.dsl_parser.specs.Readers.{OnStop, IsRead}
 use Rattle.dsl_parser.specs.Rows.{Continued}
 use Rattle.dsl_parser.proofs.Taking.{read_starts, read_bare, read_seen, behind_bare, behind_seen}
-use Rattle.dsl_parser.proofs.Exits.{on_stop}
+use Rattle.dsl_parser.proofs.Stopping.{on_stop}
 
 -- the invariant: the items so far are those before and those that were read
 pub record Continuing (X : Type 0) (p : Part) (forest_of : List X → Forest) (before now : List X) (start rest : List Token) : Type 0 where

@@ -17,7 +17,7 @@ use Rattle.dsl_tree.proofs.Build.{built_none, built_part, parsed_full}
 use Rattle.dsl_parser.specs.Readers.{IsRead}
 use Rattle.dsl_parser.specs.Rests.{unit_more}
 use Rattle.dsl_parser.proofs.Taking.{read_starts, read_bare, behind_bare}
-use Rattle.dsl_parser.proofs.Exits.{by_rest}
+use Rattle.dsl_parser.proofs.Stopping.{by_rest}
 use Rattle.dsl_parser.proofs.Loops.{OneMore}
 
 abbrev pub ends : List ℕ

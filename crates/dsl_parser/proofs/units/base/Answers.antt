@@ -1,6 +1,6 @@
 use Rattle.std.proofs.Common.{refl}
 use Rattle.dsl_tree.specs.Grammar.{Part}
-use Rattle.dsl_parser.proofs.Exits.{later_bare, later_seen, raise, stop_bare, stop_only, stop_seen}
+use Rattle.dsl_parser.proofs.Stopping.{later_bare, later_seen, raise, stop_bare, stop_only, stop_seen}
 use Rattle.dsl_parser.proofs.units.base.Goals as goal
 
 pub returns-in_err-name-clause-fault : goal.returns-in_err-name-clause-fault

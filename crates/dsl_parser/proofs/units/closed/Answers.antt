@@ -1,5 +1,5 @@
 use Rattle.std.proofs.Common.{refl}
-use Rattle.dsl_parser.proofs.Exits.{later_bare, raise, stop_bare}
+use Rattle.dsl_parser.proofs.Stopping.{later_bare, raise, stop_bare}
 use Rattle.dsl_parser.proofs.units.closed.Goals as goal
 
 pub returns-in_err-rest-clause-fault : goal.returns-in_err-rest-clause-fault

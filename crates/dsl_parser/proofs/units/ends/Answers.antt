@@ -1,6 +1,6 @@
 use Rattle.std.proofs.Common.{inl, inr, refl}
 use Rattle.dsl_tree.specs.Grammar.{Part}
-use Rattle.dsl_parser.proofs.Exits.{later_bare, raise, stop_read}
+use Rattle.dsl_parser.proofs.Stopping.{later_bare, raise, stop_read}
 use Rattle.dsl_parser.proofs.units.ends.Goals as goal
 
 pub returns-in_err-found-clause-fault : goal.returns-in_err-found-clause-fault

@@ -2,7 +2,7 @@ use Rattle.std.proofs.Common.{[], inl, inr, refl, ◌∷◌}
 use Rattle.dsl_tree.specs.Codes.{mark_code}
 use Rattle.dsl_tree.specs.Grammar.{Part}
 use Rattle.dsl_tree.specs.declared.token.MarkKind.{MarkKind}
-use Rattle.dsl_parser.proofs.Exits.{later_bare, raise, stop_bare, stop_read, stop_rest}
+use Rattle.dsl_parser.proofs.Stopping.{later_bare, raise, stop_bare, stop_read, stop_rest}
 use Rattle.dsl_parser.proofs.units.factor_tail.Goals as goal
 
 pub returns-in_err-name-in-Some-clause-fault : goal.returns-in_err-name-in-Some-clause-fault

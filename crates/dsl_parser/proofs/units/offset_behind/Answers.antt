@@ -1,5 +1,5 @@
 use Rattle.std.proofs.Common.{refl}
-use Rattle.dsl_parser.proofs.Exits.{later_bare, later_part, raise, stop_bare, stop_part}
+use Rattle.dsl_parser.proofs.Stopping.{later_bare, later_part, raise, stop_bare, stop_part}
 use Rattle.dsl_parser.proofs.units.offset_behind.Goals as goal
 
 pub returns-in_err-colon-clause-fault : goal.returns-in_err-colon-clause-fault

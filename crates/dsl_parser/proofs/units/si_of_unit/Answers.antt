@@ -1,5 +1,5 @@
 use Rattle.std.proofs.Common.{refl}
-use Rattle.dsl_parser.proofs.Exits.{later_bare, pass, raise, stop_bare}
+use Rattle.dsl_parser.proofs.Stopping.{later_bare, pass, raise, stop_bare}
 use Rattle.dsl_parser.proofs.units.si_of_unit.Goals as goal
 
 pub returns-in_err-is-clause-fault : goal.returns-in_err-is-clause-fault

@@ -1,6 +1,6 @@
 use Rattle.std.proofs.Common.{refl}
 use Rattle.dsl_tree.specs.Grammar.{Part}
-use Rattle.dsl_parser.proofs.Exits.{later_part, raise, stop_only, stop_seen}
+use Rattle.dsl_parser.proofs.Stopping.{later_part, raise, stop_only, stop_seen}
 use Rattle.dsl_parser.proofs.units.signed.Goals as goal
 
 pub returns-in_err-number-clause-fault : goal.returns-in_err-number-clause-fault

@@ -1,5 +1,5 @@
 use Rattle.std.proofs.Common.{refl}
-use Rattle.dsl_parser.proofs.Exits.{later_part, raise, stop_seen}
+use Rattle.dsl_parser.proofs.Stopping.{later_part, raise, stop_seen}
 use Rattle.dsl_parser.proofs.units.signed_exponent.Goals as goal
 
 pub returns-in_err-number-clause-fault : goal.returns-in_err-number-clause-fault

@@ -1,5 +1,5 @@
 use Rattle.std.proofs.Common.{refl}
-use Rattle.dsl_parser.proofs.Exits.{later_name, later_seen, raise, stop_seen}
+use Rattle.dsl_parser.proofs.Stopping.{later_name, later_seen, raise, stop_seen}
 use Rattle.dsl_parser.proofs.units.type_declaration.Goals as goal
 
 pub returns-in_err-place-clause-fault : goal.returns-in_err-place-clause-fault

@@ -1,5 +1,5 @@
 use Rattle.std.proofs.Common.{refl}
-use Rattle.dsl_parser.proofs.Exits.{later_bare, later_name, raise, stop_bare, stop_seen}
+use Rattle.dsl_parser.proofs.Stopping.{later_bare, later_name, raise, stop_bare, stop_seen}
 use Rattle.dsl_parser.proofs.units.unit_of.Goals as goal
 
 pub returns-in_err-behind-clause-fault : goal.returns-in_err-behind-clause-fault

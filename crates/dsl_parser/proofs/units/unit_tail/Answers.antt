@@ -5,7 +5,7 @@ use Rattle.dsl_tree.specs.WrittenFile.{bases_end}
 use Rattle.dsl_tree.specs.Codes.{mark_code}
 use Rattle.dsl_tree.specs.declared.token.MarkKind.{MarkKind}
 use Rattle.dsl_tree.proofs.Build.{parsed_full}
-use Rattle.dsl_parser.proofs.Exits.{later_bare, raise, stop_part, stop_read, stop_rest}
+use Rattle.dsl_parser.proofs.Stopping.{later_bare, raise, stop_part, stop_read, stop_rest}
 use Rattle.dsl_parser.proofs.Loops.{loop_last, loop_step, loop_stop}
 use Rattle.dsl_parser.proofs.UnitRows.{ends, more_bases, with_ends}
 use Rattle.dsl_parser.proofs.units.unit_tail.Goals as goal
