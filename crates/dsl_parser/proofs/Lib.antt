@@ -3,3 +3,6 @@ pub mod Taking
 pub mod Stopping
 pub mod Loops
 pub mod UnitRows
+pub mod ExprForests
+pub mod Exits
+pub mod LeafForests

@@ -4,10 +4,10 @@ use Rattle.osc_base.specs.declared.fault.Place.{Place}
 use Rattle.dsl_tree.specs.declared.token.Token.{Token}
 use Rattle.dsl_tree.specs.declared.token.TokenKind.{TokenKind}
 use Rattle.dsl_tree.specs.Codes.{code, has}
-use Rattle.dsl_tree.specs.Grammar.{Symbol, Seen, Bare}
+use Rattle.dsl_tree.specs.Grammar.{Part, Symbol, Seen, Bare, rules}
 use Rattle.dsl_tree.specs.Forest.{Forest, seen, bare}
-use Rattle.dsl_tree.specs.Reading.{starts, Starts, Stops, Taken, NotTaken, Built, RowFault}
-use Rattle.dsl_tree.proofs.RuleFaults.{taken_starts}
+use Rattle.dsl_tree.specs.Reading.{starts, Starts, Stops, Taken, NotTaken, Built, PartFault, RowFault}
+use Rattle.dsl_tree.proofs.RuleFaults.{RuleOf, all_apart, by_rule, taken_starts}
 use Rattle.dsl_tree.proofs.Faults.{past_seen, past_bare}
 use Rattle.dsl_tree.proofs.Build.{built_seen, built_bare}
 use Rattle.dsl_parser.specs.Readers.{IsRead}
@@ -40,6 +40,17 @@ behind_seen codes ss place kind ts us left read h fault = past_seen codes ss ts 
 pub behind_bare : (codes : List ℕ) (ss : List Symbol) (place : Place) (kind : TokenKind) (ts us : List Token) (left : ℕ)
     → IsRead place kind ts us → has codes (code kind) ≡ true → RowFault ss us left → RowFault (Bare codes ∷ ss) ts left
 behind_bare codes ss place kind ts us left read h fault = past_bare codes ss ts (token place kind) us left (taken codes place kind ts us read h) fault
+
+-- the fault of a part, of which the rule that begins with the token fails behind it
+pub fault_seen : (p : Part) (codes : List ℕ) (ss : List Symbol) (place : Place) (kind : TokenKind) (ts us : List Token) (left : ℕ)
+    → RuleOf p (Seen codes ∷ ss) → all_apart (rules p) ≡ true → IsRead place kind ts us → has codes (code kind) ≡ true → RowFault ss us left → PartFault p ts left
+fault_seen p codes ss place kind ts us left rule tells read h fault =
+    by_rule p (Seen codes ∷ ss) ts left rule tells (read_starts codes place kind ts us read h) (behind_seen codes ss place kind ts us left read h fault)
+
+pub fault_bare : (p : Part) (codes : List ℕ) (ss : List Symbol) (place : Place) (kind : TokenKind) (ts us : List Token) (left : ℕ)
+    → RuleOf p (Bare codes ∷ ss) → all_apart (rules p) ≡ true → IsRead place kind ts us → has codes (code kind) ≡ true → RowFault ss us left → PartFault p ts left
+fault_bare p codes ss place kind ts us left rule tells read h fault =
+    by_rule p (Bare codes ∷ ss) ts left rule tells (read_starts codes place kind ts us read h) (behind_bare codes ss place kind ts us left read h fault)
 
 -- tokens that don't begin with one of the codes, and are some
 pub not_taken : (codes : List ℕ) (ts : List Token) (t : Token) (rest : List Token) → ts ≡ t ∷ rest → Stops codes ts → NotTaken codes ts (length ts)

@@ -2,3 +2,4 @@ pub mod Answers
 pub mod Readers
 pub mod Rows
 pub mod Rests
+pub mod Levels

@@ -5,8 +5,11 @@
 mod arguments;
 mod expressions;
 mod layout_tokens;
+mod levels;
 mod literals;
 mod names;
+mod nodes;
+mod operands;
 mod parser;
 mod paths;
 mod rows;

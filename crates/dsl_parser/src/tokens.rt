@@ -13,14 +13,14 @@ use crate::stop::Stop;
 use dsl_tree::{MarkKind, Token, TokenKind, WordKind};
 use osc_base::Place;
 
-fn is_mark(kind: &TokenKind, mark: MarkKind) -> bool
+pub fn is_mark(kind: &TokenKind, mark: MarkKind) -> bool
     ensures same { result ≡ has (mark_code mark ∷ []) (code kind.now) }
     ensures mark { result ≡ true → kind.now ≡ TokenKind.Mark mark }
 {
     matches!(kind, TokenKind::Mark(m) if *m == mark)
 }
 
-fn is_word(kind: &TokenKind, word: WordKind) -> bool
+pub fn is_word(kind: &TokenKind, word: WordKind) -> bool
     ensures same { result ≡ has (word_code word ∷ []) (code kind.now) }
     ensures word { result ≡ true → kind.now ≡ TokenKind.Word word }
 {

@@ -1,0 +1,220 @@
+-- What expressions are written as, by what their parts are.
+use Rattle.std.proofs.Common.{◌≡◌, ℕ, zero, suc, ◌+◌, ◌-◌, ◌≤◌, List, [], ◌∷◌, length, map, Bool, true, false, cond, Some, refl, sym, ◌∙◌, ap, subst, inl, inr, arith}
+use Rattle.std.specs.Prelude.{nat_lt, ◌==◌, slice_get}
+use Rattle.std.proofs.lemmas.Bool.{ltb-false, eqb-true, false≢true}
+use Rattle.std.proofs.lemmas.Option.{none-some, same_Some}
+use Rattle.osc_base.specs.declared.fault.Place.{Place}
+use Rattle.dsl_tree.specs.declared.expr.Expr.{Expr}
+use Rattle.dsl_tree.specs.declared.expr.Further.{Further}
+use Rattle.dsl_tree.specs.declared.expr.Suffix.{Suffix}
+use Rattle.dsl_tree.specs.declared.expr.RelationSign.{RelationSign}
+use Rattle.dsl_tree.specs.declared.token.MarkKind.{MarkKind}
+use Rattle.dsl_tree.specs.declared.token.WordKind.{WordKind}
+use Rattle.dsl_tree.specs.declared.expr.Expr.TheViews
+use Rattle.dsl_tree.specs.declared.token.Token.{Token}
+use Rattle.dsl_tree.specs.ExprTree.{ExprTree, row_of}
+use Rattle.dsl_tree.specs.Views.{FurtherTree, SuffixTree, grouped, with_suffixes, named_row, indexed_row, expr_tree, suffix_tree, further_tree}
+use Rattle.dsl_tree.specs.Grammar.{Part, Symbol, rules}
+use Rattle.dsl_tree.specs.Forest.{Forest, nil, seen, sub, wrong, AnyRule}
+use Rattle.dsl_tree.specs.Written.{level, lifted, raised, at, written, operator_kind, sign_kind, next_part, mark, mark_at, word_at, expr, listed_tail}
+use Rattle.dsl_tree.specs.Reading.{Whole, Parsed}
+use Rattle.dsl_tree.proofs.Seen.{seen_implies, seen_or, seen_and, seen_not, seen_relation, seen_sum, seen_product, seen_minus, seen_dot, seen_index, seen_group, seen_span, seen_listed, seen_range_call, seen_further}
+use Rattle.dsl_tree.proofs.WrittenRows.{at_own, at_lower, further_tail, suffix_tail, or_written, and_written, sum_written, product_written, post_written}
+use Rattle.dsl_parser.specs.declared.levels.RowLevel.{RowLevel}
+use Rattle.dsl_parser.specs.Levels.{at_level, row_level, item_level, tail_of, suffix_forest, suffix_of, suffixes_of, is_named, ends_named, items_of}
+
+-- Levels
+
+-- an expression of a higher level: nothing stands behind it
+pub level_lower : (n : ℕ) (e : Expr) → suc n ≤ level (expr_tree e) → at_level n e ≡ lifted n (at_level (suc n) e)
+unfolding at_level
+level_lower n e h = at_lower n (expr_tree e) (written (expr_tree e)) h
+
+-- an expression at its own level
+pub level_own : (n : ℕ) (e : Expr) (t : ExprTree) → expr_tree e ≡ t → level t ≡ n → at_level n e ≡ written t
+unfolding at_level
+level_own n e t is own = ap (λ (x : ExprTree). at n x (written x)) is ∙ at_own n t (written t) own
+
+no_wrong : (rs : List (List Symbol)) (z : List Token) → AnyRule rs (λ r. Whole wrong r z) → ⊥
+no_wrong [] z any = absurd any
+no_wrong ([] ∷ rs) z (inl does) = absurd does
+no_wrong ((s ∷ r) ∷ rs) z (inl does) = absurd does
+no_wrong (r ∷ rs) z (inr any) = no_wrong rs z any
+
+-- an expression that was read where one of a level stands is of this level or a higher one
+pub level_of_part : (p : Part) (n : ℕ) (e : Expr) (ts z : List Token) → Parsed p (at_level n e) ts z → n ≤ level (expr_tree e)
+unfolding at_level
+level_of_part p n e ts z parsed = go (nat_lt (level (expr_tree e)) n) refl parsed.whole
+  where
+    go : (b : Bool) → nat_lt (level (expr_tree e)) n ≡ b → AnyRule (rules p) (λ r. Whole (cond b wrong (raised (level (expr_tree e) - n) n (written (expr_tree e)))) r z) → n ≤ level (expr_tree e)
+    go true is any = absurd (no_wrong (rules p) z any)
+    go false is any = ltb-false (level (expr_tree e)) n is
+
+-- Rows of operators
+
+tail_forest : (n : ℕ) (items : List Further) → tail_of n items ≡ further_tail n (map further_tree items)
+unfolding at_level
+tail_forest n [] = refl
+tail_forest n (f ∷ fs) =
+    ap (λ (v : Forest). seen f.place (operator_kind f.operator) (sub (at n (expr_tree f.part) (written (expr_tree f.part))) (sub v nil))) (tail_forest n fs)
+    ∙ ap (λ (x : FurtherTree). next_part x.place x.operator (at n x.part (written x.part)) (further_tail n (map further_tree fs))) (sym (seen_further f))
+
+-- what a row is written as
+abbrev pub row_forest : RowLevel → Expr → List Further → Forest
+row_forest row first rest = sub (at_level (item_level row) first) (sub (tail_of (item_level row) rest) nil)
+
+-- a row without operators is its first item
+pub row_alone : (row : RowLevel) (first : Expr) → item_level row ≤ level (expr_tree first) → at_level (row_level row) first ≡ row_forest row first []
+row_alone RowLevel.OrRow first h = level_lower 1 first h
+row_alone RowLevel.AndRow first h = level_lower 2 first h
+row_alone RowLevel.SumRow first h = level_lower 5 first h
+row_alone RowLevel.ProductRow first h = level_lower 6 first h
+
+from_tree : (n m : ℕ) (e first : Expr) (next : Further) (rest : List Further) (join : Place → Rattle.dsl_tree.specs.declared.expr.Operator.Operator → ExprTree → ExprTree → ExprTree)
+    → expr_tree e ≡ grouped join (ExprTree.Start (expr_tree first)) (map further_tree (next ∷ rest))
+    → ((f : ExprTree) (x : FurtherTree) (xs : List FurtherTree)
+      → at n (grouped join (ExprTree.Start f) (x ∷ xs)) (written (grouped join (ExprTree.Start f) (x ∷ xs))) ≡ sub (at m f (written f)) (sub (further_tail m (x ∷ xs)) nil))
+    → at_level n e ≡ sub (at_level m first) (sub (tail_of m (next ∷ rest)) nil)
+unfolding at_level
+from_tree n m e first next rest join is written_so =
+    ap (λ (x : ExprTree). at n x (written x)) is
+    ∙ (written_so (expr_tree first) (further_tree next) (map further_tree rest)
+    ∙ ap (λ (v : Forest). sub (at m (expr_tree first) (written (expr_tree first))) (sub v nil)) (sym (tail_forest m (next ∷ rest))))
+
+pub or_row : (first : Expr) (next : Further) (rest : List Further) → at_level 1 (TheViews.Or first (next ∷ rest)) ≡ row_forest RowLevel.OrRow first (next ∷ rest)
+or_row first next rest = from_tree 1 2 (TheViews.Or first (next ∷ rest)) first next rest ExprTree.Or (seen_or first (next ∷ rest)) or_written
+
+pub and_row : (first : Expr) (next : Further) (rest : List Further) → at_level 2 (TheViews.And first (next ∷ rest)) ≡ row_forest RowLevel.AndRow first (next ∷ rest)
+and_row first next rest = from_tree 2 3 (TheViews.And first (next ∷ rest)) first next rest ExprTree.And (seen_and first (next ∷ rest)) and_written
+
+pub sum_row : (first : Expr) (next : Further) (rest : List Further) → at_level 5 (TheViews.Sum first (next ∷ rest)) ≡ row_forest RowLevel.SumRow first (next ∷ rest)
+sum_row first next rest = from_tree 5 6 (TheViews.Sum first (next ∷ rest)) first next rest ExprTree.Sum (seen_sum first (next ∷ rest)) sum_written
+
+pub product_row : (first : Expr) (next : Further) (rest : List Further) → at_level 6 (TheViews.Product first (next ∷ rest)) ≡ row_forest RowLevel.ProductRow first (next ∷ rest)
+product_row first next rest = from_tree 6 7 (TheViews.Product first (next ∷ rest)) first next rest ExprTree.Product (seen_product first (next ∷ rest)) product_written
+
+pub no_items : (row : RowLevel) (first : Expr) (rest : List Further) → item_level row ≤ level (expr_tree first) → (length rest == 0) ≡ true → at_level (row_level row) first ≡ row_forest row first rest
+no_items row first [] h none = row_alone row first h
+no_items row first (f ∷ rest) h none = let e : length (f ∷ rest) ≡ 0 = eqb-true (length (f ∷ rest)) 0 none in absurd (omega arith)
+
+pub some_items : (row r : RowLevel) (make : Expr → List Further → Expr) (e boxed first : Expr) (rest : List Further) → row ≡ r → e ≡ make boxed rest → boxed ≡ first → (length rest == 0) ≡ false
+    → ((next : Further) (others : List Further) → at_level (row_level r) (make first (next ∷ others)) ≡ row_forest r first (next ∷ others))
+    → at_level (row_level row) e ≡ row_forest row first rest
+some_items row r make e boxed first [] is node box some so = absurd (false≢true (sym some))
+some_items row r make e boxed first (f ∷ rest) is node box some so =
+    subst (λ (x : RowLevel). at_level (row_level x) e ≡ row_forest x first (f ∷ rest)) (sym is) (ap (at_level (row_level r)) (node ∙ ap (λ (x : Expr). make x (f ∷ rest)) box) ∙ so f rest)
+
+-- Other nodes
+
+pub implies_forest : (place : Place) (left right : Expr) → at_level 0 (TheViews.Implies place left right) ≡ sub (at_level 1 left) (sub (mark_at place MarkKind.Arrow (sub (at_level 1 right) nil)) nil)
+unfolding at_level
+implies_forest place left right = level_own 0 (TheViews.Implies place left right) (ExprTree.Implies place (expr_tree left) (expr_tree right)) (seen_implies place left right) refl
+
+pub not_forest : (place : Place) (part : Expr) → at_level 3 (TheViews.Not place part) ≡ word_at place WordKind.NotWord (sub (at_level 4 part) nil)
+unfolding at_level
+not_forest place part = level_own 3 (TheViews.Not place part) (ExprTree.Not place (expr_tree part)) (seen_not place part) refl
+
+pub relation_forest : (place : Place) (sign : RelationSign) (left right : Expr) → at_level 4 (TheViews.Relation place sign left right) ≡ sub (at_level 5 left) (sub (seen place (sign_kind sign) (sub (at_level 5 right) nil)) nil)
+unfolding at_level
+relation_forest place sign left right = level_own 4 (TheViews.Relation place sign left right) (ExprTree.Relation place sign (expr_tree left) (expr_tree right)) (seen_relation place sign left right) refl
+
+pub minus_forest : (place : Place) (part : Expr) → at_level 7 (TheViews.Minus place part) ≡ mark_at place MarkKind.Dash (sub (at_level 8 part) nil)
+unfolding at_level
+minus_forest place part = level_own 7 (TheViews.Minus place part) (ExprTree.Minus place (expr_tree part)) (seen_minus place part) refl
+
+pub group_forest : (place : Place) (inner : Expr) → at_level 9 (TheViews.Group place inner) ≡ mark_at place MarkKind.OpenRound (sub (at_level 0 inner) (mark MarkKind.CloseRound nil))
+unfolding at_level
+group_forest place inner = level_own 9 (TheViews.Group place inner) (ExprTree.Group place (expr_tree inner)) (seen_group place inner) refl
+
+pub span_forest : (place : Place) (low high : Expr)
+    → at_level 9 (TheViews.Span place low high) ≡ mark_at place MarkKind.OpenSquare (sub (at_level 0 low) (sub (mark MarkKind.TwoDots (sub (at_level 0 high) (mark MarkKind.CloseSquare nil))) nil))
+unfolding at_level
+span_forest place low high = level_own 9 (TheViews.Span place low high) (ExprTree.Span place (expr_tree low) (expr_tree high)) (seen_span place low high) refl
+
+pub range_forest : (place : Place) (low high : Expr)
+    → at_level 9 (TheViews.RangeCall place low high) ≡ word_at place WordKind.RangeWord (mark MarkKind.OpenRound (sub (at_level 0 low) (mark MarkKind.Comma (sub (at_level 0 high) (mark MarkKind.CloseRound nil)))))
+unfolding at_level
+range_forest place low high = level_own 9 (TheViews.RangeCall place low high) (ExprTree.RangeCall place (expr_tree low) (expr_tree high)) (seen_range_call place low high) refl
+
+items_forest : (items : List Expr) → items_of items ≡ listed_tail (row_of (map expr_tree items))
+unfolding at_level
+items_forest [] = refl
+items_forest (e ∷ es) = ap (λ (v : Forest). mark MarkKind.Comma (sub (expr (expr_tree e)) (sub v nil))) (items_forest es)
+
+pub listed_forest : (place : Place) (first : Expr) (others : List Expr)
+    → at_level 9 (TheViews.Listed place (first ∷ others)) ≡ mark_at place MarkKind.OpenSquare (sub (at_level 0 first) (sub (sub (items_of others) (mark MarkKind.CloseSquare nil)) nil))
+unfolding at_level
+listed_forest place first others =
+    level_own 9 (TheViews.Listed place (first ∷ others)) (ExprTree.Listed place (row_of (map expr_tree (first ∷ others)))) (seen_listed place (first ∷ others)) refl
+    ∙ ap (λ (v : Forest). mark_at place MarkKind.OpenSquare (sub (expr (expr_tree first)) (sub (sub v (mark MarkKind.CloseSquare nil)) nil))) (sym (items_forest others))
+
+-- Suffixes
+
+suffix_more : (x : SuffixTree) (xs : List SuffixTree) → suffix_tail (x ∷ xs) ≡ sub (suffix_forest x) (sub (suffix_tail xs) nil)
+suffix_more (SuffixTree.Named name) xs = refl
+suffix_more (SuffixTree.At place index) xs = refl
+
+pub suffixes_forest : (suffixes : List Suffix) → suffixes_of suffixes ≡ suffix_tail (map suffix_tree suffixes)
+unfolding suffix_of
+suffixes_forest [] = refl
+suffixes_forest (s ∷ rest) = ap (λ (v : Forest). sub (suffix_forest (suffix_tree s)) (sub v nil)) (suffixes_forest rest) ∙ sym (suffix_more (suffix_tree s) (map suffix_tree rest))
+
+named_so : (t : ExprTree) (xs : List SuffixTree) → ends_named xs ≡ true → named_row t xs ≡ t
+named_so t [] h = absurd (false≢true h)
+named_so t (SuffixTree.Named name ∷ []) h = refl
+named_so t (SuffixTree.At place index ∷ []) h = absurd (false≢true h)
+named_so t (SuffixTree.Named name ∷ (y ∷ rest)) h = named_so t (y ∷ rest) h
+named_so t (SuffixTree.At place index ∷ (y ∷ rest)) h = named_so t (y ∷ rest) h
+
+indexed_so : (t : ExprTree) (x : SuffixTree) (xs : List SuffixTree) → ends_named (x ∷ xs) ≡ false → indexed_row t (x ∷ xs) ≡ t
+indexed_so t (SuffixTree.Named name) [] h = absurd (false≢true (sym h))
+indexed_so t (SuffixTree.At place index) [] h = refl
+indexed_so t (SuffixTree.Named name) (y ∷ rest) h = indexed_so t y rest h
+indexed_so t (SuffixTree.At place index) (y ∷ rest) h = indexed_so t y rest h
+
+-- what an operand with suffixes is written as
+abbrev pub post_forest : Expr → List Suffix → Forest
+post_forest head suffixes = sub (at_level 9 head) (sub (suffixes_of suffixes) nil)
+
+post_of : (e head : Expr) (s : Suffix) (rest : List Suffix) → expr_tree e ≡ with_suffixes (ExprTree.Start (expr_tree head)) (map suffix_tree (s ∷ rest)) → at_level 8 e ≡ post_forest head (s ∷ rest)
+unfolding at_level
+post_of e head s rest is =
+    ap (λ (x : ExprTree). at 8 x (written x)) is
+    ∙ (post_written (expr_tree head) (suffix_tree s) (map suffix_tree rest)
+    ∙ ap (λ (v : Forest). sub (at 9 (expr_tree head) (written (expr_tree head))) (sub v nil)) (sym (suffixes_forest (s ∷ rest))))
+
+pub post_none : (head : Expr) → 9 ≤ level (expr_tree head) → at_level 8 head ≡ post_forest head []
+post_none head h = level_lower 8 head h
+
+pub post_named : (head : Expr) (s : Suffix) (rest : List Suffix) → ends_named (map suffix_tree (s ∷ rest)) ≡ true → at_level 8 (TheViews.Expr::Dot head (s ∷ rest)) ≡ post_forest head (s ∷ rest)
+post_named head s rest h =
+    post_of (TheViews.Expr::Dot head (s ∷ rest)) head s rest
+    (seen_dot head (s ∷ rest) ∙ named_so (with_suffixes (ExprTree.Start (expr_tree head)) (map suffix_tree (s ∷ rest))) (map suffix_tree (s ∷ rest)) h)
+
+pub post_indexed : (head : Expr) (s : Suffix) (rest : List Suffix) → ends_named (map suffix_tree (s ∷ rest)) ≡ false → at_level 8 (TheViews.Expr::Index head (s ∷ rest)) ≡ post_forest head (s ∷ rest)
+post_indexed head s rest h =
+    post_of (TheViews.Expr::Index head (s ∷ rest)) head s rest
+    (seen_index head (s ∷ rest) ∙ indexed_so (with_suffixes (ExprTree.Start (expr_tree head)) (map suffix_tree (s ∷ rest))) (suffix_tree s) (map suffix_tree rest) h)
+
+last_is : (xs : List Suffix) (i : ℕ) (s : Suffix) → i + 1 ≡ length xs → slice_get xs i ≡ Some s → is_named (suffix_tree s) ≡ ends_named (map suffix_tree xs)
+last_is [] i s n get = absurd (omega (arith, n))
+last_is (x ∷ []) zero s n get = ap (λ y. is_named (suffix_tree y)) (sym (same_Some x s get))
+last_is (x ∷ []) (suc i) s n get = absurd (omega (arith, n))
+last_is (x ∷ (y ∷ rest)) zero s n get = absurd (omega (arith, n))
+last_is (x ∷ (y ∷ rest)) (suc i) s n get = last_is (y ∷ rest) i s (omega (arith, n)) get
+
+pub last_named : (xs : List Suffix) (s : Suffix) → slice_get xs (length xs - 1) ≡ Some s → is_named (suffix_tree s) ≡ ends_named (map suffix_tree xs)
+last_named [] s get = absurd (none-some s get)
+last_named (x ∷ xs) s get = last_is (x ∷ xs) (length (x ∷ xs) - 1) s (omega arith) get
+
+pub no_suffixes : (head : Expr) (suffixes : List Suffix) → 9 ≤ level (expr_tree head) → (length suffixes == 0) ≡ true → at_level 8 head ≡ post_forest head suffixes
+no_suffixes head [] h none = post_none head h
+no_suffixes head (s ∷ rest) h none = let e : length (s ∷ rest) ≡ 0 = eqb-true (length (s ∷ rest)) 0 none in absurd (omega arith)
+
+pub some_named : (boxed head : Expr) (suffixes : List Suffix) → boxed ≡ head → ends_named (map suffix_tree suffixes) ≡ true → at_level 8 (TheViews.Expr::Dot boxed suffixes) ≡ post_forest head suffixes
+some_named boxed head [] is h = absurd (false≢true h)
+some_named boxed head (s ∷ rest) is h = ap (λ (x : Expr). at_level 8 (TheViews.Expr::Dot x (s ∷ rest))) is ∙ post_named head s rest h
+
+pub some_indexed : (boxed head : Expr) (suffixes : List Suffix) → boxed ≡ head → (length suffixes == 0) ≡ false → ends_named (map suffix_tree suffixes) ≡ false → at_level 8 (TheViews.Expr::Index boxed suffixes) ≡ post_forest head suffixes
+some_indexed boxed head [] is some h = absurd (false≢true (sym some))
+some_indexed boxed head (s ∷ rest) is some h = ap (λ (x : Expr). at_level 8 (TheViews.Expr::Index x (s ∷ rest))) is ∙ post_indexed head s rest h

@@ -1,0 +1,52 @@
+-- What operands without brackets are written as.
+use Rattle.std.proofs.Common.{◌≡◌, List, ℕ, true, false, Some, None, refl}
+use Rattle.osc_base.specs.declared.fault.Place.{Place}
+use Rattle.dsl_tree.specs.declared.parts.Ident.{Ident}
+use Rattle.dsl_tree.specs.declared.token.TokenKind.{TokenKind}
+use Rattle.dsl_tree.specs.declared.token.WordKind.{WordKind}
+use Rattle.dsl_tree.specs.declared.expr.Expr.{Expr}
+use Rattle.dsl_tree.specs.ExprTree.{ExprTree}
+use Rattle.dsl_tree.specs.Forest.{nil, seen, sub}
+use Rattle.dsl_tree.specs.Written.{digits, word_at, ident}
+use Rattle.dsl_tree.proofs.Seen.{seen_number, seen_physical, seen_chars, seen_truth, seen_it, seen_actor, seen_name, seen_enum_name}
+use Rattle.dsl_parser.specs.Levels.{at_level, enum_member}
+use Rattle.dsl_parser.proofs.ExprForests.{level_own}
+
+pub number_forest : (place : Place) (digits places : ℕ)
+    → at_level 9 (Expr.Number (record { place = place; digits = digits; places = places })) ≡ seen place (TokenKind.Number digits places) nil
+number_forest place digits places =
+    level_own 9 (Expr.Number (record { place = place; digits = digits; places = places })) (ExprTree.Number (record { place = place; digits = digits; places = places }))
+    (seen_number (record { place = place; digits = digits; places = places })) refl
+
+pub physical_forest : (place : Place) (digits places : ℕ) (unit : List ℕ)
+    → at_level 9 (Expr.Physical (record { place = place; digits = digits; places = places }) unit) ≡ seen place (TokenKind.Physical digits places unit) nil
+physical_forest place digits places unit =
+    level_own 9 (Expr.Physical (record { place = place; digits = digits; places = places }) unit) (ExprTree.Physical (record { place = place; digits = digits; places = places }) unit)
+    (seen_physical (record { place = place; digits = digits; places = places }) unit) refl
+
+pub chars_forest : (place : Place) (text : List ℕ) → at_level 9 (Expr.Chars place text) ≡ seen place (TokenKind.Chars text) nil
+chars_forest place text = level_own 9 (Expr.Chars place text) (ExprTree.Chars place text) (seen_chars place text) refl
+
+pub true_forest : (place : Place) → at_level 9 (Expr.Truth place true) ≡ word_at place WordKind.TrueWord nil
+true_forest place = level_own 9 (Expr.Truth place true) (ExprTree.Truth place true) (seen_truth place true) refl
+
+pub false_forest : (place : Place) → at_level 9 (Expr.Truth place false) ≡ word_at place WordKind.FalseWord nil
+false_forest place = level_own 9 (Expr.Truth place false) (ExprTree.Truth place false) (seen_truth place false) refl
+
+pub it_forest : (place : Place) → at_level 9 (Expr.It place) ≡ word_at place WordKind.ItWord nil
+it_forest place = level_own 9 (Expr.It place) (ExprTree.It place) (seen_it place) refl
+
+pub actor_forest : (place : Place) → at_level 9 (Expr.Actor place) ≡ word_at place WordKind.ActorWord nil
+actor_forest place = level_own 9 (Expr.Actor place) (ExprTree.Actor place) (seen_actor place) refl
+
+pub name_forest : (name : Ident) → at_level 9 (Expr.Name name) ≡ ident name (sub (enum_member None) nil)
+name_forest name = level_own 9 (Expr.Name name) (ExprTree.Name name) (seen_name name) refl
+
+pub enum_name_forest : (of member : Ident) → at_level 9 (Expr.EnumName of member) ≡ ident of (sub (enum_member (Some member)) nil)
+enum_name_forest of member = level_own 9 (Expr.EnumName of member) (ExprTree.EnumName of member) (seen_enum_name of member) refl
+
+pub ruleset word_forests = (true_forest, false_forest, it_forest, actor_forest)
+
+pub ruleset leaf_forests = (number_forest, physical_forest, chars_forest)
+
+pub ruleset name_forests = (name_forest, enum_name_forest)

@@ -1,0 +1,105 @@
+-- The levels of expressions: `Expr` 0, `Or` 1, `And` 2, `Not` 3, `Relation` 4, `Sum` 5, `Product` 6,
+-- `Minus` 7, `Postfix` 8 and `Primary` 9.
+use Rattle.std.specs.Prelude.{ℕ, Bool, true, false, List, [], ◌∷◌, Option, Some, None}
+use Rattle.dsl_tree.specs.declared.parts.Ident.{Ident}
+use Rattle.dsl_tree.specs.declared.expr.Expr.{Expr}
+use Rattle.dsl_tree.specs.declared.expr.Further.{Further}
+use Rattle.dsl_tree.specs.declared.expr.Suffix.{Suffix}
+use Rattle.dsl_tree.specs.declared.token.MarkKind.{MarkKind}
+use Rattle.dsl_tree.specs.declared.token.WordKind.TheVariants.{ActorWord, ItWord, TrueWord, FalseWord}
+use Rattle.dsl_tree.specs.Codes.{word_code, si_name, factor_name, offset_name, other_name, small_number, large_number, point_number, physical_code, text_code}
+use Rattle.dsl_tree.specs.Grammar.{Part}
+use Rattle.dsl_tree.specs.Forest.{Forest, nil, seen, sub}
+use Rattle.dsl_tree.specs.Tables.{first}
+use Rattle.dsl_tree.specs.Views.{SuffixTree, Named, At, expr_tree, suffix_tree}
+use Rattle.dsl_tree.specs.Written.{at, written, operator_kind, mark, mark_at, ident, expr}
+use Rattle.dsl_parser.specs.declared.levels.RowLevel.{RowLevel}
+use Rattle.dsl_parser.specs.declared.levels.RowLevel.TheVariants.{OrRow, AndRow, SumRow, ProductRow}
+
+-- what an expression is written as where one of a level stands
+unfoldable pub at_level : ℕ → Expr → Forest
+at_level n e = at n (expr_tree e) (written (expr_tree e))
+
+-- The rows of operators: the part that is such a row, its level, the part and the level of its items,
+-- and the part that is what stands behind the first item
+
+abbrev pub row_part : RowLevel → Part
+row_part OrRow = Part.Or
+row_part AndRow = Part.And
+row_part SumRow = Part.Sum
+row_part ProductRow = Part.Product
+
+abbrev pub row_level : RowLevel → ℕ
+row_level OrRow = 1
+row_level AndRow = 2
+row_level SumRow = 5
+row_level ProductRow = 6
+
+abbrev pub item_part : RowLevel → Part
+item_part OrRow = Part.And
+item_part AndRow = Part.Not
+item_part SumRow = Part.Product
+item_part ProductRow = Part.Minus
+
+abbrev pub item_level : RowLevel → ℕ
+item_level OrRow = 2
+item_level AndRow = 3
+item_level SumRow = 6
+item_level ProductRow = 7
+
+abbrev pub tail_part : RowLevel → Part
+tail_part OrRow = Part.OrTail
+tail_part AndRow = Part.AndTail
+tail_part SumRow = Part.SumTail
+tail_part ProductRow = Part.ProductTail
+
+-- the codes of its operators
+abbrev pub operators : RowLevel → List ℕ
+operators row = first (tail_part row)
+
+-- operators, each with the item behind it
+abbrev pub tail_of : ℕ → List Further → Forest
+tail_of n [] = nil
+tail_of n (next ∷ rest) = seen next.place (operator_kind next.operator) (sub (at_level n next.part) (sub (tail_of n rest) nil))
+
+-- suffixes
+abbrev pub suffix_forest : SuffixTree → Forest
+suffix_forest (Named name) = mark MarkKind.Dot (ident name nil)
+suffix_forest (At place index) = mark_at place MarkKind.OpenSquare (sub (expr index) (mark MarkKind.CloseSquare nil))
+
+unfoldable pub suffix_of : Suffix → Forest
+suffix_of s = suffix_forest (suffix_tree s)
+
+abbrev pub suffixes_of : List Suffix → Forest
+suffixes_of [] = nil
+suffixes_of (s ∷ rest) = sub (suffix_of s) (sub (suffixes_of rest) nil)
+
+-- whether a suffix is a name, and whether the last one is
+abbrev pub is_named : SuffixTree → Bool
+is_named (Named name) = true
+is_named (At place index) = false
+
+abbrev pub ends_named : List SuffixTree → Bool
+ends_named [] = false
+ends_named (x ∷ []) = is_named x
+ends_named (x ∷ y ∷ rest) = ends_named (y ∷ rest)
+
+-- items of a list, each behind a comma
+abbrev pub items_of : List Expr → Forest
+items_of [] = nil
+items_of (item ∷ rest) = mark MarkKind.Comma (sub (at_level 0 item) (sub (items_of rest) nil))
+
+-- the member behind the name of an enum
+abbrev pub enum_member : Option Ident → Forest
+enum_member None = nil
+enum_member (Some name) = mark MarkKind.Bang (ident name nil)
+
+-- the codes of operands that are one token, but for names; and with names
+abbrev pub truth_codes : List ℕ
+truth_codes = word_code TrueWord ∷ word_code FalseWord ∷ word_code ItWord ∷ word_code ActorWord ∷ []
+
+abbrev pub simple_codes : List ℕ
+simple_codes = small_number ∷ large_number ∷ point_number ∷ physical_code ∷ text_code ∷ truth_codes
+
+abbrev pub leaf_codes : List ℕ
+leaf_codes = si_name ∷ factor_name ∷ offset_name ∷ other_name ∷ simple_codes
