@@ -3,6 +3,7 @@ pub mod Taking
 pub mod Stopping
 pub mod Loops
 pub mod UnitRows
+pub mod Blocks
 pub mod ExprForests
 pub mod Exits
 pub mod LeafForests

@@ -8,7 +8,7 @@ use Rattle.dsl_tree.specs.Codes.{code, has}
 use Rattle.dsl_tree.specs.Grammar.{Part, Symbol, rules, Seen, Bare, Of}
 use Rattle.dsl_tree.specs.Forest.{Forest, nil, seen, bare, sub}
 use Rattle.dsl_tree.specs.Tables.{first, firsts, empty}
-use Rattle.dsl_tree.specs.Reading.{Starts, Stops, void, Parsed, PartFault, Along}
+use Rattle.dsl_tree.specs.Reading.{Starts, Stops, void, Parsed, Built, PartFault, Along}
 use Rattle.dsl_tree.specs.Language.{Ended}
 use Rattle.dsl_tree.proofs.Sets.{two_ways, both_ways}
 use Rattle.dsl_tree.proofs.Begins.{void_part}
@@ -17,8 +17,9 @@ use Rattle.dsl_tree.proofs.Faults.{ready, in_part, past_part}
 use Rattle.dsl_tree.proofs.RuleFaults.{RuleOf, all_apart, by_rule}
 use Rattle.dsl_tree.proofs.Build.{built_none, built_part, parsed_full, parsed_none, along_start, along_step, along_end}
 use Rattle.dsl_parser.specs.declared.stop.Stop.{Stop}
-use Rattle.dsl_parser.specs.Readers.{OnStop, IsRead}
+use Rattle.dsl_parser.specs.Readers.{OnStop, IsRead, names}
 use Rattle.dsl_parser.specs.Rows.{Continued}
+use Rattle.dsl_parser.proofs.OtherKinds.{name_fits}
 use Rattle.dsl_parser.proofs.Taking.{read_starts, read_bare, read_seen, behind_bare, behind_seen}
 use Rattle.dsl_parser.proofs.Stopping.{on_stop}
 
@@ -73,9 +74,28 @@ pub one_row : (X : Type 0) (p : Part) (forest_of : List X → Forest) (first : X
     → before ≡ first ∷ [] → (c : Continued X p forest_of before after ts rest) → Q (first ∷ c.others) → Q after
 one_row X p forest_of first before after ts rest Q e c q = subst Q (sym (c.split ∙ ap (λ (v : List X). v ++ c.others) e)) q
 
+-- a row that began with no items
+pub whole_row : (X : Type 0) (p : Part) (forest_of : List X → Forest) (before after : List X) (ts rest : List Token) → before ≡ [] → Continued X p forest_of before after ts rest → Parsed p (forest_of after) ts rest
+whole_row X p forest_of before after ts rest e c = subst (λ (v : List X). Parsed p (forest_of v) ts rest) (sym (c.split ∙ ap (λ (v : List X). v ++ c.others) e)) c.read
+
 pub loop_stop : (X : Type 0) (p : Part) (forest_of : List X → Forest) (before now : List X) (start rest : List Token) (e : Stop)
     → Continuing X p forest_of before now start rest → OnStop e (PartFault p rest) → OnStop e (PartFault p start)
 loop_stop X p forest_of before now start rest e loop = on_stop e (PartFault p rest) (PartFault p start) loop.along.faults
+
+pub read_name : (ss : List Symbol) (f : Forest) (place : Place) (text : List ℕ) (ts us rest : List Token)
+    → IsRead place (TokenKind.Name text) ts us → Built ss f us rest → Built (Seen names ∷ ss) (seen place (TokenKind.Name text) f) ts rest
+read_name ss f place text ts us rest read built = read_seen names ss f place (TokenKind.Name text) ts us rest read (name_fits text) built
+
+pub and_false : (b : Bool) → (b && false) ≡ false
+and_false true = refl
+and_false false = refl
+
+-- a rule that is one part
+pub parsed_part : (p m : Part) (f : Forest) (ts rest : List Token) → RuleOf p (Of m ∷ []) → empty m ≡ false → Parsed m f ts rest → Parsed p (sub f nil) ts rest
+parsed_part p m f ts rest rule full h = parsed_full p (Of m ∷ []) (sub f nil) ts rest rule not_void (built_part m [] f nil ts rest rest h (built_none rest))
+  where
+    not_void : (void f && true) ≡ false
+    not_void = ⊎_elim (λ v. both_ways (empty m) (void_part m f (part_follows m f rest h.whole) v) full) (λ v. ap (λ (w : Bool). w && true) v) (two_ways (void f))
 
 -- a part behind a mark
 pub more_parts : (X : Type 0) (p m : Part) (codes : List ℕ) (forest_of : List X → Forest) (x : X) (item : Forest) (place : Place) (kind : TokenKind) (rest next more : List Token)
@@ -92,17 +112,17 @@ more_parts X p m codes forest_of x item place kind rest next more rule apart sou
 }
 
 -- a name behind a mark
-pub more_names : (X : Type 0) (p : Part) (codes names : List ℕ) (forest_of : List X → Forest) (x : X) (place place' : Place) (kind kind' : TokenKind) (rest next more : List Token)
+pub more_names : (X : Type 0) (p : Part) (codes : List ℕ) (forest_of : List X → Forest) (x : X) (place place' : Place) (kind : TokenKind) (text : List ℕ) (rest next more : List Token)
     → RuleOf p (Bare codes ∷ Seen names ∷ Of p ∷ []) → all_apart (rules p) ≡ true → ready (Of p ∷ []) ≡ true
-    → ((xs : List X) → forest_of (x ∷ xs) ≡ bare kind (seen place' kind' (sub (forest_of xs) nil)))
-    → IsRead place kind rest next → has codes (code kind) ≡ true → IsRead place' kind' next more → has names (code kind') ≡ true → OneMore X p forest_of x rest more
-more_names X p codes names forest_of x place place' kind kind' rest next more rule apart sound is read fits read' fits' = record {
+    → ((xs : List X) → forest_of (x ∷ xs) ≡ bare kind (seen place' (TokenKind.Name text) (sub (forest_of xs) nil)))
+    → IsRead place kind rest next → has codes (code kind) ≡ true → IsRead place' (TokenKind.Name text) next more → OneMore X p forest_of x rest more
+more_names X p codes forest_of x place place' kind text rest next more rule apart sound is read fits read' = record {
   reads = λ others end h. subst (λ (f : Forest). Parsed p f rest end) (sym (is others))
-      (parsed_full p (Bare codes ∷ Seen names ∷ Of p ∷ []) (bare kind (seen place' kind' (sub (forest_of others) nil))) rest end rule refl
-      (read_bare codes (Seen names ∷ Of p ∷ []) (seen place' kind' (sub (forest_of others) nil)) place kind rest next end read fits
-      (read_seen names (Of p ∷ []) (sub (forest_of others) nil) place' kind' next more end read' fits' (built_part p [] (forest_of others) nil more end end h (built_none end)))));
+      (parsed_full p (Bare codes ∷ Seen names ∷ Of p ∷ []) (bare kind (seen place' (TokenKind.Name text) (sub (forest_of others) nil))) rest end rule refl
+      (read_bare codes (Seen names ∷ Of p ∷ []) (seen place' (TokenKind.Name text) (sub (forest_of others) nil)) place kind rest next end read fits
+      (read_name (Of p ∷ []) (sub (forest_of others) nil) place' text next more end read' (built_part p [] (forest_of others) nil more end end h (built_none end)))));
   faults = λ left fault. by_rule p (Bare codes ∷ Seen names ∷ Of p ∷ []) rest left rule apart (read_starts codes place kind rest next read fits)
-      (behind_bare codes (Seen names ∷ Of p ∷ []) place kind rest next left read fits (behind_seen names (Of p ∷ []) place' kind' next more left read' fits' (in_part p [] more left sound fault)));
+      (behind_bare codes (Seen names ∷ Of p ∷ []) place kind rest next left read fits (behind_seen names (Of p ∷ []) place' (TokenKind.Name text) next more left read' (name_fits text) (in_part p [] more left sound fault)));
 }
 
 -- a part with nothing before it

@@ -3,16 +3,24 @@
 #![tactic(auto)]
 
 mod arguments;
+mod enums;
 mod expressions;
+mod headings;
+mod imports;
+mod invocations;
 mod layout_tokens;
 mod levels;
 mod literals;
+mod members;
 mod names;
 mod nodes;
 mod operands;
 mod parser;
 mod paths;
+mod phases;
 mod rows;
+mod rules;
+mod starts;
 mod stop;
 mod tokens;
 mod units;

@@ -91,7 +91,7 @@ fn base(alloc: Global, tokens: &[Token]) -> Result<(BasePart, &[Token]), Stop>
 }
 
 /// The closing bracket and the line end.
-fn closed(tokens: &[Token]) -> Result<&[Token], Stop>
+pub fn closed(tokens: &[Token]) -> Result<&[Token], Stop>
     requires { Ended tokens.now }
     ensures ok { IfOk result (λ rest. Built closing written.bases_end tokens.now rest.now) }
     ensures ended { IfOk result (λ rest. Ended rest.now) }
@@ -162,6 +162,7 @@ pub fn type_declaration(alloc: Global, tokens: &[Token]) -> Result<(PhysicalDecl
 }
 
 /// What stands behind the bases of a unit.
+#[derive(Drop)]
 struct UnitEnd {
     factor: Option<Signed>,
     offset: Option<Signed>,
@@ -267,6 +268,7 @@ fn unit_tail(alloc: Global, bases: Row<BasePart>, tokens: &[Token]) -> Result<(R
 }
 
 /// The declaration of a unit, but for its names.
+#[derive(Drop)]
 struct UnitBases {
     bases: Row<BasePart>,
     end: UnitEnd,

@@ -1,7 +1,7 @@
 use Rattle.std.proofs.Common.{refl}
 use Rattle.dsl_tree.proofs.Build.{built_none, built_part}
-use Rattle.dsl_parser.proofs.Stopping.{later_part, raise, stop_part}
 use Rattle.dsl_parser.proofs.Loops.{one_row}
+use Rattle.dsl_parser.proofs.Stopping.{later_part, raise, stop_part}
 use Rattle.dsl_tree.specs.Reading.{Built}
 use Rattle.dsl_tree.specs.WrittenFile.{unit_bases, unit_end}
 use Rattle.dsl_parser.specs.Rests as rest

@@ -1,7 +1,7 @@
 use Rattle.std.proofs.Common.{arith, inl, inr, refl}
 use Rattle.dsl_tree.specs.Grammar.{Part}
-use Rattle.dsl_parser.proofs.Stopping.{later_bare, raise, stop_part, stop_read}
 use Rattle.dsl_parser.proofs.Loops.{loop_end, loop_step, loop_stop, more_parts}
+use Rattle.dsl_parser.proofs.Stopping.{later_bare, raise, stop_part, stop_read}
 use Rattle.dsl_parser.proofs.units.bases_tail.Goals as goal
 
 pub returns-in_err-item-clause-fault : goal.returns-in_err-item-clause-fault
