@@ -4,6 +4,7 @@ pub mod Stopping
 pub mod Loops
 pub mod UnitRows
 pub mod Blocks
+pub mod PhaseForms
 pub mod ExprForests
 pub mod Exits
 pub mod LeafForests

@@ -2,4 +2,5 @@ pub mod Answers
 pub mod Readers
 pub mod Rows
 pub mod Rests
+pub mod PhaseStarts
 pub mod Levels
