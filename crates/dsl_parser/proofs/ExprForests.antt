@@ -35,7 +35,7 @@ pub level_own : (n : ℕ) (e : Expr) (t : ExprTree) → expr_tree e ≡ t → le
 unfolding at_level
 level_own n e t is own = ap (λ (x : ExprTree). at n x (written x)) is ∙ at_own n t (written t) own
 
-no_wrong : (rs : List (List Symbol)) (z : List Token) → AnyRule rs (λ r. Whole wrong r z) → ⊥
+pub no_wrong : (rs : List (List Symbol)) (z : List Token) → AnyRule rs (λ r. Whole wrong r z) → ⊥
 no_wrong [] z any = absurd any
 no_wrong ([] ∷ rs) z (inl does) = absurd does
 no_wrong ((s ∷ r) ∷ rs) z (inl does) = absurd does
@@ -93,16 +93,12 @@ sum_row first next rest = from_tree 5 6 (TheViews.Sum first (next ∷ rest)) fir
 pub product_row : (first : Expr) (next : Further) (rest : List Further) → at_level 6 (TheViews.Product first (next ∷ rest)) ≡ row_forest RowLevel.ProductRow first (next ∷ rest)
 product_row first next rest = from_tree 6 7 (TheViews.Product first (next ∷ rest)) first next rest ExprTree.Product (seen_product first (next ∷ rest)) product_written
 
-pub no_items : (row : RowLevel) (first : Expr) (rest : List Further) → item_level row ≤ level (expr_tree first) → (length rest == 0) ≡ true → at_level (row_level row) first ≡ row_forest row first rest
-no_items row first [] h none = row_alone row first h
-no_items row first (f ∷ rest) h none = let e : length (f ∷ rest) ≡ 0 = eqb-true (length (f ∷ rest)) 0 none in absurd (omega arith)
-
-pub some_items : (row r : RowLevel) (make : Expr → List Further → Expr) (e boxed first : Expr) (rest : List Further) → row ≡ r → e ≡ make boxed rest → boxed ≡ first → (length rest == 0) ≡ false
+pub some_items : (row r : RowLevel) (make : Expr → List Further → Expr) (e first : Expr) (rest : List Further) → row ≡ r → e ≡ make first rest
     → ((next : Further) (others : List Further) → at_level (row_level r) (make first (next ∷ others)) ≡ row_forest r first (next ∷ others))
-    → at_level (row_level row) e ≡ row_forest row first rest
-some_items row r make e boxed first [] is node box some so = absurd (false≢true (sym some))
-some_items row r make e boxed first (f ∷ rest) is node box some so =
-    subst (λ (x : RowLevel). at_level (row_level x) e ≡ row_forest x first (f ∷ rest)) (sym is) (ap (at_level (row_level r)) (node ∙ ap (λ (x : Expr). make x (f ∷ rest)) box) ∙ so f rest)
+    → (next : Further) (others : List Further) → rest ≡ next ∷ others → at_level (row_level row) e ≡ row_forest row first rest
+some_items row r make e first rest is node so next others some =
+    subst (λ (x : RowLevel). at_level (row_level x) e ≡ row_forest x first rest) (sym is)
+    (ap (at_level (row_level r)) (node ∙ ap (make first) some) ∙ (so next others ∙ ap (row_forest r first) (sym some)))
 
 -- Other nodes
 
@@ -207,14 +203,12 @@ pub last_named : (xs : List Suffix) (s : Suffix) → slice_get xs (length xs - 1
 last_named [] s get = absurd (none-some s get)
 last_named (x ∷ xs) s get = last_is (x ∷ xs) (length (x ∷ xs) - 1) s (omega arith) get
 
-pub no_suffixes : (head : Expr) (suffixes : List Suffix) → 9 ≤ level (expr_tree head) → (length suffixes == 0) ≡ true → at_level 8 head ≡ post_forest head suffixes
-no_suffixes head [] h none = post_none head h
-no_suffixes head (s ∷ rest) h none = let e : length (s ∷ rest) ≡ 0 = eqb-true (length (s ∷ rest)) 0 none in absurd (omega arith)
+pub some_named : (head : Expr) (suffixes : List Suffix) → ends_named (map suffix_tree suffixes) ≡ true
+    → (s : Suffix) (rest : List Suffix) → suffixes ≡ s ∷ rest → at_level 8 (TheViews.Expr::Dot head suffixes) ≡ post_forest head suffixes
+some_named head [] h s rest is = absurd (false≢true h)
+some_named head (x ∷ xs) h s rest is = post_named head x xs h
 
-pub some_named : (boxed head : Expr) (suffixes : List Suffix) → boxed ≡ head → ends_named (map suffix_tree suffixes) ≡ true → at_level 8 (TheViews.Expr::Dot boxed suffixes) ≡ post_forest head suffixes
-some_named boxed head [] is h = absurd (false≢true h)
-some_named boxed head (s ∷ rest) is h = ap (λ (x : Expr). at_level 8 (TheViews.Expr::Dot x (s ∷ rest))) is ∙ post_named head s rest h
-
-pub some_indexed : (boxed head : Expr) (suffixes : List Suffix) → boxed ≡ head → (length suffixes == 0) ≡ false → ends_named (map suffix_tree suffixes) ≡ false → at_level 8 (TheViews.Expr::Index boxed suffixes) ≡ post_forest head suffixes
-some_indexed boxed head [] is some h = absurd (false≢true (sym some))
-some_indexed boxed head (s ∷ rest) is some h = ap (λ (x : Expr). at_level 8 (TheViews.Expr::Index x (s ∷ rest))) is ∙ post_indexed head s rest h
+pub some_indexed : (head : Expr) (suffixes : List Suffix) → ends_named (map suffix_tree suffixes) ≡ false
+    → (s : Suffix) (rest : List Suffix) → suffixes ≡ s ∷ rest → at_level 8 (TheViews.Expr::Index head suffixes) ≡ post_forest head suffixes
+some_indexed head [] h s rest is = absurd (cc)
+some_indexed head (x ∷ xs) h s rest is = post_indexed head x xs h

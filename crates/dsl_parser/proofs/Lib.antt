@@ -8,3 +8,12 @@ pub mod PhaseForms
 pub mod ExprForests
 pub mod Exits
 pub mod LeafForests
+pub mod Productions
+pub mod Listings
+pub mod RowReaders
+pub mod ExprReaders
+pub mod OperandReaders
+pub mod BracketReaders
+pub mod Ranks
+pub mod PathReaders
+pub mod ArgumentReaders

@@ -1,16 +1,19 @@
 -- The levels of expressions: `Expr` 0, `Or` 1, `And` 2, `Not` 3, `Relation` 4, `Sum` 5, `Product` 6,
 -- `Minus` 7, `Postfix` 8 and `Primary` 9.
-use Rattle.std.specs.Prelude.{ℕ, Bool, true, false, List, [], ◌∷◌, Option, Some, None}
+use Rattle.std.specs.Prelude.{◌≡◌, ℕ, Bool, true, false, List, [], ◌∷◌, Option, Some, None}
+use Rattle.osc_base.specs.declared.fault.Place.{Place}
 use Rattle.dsl_tree.specs.declared.parts.Ident.{Ident}
 use Rattle.dsl_tree.specs.declared.expr.Expr.{Expr}
 use Rattle.dsl_tree.specs.declared.expr.Further.{Further}
 use Rattle.dsl_tree.specs.declared.expr.Suffix.{Suffix}
+use Rattle.dsl_tree.specs.declared.token.Token.{Token}
 use Rattle.dsl_tree.specs.declared.token.MarkKind.{MarkKind}
 use Rattle.dsl_tree.specs.declared.token.WordKind.TheVariants.{ActorWord, ItWord, TrueWord, FalseWord}
 use Rattle.dsl_tree.specs.Codes.{word_code, si_name, factor_name, offset_name, other_name, small_number, large_number, point_number, physical_code, text_code}
 use Rattle.dsl_tree.specs.Grammar.{Part}
 use Rattle.dsl_tree.specs.Forest.{Forest, nil, seen, sub}
 use Rattle.dsl_tree.specs.Tables.{first}
+use Rattle.dsl_tree.specs.Reading.{Parsed}
 use Rattle.dsl_tree.specs.Views.{SuffixTree, Named, At, expr_tree, suffix_tree}
 use Rattle.dsl_tree.specs.Written.{at, written, operator_kind, mark, mark_at, ident, expr}
 use Rattle.dsl_parser.specs.declared.levels.RowLevel.{RowLevel}
@@ -103,3 +106,15 @@ simple_codes = small_number ∷ large_number ∷ point_number ∷ physical_code 
 
 abbrev pub leaf_codes : List ℕ
 leaf_codes = si_name ∷ factor_name ∷ offset_name ∷ other_name ∷ simple_codes
+
+-- a range or list was read behind its first expression
+pub record IsBracketed (place : Place) (first expr : Expr) (tokens rest : List Token) : Type 0 where
+  pub behind : Forest
+  pub is : at_level 9 expr ≡ mark_at place MarkKind.OpenSquare (sub (at_level 0 first) (sub behind nil))
+  pub parsed : Parsed Part.BracketRest behind tokens rest
+
+-- items were read behind the first one
+pub record IsListing (first : Expr) (items : List Expr) (tokens rest : List Token) : Type 0 where
+  pub others : List Expr
+  pub is : items ≡ first ∷ others
+  pub parsed : Parsed Part.ListedTail (items_of others) tokens rest

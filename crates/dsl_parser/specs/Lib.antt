@@ -4,3 +4,4 @@ pub mod Rows
 pub mod Rests
 pub mod PhaseStarts
 pub mod Levels
+pub mod Arguments

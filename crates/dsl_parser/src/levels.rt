@@ -1,12 +1,12 @@
 //! The rows of operators.
 
-ghost use Rattle.std.specs.Prelude.{◌≡◌, ◌≤◌, [], ◌∷◌, true, false, IfOk, IfSome, IfNone};
+ghost use Rattle.std.specs.Prelude.{◌≡◌, [], ◌∷◌, List, true, false, IfSome, IfNone};
 ghost use Rattle.dsl_tree.specs.Codes.{code, has, mark_code, word_code};
 ghost use Rattle.dsl_tree.specs.Forest.{nil, sub};
-ghost use Rattle.dsl_tree.specs.Reading.{Stops};
+ghost use Rattle.dsl_tree.specs.Reading.{starts, Stops};
 ghost use Rattle.dsl_tree.specs.Language.{Ended};
-ghost use Rattle.dsl_tree.specs.Views.{expr_tree};
-ghost use Rattle.dsl_tree.specs.Written.{operator_kind, sign_kind, level};
+ghost use Rattle.dsl_tree.specs.declared.expr.Further.{Further};
+ghost use Rattle.dsl_tree.specs.Written.{operator_kind, sign_kind};
 ghost use Rattle.dsl_tree.specs.Grammar.{Part};
 ghost use Rattle.dsl_tree.specs.Tables.{first};
 ghost use Rattle.dsl_parser.specs.Readers.{IsRead};
@@ -15,7 +15,6 @@ ghost use Rattle.dsl_parser.specs.Levels.{at_level, operators, row_level, item_l
 use crate::tokens::{is_mark, is_word};
 use dsl_tree::{Expr, Further, MarkKind, Operator, RelationSign, Token, TokenKind, WordKind};
 use osc_base::{Boxed, Place, Row};
-use std::alloc::{AllocError, Global};
 
 /// A row of operators: `or`, `and`, `+` and `-`, or `*` and `/`.
 #[derive(Clone, Copy)]
@@ -52,6 +51,17 @@ pub fn take_operator(tokens: &[Token], row: RowLevel) -> Option<(Place, Operator
     let (first, rest) = tokens.split_first()?;
     let operator = operator_of(&first.kind, row)?;
     Some((first.place, operator, rest))
+}
+
+/// Whether the first token is an operator of the row.
+pub fn starts_operator(tokens: &[Token], row: RowLevel) -> bool
+    requires { Ended tokens.now }
+    ensures { result ≡ starts (operators row) tokens.now }
+{
+    match tokens {
+        [first, ..] => operator_of(&first.kind, row).is_some(),
+        [] => false,
+    }
 }
 
 fn sign_of_mark(mark: MarkKind) -> Option<RelationSign>
@@ -91,19 +101,14 @@ pub fn take_sign(tokens: &[Token]) -> Option<(Place, RelationSign, &[Token])>
     Some((first.place, sign, rest))
 }
 
-/// A row of its first item and what stands behind it; the first item itself where nothing does.
-pub fn row_of(alloc: Global, row: RowLevel, first: Expr, rest: Row<Further>) -> Result<Expr, AllocError>
-    requires { item_level row ≤ level (expr_tree first) }
-    ensures { IfOk result (λ e. at_level (row_level row) e ≡ sub (at_level (item_level row) first) (sub (tail_of (item_level row) rest) nil)) }
+/// A row of its first item and those behind it, of which there is one at least.
+pub fn row_of(row: RowLevel, first: Boxed<Expr>, rest: Row<Further>) -> Expr
+    ensures { (next : Further) (others : List Further) → rest ≡ next ∷ others → at_level (row_level row) result ≡ sub (at_level (item_level row) first) (sub (tail_of (item_level row) rest) nil) }
 {
-    if rest.as_slice().is_empty() {
-        return Ok(first);
-    }
-    let first = Boxed::new(alloc, first)?;
-    Ok(match row {
+    match row {
         RowLevel::OrRow => Expr::Or { first, rest },
         RowLevel::AndRow => Expr::And { first, rest },
         RowLevel::SumRow => Expr::Sum { first, rest },
         RowLevel::ProductRow => Expr::Product { first, rest },
-    })
+    }
 }
