@@ -37,13 +37,13 @@ use Rattle.dsl_tree.specs.Views as Views
 use Rattle.dsl_tree.specs.Views.{SuffixTree, Named, At, with_suffixes, expr_tree, suffix_tree, head_tree, path_tree, rule_tree, argument_tree, modifier_tree, part_tree, phase_tree, comp_tree, field_tree, member_tree, compound_tree, more_tree, declaration_tree, file_tree}
 use Rattle.dsl_tree.proofs.Tests.{is_whole, left_of, right_of}
 use Rattle.dsl_tree.proofs.ReadBack.{path_head_whole}
-use Rattle.dsl_tree.proofs.WrittenRows.{suffix_tail}
+use Rattle.dsl_tree.proofs.WrittenRows.{suffix_tail, front_of_row, path_of_row}
 use Rattle.dsl_tree.proofs.PhaseWords.{head_whole, label_whole}
 use Rattle.dsl_tree.proofs.Values.{value_of, suffix_rest, suffix_value, suffix_whole, suffix_back, expr_back}
 
 -- Paths
 
-head_of : ExprTree → PathHead
+unfoldable pub head_of : ExprTree → PathHead
 head_of (ExprTree.Name name) = PathHead.Name name
 head_of (ExprTree.It place) = PathHead.It place
 head_of (ExprTree.Actor place) = PathHead.Actor place
@@ -52,7 +52,7 @@ head_of (ExprTree.Dot head name) = head_of head
 head_of (ExprTree.Index place head index) = head_of head
 head_of _ = PathHead.It (record { file = 0; line = 0; column = 0; token = 0 })
 
-abbrev path_value : ExprTree → PathNode
+abbrev pub path_value : ExprTree → PathNode
 path_value t = record { head = head_of t; suffixes = suffix_rest t }
 
 head_back : (h : PathHead) → head_of (head_tree h) ≡ h
@@ -77,17 +77,6 @@ rest_of_row t [] = sym (append-nil (suffix_rest t))
 rest_of_row t (Named name ∷ rest) = rest_of_row (ExprTree.Dot t name) rest ∙ append_assoc (suffix_rest t) (Suffix.Suffix::Dot name ∷ []) (map suffix_value rest)
 rest_of_row t (At place index ∷ rest) = rest_of_row (ExprTree.Index place t index) rest ∙ append_assoc (suffix_rest t) (Suffix.Suffix::Index place (value_of index) ∷ []) (map suffix_value rest)
 
-front_of_row : (t : ExprTree) (ss : List SuffixTree) → path_front (with_suffixes t ss) nil ≡ path_front t (suffix_tail ss)
-front_of_row t [] = refl
-front_of_row t (Named name ∷ rest) = front_of_row (ExprTree.Dot t name) rest
-front_of_row t (At place index ∷ rest) = front_of_row (ExprTree.Index place t index) rest
-
-path_of_row : (t : ExprTree) (s : SuffixTree) (ss : List SuffixTree) → path (with_suffixes t (s ∷ ss)) ≡ path_front (with_suffixes t (s ∷ ss)) nil
-path_of_row t (Named name) [] = refl
-path_of_row t (At place index) [] = refl
-path_of_row t (Named name) (s ∷ rest) = path_of_row (ExprTree.Dot t name) s rest
-path_of_row t (At place index) (s ∷ rest) = path_of_row (ExprTree.Index place t index) s rest
-
 tail_parts : (t : SuffixTree) (ts : List SuffixTree) → is_whole (suffix_tail (t ∷ ts)) ≡ true → (suffix_whole t ≡ true) × (is_whole (suffix_tail ts) ≡ true)
 tail_parts (Named name) ts k = (refl, left_of _ true k)
 tail_parts (At place index) ts k = (left_of _ true (left_of (is_whole (expr index) && true) _ k), left_of _ true (right_of (is_whole (expr index) && true) _ k))
@@ -111,7 +100,7 @@ path_back head (s ∷ rest) h =
 
 -- Rules and arguments
 
-abbrev rule_value : RuleTree → RuleDecl
+abbrev pub rule_value : RuleTree → RuleDecl
 rule_value (RuleTree.Keep place kind e) = RuleDecl.Keep place kind (value_of e)
 rule_value (RuleTree.Remove place t) = RuleDecl.Remove place (path_value t)
 
@@ -123,14 +112,14 @@ rules_back : (rs : List RuleDecl) → is_whole (rules_tail (map rule_tree rs)) �
 rules_back [] h = refl
 rules_back (r ∷ rs) h = ap₂ (λ (a : RuleDecl) (b : List RuleDecl). a ∷ b) (rule_back r (left_of _ _ h)) (rules_back rs (left_of _ _ (right_of _ _ h)))
 
-abbrev argument_value : ArgumentTree → Argument
+abbrev pub argument_value : ArgumentTree → Argument
 argument_value a = record { name = a.name; value = value_of a.value }
 
 one_more : (a : Argument) (others : List Argument) → value_of (expr_tree a.value) ≡ a.value → map argument_value (map argument_tree others) ≡ others
     → map argument_value (map argument_tree (a ∷ others)) ≡ a ∷ others
 one_more a others e e' = ap₂ (λ (x : Expr) (b : List Argument). record { name = a.name; value = x } ∷ b) e e'
 
-named_parts : (name : Option Ident) (value : ExprTree) (rest : Forest) → is_whole (by_option name wrong (λ n. Written.mark MarkKind.Comma (named_argument n value rest))) ≡ true → (is_whole (expr value) ≡ true) × (is_whole rest ≡ true)
+pub named_parts : (name : Option Ident) (value : ExprTree) (rest : Forest) → is_whole (by_option name wrong (λ n. Written.mark MarkKind.Comma (named_argument n value rest))) ≡ true → (is_whole (expr value) ≡ true) × (is_whole rest ≡ true)
 named_parts None value rest h = absurd (false≢true h)
 named_parts (Some n) value rest h = (left_of _ _ h, left_of _ true (right_of (is_whole (expr value)) _ h))
 
@@ -164,7 +153,7 @@ composition_arguments_back (a ∷ others) h = arguments_back (a ∷ others) (lef
 
 -- Phases
 
-abbrev part_value : PartTree → InvokePart
+abbrev pub part_value : PartTree → InvokePart
 part_value (PartTree.RulePart r) = InvokePart.Rule (rule_value r)
 part_value (PartTree.ModifierPart m) = InvokePart.Modifier (record { name = m.name; arguments = map argument_value m.arguments })
 
@@ -180,16 +169,16 @@ end_back : (ps : List InvokePart) → is_whole (invocation_end (map part_tree ps
 end_back [] h = refl
 end_back (p ∷ ps) h = ap₂ (λ (a : InvokePart) (b : List InvokePart). a ∷ b) (part_back p (left_of _ _ h)) (parts_back ps (left_of _ _ (right_of _ _ h)))
 
-abbrev comp_of : Option Ident → Place → CompKind → List Argument → List Phase → CompNode
+abbrev pub comp_of : Option Ident → Place → CompKind → List Argument → List Phase → CompNode
 comp_of label place kind args members = record { label = label; place = place; kind = kind; arguments = args; members = members }
 
 abbrev mutual
-  phase_value : PhaseTree → Phase
+  pub phase_value : PhaseTree → Phase
   phase_value (PhaseTree.Comp label place kind args members) = TheViews.Comp (comp_of label place kind (map argument_value args) (phases_value members))
   phase_value (PhaseTree.Invoke label head names args parts) = Phase.Invoke (record { label = label; head = head; names = names; arguments = map argument_value args; parts = map part_value parts })
   phase_value (PhaseTree.Wait label place elapsed) = Phase.Wait (record { label = label; place = place; elapsed = value_of elapsed })
 
-  phases_value : PhaseRow → List Phase
+  pub phases_value : PhaseRow → List Phase
   phases_value PhaseRow.End = []
   phases_value (PhaseRow.Phase first others) = phase_value first ∷ phases_value others
 
@@ -266,7 +255,7 @@ field_end_back : (rs : List RuleDecl) → is_whole (field_end (map rule_tree rs)
 field_end_back [] h = refl
 field_end_back (r ∷ rs) h = ap₂ (λ (a : RuleDecl) (b : List RuleDecl). a ∷ b) (rule_back r (left_of _ _ h)) (rules_back rs (left_of _ _ (right_of _ _ h)))
 
-abbrev field_value : FieldTree → FieldDecl
+abbrev pub field_value : FieldTree → FieldDecl
 field_value f = record { names = f.names; list = f.list; of = f.of; initial = option_map value_of f.initial; rules = map rule_value f.rules }
 
 field_back : (names : List Ident) (f : FieldDecl) → is_whole (field names (field_tree f)) ≡ true → field_value (field_tree f) ≡ f
@@ -281,7 +270,7 @@ field_back (n ∷ ns) f h =
     h3 : (is_whole (initial (option_map expr_tree f.initial)) && (is_whole (field_end (map rule_tree f.rules)) && true)) ≡ true
     h3 = right_of (is_whole (field_type f.list f.of)) _ h2
 
-abbrev member_value : MemberTree → Member
+abbrev pub member_value : MemberTree → Member
 member_value (MemberTree.Field f) = Member.Field (field_value f)
 member_value (MemberTree.Rule r) = Member.Rule (rule_value r)
 member_value (MemberTree.Do place p) = Member.Do place (phase_value p)
@@ -303,20 +292,20 @@ body_members : (ms : List Member) → is_whole (body (map member_tree ms)) ≡ t
 body_members [] h = refl
 body_members (m ∷ ms) h = block_members (m ∷ ms) (left_of _ _ h)
 
-abbrev compound_value : CompoundTree → CompoundDecl
+abbrev pub compound_value : CompoundTree → CompoundDecl
 compound_value c = record { place = c.place; kind = c.kind; name = c.name; heir = c.heir; members = map member_value c.members }
 
 plain_whole : (second : Option Ident) (first : Ident) (f : Forest) → is_whole (by_option second (ident first f) (λ s. wrong)) ≡ true → is_whole f ≡ true
 plain_whole None first f h = h
 plain_whole (Some s) first f h = absurd (false≢true h)
 
-heading_whole : (kind : CompoundKind) (c : CompoundDecl) → is_whole (compound_heading kind (compound_tree c)) ≡ true → is_whole (heading_rest (compound_tree c)) ≡ true
-heading_whole CompoundKind.Struct c h = plain_whole c.name.second c.name.first (heading_rest (compound_tree c)) h
-heading_whole CompoundKind.Actor c h = plain_whole c.name.second c.name.first (heading_rest (compound_tree c)) h
+pub heading_whole : (kind : CompoundKind) (c : CompoundTree) → is_whole (compound_heading kind c) ≡ true → is_whole (heading_rest c) ≡ true
+heading_whole CompoundKind.Struct c h = plain_whole c.name.second c.name.first (heading_rest c) h
+heading_whole CompoundKind.Actor c h = plain_whole c.name.second c.name.first (heading_rest c) h
 heading_whole CompoundKind.Action c h = right_of (is_whole (qualified_name c.name)) _ h
 heading_whole CompoundKind.Scenario c h = right_of (is_whole (qualified_name c.name)) _ h
 
-abbrev declaration_value : DeclarationTree → Declaration
+abbrev pub declaration_value : DeclarationTree → Declaration
 declaration_value (DeclarationTree.TypeDeclaration d) = Declaration.Physical d
 declaration_value (DeclarationTree.UnitDeclaration d) = Declaration.Unit d
 declaration_value (DeclarationTree.EnumDeclaration d) = Declaration.Enum d
@@ -330,7 +319,7 @@ declaration_back (Declaration.Unit d) h = refl
 declaration_back (Declaration.Enum d) h = refl
 declaration_back (Declaration.Compound c) h =
     ap (λ (ms : List Member). Declaration.Compound (record { place = c.place; kind = c.kind; name = c.name; heir = c.heir; members = ms }))
-    (body_members c.members (left_of _ _ (right_of (is_whole (optional_heir c.heir)) _ (heading_whole c.kind c h))))
+    (body_members c.members (left_of _ _ (right_of (is_whole (optional_heir c.heir)) _ (heading_whole c.kind (compound_tree c) h))))
 declaration_back (Declaration.MoreMembers e) h =
     ap (λ (ms : List Member). Declaration.MoreMembers (record { place = e.place; name = e.name; members = ms }))
     (block_members e.members (left_of _ _ (left_of _ _ (right_of (is_whole (qualified_name e.name)) _ h))))
@@ -340,7 +329,7 @@ declarations_back : (ds : List Declaration) → is_whole (declarations (map decl
 declarations_back [] h = refl
 declarations_back (d ∷ ds) h = ap₂ (λ (a : Declaration) (b : List Declaration). a ∷ b) (declaration_back d (left_of _ _ h)) (declarations_back ds (left_of _ _ (right_of _ _ h)))
 
-pub file_value : FileTree → File
+unfoldable pub file_value : FileTree → File
 file_value f = record { imports = f.imports; decls = map declaration_value f.decls; end = f.end }
 
 pub file_back_value : (f : File) → is_whole (file (file_tree f)) ≡ true → file_value (file_tree f) ≡ f

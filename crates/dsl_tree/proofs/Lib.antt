@@ -2,6 +2,7 @@ pub mod Seen
 pub mod SeenPhases
 pub mod Tests
 mod Worked
+mod WorkedFaults
 pub mod Checked
 pub mod Sets
 pub mod Fits
@@ -27,3 +28,11 @@ pub mod FirstNames
 pub mod Values
 pub mod FileValues
 pub mod TreeValues
+pub mod TreeFiles
+pub mod Classes
+pub mod Made
+pub mod MadeExprs
+pub mod MadePhases
+pub mod MadeFiles
+pub mod Inverse
+pub mod Tops

@@ -1,5 +1,5 @@
 -- Each expression that follows the grammar is the tree of a value.
-use Rattle.std.proofs.Common.{◌≡◌, ℕ, List, [], ◌∷◌, ◌++◌, Bool, true, false, map, refl, sym, ◌∙◌, ap, ap₂, subst, ◌&&◌}
+use Rattle.std.proofs.Common.{◌≡◌, List, [], ◌∷◌, ◌++◌, true, map, refl, ◌∙◌, ap, ap₂}
 use Rattle.std.proofs.lemmas.Bool.{false≢true}
 use Rattle.std.proofs.lemmas.List.{map-append}
 use Rattle.osc_base.specs.declared.fault.Place.{Place}
@@ -9,7 +9,7 @@ use Rattle.dsl_tree.specs.declared.expr.Expr.{Expr}
 use Rattle.dsl_tree.specs.declared.expr.Suffix.{Suffix}
 use Rattle.dsl_tree.specs.declared.expr.Further.{Further}
 use Rattle.dsl_tree.specs.ExprTree.{ExprTree, Implies, Or, And, Not, Relation, Sum, Product, Minus, Dot, Index, Number, Physical, Chars, Truth, It, Actor, Name, EnumName, Group, Span, Listed, RangeCall, Start, ExprRow, End, Item, row_of}
-use Rattle.dsl_tree.specs.Forest.{Forest, nil, seen, bare, sub, wrong}
+use Rattle.dsl_tree.specs.Forest.{Forest, nil}
 use Rattle.dsl_tree.specs.Written.{at, written, or_row, and_row, sum_row, product_row, post_row, listed_tail, expr, next_part, next_name, next_index}
 use Rattle.dsl_tree.specs.Views.{SuffixTree, FurtherTree, Named, At, grouped, with_suffixes, named_row, indexed_row, expr_tree, suffix_tree, further_tree}
 use Rattle.dsl_tree.proofs.Tests.{is_whole, left_of, right_of}
@@ -54,14 +54,14 @@ indexed_last t (At p i ∷ []) place index = refl
 indexed_last t (Named n ∷ (s ∷ rest)) place index = indexed_last t (s ∷ rest) place index
 indexed_last t (At p i ∷ (s ∷ rest)) place index = indexed_last t (s ∷ rest) place index
 
-name_more : (first head : ExprTree) (rest : List Suffix) (name : Ident) → with_suffixes first (map suffix_tree rest) ≡ head
+pub name_more : (first head : ExprTree) (rest : List Suffix) (name : Ident) → with_suffixes first (map suffix_tree rest) ≡ head
     → with_suffixes first (map suffix_tree (rest ++ Suffix.Suffix::Dot name ∷ [])) ≡ Dot head name
 name_more first head rest name e =
     ap (with_suffixes first) (map-append suffix_tree rest (Suffix.Suffix::Dot name ∷ []))
     ∙ (with_suffixes-append first (map suffix_tree rest) (suffix_tree (Suffix.Suffix::Dot name) ∷ [])
     ∙ (ap (λ (s : SuffixTree). with_suffixes (with_suffixes first (map suffix_tree rest)) (s ∷ [])) (seen_dot_suffix name) ∙ ap (λ (t : ExprTree). Dot t name) e))
 
-index_more : (first head index : ExprTree) (rest : List Suffix) (place : Place) (value : Expr) → with_suffixes first (map suffix_tree rest) ≡ head → expr_tree value ≡ index
+pub index_more : (first head index : ExprTree) (rest : List Suffix) (place : Place) (value : Expr) → with_suffixes first (map suffix_tree rest) ≡ head → expr_tree value ≡ index
     → with_suffixes first (map suffix_tree (rest ++ Suffix.Suffix::Index place value ∷ [])) ≡ Index place head index
 index_more first head index rest place value e e' =
     ap (with_suffixes first) (map-append suffix_tree rest (Suffix.Suffix::Index place value ∷ []))

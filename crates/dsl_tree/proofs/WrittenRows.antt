@@ -5,7 +5,7 @@ use Rattle.std.proofs.lemmas.Bool.{ltb-true}
 use Rattle.dsl_tree.specs.ExprTree.{ExprTree}
 use Rattle.dsl_tree.specs.Views.{FurtherTree, SuffixTree, Named, At, grouped, with_suffixes}
 use Rattle.dsl_tree.specs.Forest.{Forest, nil, sub, wrong}
-use Rattle.dsl_tree.specs.Written.{level, lifted, raised, at, next_part, next_name, next_index, written, or_row, and_row, sum_row, product_row, post_row, expr}
+use Rattle.dsl_tree.specs.Written.{level, lifted, raised, at, next_part, next_name, next_index, written, or_row, and_row, sum_row, product_row, post_row, expr, path, path_front}
 
 -- Levels
 
@@ -152,3 +152,31 @@ product_own first next rest = (product_of_row (ExprTree.Start first) next rest).
 pub post_own : (head : ExprTree) (s : SuffixTree) (rest : List SuffixTree)
     → written (with_suffixes (ExprTree.Start head) (s ∷ rest)) ≡ sub (at 9 head (written head)) (sub (suffix_tail (s ∷ rest)) nil)
 post_own head s rest = (post_of_row (ExprTree.Start head) s rest).0 ∙ post_grouped (ExprTree.Start head) (s ∷ rest)
+
+pub or_level : (first : ExprTree) (next : FurtherTree) (rest : List FurtherTree) → level (grouped ExprTree.Or (ExprTree.Start first) (next ∷ rest)) ≡ 1
+or_level first next rest = (or_of_row (ExprTree.Start first) next rest).1
+
+pub and_level : (first : ExprTree) (next : FurtherTree) (rest : List FurtherTree) → level (grouped ExprTree.And (ExprTree.Start first) (next ∷ rest)) ≡ 2
+and_level first next rest = (and_of_row (ExprTree.Start first) next rest).1
+
+pub sum_level : (first : ExprTree) (next : FurtherTree) (rest : List FurtherTree) → level (grouped ExprTree.Sum (ExprTree.Start first) (next ∷ rest)) ≡ 5
+sum_level first next rest = (sum_of_row (ExprTree.Start first) next rest).1
+
+pub product_level : (first : ExprTree) (next : FurtherTree) (rest : List FurtherTree) → level (grouped ExprTree.Product (ExprTree.Start first) (next ∷ rest)) ≡ 6
+product_level first next rest = (product_of_row (ExprTree.Start first) next rest).1
+
+pub post_level : (head : ExprTree) (s : SuffixTree) (rest : List SuffixTree) → level (with_suffixes (ExprTree.Start head) (s ∷ rest)) ≡ 8
+post_level head s rest = (post_of_row (ExprTree.Start head) s rest).1
+
+-- Paths
+
+pub front_of_row : (t : ExprTree) (ss : List SuffixTree) → path_front (with_suffixes t ss) nil ≡ path_front t (suffix_tail ss)
+front_of_row t [] = refl
+front_of_row t (Named name ∷ rest) = front_of_row (ExprTree.Dot t name) rest
+front_of_row t (At place index ∷ rest) = front_of_row (ExprTree.Index place t index) rest
+
+pub path_of_row : (t : ExprTree) (s : SuffixTree) (ss : List SuffixTree) → path (with_suffixes t (s ∷ ss)) ≡ path_front (with_suffixes t (s ∷ ss)) nil
+path_of_row t (Named name) [] = refl
+path_of_row t (At place index) [] = refl
+path_of_row t (Named name) (s ∷ rest) = path_of_row (ExprTree.Dot t name) s rest
+path_of_row t (At place index) (s ∷ rest) = path_of_row (ExprTree.Index place t index) s rest

@@ -8,6 +8,7 @@ use Rattle.dsl_tree.specs.declared.phases.CompKind.{CompKind}
 use Rattle.dsl_tree.specs.declared.phases.InvokeHead.{InvokeHead}
 use Rattle.dsl_tree.specs.declared.token.Token.{Token}
 use Rattle.dsl_tree.specs.declared.token.TokenKind.{TokenKind}
+use Rattle.dsl_tree.specs.declared.token.LeftKind.{LeftKind}
 use Rattle.dsl_tree.specs.declared.token.MarkKind.{MarkKind}
 use Rattle.dsl_tree.specs.declared.token.WordKind.{WordKind}
 use Rattle.dsl_tree.specs.declared.expr.Operator.{Operator}
@@ -172,3 +173,19 @@ large_exponent = base_at 0 (codes "m") (positive_at 2 10 0)
 
 abbrev pub two_places : Signed
 two_places = record { place = at 0; minus = false; number = record { place = at 1; digits = 1; places = 0 } }
+
+-- Lists of tokens that spell no tree: a left-out word at the beginning, a scenario without a name, and
+-- an expression that ends behind its sign
+abbrev pub left_out_tokens : List TokenKind
+left_out_tokens = TokenKind.LeftOut LeftKind.CoverWord ∷ TokenKind.End ∷ []
+
+abbrev pub nameless_tokens : List TokenKind
+nameless_tokens = TokenKind.Word WordKind.ScenarioWord ∷ TokenKind.Mark MarkKind.Colon ∷ TokenKind.End ∷ []
+
+-- scenario top:
+--     keep(x ==
+abbrev pub broken_tokens : List TokenKind
+broken_tokens =
+    TokenKind.Word WordKind.ScenarioWord ∷ named (codes "top") ∷ TokenKind.Mark MarkKind.Colon ∷ TokenKind.Newline ∷ TokenKind.Indent
+    ∷ TokenKind.Word WordKind.KeepWord ∷ TokenKind.Mark MarkKind.OpenRound ∷ named (codes "x") ∷ TokenKind.Mark MarkKind.Equal ∷ TokenKind.Newline
+    ∷ TokenKind.Dedent ∷ TokenKind.End ∷ []

@@ -7,7 +7,7 @@ use Rattle.dsl_tree.specs.declared.file.File.{File}
 use Rattle.dsl_tree.specs.FileTree.{FileTree}
 use Rattle.dsl_tree.specs.Views.{file_tree}
 use Rattle.dsl_tree.specs.Grammar.{Part}
-use Rattle.dsl_tree.specs.Forest.{IsOf, Spells}
+use Rattle.dsl_tree.specs.Forest.{Forest, IsOf, Spells}
 use Rattle.dsl_tree.specs.WrittenFile.{file}
 
 -- The tree follows the grammar. Such a tree is spelled by some list of tokens, and no other tree is.
@@ -70,3 +70,11 @@ OneSpelling =
 -- a list with a fault spells no tree
 abbrev pub FaultsSpellNothing : Type 0
 FaultsSpellNothing = (tokens : List Token) (fault : Fault) (tree : FileTree) → FirstFault tokens fault → Spelled tree tokens → ⊥
+
+-- each forest of the grammar is what some tree is written as
+abbrev pub ForestsAreTrees : Type 0
+ForestsAreTrees = (forest : Forest) → IsOf Part.File forest → (tree : FileTree) × (file tree ≡ forest)
+
+-- each tree that follows the grammar is the tree of a file as the program holds it
+abbrev pub TreesAreFiles : Type 0
+TreesAreFiles = (tree : FileTree) → FollowsGrammar tree → (f : File) × (file_tree f ≡ tree)

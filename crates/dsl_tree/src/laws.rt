@@ -1,4 +1,4 @@
-ghost use Rattle.dsl_tree.specs.Language.{OneTree, OneFile, OneSpelling, FaultsSpellNothing};
+ghost use Rattle.dsl_tree.specs.Language.{OneTree, OneFile, OneSpelling, FaultsSpellNothing, ForestsAreTrees, TreesAreFiles};
 
 /// The law that a list of tokens is spelled by one tree at most.
 pub fn one_tree()
@@ -18,4 +18,14 @@ pub fn one_spelling()
 /// The law that a list of tokens with a first fault spells no tree.
 pub fn faults_spell_nothing()
     ensures { FaultsSpellNothing }
+{}
+
+/// The law that each forest of the grammar is what some tree is written as.
+pub fn forests_are_trees()
+    ensures { ForestsAreTrees }
+{}
+
+/// The law that each tree that follows the grammar is the tree of some `File`.
+pub fn trees_are_files()
+    ensures { TreesAreFiles }
 {}

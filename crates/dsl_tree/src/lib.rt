@@ -22,7 +22,9 @@ pub use compounds::{
 pub use enums::{EnumDecl, EnumItem, MoreEnum};
 pub use expr::{Expr, Further, Operator, RelationSign, Suffix};
 pub use file::{Declaration, File, Import};
-pub use laws::{faults_spell_nothing, one_file, one_spelling, one_tree};
+pub use laws::{
+    faults_spell_nothing, forests_are_trees, one_file, one_spelling, one_tree, trees_are_files,
+};
 pub use parts::{Digits, Ident, QName, Signed};
 pub use phases::{
     Argument, CompKind, CompNode, InvokeHead, InvokeNode, InvokePart, ModifierNode, Phase, WaitNode,

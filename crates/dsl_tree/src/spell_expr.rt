@@ -1,5 +1,5 @@
 ghost use Rattle.std.specs.Prelude.{◌≡◌, ◌++◌, map, OnOk};
-ghost use Rattle.dsl_tree.specs.Written.{operator_kind, sign_kind};
+ghost use Rattle.dsl_tree.specs.Written.{operator_kind, sign_kind, truth_word};
 ghost use Rattle.dsl_tree.specs.Words.{one, mark, word, ident, digits, joined, comma_joined, expr_words, suffix_words, further_words};
 
 use crate::{
@@ -71,6 +71,59 @@ fn kind_of_sign(sign: RelationSign) -> TokenKind
     }
 }
 
+fn push_physical(
+    alloc: Global,
+    tokens: &mut Tokens,
+    number: &Digits,
+    unit: &Text,
+) -> Result<(), AllocError>
+    ensures { OnOk result (tokens.new ≡ tokens.old ++ one number.now.place (TokenKind.Physical number.now.digits number.now.places unit.now)) }
+{
+    let kind = TokenKind::Physical {
+        digits: number.digits,
+        places: number.places,
+        unit: Text::copy(alloc, unit.as_str())?,
+    };
+    push(tokens, number.place, kind)
+}
+
+fn push_chars(
+    alloc: Global,
+    tokens: &mut Tokens,
+    place: Place,
+    text: &Text,
+) -> Result<(), AllocError>
+    ensures { OnOk result (tokens.new ≡ tokens.old ++ one place (TokenKind.Chars text.now)) }
+{
+    let text = Text::copy(alloc, text.as_str())?;
+    push(tokens, place, TokenKind::Chars(text))
+}
+
+fn push_truth(tokens: &mut Tokens, place: Place, value: bool) -> Result<(), AllocError>
+    ensures { OnOk result (tokens.new ≡ tokens.old ++ word place (truth_word value)) }
+{
+    let word = if value {
+        WordKind::TrueWord
+    } else {
+        WordKind::FalseWord
+    };
+    push_word(tokens, place, word)
+}
+
+fn push_enum_name(
+    alloc: Global,
+    tokens: &mut Tokens,
+    at: Place,
+    of: &Ident,
+    member: &Ident,
+) -> Result<(), AllocError>
+    ensures { OnOk result (tokens.new ≡ tokens.old ++ ident of.now ++ mark at MarkKind.Bang ++ ident member.now) }
+{
+    push_ident(alloc, tokens, of)?;
+    push_mark(tokens, at, MarkKind::Bang)?;
+    push_ident(alloc, tokens, member)
+}
+
 #[cycle(spelling)]
 pub(crate) fn push_expr(
     alloc: Global,
@@ -93,10 +146,7 @@ pub(crate) fn push_expr(
             push_expr(alloc, tokens, at, first.get())?;
             push_further(alloc, tokens, at, rest.as_slice())
         }
-        Expr::Not { place, part } => {
-            push_word(tokens, *place, WordKind::NotWord)?;
-            push_expr(alloc, tokens, at, part.get())
-        }
+        Expr::Not { place, part } => push_not(alloc, tokens, at, *place, part.get()),
         Expr::Relation {
             place,
             sign,
@@ -107,69 +157,138 @@ pub(crate) fn push_expr(
             push(tokens, *place, kind_of_sign(*sign))?;
             push_expr(alloc, tokens, at, right.get())
         }
-        Expr::Minus { place, part } => {
-            push_mark(tokens, *place, MarkKind::Dash)?;
-            push_expr(alloc, tokens, at, part.get())
-        }
+        Expr::Minus { place, part } => push_negated(alloc, tokens, at, *place, part.get()),
         Expr::Dot { head, suffixes } | Expr::Index { head, suffixes } => {
             push_expr(alloc, tokens, at, head.get())?;
             push_suffixes(alloc, tokens, at, suffixes.as_slice())
         }
         Expr::Number(number) => push_digits(tokens, number),
-        Expr::Physical { number, unit } => {
-            let kind = TokenKind::Physical {
-                digits: number.digits,
-                places: number.places,
-                unit: Text::copy(alloc, unit.as_str())?,
-            };
-            push(tokens, number.place, kind)
-        }
-        Expr::Chars { place, text } => {
-            let text = Text::copy(alloc, text.as_str())?;
-            push(tokens, *place, TokenKind::Chars(text))
-        }
-        Expr::Truth { place, value } => {
-            let word = if *value {
-                WordKind::TrueWord
-            } else {
-                WordKind::FalseWord
-            };
-            push_word(tokens, *place, word)
-        }
+        Expr::Physical { number, unit } => push_physical(alloc, tokens, number, unit),
+        Expr::Chars { place, text } => push_chars(alloc, tokens, *place, text),
+        Expr::Truth { place, value } => push_truth(tokens, *place, *value),
         Expr::It(place) => push_word(tokens, *place, WordKind::ItWord),
         Expr::Actor(place) => push_word(tokens, *place, WordKind::ActorWord),
         Expr::Name(name) => push_ident(alloc, tokens, name),
-        Expr::EnumName { of, member } => {
-            push_ident(alloc, tokens, of)?;
-            push_mark(tokens, at, MarkKind::Bang)?;
-            push_ident(alloc, tokens, member)
-        }
-        Expr::Group { place, inner } => {
-            push_mark(tokens, *place, MarkKind::OpenRound)?;
-            push_expr(alloc, tokens, at, inner.get())?;
-            push_mark(tokens, at, MarkKind::CloseRound)
-        }
+        Expr::EnumName { of, member } => push_enum_name(alloc, tokens, at, of, member),
+        Expr::Group { place, inner } => push_group(alloc, tokens, at, *place, inner.get()),
         Expr::Span { place, low, high } => {
-            push_mark(tokens, *place, MarkKind::OpenSquare)?;
-            push_expr(alloc, tokens, at, low.get())?;
-            push_mark(tokens, at, MarkKind::TwoDots)?;
-            push_expr(alloc, tokens, at, high.get())?;
-            push_mark(tokens, at, MarkKind::CloseSquare)
+            push_low(alloc, tokens, at, *place, low.get())?;
+            push_high(alloc, tokens, at, high.get(), MarkKind::CloseSquare)
         }
         Expr::Listed { place, items } => {
-            push_mark(tokens, *place, MarkKind::OpenSquare)?;
-            push_items(alloc, tokens, at, items.as_slice())?;
-            push_mark(tokens, at, MarkKind::CloseSquare)
+            push_listed(alloc, tokens, at, *place, items.as_slice())
         }
         Expr::RangeCall { place, low, high } => {
-            push_word(tokens, *place, WordKind::RangeWord)?;
-            push_mark(tokens, at, MarkKind::OpenRound)?;
-            push_expr(alloc, tokens, at, low.get())?;
-            push_mark(tokens, at, MarkKind::Comma)?;
-            push_expr(alloc, tokens, at, high.get())?;
-            push_mark(tokens, at, MarkKind::CloseRound)
+            push_range_low(alloc, tokens, at, *place, low.get())?;
+            push_high(alloc, tokens, at, high.get(), MarkKind::CloseRound)
         }
     }
+}
+
+#[cycle(spelling)]
+fn push_not(
+    alloc: Global,
+    tokens: &mut Tokens,
+    at: Place,
+    place: Place,
+    part: &Expr,
+) -> Result<(), AllocError>
+    ensures { OnOk result (tokens.new ≡ tokens.old ++ word place WordKind.NotWord ++ expr_words at part.now) }
+{
+    push_word(tokens, place, WordKind::NotWord)?;
+    push_expr(alloc, tokens, at, part)
+}
+
+#[cycle(spelling)]
+fn push_negated(
+    alloc: Global,
+    tokens: &mut Tokens,
+    at: Place,
+    place: Place,
+    part: &Expr,
+) -> Result<(), AllocError>
+    ensures { OnOk result (tokens.new ≡ tokens.old ++ mark place MarkKind.Dash ++ expr_words at part.now) }
+{
+    push_mark(tokens, place, MarkKind::Dash)?;
+    push_expr(alloc, tokens, at, part)
+}
+
+#[cycle(spelling)]
+fn push_group(
+    alloc: Global,
+    tokens: &mut Tokens,
+    at: Place,
+    place: Place,
+    inner: &Expr,
+) -> Result<(), AllocError>
+    ensures { OnOk result (tokens.new ≡ tokens.old ++ mark place MarkKind.OpenRound ++ expr_words at inner.now ++ mark at MarkKind.CloseRound) }
+{
+    push_mark(tokens, place, MarkKind::OpenRound)?;
+    push_expr(alloc, tokens, at, inner)?;
+    push_mark(tokens, at, MarkKind::CloseRound)
+}
+
+// `[LOW ..`
+#[cycle(spelling)]
+fn push_low(
+    alloc: Global,
+    tokens: &mut Tokens,
+    at: Place,
+    place: Place,
+    low: &Expr,
+) -> Result<(), AllocError>
+    ensures { OnOk result (tokens.new ≡ tokens.old ++ mark place MarkKind.OpenSquare ++ expr_words at low.now ++ mark at MarkKind.TwoDots) }
+{
+    push_mark(tokens, place, MarkKind::OpenSquare)?;
+    push_expr(alloc, tokens, at, low)?;
+    push_mark(tokens, at, MarkKind::TwoDots)
+}
+
+// `range(LOW,`
+#[cycle(spelling)]
+fn push_range_low(
+    alloc: Global,
+    tokens: &mut Tokens,
+    at: Place,
+    place: Place,
+    low: &Expr,
+) -> Result<(), AllocError>
+    ensures { OnOk result (tokens.new ≡ tokens.old ++ word place WordKind.RangeWord ++ mark at MarkKind.OpenRound ++ expr_words at low.now ++ mark at MarkKind.Comma) }
+{
+    push_word(tokens, place, WordKind::RangeWord)?;
+    push_mark(tokens, at, MarkKind::OpenRound)?;
+    push_expr(alloc, tokens, at, low)?;
+    push_mark(tokens, at, MarkKind::Comma)
+}
+
+// the other end of a range, and the bracket
+#[cycle(spelling)]
+fn push_high(
+    alloc: Global,
+    tokens: &mut Tokens,
+    at: Place,
+    high: &Expr,
+    bracket: MarkKind,
+) -> Result<(), AllocError>
+    ensures { OnOk result (tokens.new ≡ tokens.old ++ expr_words at high.now ++ mark at bracket) }
+{
+    push_expr(alloc, tokens, at, high)?;
+    push_mark(tokens, at, bracket)
+}
+
+#[cycle(spelling)]
+fn push_listed(
+    alloc: Global,
+    tokens: &mut Tokens,
+    at: Place,
+    place: Place,
+    items: &[Expr],
+) -> Result<(), AllocError>
+    ensures { OnOk result (tokens.new ≡ tokens.old ++ mark place MarkKind.OpenSquare ++ comma_joined at (map (expr_words at) items.now) ++ mark at MarkKind.CloseSquare) }
+{
+    push_mark(tokens, place, MarkKind::OpenSquare)?;
+    push_items(alloc, tokens, at, items)?;
+    push_mark(tokens, at, MarkKind::CloseSquare)
 }
 
 #[cycle(spelling)]
