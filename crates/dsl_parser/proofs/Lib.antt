@@ -5,6 +5,8 @@ pub mod Loops
 pub mod UnitRows
 pub mod Blocks
 pub mod PhaseForms
+pub mod Compounds
+pub mod Wholes
 pub mod ExprForests
 pub mod Exits
 pub mod LeafForests

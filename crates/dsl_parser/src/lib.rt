@@ -3,8 +3,10 @@
 #![tactic(auto)]
 
 mod arguments;
+mod declarations;
 mod enums;
 mod expressions;
+mod files;
 mod headings;
 mod imports;
 mod invocations;

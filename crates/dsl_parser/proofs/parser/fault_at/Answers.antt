@@ -1,0 +1,4 @@
+use Rattle.dsl_parser.proofs.parser.fault_at.Goals as goal
+
+pub returns : goal.returns
+returns c = ?
