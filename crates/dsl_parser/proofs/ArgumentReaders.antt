@@ -1,5 +1,5 @@
 -- Arguments.
-use Rattle.std.proofs.Common.{◌≡◌, ◌⊎◌, ℕ, List, [], ◌∷◌, ◌++◌, Some, None, true, refl, sym, ◌∙◌, ap, subst, inl, inr, ⊎_elim, append_assoc}
+use Rattle.std.proofs.Common.{◌≡◌, ℕ, List, [], ◌∷◌, ◌++◌, None, refl, sym, ◌∙◌, ap, subst, inl, inr, append_assoc}
 use Rattle.std.proofs.lemmas.List.{append-nil}
 use Rattle.osc_base.specs.declared.fault.Place.{Place}
 use Rattle.dsl_tree.specs.declared.parts.Ident.{Ident}
@@ -20,7 +20,7 @@ use Rattle.dsl_tree.proofs.RuleFaults.{no_rule, not_taken_stops}
 use Rattle.dsl_tree.proofs.FirstNames.{plain_rule, arguments_named, arguments_plain, arguments_name}
 use Rattle.dsl_parser.specs.Readers.{IsRead, names}
 use Rattle.dsl_parser.specs.Levels.{at_level}
-use Rattle.dsl_parser.specs.Arguments.{colon, arguments_of, named_of, named_argument, named_rest, IsLabel, IsBareName, NoLabel, IsNext, IsNamedTail, IsNamedRest}
+use Rattle.dsl_parser.specs.Arguments.{colon, arguments_of, named_of, named_argument, named_rest, IsLabel, NoLabel, IsNext, IsNamedTail, IsNamedRest}
 use Rattle.dsl_parser.proofs.OtherKinds.{name_fits}
 use Rattle.dsl_parser.proofs.Taking.{token, taken, read_seen, read_bare, behind_seen, behind_bare, fault_bare}
 use Rattle.dsl_parser.proofs.ExprForests.{no_wrong}

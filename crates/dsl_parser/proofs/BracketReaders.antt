@@ -1,5 +1,5 @@
 -- Lists and `range(..)`, and tokens that begin no operand.
-use Rattle.std.proofs.Common.{◌≡◌, ◌⊎◌, ℕ, ◌+◌, List, [], ◌∷◌, ◌++◌, length, Bool, true, false, refl, sym, ◌∙◌, ap, subst, inl, inr, ⊎_elim, ◌||◌}
+use Rattle.std.proofs.Common.{◌≡◌, ◌⊎◌, ℕ, List, [], ◌∷◌, ◌++◌, length, true, refl, sym, ◌∙◌, ap, subst, inl, inr, ⊎_elim}
 use Rattle.std.specs.Prelude.{◌==◌}
 use Rattle.osc_base.specs.declared.fault.Place.{Place}
 use Rattle.dsl_tree.specs.declared.token.Token.{Token}
@@ -12,8 +12,8 @@ use Rattle.dsl_tree.specs.Codes.{code, has, mark_code, word_code}
 use Rattle.dsl_tree.specs.Grammar.{Part, Symbol, Seen, Bare, Of}
 use Rattle.dsl_tree.specs.Forest.{Forest, nil, sub}
 use Rattle.dsl_tree.specs.Tables.{first}
-use Rattle.dsl_tree.specs.Written.{mark, mark_at, word_at}
-use Rattle.dsl_tree.specs.Reading.{starts, Starts, Stops, Parsed, NotTaken, PartFault, RowFault, Along}
+use Rattle.dsl_tree.specs.Written.{mark, word_at}
+use Rattle.dsl_tree.specs.Reading.{Stops, Parsed, NotTaken, PartFault, RowFault}
 use Rattle.dsl_tree.specs.Language.{Ended}
 use Rattle.dsl_tree.proofs.Tests.{either_of}
 use Rattle.dsl_tree.proofs.Sets.{both_ways, is_false, starts-cons, starts-nil, or_left, or_right, Stops-subset}

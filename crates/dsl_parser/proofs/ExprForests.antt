@@ -1,7 +1,7 @@
 -- What expressions are written as, by what their parts are.
 use Rattle.std.proofs.Common.{◌≡◌, ℕ, zero, suc, ◌+◌, ◌-◌, ◌≤◌, List, [], ◌∷◌, length, map, Bool, true, false, cond, Some, refl, sym, ◌∙◌, ap, subst, inl, inr, arith}
-use Rattle.std.specs.Prelude.{nat_lt, ◌==◌, slice_get}
-use Rattle.std.proofs.lemmas.Bool.{ltb-false, eqb-true, false≢true}
+use Rattle.std.specs.Prelude.{nat_lt, slice_get}
+use Rattle.std.proofs.lemmas.Bool.{ltb-false, false≢true}
 use Rattle.std.proofs.lemmas.Option.{none-some, same_Some}
 use Rattle.osc_base.specs.declared.fault.Place.{Place}
 use Rattle.dsl_tree.specs.declared.expr.Expr.{Expr}
@@ -73,7 +73,7 @@ row_alone RowLevel.ProductRow first h = level_lower 6 first h
 from_tree : (n m : ℕ) (e first : Expr) (next : Further) (rest : List Further) (join : Place → Rattle.dsl_tree.specs.declared.expr.Operator.Operator → ExprTree → ExprTree → ExprTree)
     → expr_tree e ≡ grouped join (ExprTree.Start (expr_tree first)) (map further_tree (next ∷ rest))
     → ((f : ExprTree) (x : FurtherTree) (xs : List FurtherTree)
-      → at n (grouped join (ExprTree.Start f) (x ∷ xs)) (written (grouped join (ExprTree.Start f) (x ∷ xs))) ≡ sub (at m f (written f)) (sub (further_tail m (x ∷ xs)) nil))
+    → at n (grouped join (ExprTree.Start f) (x ∷ xs)) (written (grouped join (ExprTree.Start f) (x ∷ xs))) ≡ sub (at m f (written f)) (sub (further_tail m (x ∷ xs)) nil))
     → at_level n e ≡ sub (at_level m first) (sub (tail_of m (next ∷ rest)) nil)
 unfolding at_level
 from_tree n m e first next rest join is written_so =

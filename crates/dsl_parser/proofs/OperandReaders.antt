@@ -1,33 +1,30 @@
 -- Operands with brackets, and suffixes.
-use Rattle.std.proofs.Common.{◌≡◌, ℕ, List, [], ◌∷◌, ◌++◌, length, true, false, refl, sym, ◌∙◌, ap, subst, inl, inr, ◌||◌}
+use Rattle.std.proofs.Common.{◌≡◌, ℕ, List, [], ◌∷◌, ◌++◌, refl, sym, ◌∙◌, ap, subst, inl, inr}
 use Rattle.osc_base.specs.declared.fault.Place.{Place}
 use Rattle.dsl_tree.specs.declared.parts.Ident.{Ident}
 use Rattle.dsl_tree.specs.declared.token.Token.{Token}
 use Rattle.dsl_tree.specs.declared.token.TokenKind.{TokenKind}
 use Rattle.dsl_tree.specs.declared.token.MarkKind.{MarkKind}
-use Rattle.dsl_tree.specs.declared.token.WordKind.{WordKind}
 use Rattle.dsl_tree.specs.declared.expr.Expr.{Expr}
 use Rattle.dsl_tree.specs.declared.expr.Expr.TheViews
 use Rattle.dsl_tree.specs.declared.expr.Suffix.{Suffix}
-use Rattle.dsl_tree.specs.Codes.{code, has, mark_code, word_code}
-use Rattle.dsl_tree.specs.Grammar.{Part, Symbol, Seen, Bare, Of, rules}
-use Rattle.dsl_tree.specs.Forest.{Forest, nil, seen, bare, sub}
+use Rattle.dsl_tree.specs.Codes.{mark_code}
+use Rattle.dsl_tree.specs.Grammar.{Part, Symbol, Seen, Bare, Of}
+use Rattle.dsl_tree.specs.Forest.{Forest, nil, sub}
 use Rattle.dsl_tree.specs.Tables.{first}
-use Rattle.dsl_tree.specs.Views.{suffix_tree}
 use Rattle.dsl_tree.specs.Written.{mark, mark_at, ident}
-use Rattle.dsl_tree.specs.Reading.{starts, Starts, Stops, Parsed, Built, NotTaken, PartFault, RowFault, Along}
+use Rattle.dsl_tree.specs.Reading.{starts, Starts, Stops, Parsed, NotTaken, PartFault, RowFault, Along}
 use Rattle.dsl_tree.proofs.Seen.{seen_dot_suffix, seen_index_suffix}
 use Rattle.dsl_tree.proofs.Sets.{both_ways}
 use Rattle.dsl_tree.proofs.Build.{built_none, built_part, parsed_none, along_step, along_end}
-use Rattle.dsl_tree.proofs.Faults.{wrong_seen, wrong_bare, in_part, past_part}
+use Rattle.dsl_tree.proofs.Faults.{wrong_seen, in_part, past_part}
 use Rattle.dsl_parser.specs.Readers.{IsRead, names}
-use Rattle.dsl_parser.specs.Levels.{at_level, suffix_forest, suffix_of, suffixes_of, items_of, IsBracketed, IsListing}
+use Rattle.dsl_parser.specs.Levels.{at_level, suffix_forest, suffix_of, suffixes_of, IsBracketed}
 use Rattle.dsl_parser.proofs.OtherKinds.{name_fits}
-use Rattle.dsl_parser.proofs.Taking.{read_seen, read_bare, fault_seen, fault_bare, behind_bare}
-use Rattle.dsl_parser.proofs.ExprForests.{level_of_part, post_forest, post_none, group_forest, span_forest, range_forest, listed_forest}
+use Rattle.dsl_parser.proofs.Taking.{read_seen, read_bare, fault_seen, fault_bare}
+use Rattle.dsl_parser.proofs.ExprForests.{level_of_part, post_forest, post_none, group_forest, span_forest}
 use Rattle.dsl_parser.proofs.Productions.{read_part, read_pair, pair_first, pair_second, read_repeat, repeat_fault, repeat_behind, built_closed, closed_fault}
 use Rattle.dsl_parser.proofs.ExprReaders.{boxed}
-use Rattle.dsl_parser.proofs.Listings.{IsListed}
 
 abbrev at_mark : MarkKind → TokenKind
 at_mark m = TokenKind.Mark m

@@ -1,9 +1,8 @@
 -- Paths.
-use Rattle.std.proofs.Common.{◌≡◌, ℕ, List, [], ◌∷◌, map, true, refl, sym, ◌∙◌, ap, subst, inl}
+use Rattle.std.proofs.Common.{◌≡◌, ℕ, List, [], ◌∷◌, map, refl, sym, ◌∙◌, ap, subst, inl}
 use Rattle.dsl_tree.specs.declared.token.Token.{Token}
 use Rattle.dsl_tree.specs.declared.expr.Suffix.{Suffix}
 use Rattle.dsl_tree.specs.declared.rules.PathHead.{PathHead}
-use Rattle.dsl_tree.specs.declared.rules.PathNode.{PathNode}
 use Rattle.dsl_tree.specs.ExprTree.{ExprTree}
 use Rattle.dsl_tree.specs.Views.{SuffixTree, with_suffixes, suffix_tree, head_tree, path_tree}
 use Rattle.dsl_tree.specs.Grammar.{Part, Symbol, Seen, Of}

@@ -8,12 +8,12 @@ use Rattle.dsl_tree.specs.Grammar.{Part, Symbol, Seen, Bare, Of, rules}
 use Rattle.dsl_tree.specs.Forest.{Forest, nil, seen, bare, sub, Spells, AnyRule, Follows, IsOf}
 use Rattle.dsl_tree.specs.Tables as Tables
 use Rattle.dsl_tree.specs.Tables.{first, empty, goes_on, firsts, empties, stops}
-use Rattle.dsl_tree.specs.Reading.{starts, Starts, Stops, void, Whole, Parsed, Built, NotTaken, PartFault, RowFault}
+use Rattle.dsl_tree.specs.Reading.{starts, Starts, Stops, void, Parsed, Built, NotTaken, PartFault, RowFault}
 use Rattle.dsl_tree.proofs.Sets.{both_ways, is_false, starts-cons, Stops-subset}
-use Rattle.dsl_tree.proofs.Fits.{Fit, by_rules, any_map}
+use Rattle.dsl_tree.proofs.Fits.{by_rules, any_map}
 use Rattle.dsl_tree.proofs.Begins.{void_empties, void_part, begins, begins_part}
 use Rattle.dsl_tree.proofs.Law.{whole_follows, part_follows}
-use Rattle.dsl_tree.proofs.Build.{built_none, built_part, parsed_full, parsed_none}
+use Rattle.dsl_tree.proofs.Build.{built_none, built_part, parsed_full}
 use Rattle.dsl_tree.proofs.Faults.{ready, in_part, past_part, wrong_bare}
 use Rattle.dsl_tree.proofs.RuleFaults.{RuleOf, all_apart, by_rule, by_only}
 use Rattle.dsl_parser.specs.Readers.{IsRead}

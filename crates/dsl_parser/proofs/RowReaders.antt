@@ -1,14 +1,14 @@
 -- Rows of operators, and of other things that stand in rows.
-use Rattle.std.proofs.Common.{◌≡◌, ℕ, List, [], ◌∷◌, ◌++◌, Bool, true, false, cond, refl, sym, ◌∙◌, subst, inl, inr}
+use Rattle.std.proofs.Common.{◌≡◌, ℕ, List, [], ◌∷◌, ◌++◌, true, false, refl, sym, subst, inl, inr}
 use Rattle.osc_base.specs.declared.fault.Place.{Place}
 use Rattle.dsl_tree.specs.declared.token.Token.{Token}
 use Rattle.dsl_tree.specs.declared.token.TokenKind.{TokenKind}
 use Rattle.dsl_tree.specs.declared.expr.Expr.{Expr}
 use Rattle.dsl_tree.specs.declared.expr.Further.{Further}
 use Rattle.dsl_tree.specs.Codes.{code, has}
-use Rattle.dsl_tree.specs.Grammar.{Part, Symbol, Seen, Bare, Of, rules}
-use Rattle.dsl_tree.specs.Forest.{Forest, nil, seen, sub}
-use Rattle.dsl_tree.specs.Tables.{first, empty}
+use Rattle.dsl_tree.specs.Grammar.{Symbol, Seen, Of, rules}
+use Rattle.dsl_tree.specs.Forest.{Forest, nil}
+use Rattle.dsl_tree.specs.Tables.{empty}
 use Rattle.dsl_tree.specs.Written.{operator_kind}
 use Rattle.dsl_tree.specs.Reading.{starts, Starts, Stops, Parsed, PartFault, Along}
 use Rattle.dsl_tree.proofs.Sets.{both_ways}

@@ -12,7 +12,7 @@ use Rattle.dsl_tree.specs.declared.phases.Argument.{Argument}
 use Rattle.dsl_tree.specs.Codes.{code, has, mark_code, word_code}
 use Rattle.dsl_tree.specs.Grammar.{Part, Symbol, Of}
 use Rattle.dsl_tree.specs.Forest.{Forest, nil, seen, sub}
-use Rattle.dsl_tree.specs.Views.{expr_tree, argument_tree, head_tree}
+use Rattle.dsl_tree.specs.Views.{argument_tree, head_tree}
 use Rattle.dsl_tree.specs.Written.{path_row}
 use Rattle.dsl_tree.specs.WrittenPhases as written
 use Rattle.dsl_tree.specs.Reading.{Stops, Taken, Parsed, Built, PartFault}

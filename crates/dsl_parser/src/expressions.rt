@@ -16,7 +16,7 @@ ghost use Rattle.dsl_tree.specs.Written as written;
 ghost use Rattle.dsl_parser.specs.Readers.{OnStop};
 ghost use Rattle.dsl_parser.specs.Levels.{at_level, row_part, row_level, item_part, item_level, tail_part, tail_of, suffix_of, suffixes_of, items_of, IsBracketed, IsListing};
 
-use crate::levels::{row_of, starts_operator, take_operator, take_sign, RowLevel};
+use crate::levels::{RowLevel, row_of, starts_operator, take_operator, take_sign};
 use crate::names::expect_name;
 use crate::nodes::{self, closed};
 use crate::operands::leaf;

@@ -42,7 +42,10 @@ fn word_operand(place: Place, word: WordKind) -> Option<Expr>
 {
     match word {
         WordKind::TrueWord => Some(Expr::Truth { place, value: true }),
-        WordKind::FalseWord => Some(Expr::Truth { place, value: false }),
+        WordKind::FalseWord => Some(Expr::Truth {
+            place,
+            value: false,
+        }),
         WordKind::ItWord => Some(Expr::It(place)),
         WordKind::ActorWord => Some(Expr::Actor(place)),
         _ => None,

@@ -1,12 +1,7 @@
-use Rattle.std.proofs.Common.{◌≡◌, List, [], ◌∷◌, refl, sym, ◌∙◌, subst, arith}
-use Rattle.dsl_tree.specs.declared.phases.Argument.{Argument}
-use Rattle.dsl_tree.specs.declared.token.MarkKind.{MarkKind}
-use Rattle.dsl_tree.specs.Codes.{mark_code}
+use Rattle.std.proofs.Common.{[], ◌∷◌, refl}
 use Rattle.dsl_tree.specs.Grammar.{Part}
-use Rattle.dsl_tree.specs.Reading.{NotTaken, Parsed, PartFault, RowFault}
-use Rattle.dsl_tree.proofs.Build.{along_start}
-use Rattle.dsl_parser.specs.Readers.{names}
-use Rattle.dsl_parser.specs.Arguments.{colon, arguments_of, named_rest, IsNamedTail, IsNamedRest}
+use Rattle.dsl_tree.specs.Reading.{PartFault, RowFault}
+use Rattle.dsl_parser.specs.Arguments.{named_rest, IsNamedTail, IsNamedRest}
 use Rattle.dsl_parser.proofs.Exits.{exits, ok_as, stop_as}
 use Rattle.dsl_tree.proofs.Faults.{in_part, past_part}
 use Rattle.dsl_tree.specs.Grammar.{Of}

@@ -1,14 +1,10 @@
-use Rattle.std.proofs.Common.{◌≡◌, List, [], ◌∷◌, refl, sym, ◌∙◌, subst, arith}
-use Rattle.dsl_tree.specs.declared.phases.Argument.{Argument}
+use Rattle.std.proofs.Common.{[], ◌∷◌, arith}
 use Rattle.dsl_tree.specs.declared.token.MarkKind.{MarkKind}
 use Rattle.dsl_tree.specs.Codes.{mark_code}
 use Rattle.dsl_tree.specs.Grammar.{Part}
-use Rattle.dsl_tree.specs.Reading.{NotTaken, Parsed, PartFault, RowFault}
-use Rattle.dsl_tree.proofs.Build.{along_start}
-use Rattle.dsl_parser.specs.Readers.{names}
-use Rattle.dsl_parser.specs.Arguments.{colon, arguments_of, named_rest, IsNamedTail, IsNamedRest}
-use Rattle.dsl_parser.proofs.Exits.{exits, ok_as, stop_as}
-use Rattle.dsl_parser.proofs.ArgumentReaders.{NamedAlong, named_start, named_step, named_end, named_fault, named_unclosed}
+use Rattle.dsl_tree.specs.Reading.{NotTaken, PartFault}
+use Rattle.dsl_parser.proofs.Exits.{exits}
+use Rattle.dsl_parser.proofs.ArgumentReaders.{named_start, named_step, named_end, named_fault, named_unclosed}
 use Rattle.dsl_parser.proofs.arguments.named_tail.Goals as goal
 
 pub named-init : goal.named-init

@@ -1,13 +1,8 @@
-use Rattle.std.proofs.Common.{◌≡◌, List, [], ◌∷◌, refl, sym, ◌∙◌, subst, arith}
-use Rattle.dsl_tree.specs.declared.phases.Argument.{Argument}
-use Rattle.dsl_tree.specs.declared.token.MarkKind.{MarkKind}
-use Rattle.dsl_tree.specs.Codes.{mark_code}
 use Rattle.dsl_tree.specs.Grammar.{Part}
-use Rattle.dsl_tree.specs.Reading.{NotTaken, Parsed, PartFault, RowFault}
-use Rattle.dsl_tree.proofs.Build.{along_start}
+use Rattle.dsl_tree.specs.Reading.{NotTaken, PartFault}
 use Rattle.dsl_parser.specs.Readers.{names}
-use Rattle.dsl_parser.specs.Arguments.{colon, arguments_of, named_rest, IsNamedTail, IsNamedRest}
-use Rattle.dsl_parser.proofs.Exits.{exits, ok_as, stop_as}
+use Rattle.dsl_parser.specs.Arguments.{colon}
+use Rattle.dsl_parser.proofs.Exits.{exits}
 use Rattle.dsl_parser.proofs.ArgumentReaders.{name_fault, colon_fault, value_fault, next_read}
 use Rattle.dsl_parser.proofs.arguments.next_named.Goals as goal
 
@@ -24,7 +19,7 @@ returns-in_err-start-clause-fault c =
 pub returns-in_err-value-clause-fault : goal.returns-in_err-value-clause-fault
 returns-in_err-value-clause-fault c =
     exits c.from_residual-in_err-value.result c.in_err-value.field-0.0 (PartFault Part.Expr c.in_ok-start.start.now) (PartFault Part.NamedTail c.args.tokens.now)
-    c.in_err-value.ensures.fault c.from_residual-in_err-value.ensures.1 
+    c.in_err-value.ensures.fault c.from_residual-in_err-value.ensures.1
     (λ left fault. value_fault c.in-Some.field-0-0 c.in_ok-start.field-0-0 c.in_ok-name.name c.args.tokens.now c.in-Some.behind.now c.in_ok-name.label.now c.in_ok-start.start.now left c.in-Some.ensures.some c.in_ok-name.ensures.ok c.in_ok-start.ensures.ok fault)
 
 pub returns-clause-some : goal.returns-clause-some

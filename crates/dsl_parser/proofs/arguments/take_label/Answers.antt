@@ -1,4 +1,3 @@
-use Rattle.dsl_parser.proofs.ArgumentReaders
 use Rattle.std.proofs.Common.{inl}
 use Rattle.dsl_parser.proofs.OtherKinds.{stops_names}
 use Rattle.dsl_parser.proofs.arguments.take_label.Goals as goal

@@ -1,5 +1,4 @@
-use Rattle.dsl_parser.proofs.BracketReaders
-use Rattle.dsl_parser.proofs.BracketReaders.{RangeHalf, RangeOpened, comma_fault, high_fault, items_end, items_fault, list_end, list_fault, list_start, list_step, low_fault, no_operand, range_end, range_unopened, read_list, read_range}
+use Rattle.dsl_parser.proofs.BracketReaders.{comma_fault, high_fault, items_end, items_fault, list_end, list_fault, list_start, list_step, low_fault, no_operand, range_end, range_unopened, read_list, read_range}
 use Rattle.dsl_parser.proofs.Exits.{both_of, exits, ok_as, stop_as}
 use Rattle.dsl_parser.proofs.ExprReaders.{left_fault, plain_fault, prefixed_fault, prefixed_minus, prefixed_not, read_implies, read_left, read_minus, read_not, read_plain_minus, read_plain_not, read_relation, read_relation_left, read_right_fault, right_fault, signed_expr, signed_relation, signs}
 use Rattle.dsl_parser.proofs.OperandReaders.{SuffixAlong, bracket_fault, bracket_rest_fault, dot_fault, group_end, group_fault, head_fault, index_end, index_fault, read_bracket, read_dot, read_group, read_head, read_index, read_postfix, read_span, span_end, span_fault, suffix_fault, suffix_step, suffixes_end, suffixes_fault}
@@ -11,14 +10,13 @@ use Rattle.dsl_tree.specs.Codes.{mark_code, word_code}
 use Rattle.dsl_tree.specs.Grammar.{Part}
 use Rattle.dsl_tree.specs.Reading.{NotTaken, Parsed, PartFault, Starts}
 use Rattle.dsl_tree.specs.Tables.{first}
-use Rattle.dsl_tree.specs.Written.{operator_kind, sign_kind}
-use Rattle.dsl_tree.specs.declared.expr.Expr.{Expr}
+use Rattle.dsl_tree.specs.Written.{operator_kind}
 use Rattle.dsl_tree.specs.declared.expr.Further.{Further}
 use Rattle.dsl_tree.specs.declared.expr.Suffix.{Suffix}
 use Rattle.dsl_tree.specs.declared.token.MarkKind.{MarkKind}
 use Rattle.dsl_tree.specs.declared.token.TokenKind.{TokenKind}
 use Rattle.dsl_tree.specs.declared.token.WordKind.{WordKind}
-use Rattle.std.proofs.Common.{List, [], arith, refl, subst, sym, ◌++◌, ◌∙◌, ◌∷◌, ◌≡◌}
+use Rattle.std.proofs.Common.{List, [], arith, refl, subst, sym, ◌∙◌, ◌∷◌}
 use Rattle.dsl_parser.proofs.expressions.+expressions.Goals as goal
 
 -- whole
@@ -34,7 +32,7 @@ whole-returns-in_default-clause-ok t c = read_left c.in_ok-left.left c.args.toke
 pub whole-returns-in_err-right-clause-fault : goal.whole-returns-in_err-right-clause-fault
 whole-returns-in_err-right-clause-fault t c =
     exits c.from_residual-in_err-right.result c.in_err-right.field-0.0 (PartFault Part.Or c.in-Some.behind.now) (PartFault Part.Expr c.args.tokens.now)
-    c.in_err-right.ensures.fault c.from_residual-in_err-right.ensures.1 
+    c.in_err-right.ensures.fault c.from_residual-in_err-right.ensures.1
     (λ left fault. right_fault Part.Expr Part.Or Part.ImpliesTail Part.Or (first Part.ImpliesTail) (at_level 1 c.in_ok-left.left) c.in-Some.place (TokenKind.Mark MarkKind.Arrow) c.args.tokens.now c.in_ok-left.rest.now c.in-Some.behind.now left signed_expr
     c.in_ok-left.ensures.ok c.in-Some.ensures.some refl fault)
 
@@ -125,7 +123,7 @@ relation-returns-in_default-clause-ok t c = read_relation_left c.in_ok-left.left
 pub relation-returns-in_err-right-clause-fault : goal.relation-returns-in_err-right-clause-fault
 relation-returns-in_err-right-clause-fault t c =
     exits c.from_residual-in_err-right.result c.in_err-right.field-0.0 (PartFault Part.Sum c.in-Some.behind.now) (PartFault Part.Relation c.args.tokens.now)
-    c.in_err-right.ensures.fault c.from_residual-in_err-right.ensures.1 
+    c.in_err-right.ensures.fault c.from_residual-in_err-right.ensures.1
     (λ left fault. read_right_fault c.in-Some.place c.in-Some.sign c.in_ok-left.left c.args.tokens.now c.in_ok-left.rest.now c.in-Some.behind.now left c.in_ok-left.ensures.ok c.in-Some.ensures.some fault)
 
 pub relation-returns-clause-ok : goal.relation-returns-clause-ok
