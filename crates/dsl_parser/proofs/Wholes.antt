@@ -1,5 +1,5 @@
 -- The two halves of a first fault, and its token.
-use Rattle.std.proofs.Common.{◌≡◌, ◌+◌, ◌-◌, ◌<◌, ◌≤◌, ℕ, List, [], ◌∷◌, ◌++◌, length, refl, ap, length-append, arith}
+use Rattle.std.proofs.Common.{◌≡◌, ◌-◌, ◌<◌, ◌≤◌, ℕ, suc, List, ◌∷◌, ◌++◌, length, drop, get_or, sym, ◌∙◌, ap, length-append, drop-cons, arith}
 use Rattle.osc_base.specs.declared.fault.Fault.{Fault}
 use Rattle.dsl_tree.specs.declared.token.Token.{Token}
 use Rattle.dsl_tree.specs.Grammar.{Part}
@@ -22,3 +22,11 @@ left_within p ts left fault =
     let e : left ≡ length (fault.token ∷ fault.back) = fault.count in
     let f : length ts ≡ length (fault.front ++ fault.token ∷ fault.back) = ap length fault.split in
     omega (arith, e, f, length-append fault.front (fault.token ∷ fault.back))
+
+pub token_at : (ts : List Token) (left : ℕ) (t : Token) → PartFault Part.File ts left → t ≡ get_or ts (length ts - left) t
+    → drop (length ts - left) ts ≡ t ∷ drop (suc (length ts - left)) ts
+token_at ts left t fault e =
+    let some : 0 < left = left_some Part.File ts left fault in
+    let within : left ≤ length ts = left_within Part.File ts left fault in
+    let there : length ts - left < length ts = omega (arith, some, within) in
+    drop-cons ts (length ts - left) t there ∙ ap (λ (v : Token). v ∷ drop (suc (length ts - left)) ts) (sym e)
