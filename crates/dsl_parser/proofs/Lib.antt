@@ -1,5 +1,12 @@
 pub mod OtherKinds
 pub mod Taking
+pub mod Stopping
+pub mod Loops
+pub mod UnitRows
+pub mod Blocks
+pub mod PhaseForms
+pub mod Compounds
+pub mod Wholes
 pub mod ExprForests
 pub mod Exits
 pub mod LeafForests

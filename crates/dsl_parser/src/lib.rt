@@ -3,17 +3,29 @@
 #![tactic(auto)]
 
 mod arguments;
+mod declarations;
+mod enums;
 mod expressions;
+mod files;
+mod headings;
+mod imports;
+mod invocations;
 mod layout_tokens;
 mod levels;
 mod literals;
+mod members;
 mod names;
 mod nodes;
 mod operands;
 mod parser;
 mod paths;
+mod phases;
+mod rows;
+mod rules;
+mod starts;
 mod stop;
 mod tokens;
+mod units;
 
 pub use parser::parse;
 pub use stop::ParseStop;

@@ -1,11 +1,15 @@
 ghost use Rattle.std.specs.Prelude.{◌≡◌, IfOk, IfErr};
 ghost use Rattle.dsl_tree.specs.FileTree.{FileTree};
+ghost use Rattle.dsl_tree.specs.Grammar.{Part};
+ghost use Rattle.dsl_tree.specs.Reading.{PartFault};
 ghost use Rattle.dsl_tree.specs.Views.{file_tree};
-ghost use Rattle.dsl_tree.specs.Language.{Ended, Spelled, FirstFault};
+ghost use Rattle.dsl_tree.specs.Language.{Ended, Spelled, FirstFault, fault_code};
 ghost use Rattle.dsl_parser.specs.Answers.{OnFault, HasViableFront, HasDeadToken};
 
-use crate::stop::ParseStop;
-use dsl_tree::{File, Tokens};
+use crate::files::file;
+use crate::stop::{ParseStop, Stop};
+use dsl_tree::{File, Token, TokenKind, Tokens};
+use osc_base::Fault;
 use std::alloc::Global;
 
 /// The tree that the tokens spell.
@@ -22,5 +26,33 @@ pub fn parse(alloc: Global, tokens: &Tokens) -> Result<File, ParseStop>
     ensures dead { IfErr result (λ e. OnFault e (HasDeadToken tokens.now)) }
     ensures none { IfErr result (λ e. OnFault e (λ fault. (t : FileTree) → Spelled t tokens.now → ⊥)) }
 {
-    Err(ParseStop::Memory)
+    let tokens = tokens.as_slice();
+    match file(alloc, tokens) {
+        Ok(file) => Ok(file),
+        Err(Stop::At(left)) => Err(ParseStop::At(fault_at(tokens, left))),
+        Err(Stop::Memory) => Err(ParseStop::Memory),
+    }
+}
+
+/// The code of a fault at a token of this kind.
+fn code_at(kind: &TokenKind) -> u16
+    ensures { result ≡ fault_code kind.now }
+{
+    match kind {
+        TokenKind::LeftOut(_) => 202,
+        _ => 201,
+    }
+}
+
+/// The fault at the token that has `left` tokens from it to the end.
+fn fault_at(tokens: &[Token], left: usize) -> Fault
+    requires { PartFault Part.File tokens.now left }
+    ensures { FirstFault tokens.now result }
+{
+    let at = tokens.len() - left;
+    let token = &tokens[at];
+    Fault {
+        place: token.place,
+        code: code_at(&token.kind),
+    }
 }

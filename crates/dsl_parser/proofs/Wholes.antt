@@ -1,0 +1,32 @@
+-- The two halves of a first fault, and its token.
+use Rattle.std.proofs.Common.{◌≡◌, ◌-◌, ◌<◌, ◌≤◌, ℕ, suc, List, ◌∷◌, ◌++◌, length, drop, get_or, sym, ◌∙◌, ap, length-append, drop-cons, arith}
+use Rattle.osc_base.specs.declared.fault.Fault.{Fault}
+use Rattle.dsl_tree.specs.declared.token.Token.{Token}
+use Rattle.dsl_tree.specs.Grammar.{Part}
+use Rattle.dsl_tree.specs.Reading.{PartFault}
+use Rattle.dsl_tree.specs.Language.{FirstFault}
+use Rattle.dsl_parser.specs.Answers.{HasViableFront, HasDeadToken}
+
+pub viable_half : (ts : List Token) (fault : Fault) → FirstFault ts fault → HasViableFront ts fault
+viable_half ts fault f = record { front = f.front; token = f.token; back = f.back; split = f.split; place = f.place; code = f.code; viable = f.viable }
+
+pub dead_half : (ts : List Token) (fault : Fault) → FirstFault ts fault → HasDeadToken ts fault
+dead_half ts fault f = record { front = f.front; token = f.token; back = f.back; split = f.split; place = f.place; code = f.code; dead = f.dead }
+
+-- the fault is at one of the tokens
+pub left_some : (p : Part) (ts : List Token) (left : ℕ) → PartFault p ts left → 0 < left
+left_some p ts left fault = let e : left ≡ length (fault.token ∷ fault.back) = fault.count in omega arith
+
+pub left_within : (p : Part) (ts : List Token) (left : ℕ) → PartFault p ts left → left ≤ length ts
+left_within p ts left fault =
+    let e : left ≡ length (fault.token ∷ fault.back) = fault.count in
+    let f : length ts ≡ length (fault.front ++ fault.token ∷ fault.back) = ap length fault.split in
+    omega (arith, e, f, length-append fault.front (fault.token ∷ fault.back))
+
+pub token_at : (ts : List Token) (left : ℕ) (t : Token) → PartFault Part.File ts left → t ≡ get_or ts (length ts - left) t
+    → drop (length ts - left) ts ≡ t ∷ drop (suc (length ts - left)) ts
+token_at ts left t fault e =
+    let some : 0 < left = left_some Part.File ts left fault in
+    let within : left ≤ length ts = left_within Part.File ts left fault in
+    let there : length ts - left < length ts = omega (arith, some, within) in
+    drop-cons ts (length ts - left) t there ∙ ap (λ (v : Token). v ∷ drop (suc (length ts - left)) ts) (sym e)

@@ -1,0 +1,16 @@
+use Rattle.std.proofs.Common.{[], inl, inr, refl, ◌∷◌}
+use Rattle.dsl_tree.specs.Codes.{word_code}
+use Rattle.dsl_tree.specs.Grammar.{Part}
+use Rattle.dsl_tree.specs.declared.token.WordKind.{WordKind}
+use Rattle.dsl_parser.proofs.Blocks.{rules_with}
+use Rattle.dsl_parser.proofs.Stopping.{later_bare, raise, stop_bare, stop_read, stop_rest}
+use Rattle.dsl_parser.proofs.rules.rules_of_field.Goals as goal
+
+pub returns-in_err-rules-in-Some-clause-fault : goal.returns-in_err-rules-in-Some-clause-fault
+returns-in_err-rules-in-Some-clause-fault c = raise _ _ _ c.from_residual.ensures (stop_read Part.FieldEnd _ _ _ _ _ _ (inr (inl refl)) refl c.in-Some.ensures.some refl (later_bare _ _ _ _ _ _ _ c.in-Some.ensures.some refl c.in_err-rules-in-Some.ensures.fault))
+
+pub returns-in_err-end-in-None-clause-fault : goal.returns-in_err-end-in-None-clause-fault
+returns-in_err-end-in-None-clause-fault c = raise _ _ _ c.from_residual-in_err-end-in-None.ensures (stop_rest Part.FieldEnd _ (word_code WordKind.WithWord ∷ []) _ _ (inl refl) refl refl refl refl c.in-None.ensures.none (stop_bare _ _ _ _ refl c.in_err-end-in-None.ensures.err))
+
+pub returns-in_ok-rules-in-Some-clause-ok : goal.returns-in_ok-rules-in-Some-clause-ok
+returns-in_ok-rules-in-Some-clause-ok c = rules_with _ _ _ _ _ c.in-Some.ensures.some c.in_ok-rules-in-Some.ensures.ok
