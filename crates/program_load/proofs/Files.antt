@@ -51,10 +51,12 @@ pub one_more : (files : List NamedBytes) (main : List ℕ) (start taken : List A
     next_name main (start ++ taken) ≡ Some name → IsTaken files (start ++ taken) name added → AreTakenAfter files main start (taken ++ added ∷ [])
 one_more files main start [] name added t next is =
     ((name, subst (λ xs. next_name main xs ≡ Some name) (append-nil start) next, subst (λ xs. IsTaken files xs name added) (append-nil start) is), tt)
-one_more files main start (first ∷ later) name added t next is =
-    (t.0, one_more files main (start ++ first ∷ []) later name added t.1
+one_more files main start (first ∷ later) name added t next is = (
+  t.0,
+  one_more files main (start ++ first ∷ []) later name added t.1
       (subst (λ xs. next_name main xs ≡ Some name) (sym (append_assoc start (first ∷ []) later)) next)
-      (subst (λ xs. IsTaken files xs name added) (sym (append_assoc start (first ∷ []) later)) is))
+      (subst (λ xs. IsTaken files xs name added) (sym (append_assoc start (first ∷ []) later)) is),
+)
 
 -- ---- A file of a new name
 

@@ -74,8 +74,13 @@ reaches (Some all) main before name found l next h =
 reaches None main before FileName.Library found l next h =
     record { files = l.files; all = tt; taken = l.taken; there = sym h; fetched = λ none text source is. had (l.fetched none text source is) }
 reaches None main before (FileName.Named text) None l next h =
-    record { files = l.files; all = tt; taken = l.taken; there = not_fetched main before text l.files (file_named l.files text) refl next (l.fetched refl);
-      fetched = λ none other source is. had (l.fetched none other source is) }
+    record {
+      files = l.files;
+      all = tt;
+      taken = l.taken;
+      there = not_fetched main before text l.files (file_named l.files text) refl next (l.fetched refl);
+      fetched = λ none other source is. had (l.fetched none other source is);
+    }
 reaches None main before (FileName.Named text) (Some source) l next h =
     record {
       files = l.files ++ called text source ∷ [];

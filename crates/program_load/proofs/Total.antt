@@ -101,8 +101,9 @@ module _ (files : List NamedBytes) (before : List AddedFile) (name : FileName)
   some_source source is =
       elim (leb_tells (length source) source_limit) [
         | inl within ↦ elim (cut_or_first_fault (length before) source) [
-            | inl tokens ↦ some_cut source tokens.0 is within.1 tokens.1
-            | inr first ↦ no_stop (Stop.Refused (name_text name) first.0) (unread source first.0 is within.1 (lexical first.1) refl) ]
+          | inl tokens ↦ some_cut source tokens.0 is within.1 tokens.1
+          | inr first ↦ no_stop (Stop.Refused (name_text name) first.0) (unread source first.0 is within.1 (lexical first.1) refl)
+        ]
         | inr beyond ↦ no_stop (Stop.Long (name_text name)) (too_long source is beyond.1 refl)
       ]
 
@@ -131,9 +132,9 @@ module _ (files : List NamedBytes) (main : List ℕ) (no_program : (program : Li
   turns (suc left) taken (Some name) is enough few t =
       some_turn files taken name
       (λ added has.
-        (let more = length-append taken (added ∷ []) in
-        turns left (taken ++ added ∷ []) (next_name main (taken ++ added ∷ [])) refl (omega (arith, more, enough)) (few_more taken added few has.imports)
-          (one_more files main [] taken name added t is has)))
+      (let more = length-append taken (added ∷ []) in
+      turns left (taken ++ added ∷ []) (next_name main (taken ++ added ∷ [])) refl (omega (arith, more, enough)) (few_more taken added few has.imports)
+      (one_more files main [] taken name added t is has)))
       (λ stop stops. no_stop stop (record { taken = taken; are_taken = t; name = name; next = is; stops = stops }))
       main (source_of files name) is refl
 

@@ -22,9 +22,13 @@ module _ (told : Option (List NamedBytes)) (before : List AddedFile) (name : Fil
   import_stop number added (LoadStop.Long text) count called has unadded = absurd unadded
   import_stop number added (LoadStop.Shelf text) count called has unadded = absurd unadded
   import_stop number added LoadStop.Memory count called has unadded = tt
-  import_stop number added (LoadStop.Refused text fault) count called has unadded = (Some has.source, has.found, λ files there.
-      bad_import has.source has.tree.tokens added fault there has.within
-      (subst (λ n. IsRead n has.source has.tree.tokens (file_tree added.file)) count has.tree.read) called unadded.1 (ap (λ t. Stop.Refused t fault) (unadded.0 ∙ called)))
+  import_stop number added (LoadStop.Refused text fault) count called has unadded = (
+    Some has.source,
+    has.found,
+    λ files there.
+        bad_import has.source has.tree.tokens added fault there has.within
+        (subst (λ n. IsRead n has.source has.tree.tokens (file_tree added.file)) count has.tree.read) called unadded.1 (ap (λ t. Stop.Refused t fault) (unadded.0 ∙ called)),
+  )
 
   pub import_stops : {A : Type 0} (number : ℕ) (added : AddedFile) (r : Result A LoadStop) → number ≡ length before → added.name ≡ name_text name →
       HasFile told name number added.file → IfErr r (IsUnadded before added) → IfErr r (Stops told before name)
@@ -38,8 +42,12 @@ module _ (told : Option (List NamedBytes)) (before : List AddedFile) (name : Fil
 
   pub fault_stops : (number : ℕ) (text : List ℕ) (fault : Fault) → number ≡ length before → text ≡ name_text name → HasFault told name number fault →
       Stops told before name (LoadStop.Refused text fault)
-  fault_stops number text fault count called has = (Some has.source, has.found, λ files there.
-      unread has.source fault there has.within (subst (λ n. IsRefused n has.source fault) count has.refused) (ap (λ t. Stop.Refused t fault) called))
+  fault_stops number text fault count called has = (
+    Some has.source,
+    has.found,
+    λ files there.
+        unread has.source fault there has.within (subst (λ n. IsRefused n has.source fault) count has.refused) (ap (λ t. Stop.Refused t fault) called),
+  )
 
   first_there : (before ≡ []) ⊎ (wanted_name before ≡ Some name) → is_some (wanted_name before) ≡ false → before ≡ []
   first_there (inl first) none = first

@@ -11,3 +11,6 @@ mod turn;
 pub use laws::{one_load, some_load};
 pub use loader::load;
 pub use stop::LoadStop;
+
+#[cfg(test)]
+mod tests;

@@ -39,11 +39,7 @@ impl From<AllocError> for FileStop {
 }
 
 /// The source of the shelf's file of this name.
-pub fn fetch_source<H: Shelf>(
-    alloc: Global,
-    shelf: &mut H,
-    name: &str,
-) -> Result<Row<u8>, FileStop>
+pub fn fetch_source<H: Shelf>(alloc: Global, shelf: &mut H, name: &str) -> Result<Row<u8>, FileStop>
     ensures within { IfOk result (λ source. length source ≤ source_limit) }
     ensures found { IfOk result (λ source. IsFound (H.files shelf.old) (FileName.Named name.now) (Some source)) }
     ensures stops { IfErr result (HasNoSource (H.files shelf.old) (FileName.Named name.now)) }
