@@ -13,7 +13,6 @@ use Rattle.dsl_tree.specs.Grammar.{Symbol, Seen}
 use Rattle.dsl_tree.specs.FileTree.{MemberTree, CompoundTree}
 use Rattle.dsl_tree.specs.WrittenFile.{compound_heading}
 use Rattle.dsl_tree.specs.Forest.{Forest, nil, seen, bare, sub, wrong}
-use Rattle.dsl_tree.specs.Written.{ident}
 use Rattle.dsl_tree.specs.WrittenFile as written
 use Rattle.dsl_tree.specs.Reading.{starts, Starts, Stops, void, Parsed, Built, NotTaken}
 use Rattle.dsl_tree.specs.Tables.{subset}

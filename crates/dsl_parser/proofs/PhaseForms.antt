@@ -7,7 +7,7 @@ use Rattle.dsl_tree.specs.declared.token.MarkKind.{MarkKind}
 use Rattle.dsl_tree.specs.declared.token.WordKind.{WordKind}
 use Rattle.dsl_tree.specs.declared.parts.Ident.{Ident}
 use Rattle.dsl_tree.specs.declared.phases.InvokeHead.{InvokeHead}
-use Rattle.dsl_tree.specs.Codes.{code, has, mark_code, word_code, name_code}
+use Rattle.dsl_tree.specs.Codes.{has, mark_code, word_code, name_code}
 use Rattle.dsl_tree.specs.Grammar.{Part, Symbol, Of}
 use Rattle.dsl_tree.specs.Forest.{Forest, nil, seen, bare, sub}
 use Rattle.dsl_tree.specs.Tables.{first}
@@ -176,5 +176,5 @@ pub composed_phase : (label : Option Ident) (head : CompositionHead) (members : 
     → Built phases_block (block_phases members) ws end → tree ≡ PhaseTree.Comp label head.place head.kind (map argument_tree head.arguments) members → Parsed Part.Phase (phase tree) ts end
 composed_phase label head members tree ts us vs ws end opens front block built e =
     let r = opens.reads (headed head (opened (block_phases members))) end
-        (parsed_full Part.Composition composition_rule _ us end (inl refl) refl (front.reads (opened (block_phases members)) end (block.reads (block_phases members) end built))) in
+    (parsed_full Part.Composition composition_rule _ us end (inl refl) refl (front.reads (opened (block_phases members)) end (block.reads (block_phases members) end built))) in
     subst (λ (f : Forest). Parsed Part.Phase f ts end) (sym r.2 ∙ sym (ap phase e)) r.1

@@ -1,6 +1,6 @@
 -- What the readers of phases ensure. A phase that has no block of phases is read whole; of a
 -- composition first what stands before its block.
-use Rattle.std.specs.Prelude.{◌≡◌, ◌<◌, ℕ, List, [], ◌∷◌, length, map, Option, Some, None}
+use Rattle.std.specs.Prelude.{◌≡◌, ◌<◌, ℕ, List, [], ◌∷◌, length, map, Option}
 use Rattle.dsl_tree.specs.declared.token.Token.{Token}
 use Rattle.dsl_tree.specs.declared.token.MarkKind.{MarkKind}
 use Rattle.dsl_tree.specs.declared.token.MarkKind.TheVariants.{OpenRound, Colon}

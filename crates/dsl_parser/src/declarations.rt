@@ -21,7 +21,10 @@ use crate::starts::begins_word;
 use crate::stop::Stop;
 use crate::tokens::{expect_mark, expect_word, take_mark};
 use crate::units::{type_declaration, unit_declaration};
-use dsl_tree::{CompoundDecl, CompoundKind, Declaration, EnumItem, Heir, MarkKind, Member, MoreEnum, MoreMembers, QName, Token, WordKind};
+use dsl_tree::{
+    CompoundDecl, CompoundKind, Declaration, EnumItem, Heir, MarkKind, Member, MoreEnum,
+    MoreMembers, QName, Token, WordKind,
+};
 use osc_base::Row;
 use std::alloc::Global;
 
@@ -65,7 +68,11 @@ fn heading(alloc: Global, tokens: &[Token]) -> Result<(HeadingRest, &[Token]), S
     Ok((HeadingRest { heir, members }, end))
 }
 
-fn plain_compound(alloc: Global, kind: CompoundKind, tokens: &[Token]) -> Result<(CompoundDecl, &[Token]), Stop>
+fn plain_compound(
+    alloc: Global,
+    kind: CompoundKind,
+    tokens: &[Token],
+) -> Result<(CompoundDecl, &[Token]), Stop>
     requires plain { is_plain kind ≡ true }
     requires begins { starts (word_code (kind_word kind) ∷ []) tokens.now ≡ true }
     requires ended { Ended tokens.now }
@@ -92,7 +99,11 @@ fn plain_compound(alloc: Global, kind: CompoundKind, tokens: &[Token]) -> Result
     Ok((found, end))
 }
 
-fn owned_compound(alloc: Global, kind: CompoundKind, tokens: &[Token]) -> Result<(CompoundDecl, &[Token]), Stop>
+fn owned_compound(
+    alloc: Global,
+    kind: CompoundKind,
+    tokens: &[Token],
+) -> Result<(CompoundDecl, &[Token]), Stop>
     requires owned { is_plain kind ≡ false }
     requires begins { starts (word_code (kind_word kind) ∷ []) tokens.now ≡ true }
     requires ended { Ended tokens.now }
@@ -115,7 +126,11 @@ fn owned_compound(alloc: Global, kind: CompoundKind, tokens: &[Token]) -> Result
     Ok((found, end))
 }
 
-fn compound(alloc: Global, kind: CompoundKind, tokens: &[Token]) -> Result<(CompoundDecl, &[Token]), Stop>
+fn compound(
+    alloc: Global,
+    kind: CompoundKind,
+    tokens: &[Token],
+) -> Result<(CompoundDecl, &[Token]), Stop>
     requires begins { starts (word_code (kind_word kind) ∷ []) tokens.now ≡ true }
     requires ended { Ended tokens.now }
     ensures ok { IfOk result (λ x. Parsed Part.Declaration (written.declaration (DeclarationTree.CompoundDeclaration (compound_tree x.0))) tokens.now x.1.now) }
@@ -171,7 +186,14 @@ fn extension(alloc: Global, tokens: &[Token]) -> Result<(Declaration, &[Token]),
     let (added, end) = extension_rest(alloc, colon)?;
     match added {
         Addition::Items(items) => Ok((Declaration::MoreEnum(MoreEnum { place, name, items }), end)),
-        Addition::Members(members) => Ok((Declaration::MoreMembers(MoreMembers { place, name, members }), end)),
+        Addition::Members(members) => Ok((
+            Declaration::MoreMembers(MoreMembers {
+                place,
+                name,
+                members,
+            }),
+            end,
+        )),
     }
 }
 

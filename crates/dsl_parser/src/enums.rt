@@ -49,7 +49,11 @@ fn enum_item(alloc: Global, tokens: &[Token]) -> Result<(EnumItem, &[Token]), St
 }
 
 /// Puts further items, each behind a comma, behind `items`.
-fn items_tail(alloc: Global, items: Row<EnumItem>, tokens: &[Token]) -> Result<(Row<EnumItem>, &[Token]), Stop>
+fn items_tail(
+    alloc: Global,
+    items: Row<EnumItem>,
+    tokens: &[Token],
+) -> Result<(Row<EnumItem>, &[Token]), Stop>
     requires { Ended tokens.now }
     ensures ok { IfOk result (λ x. Continued EnumItem Part.ItemsTail written.items_tail items x.0 tokens.now x.1.now) }
     ensures ended { IfOk result (λ x. Ended x.1.now) }

@@ -24,7 +24,11 @@ use osc_base::Row;
 use std::alloc::Global;
 
 /// Puts further names, each behind a point, behind `names`.
-pub fn dotted_names(alloc: Global, names: Row<Ident>, tokens: &[Token]) -> Result<(Row<Ident>, &[Token]), Stop>
+pub fn dotted_names(
+    alloc: Global,
+    names: Row<Ident>,
+    tokens: &[Token],
+) -> Result<(Row<Ident>, &[Token]), Stop>
     requires { Ended tokens.now }
     ensures ok { IfOk result (λ x. Continued Ident Part.DottedNames dotted_names names x.0 tokens.now x.1.now) }
     ensures ended { IfOk result (λ x. Ended x.1.now) }

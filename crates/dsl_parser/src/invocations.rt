@@ -54,7 +54,11 @@ fn part(alloc: Global, tokens: &[Token]) -> Result<(InvokePart, &[Token]), Stop>
 }
 
 /// Puts further parts behind `parts`.
-fn parts_tail(alloc: Global, parts: Row<InvokePart>, tokens: &[Token]) -> Result<(Row<InvokePart>, &[Token]), Stop>
+fn parts_tail(
+    alloc: Global,
+    parts: Row<InvokePart>,
+    tokens: &[Token],
+) -> Result<(Row<InvokePart>, &[Token]), Stop>
     requires { Ended tokens.now }
     ensures ok { IfOk result (λ x. Continued InvokePart Part.PartsTail (λ ps. written.parts_tail (map part_tree ps)) parts x.0 tokens.now x.1.now) }
     ensures ended { IfOk result (λ x. Ended x.1.now) }
@@ -133,7 +137,10 @@ fn invocation_arguments(alloc: Global, tokens: &[Token]) -> Result<(Row<Argument
 }
 
 /// The arguments of a composition in their brackets, if there are any.
-pub fn composition_arguments(alloc: Global, tokens: &[Token]) -> Result<(Row<Argument>, &[Token]), Stop>
+pub fn composition_arguments(
+    alloc: Global,
+    tokens: &[Token],
+) -> Result<(Row<Argument>, &[Token]), Stop>
     requires { Ended tokens.now }
     ensures ok { IfOk result (λ x. Parsed Part.CompositionArguments (written.composition_arguments (map argument_tree x.0)) tokens.now x.1.now) }
     ensures ended { IfOk result (λ x. Ended x.1.now) }

@@ -26,7 +26,11 @@ use osc_base::{Place, Row};
 use std::alloc::Global;
 
 /// Puts further names, each behind a comma, behind `names`.
-fn names_tail(alloc: Global, names: Row<Ident>, tokens: &[Token]) -> Result<(Row<Ident>, &[Token]), Stop>
+fn names_tail(
+    alloc: Global,
+    names: Row<Ident>,
+    tokens: &[Token],
+) -> Result<(Row<Ident>, &[Token]), Stop>
     requires { Ended tokens.now }
     ensures ok { IfOk result (λ x. Continued Ident Part.NamesTail written.names_tail names x.0 tokens.now x.1.now) }
     ensures ended { IfOk result (λ x. Ended x.1.now) }
@@ -147,7 +151,11 @@ fn member(alloc: Global, tokens: &[Token]) -> Result<(Member, &[Token]), Stop>
 }
 
 /// Puts further members behind `members`.
-fn members_tail(alloc: Global, members: Row<Member>, tokens: &[Token]) -> Result<(Row<Member>, &[Token]), Stop>
+fn members_tail(
+    alloc: Global,
+    members: Row<Member>,
+    tokens: &[Token],
+) -> Result<(Row<Member>, &[Token]), Stop>
     requires { Ended tokens.now }
     ensures ok { IfOk result (λ x. Continued Member Part.MembersTail (λ ms. written.members_tail (map member_tree ms)) members x.0 tokens.now x.1.now) }
     ensures ended { IfOk result (λ x. Ended x.1.now) }

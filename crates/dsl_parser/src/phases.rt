@@ -13,7 +13,7 @@ ghost use Rattle.dsl_parser.specs.Readers.{OnStop, IsRead};
 ghost use Rattle.dsl_parser.specs.PhaseStarts.{wait_rest, written_wait_rest, composition_codes, composition_rule, composition_block, phases_block, headed, Front, CorePhase, behind_label, behind_name, Started};
 
 use crate::expressions::expr;
-use crate::invocations::{composition_arguments, invocation_rest, InvocationRest};
+use crate::invocations::{InvocationRest, composition_arguments, invocation_rest};
 use crate::layout_tokens::{expect_dedent, expect_indent, expect_newline};
 use crate::names::expect_name;
 use crate::rows::row_of as one_row;
@@ -21,7 +21,10 @@ use crate::starts::{begins_composition, begins_phase, begins_word};
 use crate::stop::Stop;
 use crate::tokens::{expect_mark, expect_word, take_mark, take_word};
 use crate::units::closed;
-use dsl_tree::{Argument, CompKind, CompNode, Expr, Ident, InvokeHead, InvokeNode, MarkKind, Phase, Token, WaitNode, WordKind};
+use dsl_tree::{
+    Argument, CompKind, CompNode, Expr, Ident, InvokeHead, InvokeNode, MarkKind, Phase, Token,
+    WaitNode, WordKind,
+};
 use osc_base::{Place, Row};
 use std::alloc::Global;
 
@@ -73,10 +76,21 @@ fn wait(alloc: Global, label: Option<Ident>, tokens: &[Token]) -> Result<(Phase,
 {
     let (place, behind) = expect_word(tokens, WordKind::WaitWord)?;
     let (elapsed, end) = elapsed(alloc, behind)?;
-    Ok((Phase::Wait(WaitNode { label, place, elapsed }), end))
+    Ok((
+        Phase::Wait(WaitNode {
+            label,
+            place,
+            elapsed,
+        }),
+        end,
+    ))
 }
 
-fn start_behind_label(alloc: Global, label: Ident, tokens: &[Token]) -> Result<(PhaseStart, &[Token]), Stop>
+fn start_behind_label(
+    alloc: Global,
+    label: Ident,
+    tokens: &[Token],
+) -> Result<(PhaseStart, &[Token]), Stop>
     requires { Ended tokens.now }
     ensures ok { IfOk result (λ x. Started Part.LabelledPhase (behind_label label) x.0 tokens.now x.1.now) }
     ensures ended { IfOk result (λ x. Ended x.1.now) }
@@ -101,7 +115,11 @@ fn start_behind_label(alloc: Global, label: Ident, tokens: &[Token]) -> Result<(
     Ok((PhaseStart::Whole(phase), end))
 }
 
-fn start_behind_name(alloc: Global, name: Ident, tokens: &[Token]) -> Result<(PhaseStart, &[Token]), Stop>
+fn start_behind_name(
+    alloc: Global,
+    name: Ident,
+    tokens: &[Token],
+) -> Result<(PhaseStart, &[Token]), Stop>
     requires { Ended tokens.now }
     ensures ok { IfOk result (λ x. Started Part.PhaseAfterName (behind_name name) x.0 tokens.now x.1.now) }
     ensures ended { IfOk result (λ x. Ended x.1.now) }

@@ -85,7 +85,11 @@ pub fn rule(alloc: Global, tokens: &[Token]) -> Result<(RuleDecl, &[Token]), Sto
 }
 
 /// Puts further rules behind `rules`.
-fn rules_tail(alloc: Global, rules: Row<RuleDecl>, tokens: &[Token]) -> Result<(Row<RuleDecl>, &[Token]), Stop>
+fn rules_tail(
+    alloc: Global,
+    rules: Row<RuleDecl>,
+    tokens: &[Token],
+) -> Result<(Row<RuleDecl>, &[Token]), Stop>
     requires { Ended tokens.now }
     ensures ok { IfOk result (λ x. Continued RuleDecl Part.RulesTail (λ rs. written.rules_tail (map rule_tree rs)) rules x.0 tokens.now x.1.now) }
     ensures ended { IfOk result (λ x. Ended x.1.now) }

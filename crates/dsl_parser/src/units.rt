@@ -16,11 +16,13 @@ ghost use Rattle.dsl_parser.specs.Rows.{Continued};
 
 use crate::layout_tokens::expect_newline;
 use crate::literals::{expect_exponent, expect_number};
-use crate::names::{expect_base_name, expect_known_name, expect_name, take_known_name, KnownName};
+use crate::names::{KnownName, expect_base_name, expect_known_name, expect_name, take_known_name};
 use crate::rows::row_of;
 use crate::stop::Stop;
 use crate::tokens::{expect_mark, expect_word, take_mark};
-use dsl_tree::{BasePart, Digits, Ident, MarkKind, PhysicalDecl, Signed, Token, UnitDecl, WordKind};
+use dsl_tree::{
+    BasePart, Digits, Ident, MarkKind, PhysicalDecl, Signed, Token, UnitDecl, WordKind,
+};
 use osc_base::{Place, Row};
 use std::alloc::Global;
 
@@ -104,7 +106,11 @@ pub fn closed(tokens: &[Token]) -> Result<&[Token], Stop>
 }
 
 /// Puts further bases, each behind a comma, behind `bases`.
-fn bases_tail(alloc: Global, bases: Row<BasePart>, tokens: &[Token]) -> Result<(Row<BasePart>, &[Token]), Stop>
+fn bases_tail(
+    alloc: Global,
+    bases: Row<BasePart>,
+    tokens: &[Token],
+) -> Result<(Row<BasePart>, &[Token]), Stop>
     requires { Ended tokens.now }
     ensures ok { IfOk result (λ x. Continued BasePart Part.BasesTail written.bases_tail bases x.0 tokens.now x.1.now) }
     ensures ended { IfOk result (λ x. Ended x.1.now) }
@@ -242,7 +248,11 @@ fn ends(tokens: &[Token]) -> Result<Option<(UnitEnd, &[Token])>, Stop>
 }
 
 /// Puts further bases, each behind a comma, behind `bases`, and reads on to the line end.
-fn unit_tail(alloc: Global, bases: Row<BasePart>, tokens: &[Token]) -> Result<(Row<BasePart>, UnitEnd, &[Token]), Stop>
+fn unit_tail(
+    alloc: Global,
+    bases: Row<BasePart>,
+    tokens: &[Token],
+) -> Result<(Row<BasePart>, UnitEnd, &[Token]), Stop>
     requires { Ended tokens.now }
     ensures ok { IfOk result (λ x. Continued BasePart Part.UnitTail (λ more. written.unit_tail more (written.unit_end x.1.factor x.1.offset)) bases x.0 tokens.now x.2.now) }
     ensures ended { IfOk result (λ x. Ended x.2.now) }

@@ -2,7 +2,6 @@ use Rattle.std.proofs.Common.{map, refl}
 use Rattle.dsl_tree.proofs.Build.{built_part}
 use Rattle.dsl_parser.proofs.Loops.{one_row, read_name}
 use Rattle.dsl_parser.proofs.Stopping.{later_name, later_part, raise, stop_part, stop_seen}
-use Rattle.dsl_parser.specs.Readers.{names}
 use Rattle.std.specs.Option.{option_map}
 use Rattle.dsl_tree.specs.Reading.{Built}
 use Rattle.dsl_tree.specs.Views.{expr_tree, rule_tree}
