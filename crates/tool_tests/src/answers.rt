@@ -25,30 +25,34 @@ const SOUND: Outside<'static> = Outside {
     room: 4096,
 };
 
-fn shelf(alloc: Global, source: Option<&[u8]>, failing: &[u64]) -> Result<MemoryShelf, AllocError> {
-    let mut files = Row::new(alloc);
-    if let Some(source) = source {
-        files.push(NamedBytes {
-            name: Text::copy(alloc, "main.osc")?,
-            bytes: Row::of(Vec::from_slice(alloc, source)?),
+fn shelf(
+    alloc: Global,
+    files: &[(&str, &[u8])],
+    failing: &[u64],
+) -> Result<MemoryShelf, AllocError> {
+    let mut held = Row::new(alloc);
+    for (name, bytes) in files {
+        held.push(NamedBytes {
+            name: Text::copy(alloc, name)?,
+            bytes: Row::of(Vec::from_slice(alloc, bytes)?),
         })?;
     }
     let failing = Row::of(Vec::from_slice(alloc, failing)?);
-    Ok(MemoryShelf::new(files, 4096, failing))
+    Ok(MemoryShelf::new(held, 4096, failing))
 }
 
 /// The status with which the words are answered, and what is written, as a text.
 fn answer(
     alloc: Global,
     words: &[&str],
-    source: Option<&[u8]>,
+    files: &[(&str, &[u8])],
     outside: Outside<'_>,
 ) -> Result<String, AllocError> {
     let mut owned = Vec::new(alloc);
     for word in words {
         owned.push(String::from_str(alloc, word)?)?;
     }
-    let mut shelf = shelf(alloc, source, outside.shelf_failing)?;
+    let mut shelf = shelf(alloc, files, outside.shelf_failing)?;
     let failing = Row::of(Vec::from_slice(alloc, outside.sink_failing)?);
     let mut sink = MemorySink::new(alloc, outside.room, outside.most.max(1), failing)?;
     let status = command(alloc, &owned, &mut shelf, &mut sink);
@@ -60,7 +64,7 @@ const GENERATE: [&str; 3] = ["generate", "main.osc", "top"];
 
 #[test]
 fn sources(rt: HostRuntime) -> Result<(), Fail> {
-    let rows: [(&str, &str); 35] = [
+    let rows: [(&str, &str); 37] = [
         (
             SOURCE,
             "0 {\"choices\":[],\"end\":0,\"form\":1,\"phases\":[],\"traces\":[],\"values\":[[\"x\",3]]}\n",
@@ -162,15 +166,20 @@ fn sources(rt: HostRuntime) -> Result<(), Fail> {
         ),
         (
             "import osc.standard\nimport lib\nscenario top:\n    x: int\n    keep(x in [3..3])\n",
-            "3 fault 298 main.osc:1:1\n",
+            "3 fault 301 main.osc:2:8\n",
         ),
         ("struct s\n", "3 fault 298 main.osc:1:1\n"),
-        ("scenario int\n", "3 fault 298 main.osc:1:1\n"),
+        ("scenario int\n", "3 fault 311 main.osc:1:10\n"),
         ("scenario top inherits base\n", "3 fault 298 main.osc:1:1\n"),
         (
-            "scenario top\nscenario other\n",
-            "3 fault 298 main.osc:2:1\n",
+            "scenario other\nscenario top\n",
+            "0 {\"choices\":[],\"end\":0,\"form\":1,\"phases\":[],\"traces\":[],\"values\":[]}\n",
         ),
+        (
+            "scenario top\nscenario top\n",
+            "3 fault 311 main.osc:2:10\n",
+        ),
+        ("import lib.a\nscenario top\n", "3 fault 301 main.osc:1:8\n"),
         (
             "scenario other:\n    y: float\n",
             "3 fault 298 main.osc:2:5\n",
@@ -182,7 +191,12 @@ fn sources(rt: HostRuntime) -> Result<(), Fail> {
         ),
     ];
     for (source, want) in rows {
-        let got = answer(rt.alloc(), &GENERATE, Some(source.as_bytes()), SOUND)?;
+        let got = answer(
+            rt.alloc(),
+            &GENERATE,
+            &[("main.osc", source.as_bytes())],
+            SOUND,
+        )?;
         assert_eq!(rt; got.as_str(), want, "{source}");
     }
     Ok(())
@@ -191,8 +205,8 @@ fn sources(rt: HostRuntime) -> Result<(), Fail> {
 #[test]
 fn words_and_files(rt: HostRuntime) -> Result<(), Fail> {
     let alloc = rt.alloc();
-    let source = Some(SOURCE.as_bytes());
-    let words = |words: &[&str]| answer(alloc, words, source, SOUND);
+    let main = [("main.osc", SOURCE.as_bytes())];
+    let words = |words: &[&str]| answer(alloc, words, &main, SOUND);
     assert_eq!(rt; words(&[])?.as_str(), "4 words\n");
     assert_eq!(rt; words(&["generate", "main.osc"])?.as_str(), "4 words\n");
     assert_eq!(rt; words(&["generate", "-f", "top"])?.as_str(), "4 words\n");
@@ -207,12 +221,37 @@ fn words_and_files(rt: HostRuntime) -> Result<(), Fail> {
         words(&["generate", "none.osc", "top"])?.as_str(),
         "6 missing none.osc\n"
     );
+    assert_eq!(rt;
+        words(&["generate", "main.osc", "a.top", "--seed", "7"])?.as_str(),
+        "3 fault 324 main.osc:4:1\n"
+    );
+    assert_eq!(rt;
+        words(&["--ticks=005", "generate", "main.osc"])?.as_str(),
+        "4 words\n"
+    );
+    assert_eq!(rt;
+        words(&["generate", "main.osc", "top", "--cuts", "0"])?.as_str(),
+        "4 words\n"
+    );
+    assert_eq!(rt; words(&["--version", "x"])?.as_str(), "0 osc 0.1.0\n");
+    assert!(rt;
+        words(&["help"])?
+            .as_str()
+            .starts_with("0 osc reads a scenario")
+    );
+    let help = words(&["generate", "main.osc", "-h"])?;
+    assert!(rt; help.as_str().starts_with("0 osc generate reads"));
     let long = vec![in alloc; b'#'; 1_048_577]?;
-    let got = answer(alloc, &GENERATE, Some(&long), SOUND)?;
+    let got = answer(alloc, &GENERATE, &[("main.osc", long.as_slice())], SOUND)?;
     assert_eq!(rt; got.as_str(), "6 long main.osc\n");
-    let got = answer(alloc, &GENERATE, Some(&long[1..]), SOUND)?;
+    let got = answer(alloc, &GENERATE, &[("main.osc", &long[1..])], SOUND)?;
     assert_eq!(rt; got.as_str(), "3 fault 324 main.osc:1:1048577\n");
-    let bytes = answer(alloc, &GENERATE, Some(b"#\xff".as_slice()), SOUND)?;
+    let bytes = answer(
+        alloc,
+        &GENERATE,
+        &[("main.osc", b"#\xff".as_slice())],
+        SOUND,
+    )?;
     assert_eq!(rt; bytes.as_str(), "3 fault 101 main.osc:1:2\n");
     one_answer();
     some_answer();
@@ -220,14 +259,49 @@ fn words_and_files(rt: HostRuntime) -> Result<(), Fail> {
 }
 
 #[test]
+fn imports(rt: HostRuntime) -> Result<(), Fail> {
+    let alloc = rt.alloc();
+    let words = ["generate", "a.osc", "top"];
+    let main = b"import \"b.osc\"\nscenario top:\n    x: int\n    keep(x in [7..7])\n".as_slice();
+    let seven =
+        "0 {\"choices\":[],\"end\":0,\"form\":1,\"phases\":[],\"traces\":[],\"values\":[[\"x\",7]]}\n";
+    let rows: [(&str, &str); 6] = [
+        ("import \"a.osc\"\nscenario other\n", seven),
+        ("import osc.standard\n", seven),
+        (
+            "import \"a.osc\"\nscenario top\n",
+            "3 fault 311 b.osc:2:10\n",
+        ),
+        ("import \"c.osc\"\n", "3 fault 301 b.osc:1:8\n"),
+        ("scenario $\n", "3 fault 104 b.osc:1:10\n"),
+        ("struct s\n", "3 fault 298 b.osc:1:1\n"),
+    ];
+    for (second, want) in rows {
+        let files = [("a.osc", main), ("b.osc", second.as_bytes())];
+        let got = answer(alloc, &words, &files, SOUND)?;
+        assert_eq!(rt; got.as_str(), want, "{second}");
+    }
+    let alone = answer(alloc, &words, &[("a.osc", main)], SOUND)?;
+    assert_eq!(rt; alone.as_str(), "3 fault 301 a.osc:1:8\n");
+    let fails = Outside {
+        shelf_failing: &[4],
+        ..SOUND
+    };
+    let files = [("a.osc", main), ("b.osc", b"".as_slice())];
+    let failed = answer(alloc, &words, &files, fails)?;
+    assert_eq!(rt; failed.as_str(), "6 shelf b.osc\n");
+    Ok(())
+}
+
+#[test]
 fn failing_outside(rt: HostRuntime) -> Result<(), Fail> {
     let alloc = rt.alloc();
-    let source = Some(SOURCE.as_bytes());
+    let main = [("main.osc", SOURCE.as_bytes())];
     for call in 0..3 {
         let got = answer(
             alloc,
             &GENERATE,
-            source,
+            &main,
             Outside {
                 shelf_failing: &[call],
                 ..SOUND
@@ -245,7 +319,7 @@ fn failing_outside(rt: HostRuntime) -> Result<(), Fail> {
             most: 1,
             ..SOUND
         };
-        let got = answer(alloc, &GENERATE, source, outside)?;
+        let got = answer(alloc, &GENERATE, &main, outside)?;
         let front = str::from_utf8(&RUN.as_bytes()[..call]).unwrap_or("no text");
         let want = format!(in alloc; "7 {front}")?;
         assert_eq!(rt; got.as_str(), want.as_str(), "call {call} of the sink");
@@ -257,10 +331,10 @@ fn failing_outside(rt: HostRuntime) -> Result<(), Fail> {
         ..SOUND
     };
     assert_eq!(rt;
-        answer(alloc, &GENERATE, source, ten)?.as_str(),
+        answer(alloc, &GENERATE, &main, ten)?.as_str(),
         "7 {\"choices\""
     );
     let full = Outside { room: 0, ..SOUND };
-    assert_eq!(rt; answer(alloc, &GENERATE, None, full)?.as_str(), "7 ");
+    assert_eq!(rt; answer(alloc, &GENERATE, &[], full)?.as_str(), "7 ");
     Ok(())
 }
