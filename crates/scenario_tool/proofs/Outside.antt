@@ -8,11 +8,15 @@ use Rattle.name_scope.specs.Loading.{AddedFile}
 use Rattle.program_load.specs.Loading.{Stop, IsLoaded, IsStopped, IsTurn}
 use Rattle.program_load.specs.Outcome.{SomeFiles, Allows, Counts}
 use Rattle.program_load.specs.declared.stop.LoadStop.{LoadStop}
-use Rattle.program_load.proofs.Told.{of_all}
 use Rattle.command_words.specs.Words.{Asked, Wanted, request}
 use Rattle.scenario_tool.specs.declared.replies.Reply.{Reply}
 use Rattle.scenario_tool.specs.Stops.{Answered}
 use Rattle.scenario_tool.specs.Answers.{CountsOnce, Ends, written, sink_failed, no_memory, Replies, answers, shelf_failed, helps, refused_words, stopped, compiled, Compiles}
+
+-- what holds of all files
+of_all : (told : Option (List NamedBytes)) (Fact : List NamedBytes → Type 0) → ((files : List NamedBytes) → Fact files) → SomeFiles told Fact
+of_all None Fact make = ([], tt, make [])
+of_all (Some files) Fact make = (files, refl, make files)
 
 pub onward : (told : Option (List NamedBytes)) (Fact Other : List NamedBytes → Type 0) → SomeFiles told Fact →
     ((files : List NamedBytes) → Fact files → Other files) → SomeFiles told Other
@@ -33,7 +37,7 @@ exit_compiled told asked program before after (Ok reply) loaded compiles steady 
 exit_compiled told asked program before after (Err e) loaded compiles steady = tt
 
 reply_stopped : (told : Option (List NamedBytes)) (asked : Asked) (stop : LoadStop) (before after status : ℕ) (text : List ℕ) (words : List (List ℕ)) →
-    request words ≡ Wanted.Generate asked → SomeFiles told (λ files. Allows files asked.file (Err stop)) → Counts (Err stop) before after →
+    request words ≡ Wanted.Generate asked → SomeFiles told (λ files. Allows files asked.file (Err stop)) → Counts {A = List AddedFile} (Err stop) before after →
     Answered asked.file stop status text → SomeFiles told (λ files. Replies files words before after status text)
 reply_stopped told asked LoadStop.Missing before after status text words asks some counts (s, t) =
     onward told _ _ some (λ files is. answers (stopped asked Stop.Missing asks is s t) counts)
@@ -46,14 +50,14 @@ reply_stopped told asked (LoadStop.Shelf name) before after status text words as
 reply_stopped told asked LoadStop.Memory before after status text words asks some counts answered = absurd answered
 
 pub exit_stopped : {E : Type 0} (told : Option (List NamedBytes)) (asked : Asked) (stop : LoadStop) (before after : ℕ) (r : Result Reply E) →
-    SomeFiles told (λ files. Allows files asked.file (Err stop)) → Counts (Err stop) before after →
+    SomeFiles told (λ files. Allows files asked.file (Err stop)) → Counts {A = List AddedFile} (Err stop) before after →
     IfOk r (λ reply. Answered asked.file stop reply.status reply.text) → IfOk r (Replied told asked before after)
 exit_stopped told asked stop before after (Ok reply) some counts answered = λ words asks.
     reply_stopped told asked stop before after reply.status reply.text words asks some counts answered
 exit_stopped told asked stop before after (Err e) some counts answered = tt
 
 -- a stop counts once at most
-pub counts_once : (stop : LoadStop) (before after : ℕ) → Counts (Err stop) before after → CountsOnce before after
+pub counts_once : (stop : LoadStop) (before after : ℕ) → Counts {A = List AddedFile} (Err stop) before after → CountsOnce before after
 counts_once LoadStop.Missing before after counts = inl counts
 counts_once (LoadStop.Long name) before after counts = inl counts
 counts_once (LoadStop.Refused file fault) before after counts = inl counts

@@ -40,12 +40,7 @@ pub fn compile(alloc: Global, program: &Program, scenario: &str) -> Result<Reply
 }
 
 /// A fault at a place of a program's files.
-fn fault_in(
-    alloc: Global,
-    program: &Program,
-    code: u16,
-    place: Place,
-) -> Result<Reply, AllocError>
+fn fault_in(alloc: Global, program: &Program, code: u16, place: Place) -> Result<Reply, AllocError>
     ensures status { IfOk result (λ reply. reply.status ≡ 3) }
     ensures text { IfOk result (λ reply. reply.text ≡ fault_text (name_at program.now place.file) code place) }
 {

@@ -62,14 +62,20 @@ fn owner_and_name(word: &str) -> (Option<&str>, &str)
 fn declaration_at(program: &Program, id: DeclId) -> Option<&Declaration>
     ensures { option_map (λ d. declaration_tree d.now) result ≡ declaration_at program.now id }
 {
-    program.file(id.file)?.decls.as_slice().get(id.index as usize)
+    program
+        .file(id.file)?
+        .decls
+        .as_slice()
+        .get(id.index as usize)
 }
 
 fn as_scenario(declaration: &Declaration) -> Option<&CompoundDecl>
     ensures { option_map (λ c. compound_tree c.now) result ≡ as_scenario (declaration_tree declaration.now) }
 {
     match declaration {
-        Declaration::Compound(compound) if compound.kind == CompoundKind::Scenario => Some(compound),
+        Declaration::Compound(compound) if compound.kind == CompoundKind::Scenario => Some(
+            compound,
+        ),
         _ => None,
     }
 }
