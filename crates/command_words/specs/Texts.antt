@@ -17,9 +17,20 @@ general_help = lined (
     ∷ codes "  osc --version"
     ∷ []
     ∷ codes "Commands:"
-    ∷ codes "  generate   write a run of a scenario; osc generate --help has its options"
+    ∷ codes "  generate   write a run of a scenario; osc generate --help tells more"
     ∷ codes "  help       write this text; so do --help and -h"
     ∷ codes "  --version  write the version; so does -V"
+    ∷ []
+    ∷ codes "Options of generate, each at most once, as --ticks N or --ticks=N:"
+    ∷ codes "  --ticks N  the last tick that a run may have, of 0.1 seconds each:"
+    ∷ codes "             1 to 600, default 100"
+    ∷ codes "  --lanes N  the lanes of the road: 1 to 8, default 3"
+    ∷ codes "  --road N   the length of the road in metres: 1 to 10000, default 1000"
+    ∷ codes "  --seed N   the seed of what is drawn at random:"
+    ∷ codes "             0 to 18446744073709551615, default 0"
+    ∷ codes "  --cuts N   the most cuts of the search: 1 to 1000000, default 200000"
+    ∷ codes "Today runs are of scenarios of ranged whole numbers; the options are checked"
+    ∷ codes "and don't change the run yet."
     ∷ []
     ∷ codes "Statuses, and what is written to standard output:"
     ∷ codes "  0  a run, a help text or the version"
