@@ -5,3 +5,5 @@
 mod answers;
 #[cfg(test)]
 mod runs;
+#[cfg(test)]
+mod trees;

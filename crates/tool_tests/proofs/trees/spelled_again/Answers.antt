@@ -1,0 +1,5 @@
+use Rattle.program_load.proofs.Reading.{ended}
+use Rattle.tool_tests.proofs.trees.spelled_again.Goals as goal
+
+pub parse-requires : goal.parse-requires
+parse-requires g c = record { ended = ended c.in-Ok.tokens c.in-Ok.ensures.end }
