@@ -12,7 +12,7 @@ no_change = record { slot = 0; was = pair (pos 0) (pos 0) }
 abbrev pub undone : Change → List Pair → List Pair
 undone change ends = slice_set ends change.slot change.was
 
--- the boxes after 0, 1, .. and all of the first `mark` changes, where the last is `ends`
+-- the boxes after 0, 1, .. and all of the first `mark` changes; the last is `ends`
 abbrev pub boxes_of : ℕ → List Change → List Pair → List (List Pair)
 boxes_of zero changes ends = ends ∷ []
 boxes_of (suc mark) changes ends = boxes_of mark changes (undone (get_or changes mark no_change) ends) ++ ends ∷ []

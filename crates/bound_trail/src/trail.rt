@@ -15,7 +15,7 @@ struct Change {
 
 /// The ends of each slot, which can be narrowed one end at a time, and brought back.
 ///
-/// It is seen as the list of its boxes, from the one that it was made with to the present one.
+/// Contracts see it as the list of its boxes, from the first to the present one.
 #[derive(Drop)]
 pub struct Trail {
     pairs: Vec<Pair>,

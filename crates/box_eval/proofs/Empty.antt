@@ -1,20 +1,21 @@
--- No point of the box of an accepted tree whose leaves are all closes meets all rules.
-use Rattle.std.proofs.Common.{◌≡◌, refl, sym, ◌∙◌, ⊎_elim, ℕ, ◌+◌, ◌<◌, Bool, true, false, List, [], ◌∷◌, ◌++◌, length, slice_get, Option, Some, None, ℤ, pos, ◌+ℤ◌, ◌≤ℤ◌, ◌<ℤ◌, arith}
+-- No point of the box of an accepted tree with no open leaf meets all rules.
+use Rattle.std.proofs.Common.{◌≡◌, refl, sym, ◌∙◌, ⊎_elim, ℕ, ◌+◌, ◌<◌, Bool, true, false, ◌&&◌, nat_lt, int_le, int_lt, List, [], ◌∷◌, ◌++◌, length, slice_get, Option, Some, None, ℤ, pos, ◌+ℤ◌, ◌≤ℤ◌, ◌<ℤ◌, arith}
 use Rattle.std.proofs.lemmas.Int.{ints}
-use Rattle.std.proofs.lemmas.Bool.{false≢true}
+use Rattle.std.proofs.lemmas.Bool.{false≢true, or_parts}
 use Rattle.std.specs.Option.{option_map_or}
 use Rattle.box_eval.specs.declared.rule.Rule.{Rule}
 use Rattle.box_eval.specs.declared.bounds.Pair.{Pair}
+use Rattle.box_eval.specs.declared.cut.Cut.{Cut}
 use Rattle.box_eval.specs.declared.flat.Flat.{Flat}
 use Rattle.box_eval.specs.declared.record.Record.{Record}
 use Rattle.box_eval.specs.declared.verdict.Verdict.{Verdict}
 use Rattle.box_eval.specs.declared.verdict.Verdict.TheVariants.{True, False, Open}
-use Rattle.box_eval.specs.Box.{low_at, high_at, up_to, from}
+use Rattle.box_eval.specs.Box.{low_at, high_at, first_part, second_part, IsCutOf}
 use Rattle.box_eval.specs.Verdict.{verdict_of}
 use Rattle.box_eval.specs.Rules.{IsEmpty}
-use Rattle.box_eval.specs.Record.{Tree, cut_low, cut_high, close, unknown, Closed, is_false, may_cut, may_close, accepts, AllTrue, Accepted, IsRefutation}
+use Rattle.box_eval.specs.Record.{Leaf, close, unknown, Tree, branch, leaf, is_open, has_open, is_false, may_cut, may_close, may_leave, accepts, AllTrue, Accepted, IsRefutation}
 use Rattle.box_eval.proofs.Points.{false_everywhere}
-use Rattle.box_eval.proofs.Parts.{cut_point}
+use Rattle.box_eval.proofs.Parts.{cut_parts_point}
 use Rattle.box_eval.proofs.Fits.{meets_at}
 
 pub AllTrue-front : (bs cs : List Bool) → AllTrue (bs ++ cs) → AllTrue bs
@@ -25,23 +26,26 @@ pub AllTrue-back : (bs cs : List Bool) → AllTrue (bs ++ cs) → AllTrue cs
 AllTrue-back [] cs h = h
 AllTrue-back (b ∷ bs) cs h = AllTrue-back bs cs h.1
 
--- what an accepted cut says
-pub record IsCut (room : ℕ) (ends : List Pair) (above slot : ℕ) (v : ℤ) : Type 0 where
+-- what an accepted cut says: it is one of its box, and few cuts are above it
+pub record IsCut (room : ℕ) (ends : List Pair) (above : ℕ) (cut : Cut) : Type 0 where
   pub few : above < room
-  pub slot_there : slot < length ends
-  pub low : low_at ends slot ≤ℤ v
-  pub high : v <ℤ high_at ends slot
+  pub parts : IsCutOf ends cut
 
-pub cut_facts : (room : ℕ) (ends : List Pair) (above slot : ℕ) (v : ℤ) → may_cut room ends above slot v ≡ true → IsCut room ends above slot v
-cut_facts room ends above slot v h = record {
-  few = grind (arith, ints);
-  slot_there = grind (arith, ints);
-  low = grind (arith, ints);
-  high = grind (arith, ints);
-}
+may_cut-says : (room : ℕ) (ends : List Pair) (above slot : ℕ) (low v high : ℤ)
+    → nat_lt above room && nat_lt slot (length ends) && int_le low v && int_lt v high ≡ true → (above < room) × (slot < length ends) × (low ≤ℤ v) × (v <ℤ high)
+may_cut-says room ends above slot low v high h = (grind (arith, ints), grind (arith, ints), grind (arith, ints), grind (arith, ints))
 
-pub cut_from_facts : (room : ℕ) (ends : List Pair) (above slot : ℕ) (v : ℤ) → IsCut room ends above slot v → may_cut room ends above slot v ≡ true
-cut_from_facts room ends above slot v h = grind (arith, ints)
+may_cut-told : (room : ℕ) (ends : List Pair) (above slot : ℕ) (low v high : ℤ)
+    → above < room → slot < length ends → low ≤ℤ v → v <ℤ high → nat_lt above room && nat_lt slot (length ends) && int_le low v && int_lt v high ≡ true
+may_cut-told room ends above slot low v high few there least most = grind (arith, ints)
+
+pub cut_facts : (room : ℕ) (ends : List Pair) (above : ℕ) (cut : Cut) → may_cut room ends above cut ≡ true → IsCut room ends above cut
+cut_facts room ends above cut h =
+    let f = may_cut-says room ends above cut.slot (low_at ends cut.slot) cut.value (high_at ends cut.slot) h in
+    record { few = f.0; parts = record { slot_there = f.1; low = f.2; high = f.3 } }
+
+pub cut_from_facts : (room : ℕ) (ends : List Pair) (above : ℕ) (cut : Cut) → above < room → IsCutOf ends cut → may_cut room ends above cut ≡ true
+cut_from_facts room ends above cut few is = may_cut-told room ends above cut.slot (low_at ends cut.slot) cut.value (high_at ends cut.slot) few is.slot_there is.low is.high
 
 -- what an accepted close says
 pub record IsClosing (rules : List Rule) (ends : List Pair) (k : ℕ) : Type 0 where
@@ -65,26 +69,24 @@ close_empty : (rules : List Rule) (ends : List Pair) (k : ℕ) → IsClosing rul
 close_empty rules ends k c point p meets =
     false≢true (sym (false_everywhere ends c.rule c.says point p) ∙ meets_at point rules k c.rule meets c.there)
 
-cut_empty : (rules : List Rule) (room : ℕ) (ends : List Pair) (above slot : ℕ) (v : ℤ) → IsCut room ends above slot v
-    → IsEmpty rules (up_to ends slot v) → IsEmpty rules (from ends slot (v +ℤ pos 1)) → IsEmpty rules ends
-cut_empty rules room ends above slot v c low high point p meets =
-    ⊎_elim (λ q. low point q meets) (λ q. high point q meets) (cut_point ends slot v c.slot_there point p)
+cut_empty : (rules : List Rule) (ends : List Pair) (cut : Cut) → IsCutOf ends cut
+    → IsEmpty rules (first_part cut ends) → IsEmpty rules (second_part cut ends) → IsEmpty rules ends
+cut_empty rules ends cut is first second point p meets =
+    ⊎_elim (λ q. first point q meets) (λ q. second point q meets) (cut_parts_point ends cut is point p)
 
-pub tree_empty : (rules : List Rule) (room : ℕ) (ends : List Pair) (above : ℕ) (tree : Tree) → Accepted rules room ends above tree → Closed tree → IsEmpty rules ends
-tree_empty rules room ends above (cut_low slot v first second) accepted closed =
-    let ups = accepts rules room (up_to ends slot v) (above + 1) first in
-    let downs = accepts rules room (from ends slot (v +ℤ pos 1)) (above + 1) second in
-    cut_empty rules room ends above slot v (cut_facts room ends above slot v accepted.0)
-    (tree_empty rules room (up_to ends slot v) (above + 1) first (AllTrue-front ups downs accepted.1) closed.0)
-    (tree_empty rules room (from ends slot (v +ℤ pos 1)) (above + 1) second (AllTrue-back ups downs accepted.1) closed.1)
-tree_empty rules room ends above (cut_high slot v first second) accepted closed =
-    let downs = accepts rules room (from ends slot (v +ℤ pos 1)) (above + 1) first in
-    let ups = accepts rules room (up_to ends slot v) (above + 1) second in
-    cut_empty rules room ends above slot v (cut_facts room ends above slot v accepted.0)
-    (tree_empty rules room (up_to ends slot v) (above + 1) second (AllTrue-back downs ups accepted.1) closed.1)
-    (tree_empty rules room (from ends slot (v +ℤ pos 1)) (above + 1) first (AllTrue-front downs ups accepted.1) closed.0)
-tree_empty rules room ends above (close k) accepted closed = close_empty rules ends k (close_facts rules ends k accepted.0)
-tree_empty rules room ends above unknown accepted closed = absurd closed
+leaf_empty : (rules : List Rule) (ends : List Pair) (l : Leaf) → may_leave rules ends l ≡ true → is_open l ≡ false → IsEmpty rules ends
+leaf_empty rules ends (close k) accepted closed = close_empty rules ends k (close_facts rules ends k accepted)
+leaf_empty rules ends unknown accepted closed = absurd (false≢true (sym closed))
+
+pub tree_empty : (rules : List Rule) (room : ℕ) (ends : List Pair) (above : ℕ) (tree : Tree) → Accepted rules room ends above tree → has_open tree ≡ false → IsEmpty rules ends
+tree_empty rules room ends above (branch cut first second) accepted closed =
+    let firsts = accepts rules room (first_part cut ends) (above + 1) first in
+    let seconds = accepts rules room (second_part cut ends) (above + 1) second in
+    let parts = or_parts (has_open first) (has_open second) closed in
+    cut_empty rules ends cut (cut_facts room ends above cut accepted.0).parts
+    (tree_empty rules room (first_part cut ends) (above + 1) first (AllTrue-front firsts seconds accepted.1) parts.0)
+    (tree_empty rules room (second_part cut ends) (above + 1) second (AllTrue-back firsts seconds accepted.1) parts.1)
+tree_empty rules room ends above (leaf l) accepted closed = leaf_empty rules ends l accepted.0 closed
 
 pub refutation_empty : (flat : Flat) (claim : Record) → IsRefutation flat claim → IsEmpty flat.rules flat.bounds.pairs
 refutation_empty flat claim r = tree_empty flat.rules claim.room flat.bounds.pairs 0 r.tree r.accepted.accepted.1.1.1.1 r.closed

@@ -1,10 +1,13 @@
 -- The parts of a box at a value of a slot.
-use Rattle.std.proofs.Common.{◌≡◌, refl, sym, ap, ◌∙◌, ◌⊎◌, inl, inr, ℕ, suc, zero, ◌<◌, List, [], ◌∷◌, length, slice_set, ℤ, pos, ◌+ℤ◌, ◌≤ℤ◌, arith}
+use Rattle.std.proofs.Common.{◌≡◌, refl, sym, ap, ◌∙◌, ◌⊎◌, inl, inr, ⊎_elim, ℕ, suc, zero, ◌<◌, List, [], ◌∷◌, length, slice_set, ℤ, pos, ◌+ℤ◌, ◌≤ℤ◌, ◌<ℤ◌, arith}
 use Rattle.std.proofs.lemmas.Int.{ints, by_lt_z}
 use Rattle.std.proofs.lemmas.Bool.{cases_eq}
 use Rattle.std.proofs.lemmas.List.{length-set}
 use Rattle.box_eval.specs.declared.bounds.Pair.{Pair}
-use Rattle.box_eval.specs.Box.{low_at, high_at, value_of, IsBox, IsInside, IsPointOf, up_to, from, fixed}
+use Rattle.box_eval.specs.declared.cut.Cut.{Cut}
+use Rattle.box_eval.specs.declared.cut.Side.{Side}
+use Rattle.box_eval.specs.declared.cut.Side.TheVariants.{Low, High}
+use Rattle.box_eval.specs.Box.{low_at, high_at, value_of, IsBox, IsInside, IsPointOf, up_to, from, fixed, first_at, second_at, first_part, second_part, end_at, IsCutOf}
 
 -- ---- a slot that is given other ends
 
@@ -148,3 +151,51 @@ module _ (ends : List Pair) (slot : ℕ) (v : ℤ) (there : slot < length ends) 
   cut_point point p = by_lt_z v (value_of point slot)
       (λ more. inr (point_set ends slot _ there point p (omega (arith, ints)) (p.below slot)))
       (λ most. inl (point_set ends slot _ there point p (p.above slot) most))
+
+-- ---- the two parts of a cut
+
+module _ (ends : List Pair) (slot : ℕ) (v : ℤ) (there : slot < length ends) (low : low_at ends slot ≤ℤ v) (high : v <ℤ high_at ends slot) where
+  first_at_box : (side : Side) → IsBox ends → IsBox (first_at side ends slot v)
+  first_at_box Low box = up_to_box ends slot v there box low
+  first_at_box High box = from_box ends slot (v +ℤ pos 1) there box (omega (arith, ints))
+
+  second_at_box : (side : Side) → IsBox ends → IsBox (second_at side ends slot v)
+  second_at_box Low box = from_box ends slot (v +ℤ pos 1) there box (omega (arith, ints))
+  second_at_box High box = up_to_box ends slot v there box low
+
+  first_at_inside : (side : Side) → IsInside (first_at side ends slot v) ends
+  first_at_inside Low = up_to_inside ends slot v there (omega (arith, ints))
+  first_at_inside High = from_inside ends slot (v +ℤ pos 1) there (omega (arith, ints))
+
+  second_at_inside : (side : Side) → IsInside (second_at side ends slot v) ends
+  second_at_inside Low = from_inside ends slot (v +ℤ pos 1) there (omega (arith, ints))
+  second_at_inside High = up_to_inside ends slot v there (omega (arith, ints))
+
+  cut_at_point : (side : Side) (point : List ℤ) → IsPointOf ends point → IsPointOf (first_at side ends slot v) point ⊎ IsPointOf (second_at side ends slot v) point
+  cut_at_point Low point p = cut_point ends slot v there point p
+  cut_at_point High point p = ⊎_elim inr inl (cut_point ends slot v there point p)
+
+  -- where a slot is fixed at the end of a side, that part lies in the first part of a cut of this side
+  fixed_in_first_at : (side : Side) → IsInside (fixed ends slot (end_at side ends slot)) (first_at side ends slot v)
+  fixed_in_first_at Low = fixed_in_up_to ends slot (low_at ends slot) there v (omega (arith, ints)) low
+  fixed_in_first_at High = fixed_in_from ends slot (high_at ends slot) there (v +ℤ pos 1) (omega (arith, ints)) (omega (arith, ints))
+
+module _ (ends : List Pair) (cut : Cut) (is : IsCutOf ends cut) where
+  pub first_part_box : IsBox ends → IsBox (first_part cut ends)
+  first_part_box = first_at_box ends cut.slot cut.value is.slot_there is.low is.high cut.side
+
+  pub second_part_box : IsBox ends → IsBox (second_part cut ends)
+  second_part_box = second_at_box ends cut.slot cut.value is.slot_there is.low is.high cut.side
+
+  pub first_part_inside : IsInside (first_part cut ends) ends
+  first_part_inside = first_at_inside ends cut.slot cut.value is.slot_there is.low is.high cut.side
+
+  pub second_part_inside : IsInside (second_part cut ends) ends
+  second_part_inside = second_at_inside ends cut.slot cut.value is.slot_there is.low is.high cut.side
+
+  -- each point of the box lies in one of the two parts
+  pub cut_parts_point : (point : List ℤ) → IsPointOf ends point → IsPointOf (first_part cut ends) point ⊎ IsPointOf (second_part cut ends) point
+  cut_parts_point = cut_at_point ends cut.slot cut.value is.slot_there is.low is.high cut.side
+
+  pub fixed_in_first : IsInside (fixed ends cut.slot (end_at cut.side ends cut.slot)) (first_part cut ends)
+  fixed_in_first = fixed_in_first_at ends cut.slot cut.value is.slot_there is.low is.high cut.side

@@ -8,7 +8,7 @@ use Rattle.box_eval.specs.declared.bounds.Pair.{Pair}
 use Rattle.box_eval.specs.declared.verdict.Verdict.{Verdict}
 use Rattle.box_eval.specs.declared.verdict.Verdict.TheVariants.{True, False, Open}
 use Rattle.box_eval.specs.declared.verdict.Span.{Span}
-use Rattle.box_eval.specs.Box.{low_at, high_at, value_of, IsBox, IsInside, IsPointOf, IsOnePoint, box_of}
+use Rattle.box_eval.specs.Box.{pair, low_at, high_at, value_of, IsBox, IsInside, IsPointOf, IsOnePoint, box_of}
 use Rattle.box_eval.specs.Truth.{term_value, rule_truth, as_number, is_same, true_at, value_at}
 use Rattle.box_eval.specs.Verdict.{term_span, rule_verdict, negated, both_of, either_of, below_of, at_most_of, equal_of, sum_of, less_of, times_of, truth_of, verdict_of, span_of}
 use Rattle.box_eval.proofs.Folds.{Two, rule_ones, rule_others, term_ones, term_others, rule_law, term_law}
@@ -158,7 +158,7 @@ value_lows [] slot = refl
 value_lows (p ∷ ps) zero = refl
 value_lows (p ∷ ps) (suc slot) = value_lows ps slot
 
-length_lows : (ends : List Pair) → length (lows ends) ≡ length ends
+pub length_lows : (ends : List Pair) → length (lows ends) ≡ length ends
 length_lows [] = refl
 length_lows (p ∷ ps) = ap suc (length_lows ps)
 
@@ -180,3 +180,8 @@ settles v false k e = let h = k.no refl in cc
 pub one_point_settles : (ends : List Pair) (rule : Rule) → IsOnePoint ends → verdict_of ends rule ≢ Open
 one_point_settles ends rule one = settles (verdict_of ends rule) (true_at (lows ends) rule)
     (subst (Keeps (verdict_of ends rule)) (point_told (lows ends) rule) (smaller_keeps ends (box_of (lows ends)) (one_box ends one) (one_inside ends one) rule))
+
+-- a box of one point is that of its low ends
+pub one_point_box : (ends : List Pair) → IsOnePoint ends → ends ≡ box_of (lows ends)
+one_point_box [] one = refl
+one_point_box (p ∷ ps) one = ap₂ (λ (q : Pair) (qs : List Pair). q ∷ qs) (ap (pair p.low) (sym (one.same zero))) (one_point_box ps (record { same = λ slot. one.same (suc slot) }))

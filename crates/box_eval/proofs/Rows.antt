@@ -8,16 +8,17 @@ use Rattle.box_eval.specs.declared.rule.Rule.TheFolds.{fold-Rule}
 use Rattle.box_eval.specs.declared.bounds.Pair.{Pair}
 use Rattle.box_eval.specs.declared.flat.Flat.{Flat}
 use Rattle.box_eval.specs.declared.record.Record.{Record}
-use Rattle.box_eval.specs.declared.record.Line.TheVariants.{Low, High, Close}
+use Rattle.box_eval.specs.declared.record.Line.TheVariants as L
+use Rattle.box_eval.specs.declared.cut.Side.TheVariants.{Low, High}
 use Rattle.box_eval.specs.declared.verdict.Verdict.{Verdict}
 use Rattle.box_eval.specs.declared.verdict.Verdict.TheVariants.{False, Open}
-use Rattle.box_eval.specs.Box.{pair, low_at, high_at, IsBox, IsInside}
+use Rattle.box_eval.specs.Box.{pair, low_at, high_at, IsBox, IsInside, cut_at}
 use Rattle.box_eval.specs.Rules.{CanJudge}
 use Rattle.box_eval.specs.Truth.{true_at}
 use Rattle.box_eval.specs.Verdict.{verdict_of, span_of}
-use Rattle.box_eval.specs.Reach.{slots_of, Judged, Seen, rule_judged, term_seen}
-use Rattle.box_eval.specs.Guided.{decisions, Guided, drawn, at_low, at_high}
-use Rattle.box_eval.specs.Record.{Tree, cut_low, cut_high, close, lines_of, accepts, IsFirstFalse, marks, IsRefutation}
+use Rattle.box_eval.specs.Reach.{slot_bound, Judged, Seen, rule_judged, term_seen}
+use Rattle.box_eval.specs.Guided.{decisions, Guided, drawn}
+use Rattle.box_eval.specs.Record.{Tree, branch, leaf, close, lines_of, depth_of, accepts, IsFirstFalse, marks, IsRefutation}
 use Rattle.box_eval.proofs.Equations.{folds}
 use Rattle.box_eval.proofs.Parts.{inside_self, inside_both}
 use Rattle.box_eval.proofs.Fits.{can_judge_inside}
@@ -47,7 +48,7 @@ abbrev pub flat : Flat
 flat = record { bounds = record { pairs = wide }; rules = within ∷ above ∷ below ∷ [] }
 
 abbrev tree : Tree
-tree = cut_low 0 (negsuc 0) (close 0) (cut_high 0 (pos 5) (close 0) (cut_low 0 (pos 3) (close 1) (close 2)))
+tree = branch (cut_at Low 0 (negsuc 0)) (leaf (close 0)) (branch (cut_at High 0 (pos 5)) (leaf (close 0)) (branch (cut_at Low 0 (pos 3)) (leaf (close 1)) (leaf (close 2))))
 
 abbrev claim : Record
 claim = record { undecided = false; slots = 1; rules = 3; room = 3; lines = lines_of tree }
@@ -57,7 +58,7 @@ claim = record { undecided = false; slots = 1; rules = 3; room = 3; lines = line
 abbrev judged_wide : Rule → Judged
 judged_wide = fold-Rule Judged Seen rule_judged (term_seen wide)
 
-of_row : (rule : Rule) (n m : ℕ) (verdict : Verdict) → slots_of rule ≡ n → judged_wide rule ≡ record { verdict = verdict; reach = m } → n ≤ 1 → m ≤ 2 ^ 120 → CanJudge wide rule
+of_row : (rule : Rule) (n m : ℕ) (verdict : Verdict) → slot_bound rule ≡ n → judged_wide rule ≡ record { verdict = verdict; reach = m } → n ≤ 1 → m ≤ 2 ^ 120 → CanJudge wide rule
 of_row rule n m verdict slots reach few small = record { slots = omega (arith, slots); reach = omega (arith, ap (λ j. j.reach) reach) }
 
 pub row_within : CanJudge wide within
@@ -120,7 +121,7 @@ row_truth = simp folds
 
 -- ---- the record
 
-row_lines : lines_of tree ≡ Low 0 (negsuc 0) ∷ Close 0 ∷ High 0 (pos 5) ∷ Close 0 ∷ Low 0 (pos 3) ∷ Close 1 ∷ Close 2 ∷ []
+row_lines : lines_of tree ≡ L.Low 0 (negsuc 0) ∷ L.Close 0 ∷ L.High 0 (pos 5) ∷ L.Close 0 ∷ L.Low 0 (pos 3) ∷ L.Close 1 ∷ L.Close 2 ∷ []
 row_lines = refl
 
 row_marks : marks flat claim tree ≡ true ∷ true ∷ true ∷ true ∷ true ∷ true ∷ true ∷ true ∷ true ∷ true ∷ true ∷ []
@@ -130,7 +131,7 @@ row_refutation : IsRefutation flat claim
 row_refutation = record {
   tree = tree;
   accepted = record { record_of = record { lines = refl; undecided = refl }; accepted = simp folds (refl, (refl, (refl, (refl, (refl, (refl, (refl, (refl, (refl, (refl, (refl, tt))))))))))) };
-  closed = (tt, (tt, (tt, tt)));
+  closed = refl;
 }
 
 -- the fifth of five lines or more is the first that isn't accepted, where four are before it
@@ -149,8 +150,8 @@ row_room : IsFirstFalse (accepts flat.rules 2 flat.bounds.pairs 0 tree) 4
 row_room = fifth (accepts flat.rules 2 flat.bounds.pairs 0 tree) (true ∷ true ∷ []) (simp folds)
 
 -- nor is a cut at the greatest value of a slot, which is the fifth line of the record as it is written
-row_upper : IsFirstFalse (marks flat claim (cut_low 0 (pos 1000000000) (close 0) (close 0))) 4
-row_upper = fifth (marks flat claim (cut_low 0 (pos 1000000000) (close 0) (close 0))) (false ∷ true ∷ []) (simp folds)
+row_upper : IsFirstFalse (marks flat claim (branch (cut_at Low 0 (pos 1000000000)) (leaf (close 0)) (leaf (close 0)))) 4
+row_upper = fifth (marks flat claim (branch (cut_at Low 0 (pos 1000000000)) (leaf (close 0)) (leaf (close 0)))) (false ∷ true ∷ []) (simp folds)
 
 -- ---- how it is guided
 
@@ -162,14 +163,14 @@ row_guided : (draws : ℕ → ℕ) → Guided draws flat.rules flat.bounds.pairs
 row_guided draws = simp folds tt
 
 -- cuts that numbers pick of a slot from 0 to 9
-row_drawn_low : drawn 4 (pos 0) (pos 9) ≡ at_low (pos 0)
+row_drawn_low : drawn 4 0 (pos 0) (pos 9) ≡ cut_at Low 0 (pos 0)
 row_drawn_low = refl
 
-row_drawn_high : drawn 5 (pos 0) (pos 9) ≡ at_high (pos 8)
+row_drawn_high : drawn 5 0 (pos 0) (pos 9) ≡ cut_at High 0 (pos 8)
 row_drawn_high = refl
 
-row_drawn_up_to : drawn 46 (pos 0) (pos 9) ≡ at_low (pos 2)
+row_drawn_up_to : drawn 46 0 (pos 0) (pos 9) ≡ cut_at Low 0 (pos 2)
 row_drawn_up_to = refl
 
-row_drawn_from : drawn 47 (pos 0) (pos 9) ≡ at_high (pos 2)
+row_drawn_from : drawn 47 0 (pos 0) (pos 9) ≡ cut_at High 0 (pos 2)
 row_drawn_from = refl

@@ -1,19 +1,23 @@
 -- At a point within reach, sums, differences and products fit 128 bits.
-use Rattle.std.proofs.Common.{◌≡◌, ◌≤◌, ◌^◌, List, ℤ, ◌+ℤ◌, ◌-ℤ◌, ◌*ℤ◌, FitsSigned, ap, sym, subst, ◌∙◌, arith}
+use Rattle.std.proofs.Common.{◌≡◌, ◌≤◌, ◌^◌, Bool, List, ℤ, ◌+ℤ◌, ◌-ℤ◌, ◌*ℤ◌, FitsSigned, ⊎_elim, ap, ap₂, sym, subst, ◌∙◌, arith}
 use Rattle.std.proofs.lemmas.Int.{ints}
 use Rattle.std.specs.Int.{w128}
 use Rattle.box_eval.specs.declared.rule.Rule.TheViews as V
+use Rattle.box_eval.specs.declared.rule.Rule.TheViews.{roll-Term}
+use Rattle.box_eval.specs.declared.rule.Rule.TheOpen as O
+use Rattle.box_eval.specs.declared.rule.Rule.TheFolds.{fold-roll-Term}
+use denote.Hole.Carrier.{roll}
 use Rattle.box_eval.specs.declared.rule.Term.{Term}
 use Rattle.box_eval.specs.declared.verdict.Span.{Span}
 use Rattle.box_eval.specs.Box.{box_of}
-use Rattle.box_eval.specs.Truth.{value_at}
+use Rattle.box_eval.specs.Truth.{rule_truth, term_value, value_at}
 use Rattle.box_eval.specs.Reach.{magnitude, term_reach}
 use Rattle.box_eval.proofs.Points.{twice, times_twice, point_twice}
-use Rattle.box_eval.proofs.Reading.{Found, sum_small, less_small, times_small}
+use Rattle.box_eval.proofs.Reading.{IsOfTwo, Found, sum_small, less_small, times_small}
 
--- a term that reaches no further than 2^120 at a point, and the values that were found of its two parts
-pub record Worth (point : List ℤ) (term a b whole : Term) (s t : ℤ) : Type 0 where
-  pub is : term ≡ whole
+-- a term of two parts that reaches no further than 2^120 at a point, and the values that were found of its parts
+pub record Worth (point : List ℤ) (term a b : Term) (s t : ℤ) : Type 0 where
+  pub is : IsOfTwo term a b
   pub read_a : Term
   pub a_is : read_a ≡ a
   pub first : s ≡ value_at point read_a
@@ -25,9 +29,22 @@ pub record Worth (point : List ℤ) (term a b whole : Term) (s t : ℤ) : Type 0
 small_fits : (n : ℤ) → magnitude (twice n) ≤ 2 ^ 120 → FitsSigned w128 n
 small_fits n h = omega (arith, ints)
 
-module _ (point : List ℤ) (term a b : Term) (s t : ℤ) where
-  found : (whole : Term) → Worth point term a b whole s t → Found (box_of point) term a b whole (twice s) (twice t) (2 ^ 120)
-  found whole w = record {
+module _ (point : List ℤ) (a b : Term) where
+  value-Sum : value_at point (V.Sum a b) ≡ value_at point a +ℤ value_at point b
+  unfolding roll-Term roll
+  value-Sum = fold-roll-Term Bool ℤ rule_truth (term_value point) (O.Sum a b)
+
+  value-Less : value_at point (V.Less a b) ≡ value_at point a -ℤ value_at point b
+  unfolding roll-Term roll
+  value-Less = fold-roll-Term Bool ℤ rule_truth (term_value point) (O.Less a b)
+
+  value-Times : value_at point (V.Times a b) ≡ value_at point a *ℤ value_at point b
+  unfolding roll-Term roll
+  value-Times = fold-roll-Term Bool ℤ rule_truth (term_value point) (O.Times a b)
+
+module _ (point : List ℤ) (term a b : Term) (s t : ℤ) (w : Worth point term a b s t) where
+  found : Found (box_of point) term a b (twice s) (twice t) (2 ^ 120)
+  found = record {
     is = w.is;
     read_a = w.read_a;
     a_is = w.a_is;
@@ -38,12 +55,28 @@ module _ (point : List ℤ) (term a b : Term) (s t : ℤ) where
     small = w.small;
   }
 
-  pub plus_fits : Worth point term a b (V.Sum a b) s t → FitsSigned w128 (s +ℤ t)
-  plus_fits w = small_fits (s +ℤ t) (sum_small (box_of point) term a b (twice s) (twice t) (2 ^ 120) (found (V.Sum a b) w))
+  first : s ≡ value_at point a
+  first = cc
 
-  pub minus_fits : Worth point term a b (V.Less a b) s t → FitsSigned w128 (s -ℤ t)
-  minus_fits w = small_fits (s -ℤ t) (less_small (box_of point) term a b (twice s) (twice t) (2 ^ 120) (found (V.Less a b) w))
+  second : t ≡ value_at point b
+  second = cc
 
-  pub product_fits : Worth point term a b (V.Times a b) s t → FitsSigned w128 (s *ℤ t)
-  product_fits w = small_fits (s *ℤ t)
-      (subst (λ (p : Span). magnitude p ≤ 2 ^ 120) (times_twice s t) (times_small (box_of point) term a b (twice s) (twice t) (2 ^ 120) (found (V.Times a b) w)))
+  pub sum_fits : (x y : Term) → term ≡ V.Sum x y → FitsSigned w128 (s +ℤ t)
+  sum_fits x y e = small_fits (s +ℤ t) (sum_small (box_of point) term a b (twice s) (twice t) (2 ^ 120) found x y e)
+
+  pub less_fits : (x y : Term) → term ≡ V.Less x y → FitsSigned w128 (s -ℤ t)
+  less_fits x y e = small_fits (s -ℤ t) (less_small (box_of point) term a b (twice s) (twice t) (2 ^ 120) found x y e)
+
+  pub times_fits : (x y : Term) → term ≡ V.Times x y → FitsSigned w128 (s *ℤ t)
+  times_fits x y e = small_fits (s *ℤ t)
+      (subst (λ (p : Span). magnitude p ≤ 2 ^ 120) (times_twice s t) (times_small (box_of point) term a b (twice s) (twice t) (2 ^ 120) found x y e))
+
+  -- what is the sum, difference or product of the two values is the term's value
+  pub parts_value : (r : ℤ) → ((x y : Term) → term ≡ V.Sum x y → r ≡ s +ℤ t) → ((x y : Term) → term ≡ V.Less x y → r ≡ s -ℤ t)
+      → ((x y : Term) → term ≡ V.Times x y → r ≡ s *ℤ t) → r ≡ value_at point term
+  parts_value r sum less times = ⊎_elim
+      (λ is. sum a b is ∙ ap₂ (λ (m n : ℤ). m +ℤ n) first second ∙ sym (ap (value_at point) is ∙ value-Sum point a b))
+      (⊎_elim
+      (λ is. less a b is ∙ ap₂ (λ (m n : ℤ). m -ℤ n) first second ∙ sym (ap (value_at point) is ∙ value-Less point a b))
+      (λ is. times a b is ∙ ap₂ (λ (m n : ℤ). m *ℤ n) first second ∙ sym (ap (value_at point) is ∙ value-Times point a b)))
+      w.is

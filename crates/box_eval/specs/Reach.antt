@@ -36,13 +36,13 @@ abbrev pub slots_in_term : Term-F ℕ ℕ → ℕ
 slots_in_term (Slot slot) = slot + 1
 slots_in_term term = greatest_in_term term
 
--- the least number that is above each slot of a rule
-abbrev pub slots_of : Rule → ℕ
-slots_of = fold-Rule ℕ ℕ greatest_in_rule slots_in_term
+-- a number that each slot of a rule is below
+abbrev pub slot_bound : Rule → ℕ
+slot_bound = fold-Rule ℕ ℕ greatest_in_rule slots_in_term
 
--- the least number that is above each slot of a term
-abbrev pub term_slots : Term → ℕ
-term_slots = fold-Term ℕ ℕ greatest_in_rule slots_in_term
+-- a number that each slot of a term is below
+abbrev pub term_slot_bound : Term → ℕ
+term_slot_bound = fold-Term ℕ ℕ greatest_in_rule slots_in_term
 
 -- ---- reach
 

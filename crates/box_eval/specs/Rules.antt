@@ -5,7 +5,7 @@ use Rattle.box_eval.specs.declared.bounds.Pair.{Pair}
 use Rattle.box_eval.specs.declared.flat.Flat.{Flat}
 use Rattle.box_eval.specs.Box.{IsBox, IsPointOf}
 use Rattle.box_eval.specs.Truth.{true_at}
-use Rattle.box_eval.specs.Reach.{slots_of, reach_of}
+use Rattle.box_eval.specs.Reach.{slot_bound, reach_of}
 
 -- every rule is true at the point
 abbrev pub Meets : List ℤ → List Rule → Type 0
@@ -18,7 +18,7 @@ IsEmpty rules ends = (point : List ℤ) → IsPointOf ends point → Meets point
 
 -- a rule that may be judged on a box: its slots are those of the box, and no term within it reaches beyond 2^120
 pub record CanJudge (ends : List Pair) (rule : Rule) : Type 0 where
-  pub slots : slots_of rule ≤ length ends
+  pub slots : slot_bound rule ≤ length ends
   pub reach : reach_of ends rule ≤ 2 ^ 120
 
 -- every rule may be judged on the box, and so on each smaller one

@@ -6,7 +6,7 @@ use Rattle.box_eval.specs.declared.rule.Rule.TheOpen.{Rule-F, Term-F, Always, Be
 use Rattle.box_eval.specs.declared.rule.Rule.TheFolds.{fold-Rule, fold-Term}
 use Rattle.box_eval.specs.Box.{value_of}
 
--- the same number
+-- one number
 abbrev pub is_same : ℤ → ℤ → Bool
 is_same a b = int_le a b && int_le b a
 

@@ -17,7 +17,7 @@ negated True = False
 negated False = True
 negated Open = Open
 
--- False where one is, True where both are, else Open
+-- False if one is, True if both are, else Open
 abbrev pub both_of : Verdict → Verdict → Verdict
 both_of True b = b
 both_of False b = False
@@ -25,7 +25,7 @@ both_of Open True = Open
 both_of Open False = False
 both_of Open Open = Open
 
--- True where one is, False where both are, else Open
+-- True if one is, False if both are, else Open
 abbrev pub either_of : Verdict → Verdict → Verdict
 either_of True b = True
 either_of False b = b
@@ -40,7 +40,7 @@ below_of a b = if int_lt a.greatest b.least then True else if int_le b.greatest 
 abbrev pub at_most_of : Span → Span → Verdict
 at_most_of a b = if int_le a.greatest b.least then True else if int_lt b.greatest a.least then False else Open
 
--- False where the ranges don't meet, True where both are one and the same value
+-- False if the ranges don't meet, True if both are one value
 abbrev pub equal_of : Span → Span → Verdict
 equal_of a b =
     if int_lt a.greatest b.least || int_lt b.greatest a.least then False

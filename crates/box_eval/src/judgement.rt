@@ -3,24 +3,22 @@ ghost use Rattle.box_eval.specs.declared.bounds.Pair.{Pair};
 ghost use Rattle.box_eval.specs.Box.{IsBox, IsPointOf, IsInside, IsOnePoint};
 ghost use Rattle.box_eval.specs.Truth.{true_at};
 ghost use Rattle.box_eval.specs.Verdict.{verdict_of, span_of};
-ghost use Rattle.box_eval.specs.Reach.{slots_of, term_slots, reach_of, term_reach};
+ghost use Rattle.box_eval.specs.Reach.{slot_bound, term_slot_bound, reach_of, term_reach};
 
-use crate::verdict::{
-    Span, at_most, below, between, both, either, equal, less, negated, sum, times, truth_span,
-};
+use crate::verdict::{Span, between, both, combined, compared, either, negated, truth_span};
 use crate::{Ends, Rule, Term, Verdict};
 
 /// What a box says of a rule: true or false at each of its points, or open.
 ///
 /// A term has a least and a greatest value in the box, worked out from those of its parts, and a
-/// comparison is true or false where the ends alone decide it. On a smaller box the verdict stays,
+/// comparison is true or false if the ends alone decide it. On a smaller box the verdict stays,
 /// and on a box of one point it is never open.
 ///
 /// Each slot of the rule is below the number of slots of the box, and each term within the rule,
 /// those inside other terms and inside [`Term::Truth`] too, has a least and a greatest value there
 /// whose magnitudes are at most 2^120. It takes no memory.
 pub fn judge<E: Ends>(rule: &Rule, ends: &E) -> Verdict
-    requires slots { slots_of rule.now ≤ length (E.ends ends.now) }
+    requires slots { slot_bound rule.now ≤ length (E.ends ends.now) }
     requires reach { reach_of (E.ends ends.now) rule.now ≤ 2 ^ 120 }
 
     ensures verdict { result ≡ verdict_of (E.ends ends.now) rule.now }
@@ -38,17 +36,16 @@ pub fn judge<E: Ends>(rule: &Rule, ends: &E) -> Verdict
 
 #[cycle(looks)]
 fn verdict_on<E: Ends>(rule: &Rule, ends: &E) -> Verdict
-    requires slots { slots_of rule.now ≤ length (E.ends ends.now) }
+    requires slots { slot_bound rule.now ≤ length (E.ends ends.now) }
     requires reach { reach_of (E.ends ends.now) rule.now ≤ 2 ^ 120 }
     ensures { result ≡ verdict_of (E.ends ends.now) rule.now }
 {
     match rule {
         Rule::Always => Verdict::True,
-        Rule::Below(a, b) => below(span(a, ends), span(b, ends)),
-        Rule::AtMost(a, b) => at_most(span(a, ends), span(b, ends)),
-        Rule::Equal(a, b) => equal(span(a, ends), span(b, ends)),
-        Rule::Differ(a, b) => negated(equal(span(a, ends), span(b, ends))),
-        // The second part isn't looked at where the first decides.
+        Rule::Below(a, b) | Rule::AtMost(a, b) | Rule::Equal(a, b) | Rule::Differ(a, b) => {
+            compared(rule, span(a, ends), span(b, ends))
+        }
+        // The second part isn't looked at if the first decides.
         Rule::Both(a, b) => match verdict_on(a.get(), ends) {
             Verdict::False => Verdict::False,
             first => both(first, verdict_on(b.get(), ends)),
@@ -64,16 +61,16 @@ fn verdict_on<E: Ends>(rule: &Rule, ends: &E) -> Verdict
 /// The least and the greatest value of a term in a box.
 #[cycle(looks)]
 fn span<E: Ends>(term: &Term, ends: &E) -> Span
-    requires slots { term_slots term.now ≤ length (E.ends ends.now) }
+    requires slots { term_slot_bound term.now ≤ length (E.ends ends.now) }
     requires reach { term_reach (E.ends ends.now) term.now ≤ 2 ^ 120 }
     ensures { result ≡ span_of (E.ends ends.now) term.now }
 {
     match term {
         Term::Whole(number) => between(*number, *number),
         Term::Slot(slot) => between(i128::from(ends.low(*slot)), i128::from(ends.high(*slot))),
-        Term::Sum(a, b) => sum(span(a.get(), ends), span(b.get(), ends)),
-        Term::Less(a, b) => less(span(a.get(), ends), span(b.get(), ends)),
-        Term::Times(a, b) => times(span(a.get(), ends), span(b.get(), ends)),
+        Term::Sum(a, b) | Term::Less(a, b) | Term::Times(a, b) => {
+            combined(term, span(a.get(), ends), span(b.get(), ends))
+        }
         Term::Truth(rule) => truth_span(verdict_on(rule.get(), ends)),
     }
 }

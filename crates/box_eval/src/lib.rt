@@ -2,6 +2,7 @@
 #![tactic(auto)]
 
 mod bounds;
+mod cut;
 mod flat;
 mod judgement;
 mod point;
@@ -11,6 +12,7 @@ mod verdict;
 mod whole;
 
 pub use bounds::{Bounds, Ends, Pair};
+pub use cut::{Cut, Side};
 pub use flat::Flat;
 pub use judgement::judge;
 pub use point::{Point, truth};

@@ -1,9 +1,9 @@
 ghost use Rattle.std.specs.Prelude.{◌≡◌, ◌<◌, ◌≤◌, ◌^◌, length};
 ghost use Rattle.box_eval.specs.Box.{box_of, value_of};
 ghost use Rattle.box_eval.specs.Truth.{true_at, value_at};
-ghost use Rattle.box_eval.specs.Reach.{slots_of, term_slots, reach_of, term_reach};
+ghost use Rattle.box_eval.specs.Reach.{slot_bound, term_slot_bound, reach_of, term_reach};
 
-use crate::whole::{minus, plus, product};
+use crate::whole::{relates, worked_out};
 use crate::{Rule, Term};
 use osc_base::Row;
 
@@ -20,16 +20,15 @@ pub struct Point {
 /// It takes no memory.
 #[cycle(values)]
 pub fn truth(rule: &Rule, point: &[i64]) -> bool
-    requires slots { slots_of rule.now ≤ length point.now }
+    requires slots { slot_bound rule.now ≤ length point.now }
     requires reach { reach_of (box_of point.now) rule.now ≤ 2 ^ 120 }
     ensures { result ≡ true_at point.now rule.now }
 {
     match rule {
         Rule::Always => true,
-        Rule::Below(a, b) => value(a, point) < value(b, point),
-        Rule::AtMost(a, b) => value(a, point) <= value(b, point),
-        Rule::Equal(a, b) => value(a, point) == value(b, point),
-        Rule::Differ(a, b) => value(a, point) != value(b, point),
+        Rule::Below(a, b) | Rule::AtMost(a, b) | Rule::Equal(a, b) | Rule::Differ(a, b) => {
+            relates(rule, value(a, point), value(b, point))
+        }
         Rule::Both(a, b) => truth(a.get(), point) && truth(b.get(), point),
         Rule::Either(a, b) => truth(a.get(), point) || truth(b.get(), point),
         Rule::Not(a) => !truth(a.get(), point),
@@ -39,16 +38,16 @@ pub fn truth(rule: &Rule, point: &[i64]) -> bool
 /// The value of a term at a point.
 #[cycle(values)]
 fn value(term: &Term, point: &[i64]) -> i128
-    requires slots { term_slots term.now ≤ length point.now }
+    requires slots { term_slot_bound term.now ≤ length point.now }
     requires reach { term_reach (box_of point.now) term.now ≤ 2 ^ 120 }
     ensures { result ≡ value_at point.now term.now }
 {
     match term {
         Term::Whole(number) => *number,
         Term::Slot(slot) => i128::from(value_in(point, *slot)),
-        Term::Sum(a, b) => plus(value(a.get(), point), value(b.get(), point)),
-        Term::Less(a, b) => minus(value(a.get(), point), value(b.get(), point)),
-        Term::Times(a, b) => product(value(a.get(), point), value(b.get(), point)),
+        Term::Sum(a, b) | Term::Less(a, b) | Term::Times(a, b) => {
+            worked_out(term, value(a.get(), point), value(b.get(), point))
+        }
         Term::Truth(rule) => i128::from(truth(rule.get(), point)),
     }
 }

@@ -8,7 +8,7 @@ use osc_base::Row;
 ///
 /// A cut divides the present box in two at a value of a slot, and is followed by the lines of its
 /// first part and then of its second.
-#[derive(Debug, Clone, Copy, PartialEq, Eq)]
+#[derive(Debug, PartialEq, Eq, Drop)]
 pub enum Line {
     /// A cut whose first part has the slot up to the value, and whose second has it from one more.
     Low { slot: u32, value: i64 },
@@ -20,7 +20,7 @@ pub enum Line {
     Unknown,
 }
 
-/// The claim that no point of a box meets all rules, or, where it is undecided, what is known of it.
+/// The claim that no point of a box meets all rules, or, if it is undecided, what is known of it.
 #[derive(Debug, PartialEq, Eq, Drop)]
 pub struct Record {
     /// Whether some box is left unknown.

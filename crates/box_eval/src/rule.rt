@@ -17,7 +17,7 @@ pub enum Term {
     Less(Boxed<Term>, Boxed<Term>),
     /// The first times the second.
     Times(Boxed<Term>, Boxed<Term>),
-    /// 1 where the rule is true, and 0 where it is false.
+    /// 1 if the rule is true, and 0 if it is false.
     Truth(Boxed<Rule>),
 }
 
@@ -31,7 +31,7 @@ pub enum Rule {
     Below(Term, Term),
     /// The first is at most the second.
     AtMost(Term, Term),
-    /// Both are the same number.
+    /// Both are one number.
     Equal(Term, Term),
     /// They are different numbers.
     Differ(Term, Term),

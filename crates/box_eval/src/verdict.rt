@@ -1,8 +1,11 @@
 ghost use Rattle.std.specs.Prelude.{◌≡◌, ◌≤◌, ◌^◌};
 ghost use Rattle.box_eval.specs.Verdict.{negated, both_of, either_of, below_of, at_most_of, equal_of, sum_of, less_of, times_of, truth_of, least_of, greatest_of};
 ghost use Rattle.box_eval.specs.Reach.{magnitude};
+ghost use Rattle.box_eval.specs.declared.rule.Rule.TheViews as views;
+ghost use Rattle.box_eval.specs.declared.rule.Rule.TheVariants as variants;
 
 use crate::whole::product;
+use crate::{Rule, Term};
 
 /// What a box says of a rule: true at each of its points, false at each, or not settled.
 #[derive(Debug, Clone, Copy, PartialEq, Eq)]
@@ -148,4 +151,39 @@ pub(crate) fn between(least: i128, greatest: i128) -> Span
     ensures greatest { result.greatest ≡ greatest }
 {
     Span { least, greatest }
+}
+
+/// What a comparison says, from the spans of its two sides.
+///
+/// A caller works out the spans in one place for all comparisons: each local of a function is set to zero at its entry.
+pub(crate) fn compared(rule: &Rule, a: Span, b: Span) -> Verdict
+    ensures below { (x y : Term) → rule.now ≡ variants.Below x y → result ≡ below_of a b }
+    ensures at_most { (x y : Term) → rule.now ≡ variants.AtMost x y → result ≡ at_most_of a b }
+    ensures equal { (x y : Term) → rule.now ≡ variants.Equal x y → result ≡ equal_of a b }
+    ensures differ { (x y : Term) → rule.now ≡ variants.Differ x y → result ≡ negated (equal_of a b) }
+{
+    match rule {
+        Rule::Below(_, _) => below(a, b),
+        Rule::AtMost(_, _) => at_most(a, b),
+        Rule::Equal(_, _) => equal(a, b),
+        Rule::Differ(_, _) => negated(equal(a, b)),
+        _ => Verdict::Open,
+    }
+}
+
+/// The span of a sum, a difference or a product, from those of its two parts.
+pub(crate) fn combined(term: &Term, a: Span, b: Span) -> Span
+    requires sum { (x y : Term) → term.now ≡ views.Sum x y → magnitude (sum_of a b) ≤ 2 ^ 120 }
+    requires less { (x y : Term) → term.now ≡ views.Less x y → magnitude (less_of a b) ≤ 2 ^ 120 }
+    requires times { (x y : Term) → term.now ≡ views.Times x y → magnitude (times_of a b) ≤ 2 ^ 120 }
+    ensures sum { (x y : Term) → term.now ≡ views.Sum x y → result ≡ sum_of a b }
+    ensures less { (x y : Term) → term.now ≡ views.Less x y → result ≡ less_of a b }
+    ensures times { (x y : Term) → term.now ≡ views.Times x y → result ≡ times_of a b }
+{
+    match term {
+        Term::Sum(_, _) => sum(a, b),
+        Term::Less(_, _) => less(a, b),
+        Term::Times(_, _) => times(a, b),
+        _ => a,
+    }
 }

@@ -8,9 +8,10 @@ use Rattle.clap.specs.declared.parser.matches.Found.{Found}
 use Rattle.clap.proofs.WalkLemmas.{first_value-rows, one_text-rows}
 use Rattle.command_words.specs.Match.{number_in, text_in}
 use Rattle.command_words.specs.Parse.{is_leaf, number_held, text_held}
-use Rattle.command_words.specs.Taken.{HoldsNumbers, asked_in}
+use Rattle.command_words.specs.Shared.{setting_in, source_in}
+use Rattle.command_words.specs.Taken.{HoldsGenerate, generate_held, setting_held, source_held}
 use Rattle.command_words.specs.Texts.{generate_help}
-use Rattle.command_words.specs.Words.{Asked, Generate, Wanted, by_fault, generate, generate_asked, generate_wanted}
+use Rattle.command_words.specs.Words.{Generate, GenerateAsked, Wanted, by_fault, generate, generate_asked, generate_wanted}
 use Rattle.command_words.proofs.ValueReads.{number_found}
 
 pub generate_simple : is_simple_and_free generate ≡ true
@@ -22,12 +23,14 @@ unfolding generate
 generate_leaf = refl
 
 -- where a parse takes the words, each option holds a number in its range
-pub holds_numbers : (c : Command) (m : ArgMatches) → app_of c ≡ generate → IsParsedFrom c m → HoldsNumbers (found_of m)
+pub holds_numbers : (c : Command) (m : ArgMatches) → app_of c ≡ generate → IsParsedFrom c m → HoldsGenerate (found_of m)
 unfolding generate
 holds_numbers c m same p = record {
-  ticks = number_found c generate m (codes "ticks") 1 600 (codes "100") same p refl refl refl;
-  lanes = number_found c generate m (codes "lanes") 1 8 (codes "3") same p refl refl refl;
-  road = number_found c generate m (codes "road") 1 10000 (codes "1000") same p refl refl refl;
+  setting = record {
+    ticks = number_found c generate m (codes "ticks") 1 600 (codes "100") same p refl refl refl;
+    lanes = number_found c generate m (codes "lanes") 1 8 (codes "3") same p refl refl refl;
+    road = number_found c generate m (codes "road") 1 10000 (codes "1000") same p refl refl refl;
+  };
   seed = number_found c generate m (codes "seed") 0 18446744073709551615 (codes "0") same p refl refl refl;
   cuts = number_found c generate m (codes "cuts") 1 1000000 (codes "200000") same p refl refl refl;
 }
@@ -44,20 +47,23 @@ module _ (found : Found) (words : List Text) (same : rows_of found ≡ matches_o
       ap (λ o. digits_value 10 (without_leading_plus (unwrap_or o []))) (one_text-rows found name)
       ∙ ap (λ (rows : List Row). digits_value 10 (without_leading_plus (unwrap_or (one_of name rows) []))) same
 
-  asked_is : asked_in found ≡ generate_asked words
+  source_is : source_held found ≡ source_in generate words
+  source_is = λ i. record { file = text_is (codes "FILE") i; scenario = text_is (codes "SCENARIO") i }
+
+  setting_is : setting_held found ≡ setting_in generate words
+  setting_is = λ i. record { ticks = number_is (codes "ticks") i; lanes = number_is (codes "lanes") i; road = number_is (codes "road") i }
+
+  asked_is : generate_held found ≡ generate_asked words
   unfolding generate_asked
   asked_is = λ i. record {
-    file = text_is (codes "FILE") i;
-    scenario = text_is (codes "SCENARIO") i;
-    ticks = number_is (codes "ticks") i;
-    lanes = number_is (codes "lanes") i;
-    road = number_is (codes "road") i;
+    source = source_is i;
+    setting = setting_is i;
     seed = number_is (codes "seed") i;
     cuts = number_is (codes "cuts") i;
   }
 
 -- words that are taken
-pub taken_is : (found : Found) (words : List Text) (asked : Asked) → fault_of generate words ≡ [] → rows_of found ≡ matches_of generate words → asked ≡ asked_in found
+pub taken_is : (found : Found) (words : List Text) (asked : GenerateAsked) → fault_of generate words ≡ [] → rows_of found ≡ matches_of generate words → asked ≡ generate_held found
     → Generate asked ≡ generate_wanted words
 unfolding generate_wanted
 taken_is found words asked none rows is =

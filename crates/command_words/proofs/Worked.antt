@@ -9,13 +9,19 @@ use Rattle.command_words.specs.Words.{Wanted, Help, Generate, Refused, generate,
 -- a run of `top` of `a.osc`, with these numbers
 abbrev run : ℕ → ℕ → ℕ → ℕ → ℕ → Wanted
 run ticks lanes road seed cuts = Generate (record {
-  file = codes "a.osc";
-  scenario = codes "top";
-  ticks = ticks;
-  lanes = lanes;
-  road = road;
+  source = record { file = codes "a.osc"; scenario = codes "top" };
+  setting = record { ticks = ticks; lanes = lanes; road = road };
   seed = seed;
   cuts = cuts;
+})
+
+-- the run of a source with all defaults
+abbrev by_default : Text → Text → Wanted
+by_default file scenario = Generate (record {
+  source = record { file = file; scenario = scenario };
+  setting = record { ticks = 100; lanes = 3; road = 1000 };
+  seed = 0;
+  cuts = 200000;
 })
 
 -- what `generate a.osc top` with these words behind it asks for
@@ -89,16 +95,16 @@ unfolding request generate_wanted generate clap_on_literals
 third_word = refl
 
 -- behind `--` a word may begin with a dash
-behind_dashes : request (codes "generate" ∷ codes "--" ∷ codes "-f" ∷ codes "--ticks" ∷ []) ≡ Generate (record { file = codes "-f"; scenario = codes "--ticks"; ticks = 100; lanes = 3; road = 1000; seed = 0; cuts = 200000 })
+behind_dashes : request (codes "generate" ∷ codes "--" ∷ codes "-f" ∷ codes "--ticks" ∷ []) ≡ by_default (codes "-f") (codes "--ticks")
 unfolding request generate_wanted generate_asked text_in number_in generate clap_on_literals
 behind_dashes = refl
 
 -- a file may be called `help`, and an empty word or `-` is a word like others
-help_as_file : request (codes "generate" ∷ codes "help" ∷ codes "-" ∷ []) ≡ Generate (record { file = codes "help"; scenario = codes "-"; ticks = 100; lanes = 3; road = 1000; seed = 0; cuts = 200000 })
+help_as_file : request (codes "generate" ∷ codes "help" ∷ codes "-" ∷ []) ≡ by_default (codes "help") (codes "-")
 unfolding request generate_wanted generate_asked text_in number_in generate clap_on_literals
 help_as_file = refl
 
-empty_file : request (codes "generate" ∷ [] ∷ [] ∷ []) ≡ Generate (record { file = []; scenario = []; ticks = 100; lanes = 3; road = 1000; seed = 0; cuts = 200000 })
+empty_file : request (codes "generate" ∷ [] ∷ [] ∷ []) ≡ by_default [] []
 unfolding request generate_wanted generate_asked text_in number_in generate clap_on_literals
 empty_file = refl
 

@@ -1,5 +1,6 @@
 pub mod Texts
 pub mod Match
+pub mod Shared
 pub mod Words
 pub mod Seen
 pub mod Parse

@@ -9,7 +9,7 @@ use Rattle.clap.specs.declared.builder.value_parser.ValueParser.TheVariants.{Uns
 abbrev pub word_rule : Text → Rule
 word_rule name = record (new_rule name) { action = Some Set; required = true }
 
--- an option `--name` with a whole number from `least` to `most`, which is `default` where it isn't given
+-- an option `--name` with a whole number from `least` to `most`, which is `default` if it isn't given
 abbrev pub number_rule : Text → ℕ → ℕ → Text → Rule
 number_rule name least most default = record (new_rule name) {
   long = Some name;
@@ -18,7 +18,7 @@ number_rule name least most default = record (new_rule name) {
   defaults = default ∷ [];
 }
 
--- the command with these arguments, which reads the words behind its own
+-- the command with these arguments, which reads the words after its own
 abbrev pub command_of : Text → List Rule → App
 command_of name rules = record {
   top = record (new_app name).top { no_binary_name = true; rules = rules };

@@ -1,16 +1,18 @@
 -- What a contract sees of the requests of the code.
-use Rattle.command_words.specs.Words.{Asked, Wanted, Help, Generate, Refused}
+use Rattle.command_words.specs.Shared.{Source}
+use Rattle.command_words.specs.Words.{GenerateAsked, Wanted, Help, Generate, Refused}
 use Rattle.command_words.specs.declared.requests.GenerateWords.{GenerateWords}
 use Rattle.command_words.specs.declared.requests.Request.{Request}
 use Rattle.command_words.specs.declared.requests.Request.TheVariants as request
+use Rattle.command_words.specs.declared.requests.Source as words
 
-abbrev pub asked_by : GenerateWords → Asked
+abbrev pub source_by : words.Source → Source
+source_by source = record { file = source.file.now; scenario = source.scenario.now }
+
+abbrev pub asked_by : GenerateWords → GenerateAsked
 asked_by words = record {
-  file = words.file.now;
-  scenario = words.scenario.now;
-  ticks = words.ticks;
-  lanes = words.lanes;
-  road = words.road;
+  source = source_by words.source;
+  setting = words.setting;
   seed = words.seed;
   cuts = words.cuts;
 }

@@ -1,4 +1,4 @@
--- The texts that answer words which ask for help or for the version.
+-- The texts that `osc` writes if the words ask for help or for the version.
 use Rattle.std.specs.Prelude.{ℕ, List, [], ◌∷◌, ◌++◌, codes}
 
 -- these lines, each ended by a line feed
@@ -6,6 +6,7 @@ abbrev pub lined : List (List ℕ) → List ℕ
 lined [] = []
 lined (line ∷ rest) = line ++ 10 ∷ lined rest
 
+-- what `osc` does, its commands, and the statuses of all of them
 unfoldable pub general_help : List ℕ
 general_help = lined (
     codes "osc reads a scenario of driving, written in a profile of OpenSCENARIO DSL 2.1,"
@@ -17,32 +18,24 @@ general_help = lined (
     ∷ codes "  osc --version"
     ∷ []
     ∷ codes "Commands:"
-    ∷ codes "  generate   write a run of a scenario; osc generate --help tells more"
-    ∷ codes "  help       write this text; so do --help and -h"
-    ∷ codes "  --version  write the version; so does -V"
+    ∷ codes "  generate   writes a run of a scenario; for its options: osc generate --help"
+    ∷ codes "  help       writes this text; so do --help and -h"
+    ∷ codes "  --version  writes the version; so does -V"
     ∷ []
-    ∷ codes "Options of generate, each at most once, as --ticks N or --ticks=N:"
-    ∷ codes "  --ticks N  the last tick that a run may have, of 0.1 seconds each:"
-    ∷ codes "             1 to 600, default 100"
-    ∷ codes "  --lanes N  the lanes of the road: 1 to 8, default 3"
-    ∷ codes "  --road N   the length of the road in metres: 1 to 10000, default 1000"
-    ∷ codes "  --seed N   the seed of what is drawn at random:"
-    ∷ codes "             0 to 18446744073709551615, default 0"
-    ∷ codes "  --cuts N   the most cuts of the search: 1 to 1000000, default 200000"
-    ∷ codes "Today runs are of scenarios of ranged whole numbers; the options are checked"
-    ∷ codes "and don't change the run yet."
-    ∷ []
-    ∷ codes "Statuses, and what is written to standard output:"
-    ∷ codes "  0  a run, a help text or the version"
+    ∷ codes "Statuses, and what osc writes to standard output:"
+    ∷ codes "  0  success: the run, the help text or the version"
     ∷ codes "  3  the source is refused: fault CODE FILE:LINE:COLUMN"
+    ∷ codes "     (an imported file that isn't there is fault 301)"
     ∷ codes "  4  the words are refused: words"
-    ∷ codes "  6  a file isn't there, is longer than 1048576 bytes, or can't be read:"
-    ∷ codes "     missing NAME, long NAME or shelf NAME"
-    ∷ codes "  7  standard output failed: a front of the text, or nothing"
-    ∷ codes "  8  memory is missing: nothing"
-    ∷ codes "  9  the words can't be read, as where one isn't UTF-8: nothing"
+    ∷ codes "  6  the main file isn't there: missing FILE"
+    ∷ codes "     a file is longer than 1048576 bytes: long FILE"
+    ∷ codes "     a file can't be read: shelf FILE"
+    ∷ codes "  7  standard output failed: a prefix of the text, or nothing"
+    ∷ codes "  8  out of memory: nothing"
+    ∷ codes "  9  the words can't be read, for example if one isn't UTF-8: nothing"
     ∷ [])
 
+-- the words and options of `generate`
 unfoldable pub generate_help : List ℕ
 generate_help = lined (
     codes "osc generate reads a source file and writes a run of one of its scenarios to"
@@ -63,28 +56,21 @@ generate_help = lined (
     ∷ codes "  --seed N   the seed of what is drawn at random:"
     ∷ codes "             0 to 18446744073709551615, default 0"
     ∷ codes "  --cuts N   the most cuts of the search: 1 to 1000000, default 200000"
-    ∷ codes "  -h, --help write this text"
+    ∷ codes "  -h, --help writes this text"
     ∷ []
-    ∷ codes "Behind -- each word is FILE or SCENARIO, also where it begins with -."
+    ∷ codes "After --, each word is FILE or SCENARIO, even if it begins with -."
     ∷ []
     ∷ codes "A source file with a scenario named top:"
     ∷ codes "  scenario top:"
     ∷ codes "      x: int"
     ∷ codes "      keep(x in [3..3])"
     ∷ []
-    ∷ codes "Today runs are of scenarios of ranged whole numbers; the options are checked"
-    ∷ codes "and don't change the run yet."
+    ∷ codes "Today osc generates runs of scenarios whose fields are ranged whole numbers."
+    ∷ codes "It checks the options, and they don't change the run yet."
     ∷ []
-    ∷ codes "Statuses, and what is written to standard output:"
-    ∷ codes "  0  a run, or this text"
-    ∷ codes "  3  the source is refused: fault CODE FILE:LINE:COLUMN"
-    ∷ codes "  4  the words are refused: words"
-    ∷ codes "  6  the file isn't there, is longer than 1048576 bytes, or can't be read:"
-    ∷ codes "     missing NAME, long NAME or shelf NAME"
-    ∷ codes "  7  standard output failed: a front of the text, or nothing"
-    ∷ codes "  8  memory is missing: nothing"
-    ∷ codes "  9  the words can't be read, as where one isn't UTF-8: nothing"
+    ∷ codes "For the statuses: osc help"
     ∷ [])
 
+-- the program's name and version
 unfoldable pub version_text : List ℕ
 version_text = lined (codes "osc 0.1.0" ∷ [])

@@ -1,67 +1,54 @@
 -- What the words after the program's name ask for.
 use Rattle.std.specs.Prelude.{ℕ, ◌≤◌, Bool, ◌||◌, if◌then◌else◌, List, [], ◌∷◌, ◌++◌, codes, ⊤}
 use Rattle.std.specs.Str.{bytes_eq}
-use Rattle.clap.specs.Words.{App, Kinds, Rule, Text, fault_of}
+use Rattle.clap.specs.Words.{App, Kinds, Text, fault_of}
 use Rattle.clap.specs.declared.error.kind.ErrorKind.TheVariants.{DisplayHelp}
-use Rattle.command_words.specs.Match.{command_of, number_in, number_rule, text_in, word_rule}
+use Rattle.command_words.specs.Match.{command_of, number_in, number_rule}
+use Rattle.command_words.specs.Shared.{IsSettingInRanges, Source, setting_in, setting_rules, source_in, source_rules}
+use Rattle.command_words.specs.declared.requests.Setting.{Setting}
 use Rattle.command_words.specs.Texts.{general_help, generate_help, version_text}
 
--- a run of this scenario of this file, with these numbers
-pub record Asked : Type 0 where
-  pub file : Text
-  pub scenario : Text
-  pub ticks : ℕ
-  pub lanes : ℕ
-  pub road : ℕ
+-- what `generate` is asked for: a run of this scenario in this setting, found by a search with this seed and at most so many cuts
+pub record GenerateAsked : Type 0 where
+  pub source : Source
+  pub setting : Setting
   pub seed : ℕ
   pub cuts : ℕ
 
--- a text of help, a run, or nothing that is known
+-- a text of help, what a command is asked for, or nothing that is known
 pub data Wanted : Type 0 where
   Help : Text → Wanted
-  Generate : Asked → Wanted
+  Generate : GenerateAsked → Wanted
   Refused : Wanted
 
 -- ---- `generate`
 
--- the options of a setting
-abbrev pub setting_rules : List Rule
-setting_rules = number_rule (codes "ticks") 1 600 (codes "100")
-    ∷ number_rule (codes "lanes") 1 8 (codes "3")
-    ∷ number_rule (codes "road") 1 10000 (codes "1000")
-    ∷ []
-
 unfoldable pub generate : App
 generate = command_of (codes "generate") (
-    word_rule (codes "FILE") ∷ word_rule (codes "SCENARIO") ∷ setting_rules
+    source_rules ++ setting_rules
     ++ number_rule (codes "seed") 0 18446744073709551615 (codes "0")
     ∷ number_rule (codes "cuts") 1 1000000 (codes "200000")
     ∷ [])
 
--- what the words behind `generate` hold, where they are taken
-unfoldable pub generate_asked : List Text → Asked
+-- what the words after `generate` ask for when they are taken
+unfoldable pub generate_asked : List Text → GenerateAsked
 generate_asked words = record {
-  file = text_in generate words (codes "FILE");
-  scenario = text_in generate words (codes "SCENARIO");
-  ticks = number_in generate words (codes "ticks");
-  lanes = number_in generate words (codes "lanes");
-  road = number_in generate words (codes "road");
+  source = source_in generate words;
+  setting = setting_in generate words;
   seed = number_in generate words (codes "seed");
   cuts = number_in generate words (codes "cuts");
 }
 
 -- each number is within the range of its option
-pub record IsInRanges (asked : Asked) : Type 0 where
-  pub ticks_range : (1 ≤ asked.ticks) × (asked.ticks ≤ 600)
-  pub lanes_range : (1 ≤ asked.lanes) × (asked.lanes ≤ 8)
-  pub road_range : (1 ≤ asked.road) × (asked.road ≤ 10000)
+pub record IsGenerateInRanges (asked : GenerateAsked) : Type 0 where
+  pub setting_ranges : IsSettingInRanges asked.setting
   pub seed_range : asked.seed ≤ 18446744073709551615
   pub cuts_range : (1 ≤ asked.cuts) × (asked.cuts ≤ 1000000)
 
 -- ---- all words
 
--- what a command's words ask for, by what its match definition finds wrong in them: where that is
--- nothing, what they were taken for; where it is that they ask for help, the command's help
+-- what a command's words ask for, by what its match definition finds wrong in them: if that is
+-- nothing, what they were taken for; if it is that they ask for help, the command's help
 abbrev pub by_fault : Kinds → Text → Wanted → Wanted
 by_fault [] help taken = taken
 by_fault (DisplayHelp ∷ kinds) help taken = Help help
@@ -78,7 +65,7 @@ is_help_word word =
 abbrev pub is_version_word : Text → Bool
 is_version_word word = bytes_eq word (codes "--version") || bytes_eq word (codes "-V")
 
--- the first word picks; behind one that asks for the general help or the version nothing is read
+-- the first word picks; after one that asks for the general help or the version nothing is read
 unfoldable pub request : List Text → Wanted
 request [] = Refused
 request (first ∷ rest) = if is_help_word first then Help general_help
@@ -88,5 +75,6 @@ request (first ∷ rest) = if is_help_word first then Help general_help
 
 -- the numbers of what is wanted are within their ranges
 abbrev pub HasRanges : Wanted → Type 0
-HasRanges (Generate asked) = IsInRanges asked
-HasRanges _ = ⊤
+HasRanges (Help text) = ⊤
+HasRanges (Generate asked) = IsGenerateInRanges asked
+HasRanges Refused = ⊤

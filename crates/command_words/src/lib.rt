@@ -4,9 +4,10 @@
 mod generate;
 mod parse;
 mod requests;
+mod shared;
 mod texts;
 
-pub use requests::{GenerateWords, Request, read_words};
+pub use requests::{GenerateWords, Request, Setting, Source, read_words};
 pub use texts::{general_help, generate_help, version_text};
 
 #[cfg(test)]

@@ -40,7 +40,7 @@ pub fn word<'a>(alloc: Global, name: &'a str) -> Arg<'a>
     Arg::new(alloc, name).action(ArgAction::Set).required(true)
 }
 
-/// An option `--name` with a whole number from `least` to `most`, which is `default` where it isn't given.
+/// An option `--name` with a whole number from `least` to `most`, which is `default` if it isn't given.
 pub fn number<'a>(alloc: Global, name: &'a str, least: u64, most: u64, default: &'a str) -> Arg<'a>
     ensures rule { rule_of result ≡ number_rule name.entry.now least most default.entry.now }
     ensures local { result.global ≡ false }
@@ -52,7 +52,7 @@ pub fn number<'a>(alloc: Global, name: &'a str, least: u64, most: u64, default: 
         .default_value(default)
 }
 
-/// The text that was matched with the word `name`; empty where there is none.
+/// The text that was matched with the word `name`; empty if there is none.
 pub fn text_of<'a>(matches: &ArgMatches<'a>, name: &str) -> &'a str
     ensures { result.now ≡ text_held (found_of matches.now) name.now }
 {
@@ -67,7 +67,7 @@ pub fn number_of(matches: &ArgMatches<'_>, name: &str) -> u64
     matches.get_one::<u64>(name).unwrap_or(0)
 }
 
-/// The number that was matched with the option `name`, where its range lies within 32 bits.
+/// The number that was matched with the option `name`, whose range lies within 32 bits.
 pub fn small_number_of(matches: &ArgMatches<'_>, name: &str) -> u32
     requires { HoldsNumber (found_of matches.now) name.now 0 4294967295 }
     ensures { result ≡ number_held (found_of matches.now) name.now }

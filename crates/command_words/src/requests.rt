@@ -17,19 +17,31 @@ pub enum Request<'a> {
     Refused,
 }
 
-/// What the words behind `generate` ask for.
+/// A scenario of a source file.
 #[derive(Debug, Clone, Copy)]
-pub struct GenerateWords<'a> {
-    /// The name of the source file. It may be any text, also an empty one.
+pub struct Source<'a> {
+    /// The name of the source file. It may be any text, even an empty one.
     pub file: &'a str,
-    /// The scenario, as `NAME` or `ACTOR.NAME`. It may be any text, also an empty one.
+    /// The scenario, as `NAME` or `ACTOR.NAME`. It may be any text, even an empty one.
     pub scenario: &'a str,
+}
+
+/// The bounds within which a run is looked for.
+#[derive(Debug, Clone, Copy, PartialEq, Eq)]
+pub struct Setting {
     /// The last tick that a run may have, 1 to 600.
     pub ticks: u32,
     /// The number of lanes of the road, 1 to 8.
     pub lanes: u32,
     /// The length of the road in metres, 1 to 10000.
     pub road: u32,
+}
+
+/// What the words after `generate` ask for.
+#[derive(Debug, Clone, Copy)]
+pub struct GenerateWords<'a> {
+    pub source: Source<'a>,
+    pub setting: Setting,
     /// The seed of what is drawn at random, any number.
     pub seed: u64,
     /// The most cuts that a search makes, 1 to 1000000.
@@ -38,7 +50,7 @@ pub struct GenerateWords<'a> {
 
 /// Reads the words after the program's name.
 ///
-/// Its only error is want of memory.
+/// Out of memory is its only error.
 pub fn read_words(alloc: Global, words: &[String]) -> Result<Request<'_>, AllocError>
     ensures request { IfOk result (λ r. seen r ≡ request (map string_bytes words.now)) }
     ensures ranges { IfOk result (λ r. HasRanges (seen r)) }

@@ -22,7 +22,13 @@ fn shown(rt: &HostRuntime, line: &str) -> io::Result<String> {
         }
         Request::Generate(asked) => format!(in alloc;
             "{} {} {} {} {} {} {}",
-            asked.file, asked.scenario, asked.ticks, asked.lanes, asked.road, asked.seed, asked.cuts
+            asked.source.file,
+            asked.source.scenario,
+            asked.setting.ticks,
+            asked.setting.lanes,
+            asked.setting.road,
+            asked.seed,
+            asked.cuts
         )?,
         Request::Refused => String::from_str(alloc, "refused")?,
     };

@@ -11,30 +11,21 @@ const GENERAL_HELP: &str = concat!(
     "  osc --version\n",
     "\n",
     "Commands:\n",
-    "  generate   write a run of a scenario; osc generate --help tells more\n",
-    "  help       write this text; so do --help and -h\n",
-    "  --version  write the version; so does -V\n",
+    "  generate   writes a run of a scenario; for its options: osc generate --help\n",
+    "  help       writes this text; so do --help and -h\n",
+    "  --version  writes the version; so does -V\n",
     "\n",
-    "Options of generate, each at most once, as --ticks N or --ticks=N:\n",
-    "  --ticks N  the last tick that a run may have, of 0.1 seconds each:\n",
-    "             1 to 600, default 100\n",
-    "  --lanes N  the lanes of the road: 1 to 8, default 3\n",
-    "  --road N   the length of the road in metres: 1 to 10000, default 1000\n",
-    "  --seed N   the seed of what is drawn at random:\n",
-    "             0 to 18446744073709551615, default 0\n",
-    "  --cuts N   the most cuts of the search: 1 to 1000000, default 200000\n",
-    "Today runs are of scenarios of ranged whole numbers; the options are checked\n",
-    "and don't change the run yet.\n",
-    "\n",
-    "Statuses, and what is written to standard output:\n",
-    "  0  a run, a help text or the version\n",
+    "Statuses, and what osc writes to standard output:\n",
+    "  0  success: the run, the help text or the version\n",
     "  3  the source is refused: fault CODE FILE:LINE:COLUMN\n",
+    "     (an imported file that isn't there is fault 301)\n",
     "  4  the words are refused: words\n",
-    "  6  a file isn't there, is longer than 1048576 bytes, or can't be read:\n",
-    "     missing NAME, long NAME or shelf NAME\n",
-    "  7  standard output failed: a front of the text, or nothing\n",
-    "  8  memory is missing: nothing\n",
-    "  9  the words can't be read, as where one isn't UTF-8: nothing\n",
+    "  6  the main file isn't there: missing FILE\n",
+    "     a file is longer than 1048576 bytes: long FILE\n",
+    "     a file can't be read: shelf FILE\n",
+    "  7  standard output failed: a prefix of the text, or nothing\n",
+    "  8  out of memory: nothing\n",
+    "  9  the words can't be read, for example if one isn't UTF-8: nothing\n",
 );
 
 const GENERATE_HELP: &str = concat!(
@@ -56,47 +47,40 @@ const GENERATE_HELP: &str = concat!(
     "  --seed N   the seed of what is drawn at random:\n",
     "             0 to 18446744073709551615, default 0\n",
     "  --cuts N   the most cuts of the search: 1 to 1000000, default 200000\n",
-    "  -h, --help write this text\n",
+    "  -h, --help writes this text\n",
     "\n",
-    "Behind -- each word is FILE or SCENARIO, also where it begins with -.\n",
+    "After --, each word is FILE or SCENARIO, even if it begins with -.\n",
     "\n",
     "A source file with a scenario named top:\n",
     "  scenario top:\n",
     "      x: int\n",
     "      keep(x in [3..3])\n",
     "\n",
-    "Today runs are of scenarios of ranged whole numbers; the options are checked\n",
-    "and don't change the run yet.\n",
+    "Today osc generates runs of scenarios whose fields are ranged whole numbers.\n",
+    "It checks the options, and they don't change the run yet.\n",
     "\n",
-    "Statuses, and what is written to standard output:\n",
-    "  0  a run, or this text\n",
-    "  3  the source is refused: fault CODE FILE:LINE:COLUMN\n",
-    "  4  the words are refused: words\n",
-    "  6  the file isn't there, is longer than 1048576 bytes, or can't be read:\n",
-    "     missing NAME, long NAME or shelf NAME\n",
-    "  7  standard output failed: a front of the text, or nothing\n",
-    "  8  memory is missing: nothing\n",
-    "  9  the words can't be read, as where one isn't UTF-8: nothing\n",
+    "For the statuses: osc help\n",
 );
 
 const VERSION_TEXT: &str = "osc 0.1.0\n";
 
-/// What `osc` does, its commands and its statuses. Each line is at most 80 bytes long and ended by a line
-/// feed, here and in the other texts.
+/// What `osc` does, its commands, and the statuses of all of them.
+///
+/// Each line of a help text has at most 80 bytes and ends with a line feed.
 pub fn general_help() -> &'static str
     ensures { result.now ≡ general_help }
 {
     GENERAL_HELP
 }
 
-/// The words, options and statuses of `osc generate`.
+/// The words and options of `osc generate`.
 pub fn generate_help() -> &'static str
     ensures { result.now ≡ generate_help }
 {
     GENERATE_HELP
 }
 
-/// The program's name and version.
+/// The program's name and version, as one line.
 pub fn version_text() -> &'static str
     ensures { result.now ≡ version_text }
 {

@@ -1,10 +1,8 @@
 -- When a run is an instance of a scenario whose members are whole numbers, each held in a range.
-use Rattle.std.specs.Prelude.{◌≡◌, ◌≤◌, ℕ, ℤ, pos, List, [], ◌∷◌}
-use Rattle.osc_base.specs.declared.path.Step.{Step}
+use Rattle.std.specs.Prelude.{◌≡◌, ◌≤◌, ℕ, pos, List, [], ◌∷◌}
 use Rattle.osc_base.specs.declared.path.Step.TheVariants.{Name}
 use Rattle.composition.specs.declared.run.Run.{Run}
 use Rattle.composition.specs.declared.run.Value.{Value}
-use Rattle.composition.specs.declared.run.Held.{Held}
 use Rattle.composition.specs.declared.run.Held.TheVariants.{Number}
 
 -- a field, and the least and the greatest number that its constraint lets it hold

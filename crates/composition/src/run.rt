@@ -40,7 +40,7 @@ pub struct Trace {
 }
 
 /// One concrete run of a scenario: its choices, its last tick, its phases, the traces of its vehicles
-/// and the values of its fields, each list in the order in which the scenario is expanded.
+/// and the values of its fields. Each list is in the order in which the scenario is expanded.
 #[derive(Debug, PartialEq, Eq, Drop)]
 pub struct Run {
     pub choices: Row<Choice>,

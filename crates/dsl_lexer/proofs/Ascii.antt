@@ -9,7 +9,7 @@ use Rattle.dsl_lexer.specs.declared.shape.Shape.{Shape}
 use Rattle.dsl_lexer.specs.Bytes.{begins_control}
 use Rattle.dsl_lexer.specs.Shapes.{Space, Tab, Comment, LineEnd, Joint, MarkShape, NameShape, NumberShape, StringShape, is_lexeme, IsShape}
 use Rattle.dsl_lexer.specs.Pieces.{Piece, reach, Cut}
-use Rattle.dsl_lexer.specs.Language.{HasControl}
+use Rattle.dsl_lexer.specs.SourceTokens.{HasControl}
 use Rattle.dsl_lexer.specs.Scan.{control_at}
 use Rattle.dsl_lexer.proofs.Fitting.{quote_is}
 use Rattle.dsl_lexer.proofs.Cutting.{spelled}

@@ -6,7 +6,7 @@ use Rattle.dsl_lexer.specs.declared.shape.Shape.{Shape}
 use Rattle.dsl_lexer.specs.Shapes.{IsShape}
 use Rattle.dsl_lexer.specs.Scan.{first_shape}
 use Rattle.dsl_lexer.specs.Pieces.{Piece, reach, Stands, Cut}
-use Rattle.dsl_lexer.specs.Language.{AreSound, IsSound, IsNext}
+use Rattle.dsl_lexer.specs.SourceTokens.{AreSound, IsSound, IsNext}
 use Rattle.dsl_lexer.proofs.Fitting.{begins}
 use Rattle.dsl_lexer.proofs.Fronts.{same_front}
 

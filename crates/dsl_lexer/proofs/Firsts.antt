@@ -6,6 +6,9 @@ use Rattle.std.specs.Str.{IsValidUpTo}
 use Rattle.std.proofs.lemmas.Bool.{and_from, and_parts, or_parts, or_right, eqb-true, eq-eqb, cases_order, false≢true, true≢false}
 use Rattle.std.proofs.lemmas.List.{append_assoc, length-append}
 use Rattle.std.proofs.lemmas.List.Folds.{list_all-append}
+use Rattle.osc_base.specs.declared.fault.FaultCode.{FaultCode}
+use Rattle.osc_base.specs.FaultCodes.{number_of}
+use Rattle.osc_base.specs.FaultRows.{IsNoLater}
 use Rattle.dsl_lexer.specs.Progress.{Valid}
 use Rattle.dsl_lexer.specs.declared.shape.Shape.{Shape}
 use Rattle.dsl_lexer.specs.Bytes.{is_line_feed}
@@ -14,10 +17,11 @@ use Rattle.dsl_lexer.specs.Kinds.{kind_of}
 use Rattle.dsl_lexer.specs.Scan.{first_shape}
 use Rattle.dsl_lexer.specs.Pieces.{Piece, reach, IsLongest, Cut, IsContent}
 use Rattle.dsl_lexer.specs.Layout.{brackets, is_line_end, ends_line, is_tab, line, or_else, first_tab, begins_line, has_lexeme, depth}
-use Rattle.dsl_lexer.specs.Language.{HasControl, IsLaidOut, IsSound, AreSound, BeginsContent, IsNext, FaultBehind, bad_byte, early_tab, bad_width, no_piece, bad_control, no_string, no_number, too_deep, FaultAt}
+use Rattle.dsl_lexer.specs.SourceTokens.{HasControl, IsLaidOut, IsSound, AreSound, BeginsContent, IsNext, FaultBehind, bad_byte, early_tab, bad_width, no_piece, bad_control, no_string, no_number, too_deep, FaultAt}
 use Rattle.dsl_lexer.proofs.Spots.{no_feed}
 use Rattle.dsl_lexer.proofs.Fitting.{begins}
 use Rattle.dsl_lexer.proofs.Matching.{lexeme_is}
+use Rattle.dsl_lexer.proofs.FaultClasses.{some_not_none, first_content, FaultClass, at_byte, at_tab, in_piece, class_of}
 use Rattle.dsl_lexer.proofs.Cutting.{is_next_same, same_cut, extends, sound_there, reach_there}
 
 -- behind sound pieces there is no fault but a byte that begins no character
@@ -26,37 +30,15 @@ pub record IsBad (bytes : List ℕ) (reached n : ℕ) : Type 0 where
   pub bad : IsValidUpTo bytes n
   pub before : n < reached
 
-begins_first : (p : Piece) (before : List Piece) → is_lexeme p.shape ≡ true → has_lexeme (line before) ≡ false → begins_line p before ≡ true
-begins_first p before lex first = rw (lex, first) refl
-
-pub some_not_none : {A : Type 0} (o : Option A) → IsSome o → o ≡ None → ⊥
-some_not_none o h e = false≢true (sym (ap is_some e) ∙ h)
-
-first_content : (before : List Piece) (rest : List ℕ) (p : Piece) → IsNext before rest p → BeginsContent before rest → IsSound p before → IsLaidOut before
-first_content before rest p next c sound = sound.laid_out (begins_first p before (c.content.lexeme p.shape p.text next.behind next.stands.shape next.split) c.first)
-
-pub clean : (bytes : List ℕ) (before : List Piece) (rest : List ℕ) (p : Piece) (n code : ℕ) → IsNext before rest p → IsSound p before → FaultBehind bytes before rest n code → IsBad bytes (reach before + length p.text) n
-clean bytes before rest p n code next sound (bad_byte c bad reached next_ends) = record { bad = bad; before = next_ends p next }
-clean bytes before rest p n code next sound (early_tab c begun there) =
-    let laid = first_content before rest p next begun sound in
-    absurd (some_not_none (first_tab (line before)) (ap is_some there) laid.no_tab)
-clean bytes before rest p n code next sound (bad_width c at begun off) =
-    let laid = first_content before rest p next begun sound in
-    absurd (false≢true (sym off ∙ laid.fitting))
-clean bytes before rest p n code next sound (no_piece c at stuck quote) = absurd (stuck.none p.shape p.text next.behind next.stands.shape next.split)
-clean bytes before rest p n code next sound (bad_control q i c next' string there at) =
-    let same : q ≡ p = is_next_same before rest q p next' next in
-    absurd (sound.no_control (ap (λ x. x.shape) (sym same) ∙ string) i (subst (λ (x : Piece). HasControl x.text i) same there))
-clean bytes before rest p n code next sound (no_string c at stuck quote) = absurd (stuck.none p.shape p.text next.behind next.stands.shape next.split)
-clean bytes before rest p n code next sound (no_number q c at next' shape none) =
-    let same : q ≡ p = is_next_same before rest q p next' next in
-    let shape' : p.shape ≡ NumberShape = ap (λ x. x.shape) (sym same) ∙ shape in
-    absurd (some_not_none (kind_of p.shape p.text) (sound.token (ap is_lexeme shape')) (ap (λ x. kind_of x.shape x.text) (sym same) ∙ none))
-clean bytes before rest p n code next sound (too_deep q c at next' more over) =
-    let same : q ≡ p = is_next_same before rest q p next' next in
-    let shallow = sound.shallow in
-    let over' : 64 < depth (p ∷ before) = subst (λ (x : Piece). 64 < depth (x ∷ before)) same over in
-    absurd (omega arith)
+pub clean : (bytes : List ℕ) (before : List Piece) (rest : List ℕ) (p : Piece) (n : ℕ) (code : FaultCode) → IsNext before rest p → IsSound p before → FaultBehind bytes before rest n code → IsBad bytes (reach before + length p.text) n
+clean bytes before rest p n code next sound x = by_class (class_of bytes before rest n code x)
+  where
+    by_class : FaultClass bytes before rest n code → IsBad bytes (reach before + length p.text) n
+    by_class (at_byte c bad reached ends) = record { bad = bad; before = ends p next }
+    by_class (at_tab c begun there) =
+        let laid = first_content before rest p next begun sound in
+        absurd (some_not_none (first_tab (line before)) (ap is_some there) laid.no_tab)
+    by_class (in_piece c more reached inside unsound) = absurd (unsound p next sound)
 
 -- lines behind a piece
 
@@ -195,36 +177,31 @@ later_tab bytes (q ∷ more) p before rest n cut (inr comment) c e = tab_claim (
 
 -- the first fault
 
-abbrev pub NotBefore : ℕ → ℕ → ℕ → ℕ → Type 0
-NotBefore n code m c = (n < m) ⊎ ((n ≡ m) × (code ≤ c))
-
 -- a fault that is the first of those at its pieces
-pub record IsFirstHere (bytes : List ℕ) (valid : ℕ) (before : List Piece) (rest : List ℕ) (n code : ℕ) : Type 0 where
+pub record IsFirstHere (bytes : List ℕ) (valid : ℕ) (before : List Piece) (rest : List ℕ) (n : ℕ) (code : FaultCode) : Type 0 where
   pub fault : FaultBehind bytes before rest n code
-  pub early : (n < valid) ⊎ ((n ≡ valid) × (code ≡ 101))
-  pub least : (m c : ℕ) → FaultBehind bytes before rest m c → NotBefore n code m c
+  pub early : (n < valid) ⊎ ((n ≡ valid) × (code ≡ FaultCode.Utf8))
+  pub least : (m : ℕ) (c : FaultCode) → FaultBehind bytes before rest m c → IsNoLater n code m c
   pub inside : (p : Piece) → IsNext before rest p → n < reach before + length p.text
   pub next : (p : Piece) → IsNext before rest p → (is_lexeme p.shape ≡ true) ⊎ (p.shape ≡ Comment)
 
-pub bad_later : (n code valid m c : ℕ) → (n < valid) ⊎ ((n ≡ valid) × (code ≡ 101)) → m ≡ valid → c ≡ 101 → NotBefore n code m c
+pub bad_later : (n : ℕ) (code : FaultCode) (valid m : ℕ) (c : FaultCode) → (n < valid) ⊎ ((n ≡ valid) × (code ≡ FaultCode.Utf8)) → m ≡ valid → c ≡ FaultCode.Utf8 → IsNoLater n code m c
 bad_later n code valid m c (inl h) e f = inl (omega arith)
-bad_later n code valid m c (inr (h, k)) e f = inr (omega arith, omega arith)
+bad_later n code valid m c (inr (h, k)) e f = inr (omega arith, let same : number_of code ≡ number_of c = ap number_of (k ∙ sym f) in omega arith)
 
-module _ (bytes : List ℕ) (valid : ℕ) (before : List Piece) (rest : List ℕ) (n code : ℕ) (v : Valid bytes valid) (first : IsFirstHere bytes valid before rest n code) where
-  later : (more : List Piece) (p : Piece) (end : List ℕ) (m c : ℕ) → IsNext before rest p → Cut bytes (more ++ p ∷ before) end → FaultBehind bytes (more ++ p ∷ before) end m c → NotBefore n code m c
-  later more p end m c next cut (bad_byte k bad reached ends) = bad_later n code valid m c first.early (v.only m bad) k
-  later more p end m c next cut (early_tab k begun there) =
-      let inside = first.inside p next in
-      let far = later_tab bytes more p before end m cut (first.next p next) begun there in
-      inl (omega arith)
-  later more p end m c next cut (bad_width k at begun off) = let inside = first.inside p next in let far = reach_there more before p in inl (omega arith)
-  later more p end m c next cut (no_piece k at stuck quote) = let inside = first.inside p next in let far = reach_there more before p in inl (omega arith)
-  later more p end m c next cut (bad_control q i k next' string there at) = let inside = first.inside p next in let far = reach_there more before p in inl (omega arith)
-  later more p end m c next cut (no_string k at stuck quote) = let inside = first.inside p next in let far = reach_there more before p in inl (omega arith)
-  later more p end m c next cut (no_number q k at next' shape none) = let inside = first.inside p next in let far = reach_there more before p in inl (omega arith)
-  later more p end m c next cut (too_deep q k at next' rises over) = let inside = first.inside p next in let far = reach_there more before p in inl (omega arith)
+module _ (bytes : List ℕ) (valid : ℕ) (before : List Piece) (rest : List ℕ) (n : ℕ) (code : FaultCode) (v : Valid bytes valid) (first : IsFirstHere bytes valid before rest n code) where
+  later : (more : List Piece) (p : Piece) (end : List ℕ) (m : ℕ) (c : FaultCode) → IsNext before rest p → Cut bytes (more ++ p ∷ before) end → FaultBehind bytes (more ++ p ∷ before) end m c → IsNoLater n code m c
+  later more p end m c next cut x = by_class (class_of bytes (more ++ p ∷ before) end m c x)
+    where
+      by_class : FaultClass bytes (more ++ p ∷ before) end m c → IsNoLater n code m c
+      by_class (at_byte k bad reached ends) = bad_later n code valid m c first.early (v.only m bad) k
+      by_class (at_tab k begun there) =
+          let inside = first.inside p next in
+          let far = later_tab bytes more p before end m cut (first.next p next) begun there in
+          inl (omega arith)
+      by_class (in_piece k some reached inside' unsound) = let inside = first.inside p next in let far = reach_there more before p in inl (omega arith)
 
-  pub first_of_all : Cut bytes before rest → AreSound before → reach before ≤ valid → (m c count : ℕ) → FaultAt bytes m c count → NotBefore n code m c
+  pub first_of_all : Cut bytes before rest → AreSound before → reach before ≤ valid → (m : ℕ) (c : FaultCode) (count : ℕ) → FaultAt bytes m c count → IsNoLater n code m c
   first_of_all cut sound within m c count x =
       elim (cases_order (length x.before) (length before)) [
         | inl e ↦

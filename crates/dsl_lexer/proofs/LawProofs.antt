@@ -5,6 +5,8 @@ use Rattle.std.specs.List.{list_all, take_while, prefix_len, AllByRecursion}
 use Rattle.std.specs.Str.{IsUtf8, IsValidUpTo}
 use Rattle.std.proofs.lemmas.Bool.{cases_order, cond_both, true≢false, ltb-true, lt-ltb, eqb-true}
 use Rattle.std.proofs.lemmas.List.{take_all, append_assoc, length-append}
+use Rattle.osc_base.specs.declared.fault.FaultCode.{FaultCode}
+use Rattle.osc_base.proofs.FaultRows.{both_no_later}
 use Rattle.osc_base.specs.declared.fault.Fault.{Fault}
 use Rattle.osc_base.specs.declared.fault.Place.{Place}
 use Rattle.dsl_tree.specs.declared.token.Token.{Token}
@@ -15,7 +17,7 @@ use Rattle.dsl_lexer.specs.Bytes.{place_at, is_digit, is_hexadecimal_digit}
 use Rattle.dsl_lexer.specs.Shapes.{Space, Tab, Comment, LineEnd, Joint, MarkShape, NameShape, NumberShape, StringShape, is_lexeme, entry, marks}
 use Rattle.dsl_lexer.specs.Kinds.{fraction, unit_name, kind_of, first_kind, is_word, number_kind, hexadecimal_kind, decimal_kind, reserved_words, left_out_words}
 use Rattle.dsl_tree.specs.declared.token.WordKind.{WordKind}
-use Rattle.dsl_tree.specs.declared.token.LeftKind.{LeftKind}
+use Rattle.dsl_tree.specs.declared.token.ExcludedWord.{ExcludedWord}
 use Rattle.dsl_tree.specs.declared.token.MarkKind.{MarkKind}
 use Rattle.std.specs.Option.{option_map}
 use Rattle.std.specs.Str.{bytes_eq}
@@ -23,31 +25,27 @@ use Rattle.std.specs.Prelude.{codes, nat_le}
 use Rattle.dsl_lexer.specs.Pieces.{Piece, reach, Cut}
 use Rattle.dsl_lexer.specs.Layout.{IsOpened, opened, line, width, widths, brackets, has_lexeme, begins_line, ends_line, is_widest, blocks, newline, own_token, brought, tokens, last_tokens, placed, OffsetToken}
 use Rattle.dsl_lexer.specs.Steps.{opened_behind}
-use Rattle.dsl_lexer.specs.Language.{AreSound, IsNext, FaultBehind, bad_byte, early_tab, bad_width, no_piece, bad_control, no_string, no_number, too_deep, FaultAt, EndsOnce}
+use Rattle.dsl_lexer.specs.SourceTokens.{AreSound, IsNext, FaultBehind, FaultAt, EndsOnce}
 use Rattle.dsl_lexer.specs.Laws.{OneList, CutOrFault, OneFault, EndIsLast, Among, IsFalling, OpenedLaw}
 use Rattle.dsl_lexer.proofs.Opened.{opened-cons}
 use Rattle.dsl_lexer.proofs.Ascii.{control_within}
 use Rattle.dsl_lexer.proofs.Cutting.{same_cut, extends, sound_there, reach_there, some_text, is_next_same}
-use Rattle.dsl_lexer.proofs.Firsts.{clean, later_tab, NotBefore}
+use Rattle.dsl_lexer.proofs.FaultClasses.{FaultClass, at_byte, at_tab, in_piece, class_of, nothing_next}
+use Rattle.dsl_lexer.proofs.Firsts.{clean, later_tab}
 use Rattle.dsl_lexer.proofs.Stepping.{tab_before}
 
 -- nothing stands behind the whole
 
-nothing_next : (before : List Piece) (p : Piece) → IsNext before [] p → ⊥
-nothing_next before p n = let some = some_text p.shape p.text n.stands.shape in let e = ap length n.split in absurd (omega (arith, e, length-append p.text n.behind))
-
 whole_utf8 : (bytes : List ℕ) (n : ℕ) → IsUtf8 bytes → IsValidUpTo bytes n → ⊥
 whole_utf8 bytes n u bad = bad.longest (length bytes) bad.short (rw (take_all (length bytes) bytes (omega arith)) u)
 
-nothing_left : (bytes : List ℕ) (before : List Piece) (n code : ℕ) → IsUtf8 bytes → FaultBehind bytes before [] n code → ⊥
-nothing_left bytes before n code u (bad_byte e bad reached ends) = whole_utf8 bytes n u bad
-nothing_left bytes before n code u (early_tab e begun there) = begun.content.more refl
-nothing_left bytes before n code u (bad_width e at begun off) = begun.content.more refl
-nothing_left bytes before n code u (no_piece e at stuck quote) = stuck.more refl
-nothing_left bytes before n code u (bad_control p i e next string there at) = nothing_next before p next
-nothing_left bytes before n code u (no_string e at stuck quote) = stuck.more refl
-nothing_left bytes before n code u (no_number p e at next shape none) = nothing_next before p next
-nothing_left bytes before n code u (too_deep p e at next rises over) = nothing_next before p next
+nothing_left : (bytes : List ℕ) (before : List Piece) (n : ℕ) (code : FaultCode) → IsUtf8 bytes → FaultBehind bytes before [] n code → ⊥
+nothing_left bytes before n code u x = by_class (class_of bytes before [] n code x)
+  where
+    by_class : FaultClass bytes before [] n code → ⊥
+    by_class (at_byte c bad reached ends) = whole_utf8 bytes n u bad
+    by_class (at_tab c begun there) = begun.content.more refl
+    by_class (in_piece c more reached inside unsound) = more refl
 
 pub cut_or_fault : CutOrFault
 cut_or_fault file bytes xs n code count t x =
@@ -77,51 +75,41 @@ one_list file bytes xs ys a b =
 -- one first fault
 
 -- a fault stands before the end of the next piece
-fault_inside : (bytes : List ℕ) (before : List Piece) (rest : List ℕ) (p : Piece) (n code : ℕ) → Cut bytes before rest → IsNext before rest p → FaultBehind bytes before rest n code → n < reach before + length p.text
-fault_inside bytes before rest p n code cut next (bad_byte e bad reached ends) = ends p next
-fault_inside bytes before rest p n code cut next (early_tab e begun there) = let low = tab_before bytes before rest n cut there in omega arith
-fault_inside bytes before rest p n code cut next (bad_width e at begun off) = let some = some_text p.shape p.text next.stands.shape in omega arith
-fault_inside bytes before rest p n code cut next (no_piece e at stuck quote) = let some = some_text p.shape p.text next.stands.shape in omega arith
-fault_inside bytes before rest p n code cut next (bad_control q i e next' string there at) =
-    let low = control_within q.text i there in
-    let same : length q.text ≡ length p.text = ap (λ (r : Piece). length r.text) (is_next_same before rest q p next' next) in
-    omega arith
-fault_inside bytes before rest p n code cut next (no_string e at stuck quote) = let some = some_text p.shape p.text next.stands.shape in omega arith
-fault_inside bytes before rest p n code cut next (no_number q e at next' shape none) = let some = some_text p.shape p.text next.stands.shape in omega arith
-fault_inside bytes before rest p n code cut next (too_deep q e at next' rises over) = let some = some_text p.shape p.text next.stands.shape in omega arith
+fault_inside : (bytes : List ℕ) (before : List Piece) (rest : List ℕ) (p : Piece) (n : ℕ) (code : FaultCode) → Cut bytes before rest → IsNext before rest p → FaultBehind bytes before rest n code → n < reach before + length p.text
+fault_inside bytes before rest p n code cut next x = by_class (class_of bytes before rest n code x)
+  where
+    by_class : FaultClass bytes before rest n code → n < reach before + length p.text
+    by_class (at_byte c bad reached ends) = ends p next
+    by_class (at_tab c begun there) = let low = tab_before bytes before rest n cut there in omega arith
+    by_class (in_piece c more reached inside unsound) = inside p next
 
--- a fault of code 102 stands before a token
-tab_lexeme : (bytes : List ℕ) (before : List Piece) (rest : List ℕ) (p : Piece) (n code : ℕ) → IsNext before rest p → code ≡ 102 → FaultBehind bytes before rest n code → is_lexeme p.shape ≡ true
-tab_lexeme bytes before rest p n code next c (bad_byte e bad reached ends) = absurd (omega arith)
-tab_lexeme bytes before rest p n code next c (early_tab e begun there) = begun.content.lexeme p.shape p.text next.behind next.stands.shape next.split
-tab_lexeme bytes before rest p n code next c (bad_width e at begun off) = absurd (omega arith)
-tab_lexeme bytes before rest p n code next c (no_piece e at stuck quote) = absurd (omega arith)
-tab_lexeme bytes before rest p n code next c (bad_control q i e next' string there at) = absurd (omega arith)
-tab_lexeme bytes before rest p n code next c (no_string e at stuck quote) = absurd (omega arith)
-tab_lexeme bytes before rest p n code next c (no_number q e at next' shape none) = absurd (omega arith)
-tab_lexeme bytes before rest p n code next c (too_deep q e at next' rises over) = absurd (omega arith)
+-- a fault of code `Tab` stands before a token
+tab_lexeme : (bytes : List ℕ) (before : List Piece) (rest : List ℕ) (p : Piece) (n : ℕ) (code : FaultCode) → IsNext before rest p → code ≡ FaultCode.Tab → FaultBehind bytes before rest n code → is_lexeme p.shape ≡ true
+tab_lexeme bytes before rest p n code next c x = by_class (class_of bytes before rest n code x)
+  where
+    by_class : FaultClass bytes before rest n code → is_lexeme p.shape ≡ true
+    by_class (at_byte e bad reached ends) = absurd (cc)
+    by_class (at_tab e begun there) = begun.content.lexeme p.shape p.text next.behind next.stands.shape next.split
+    by_class (in_piece apart more reached inside unsound) = absurd (apart c)
 
 -- a fault of the same code at later pieces stands further on
-fault_later : (bytes : List ℕ) (before more : List Piece) (rest end : List ℕ) (p : Piece) (n m code : ℕ) → Cut bytes (more ++ p ∷ before) end → IsNext before rest p → FaultBehind bytes before rest n code → FaultBehind bytes (more ++ p ∷ before) end m code
+fault_later : (bytes : List ℕ) (before more : List Piece) (rest end : List ℕ) (p : Piece) (n m : ℕ) (code : FaultCode) → Cut bytes (more ++ p ∷ before) end → IsNext before rest p → FaultBehind bytes before rest n code → FaultBehind bytes (more ++ p ∷ before) end m code
     → reach before + length p.text ≤ m
-fault_later bytes before more rest end p n m code cut next first (bad_byte e bad reached ends) = let far = reach_there more before p in omega arith
-fault_later bytes before more rest end p n m code cut next first (early_tab e begun there) =
-    later_tab bytes more p before end m cut (inl (tab_lexeme bytes before rest p n code next e first)) begun there
-fault_later bytes before more rest end p n m code cut next first (bad_width e at begun off) = let far = reach_there more before p in omega arith
-fault_later bytes before more rest end p n m code cut next first (no_piece e at stuck quote) = let far = reach_there more before p in omega arith
-fault_later bytes before more rest end p n m code cut next first (bad_control q i e next' string there at) = let far = reach_there more before p in omega arith
-fault_later bytes before more rest end p n m code cut next first (no_string e at stuck quote) = let far = reach_there more before p in omega arith
-fault_later bytes before more rest end p n m code cut next first (no_number q e at next' shape none) = let far = reach_there more before p in omega arith
-fault_later bytes before more rest end p n m code cut next first (too_deep q e at next' rises over) = let far = reach_there more before p in omega arith
+fault_later bytes before more rest end p n m code cut next first x = by_class (class_of bytes (more ++ p ∷ before) end m code x)
+  where
+    by_class : FaultClass bytes (more ++ p ∷ before) end m code → reach before + length p.text ≤ m
+    by_class (at_byte e bad reached ends) = let far = reach_there more before p in omega arith
+    by_class (at_tab e begun there) = later_tab bytes more p before end m cut (inl (tab_lexeme bytes before rest p n code next e first)) begun there
+    by_class (in_piece e some reached inside unsound) = let far = reach_there more before p in omega arith
 
-apart : (bytes : List ℕ) (before : List Piece) (rest : List ℕ) (after : List Piece) (end : List ℕ) (n code : ℕ) → length before < length after → Cut bytes before rest → Cut bytes after end → FaultBehind bytes before rest n code → FaultBehind bytes after end n code → ⊥
+apart : (bytes : List ℕ) (before : List Piece) (rest : List ℕ) (after : List Piece) (end : List ℕ) (n : ℕ) (code : FaultCode) → length before < length after → Cut bytes before rest → Cut bytes after end → FaultBehind bytes before rest n code → FaultBehind bytes after end n code → ⊥
 apart bytes before rest after end n code shorter cut cut' x y =
     let e = extends bytes before rest after end shorter cut cut' in
     let near = fault_inside bytes before rest e.next n code cut e.is_next x in
     let far = fault_later bytes before e.more rest end e.next n n code (subst (λ ps. Cut bytes ps end) e.split cut') e.is_next x (subst (λ ps. FaultBehind bytes ps end n code) e.split y) in
     absurd (omega arith)
 
-same_count : (bytes : List ℕ) (n code i j : ℕ) → FaultAt bytes n code i → FaultAt bytes n code j → i ≡ j
+same_count : (bytes : List ℕ) (n : ℕ) (code : FaultCode) (i j : ℕ) → FaultAt bytes n code i → FaultAt bytes n code j → i ≡ j
 same_count bytes n code i j x y =
     elim (cases_order (length x.before) (length y.before)) [
       | inl e ↦ x.counted ∙ ap (λ ps. length (tokens ps)) (same_cut bytes x.before y.before x.rest y.rest e x.cut y.cut).0 ∙ sym y.counted
@@ -130,17 +118,11 @@ same_count bytes n code i j x y =
     ]
 
 fault_same : (x y : Fault) → x.place ≡ y.place → x.code ≡ y.code → x ≡ y
-fault_same x y p c = let mk : Place → ℕ → Fault = λ place code. record { place = place; code = code } in ap (λ place. mk place x.code) p ∙ ap (λ code. mk y.place code) c
-
-both_first : (a b c d : ℕ) → NotBefore a c b d → NotBefore b d a c → (a ≡ b) × (c ≡ d)
-both_first a b c d (inl h) (inl k) = absurd (omega arith)
-both_first a b c d (inl h) (inr (e, k)) = absurd (omega arith)
-both_first a b c d (inr (e, h)) (inl k) = absurd (omega arith)
-both_first a b c d (inr (e, h)) (inr (f, k)) = (e, omega arith)
+fault_same x y p c = let mk : Place → FaultCode → Fault = λ place code. record { place = place; code = code } in ap (λ place. mk place x.code) p ∙ ap (λ code. mk y.place code) c
 
 pub one_fault : OneFault
 one_fault file bytes x y a b =
-    let same = both_first a.at b.at x.code y.code (a.first b.at y.code b.count b.is_fault) (b.first a.at x.code a.count a.is_fault) in
+    let same = both_no_later a.at b.at x.code y.code (a.first b.at y.code b.count b.is_fault) (b.first a.at x.code a.count a.is_fault) in
     let there : FaultAt bytes b.at y.code a.count = subst (λ n. FaultAt bytes n y.code a.count) same.0 (subst (λ c. FaultAt bytes a.at c a.count) same.1 a.is_fault) in
     let count = same_count bytes b.at y.code a.count b.count there b.is_fault in
     fault_same x y (a.place ∙ ap (λ n. place_at file bytes n a.count) same.0 ∙ ap (λ k. place_at file bytes b.at k) count ∙ sym b.place) same.1
@@ -159,7 +141,7 @@ abbrev OwnNoEnd : Option TokenKind → Type 0
 OwnNoEnd None = Unit {0}
 OwnNoEnd (Some k) = k ≢ End
 
-name_no_end : (w : Option WordKind) (u : Option LeftKind) (text : List ℕ) → first_kind w u text ≢ End
+name_no_end : (w : Option WordKind) (u : Option ExcludedWord) (text : List ℕ) → first_kind w u text ≢ End
 name_no_end (Some w) u text e = cc
 name_no_end None (Some u) text e = cc
 name_no_end None None text e = cc

@@ -5,12 +5,13 @@ use Rattle.std.specs.List.{list_all}
 use Rattle.std.specs.Str.{IsAscii}
 use Rattle.std.proofs.lemmas.Bool.{and_parts, ltb-true, ltb-false}
 use Rattle.std.proofs.lemmas.Str.{IsUtf8-from_ascii}
+use Rattle.osc_base.specs.declared.fault.FaultCode.{FaultCode}
 use Rattle.dsl_tree.specs.declared.token.Token.{Token}
 use Rattle.dsl_lexer.specs.declared.spot.Spot.{Spot}
 use Rattle.dsl_lexer.specs.declared.layout.Layout.{Layout}
 use Rattle.dsl_lexer.specs.Steps.{place_of, at_start, all_tokens, Outcome, Goes, Stops, step_of}
 use Rattle.dsl_lexer.specs.Progress.{Valid, Reached, Follows}
-use Rattle.dsl_lexer.specs.Language.{TokensCut, IsFirstFault}
+use Rattle.dsl_lexer.specs.SourceTokens.{TokensCut, IsFirstFault}
 use Rattle.dsl_lexer.proofs.Matching.{start_matches}
 use Rattle.dsl_lexer.proofs.Texts.{valid_all}
 use Rattle.dsl_lexer.proofs.Taking.{law_at}
@@ -18,7 +19,7 @@ use Rattle.dsl_lexer.proofs.Ending.{reached_end}
 
 pub data Ran : Type 0 where
   Ends : Layout → Ran
-  StopsAt : Layout → Spot → (code : ℕ) → Ran
+  StopsAt : Layout → Spot → (code : FaultCode) → Ran
   Tires : Ran
 
 abbrev pub run : ℕ → ℕ → ℕ → List ℕ → Layout → Ran

@@ -18,15 +18,19 @@ use Rattle.dsl_lexer.specs.Kinds.{kind_of}
 use Rattle.dsl_lexer.specs.Scan.{first_shape, piece_len, control_at}
 use Rattle.dsl_lexer.specs.Pieces.{Piece, reach, Cut, IsStuck, IsContent}
 use Rattle.dsl_lexer.specs.Layout.{brackets_behind, brackets, line, width, first_tab, widths, opened, fits, has_lexeme, depth}
-use Rattle.dsl_lexer.specs.Language.{HasControl, IsLaidOut, IsSound, AreSound, BeginsContent, IsNext, FaultBehind, bad_byte, early_tab, bad_width, no_piece, bad_control, no_string, no_number, too_deep}
+use Rattle.dsl_lexer.specs.SourceTokens.{HasControl, IsLaidOut, IsSound, AreSound, BeginsContent, IsNext, FaultBehind, bad_byte, early_tab, bad_width, no_piece, bad_control, no_string, no_number, too_deep}
 use Rattle.dsl_lexer.specs.Steps.{moved, widths_behind, bad_byte_or, first_white_fault, white_fault, end_fault, control_or_end, controls, SpottedFault, Outcome, Goes, Stops, or_stop, after_separator, after_lexeme, separator_of, lexeme_of, content_of, piece_of, step_of}
 use Rattle.dsl_lexer.proofs.Spots.{no_feed, is_flat, flat}
 use Rattle.dsl_lexer.proofs.Fronts.{Next, next_found, stuck, content, stuck_content}
 use Rattle.dsl_lexer.proofs.Ascii.{FirstControl, control_none, control_some, control_within, string_control}
 use Rattle.dsl_lexer.proofs.Matching.{lexeme_matches}
-use Rattle.dsl_lexer.proofs.Firsts.{some_not_none, NotBefore, IsFirstHere, some_is}
+use Rattle.dsl_lexer.proofs.FaultClasses.{some_not_none}
+use Rattle.dsl_lexer.proofs.Firsts.{IsFirstHere, some_is}
 use Rattle.dsl_lexer.proofs.Cutting.{some_text, is_next_same, cut_length}
 use Rattle.std.specs.Option.{option_map}
+use Rattle.osc_base.specs.declared.fault.FaultCode.{FaultCode}
+use Rattle.osc_base.specs.FaultCodes.{number_of}
+use Rattle.osc_base.specs.FaultRows.{IsNoLater}
 use Rattle.dsl_lexer.proofs.Stepping.{least_of, depth_ok, separator_depth, tab_before, inner_spot, separator_matches, reached_more, bad_comment, stop_here}
 
 -- what is known of a place behind its white space
@@ -92,7 +96,7 @@ controls_are Comment t lex = absurd (false≢true lex)
 controls_are LineEnd t lex = absurd (false≢true lex)
 controls_are Joint t lex = absurd (false≢true lex)
 
-not_before : (a b c d : ℕ) → a ≤ b → c ≤ d → NotBefore a c b d
+not_before : (a b : ℕ) (c d : FaultCode) → a ≤ b → number_of c ≤ number_of d → IsNoLater a c b d
 not_before a b c d h k = elim (cases_order a b) [ inl e ↦ inr (e, k) | inr (inl lt) ↦ inl lt | inr (inr gt) ↦ absurd (omega arith) ]
 
 module _ (file : ℕ) (bytes : List ℕ) (valid : ℕ) (l : Layout) (v : Valid bytes valid) (before : List Piece) (b : ℕ) (more : List ℕ)
@@ -100,7 +104,7 @@ module _ (file : ℕ) (bytes : List ℕ) (valid : ℕ) (l : Layout) (v : Valid b
   room : reach before < length bytes
   room = omega (arith, cut_length bytes before (b ∷ more) cut)
 
-  stops : (n code : ℕ) (s : Spot) → IsSpot bytes n s → IsFirstHere bytes valid before (b ∷ more) n code → Follows file bytes valid l (Stops s code)
+  stops : (n : ℕ) (code : FaultCode) (s : Spot) → IsSpot bytes n s → IsFirstHere bytes valid before (b ∷ more) n code → Follows file bytes valid l (Stops s code)
   stops n code s is first = stop_here file bytes valid l v before (b ∷ more) cut sound m within n code s is first
 
   -- a separator
@@ -111,7 +115,7 @@ module _ (file : ℕ) (bytes : List ℕ) (valid : ℕ) (l : Layout) (v : Valid b
   inside_bytes : (s : Shape) (n : ℕ) (x : Next s (b ∷ more) n) → reach before + length x.text ≤ length bytes
   inside_bytes s n x = omega (arith, cut_length bytes before (b ∷ more) cut, ap length x.split, length-append x.text x.behind)
 
-  separator_first : (s : Shape) (n : ℕ) (x : Next s (b ∷ more) n) → is_lexeme s ≡ false → valid < reach before + length x.text → s ≡ Comment → IsFirstHere bytes valid before (b ∷ more) valid 101
+  separator_first : (s : Shape) (n : ℕ) (x : Next s (b ∷ more) n) → is_lexeme s ≡ false → valid < reach before + length x.text → s ≡ Comment → IsFirstHere bytes valid before (b ∷ more) valid FaultCode.Utf8
   separator_first s n x off inside comment =
       let p = piece_of_text before s x.text in
       let end = inside_bytes s n x in
@@ -124,7 +128,7 @@ module _ (file : ℕ) (bytes : List ℕ) (valid : ℕ) (l : Layout) (v : Valid b
       record {
         fault = bad_byte refl (v.bad (omega arith)) within inside';
         early = inr (refl, refl);
-        least = least_of bytes valid before (b ∷ more) v valid 101 (inr (refl, refl)) (λ k c e. absurd (content c)) (λ c e. absurd (content c)) (λ k t e. absurd (stuck k))
+        least = least_of bytes valid before (b ∷ more) v valid FaultCode.Utf8 (inr (refl, refl)) (λ k c e. absurd (content c)) (λ c e. absurd (content c)) (λ k t e. absurd (stuck k))
             (λ q i nq e h. absurd (false≢true (sym off ∙ ap is_lexeme (sym (shape q nq) ∙ e))))
             (λ q nq e h. absurd (false≢true (sym off ∙ ap is_lexeme (sym (shape q nq) ∙ e))))
             (λ q nq rises over. let flat' = separator_depth q before (ap is_lexeme (shape q nq) ∙ off) in absurd (omega arith));
@@ -133,7 +137,7 @@ module _ (file : ℕ) (bytes : List ℕ) (valid : ℕ) (l : Layout) (v : Valid b
       }
 
   separator_by : (s : Shape) (n : ℕ) (x : Next s (b ∷ more) n) (t : Bool) → is_lexeme s ≡ false → nat_lt valid (l.spot.at + n) ≡ t
-      → Follows file bytes valid l (or_stop (cond t (Some (moved l.spot (valid - l.spot.at), 101)) None) (Goes (after_separator file l s n)))
+      → Follows file bytes valid l (or_stop (cond t (Some (moved l.spot (valid - l.spot.at), FaultCode.Utf8)) None) (Goes (after_separator file l s n)))
   separator_by s n x true off e =
       let at = m.spot.at in
       let size = x.size in
@@ -144,7 +148,7 @@ module _ (file : ℕ) (bytes : List ℕ) (valid : ℕ) (l : Layout) (v : Valid b
       let flat' : list_all no_feed x.text ≡ true = flat s x.text (ap is_flat comment) x.shape in
       let spot = inner_spot bytes before x.text x.behind cut' l.spot m.spot (valid - l.spot.at) (omega arith) flat' in
       let here : reach before + (valid - l.spot.at) ≡ valid = omega arith in
-      stops valid 101 (moved l.spot (valid - l.spot.at)) (subst (λ k. IsSpot bytes k (moved l.spot (valid - l.spot.at))) here spot) (separator_first s n x off (omega arith) comment)
+      stops valid FaultCode.Utf8 (moved l.spot (valid - l.spot.at)) (subst (λ k. IsSpot bytes k (moved l.spot (valid - l.spot.at))) here spot) (separator_first s n x off (omega arith) comment)
   separator_by s n x false off e =
       let at = m.spot.at in
       let size = x.size in
@@ -170,71 +174,71 @@ module _ (file : ℕ) (bytes : List ℕ) (valid : ℕ) (l : Layout) (v : Valid b
   content_next : IsContent (b ∷ more) → (q : Piece) → IsNext before (b ∷ more) q → is_lexeme q.shape ≡ true
   content_next c q nq = c.lexeme q.shape q.text nq.behind nq.stands.shape nq.split
 
-  tab_first : (n : ℕ) → BeginsContent before (b ∷ more) → first_tab (line before) ≡ Some n → IsFirstHere bytes valid before (b ∷ more) n 102
+  tab_first : (n : ℕ) → BeginsContent before (b ∷ more) → first_tab (line before) ≡ Some n → IsFirstHere bytes valid before (b ∷ more) n FaultCode.Tab
   tab_first n c e =
       let low = tab_before bytes before (b ∷ more) n cut e in
       record {
         fault = early_tab refl c e;
         early = inl (omega arith);
-        least = least_of bytes valid before (b ∷ more) v n 102 (inl (omega arith)) (λ k d f. inr (some_is n k (sym e ∙ f), omega arith)) (λ d f. inl low) (λ k t f. inl low)
+        least = least_of bytes valid before (b ∷ more) v n FaultCode.Tab (inl (omega arith)) (λ k d f. inr (some_is n k (sym e ∙ f), omega arith)) (λ d f. inl low) (λ k t f. inl low)
             (λ q i nq f h. inl (omega arith)) (λ q nq f h. inl low) (λ q nq rises over. inl low);
         inside = λ q nq. omega arith;
         next = λ q nq. inl (content_next c.content q nq);
       }
 
-  bad_first : IsContent (b ∷ more) → valid ≡ reach before → ((k : ℕ) → BeginsContent before (b ∷ more) → first_tab (line before) ≡ Some k → ⊥) → IsFirstHere bytes valid before (b ∷ more) (reach before) 101
+  bad_first : IsContent (b ∷ more) → valid ≡ reach before → ((k : ℕ) → BeginsContent before (b ∷ more) → first_tab (line before) ≡ Some k → ⊥) → IsFirstHere bytes valid before (b ∷ more) (reach before) FaultCode.Utf8
   bad_first c at no_tab =
       record {
         fault = bad_byte refl (subst (IsValidUpTo bytes) at (v.bad (let r = room in omega arith))) (omega arith) (λ q nq. let some = some_text q.shape q.text nq.stands.shape in omega arith);
         early = inr (sym at, refl);
-        least = least_of bytes valid before (b ∷ more) v (reach before) 101 (inr (sym at, refl)) (λ k d f. absurd (no_tab k d f)) (λ d f. inr (refl, omega arith)) (λ k t f. stuck_after t)
+        least = least_of bytes valid before (b ∷ more) v (reach before) FaultCode.Utf8 (inr (sym at, refl)) (λ k d f. absurd (no_tab k d f)) (λ d f. inr (refl, omega arith)) (λ k t f. stuck_after t)
             (λ q i nq f h. control_after i) (λ q nq f h. inr (refl, omega arith)) (λ q nq rises over. inr (refl, omega arith));
         inside = λ q nq. let some = some_text q.shape q.text nq.stands.shape in omega arith;
         next = λ q nq. inl (content_next c q nq);
       }
     where
-      stuck_after : (t : Bool) → NotBefore (reach before) 101 (reach before) (cond t 105 104)
+      stuck_after : (t : Bool) → IsNoLater (reach before) FaultCode.Utf8 (reach before) (cond t FaultCode.Text FaultCode.Character)
       stuck_after true = inr (refl, omega arith)
       stuck_after false = inr (refl, omega arith)
 
-      control_after : (i : ℕ) → NotBefore (reach before) 101 (reach before + i) 104
+      control_after : (i : ℕ) → IsNoLater (reach before) FaultCode.Utf8 (reach before + i) FaultCode.Character
       control_after zero = inr (omega arith, omega arith)
       control_after (suc i) = inl (omega arith)
 
-  width_first : BeginsContent before (b ∷ more) → reach before < valid → ((k : ℕ) → first_tab (line before) ≡ Some k → ⊥) → fits (width (line before)) (opened (widths before)) ≡ false → IsFirstHere bytes valid before (b ∷ more) (reach before) 103
+  width_first : BeginsContent before (b ∷ more) → reach before < valid → ((k : ℕ) → first_tab (line before) ≡ Some k → ⊥) → fits (width (line before)) (opened (widths before)) ≡ false → IsFirstHere bytes valid before (b ∷ more) (reach before) FaultCode.Indent
   width_first c early no_tab off =
       record {
         fault = bad_width refl refl c off;
         early = inl early;
-        least = least_of bytes valid before (b ∷ more) v (reach before) 103 (inl early) (λ k d f. absurd (no_tab k f)) (λ d f. inr (refl, omega arith)) (λ k t f. stuck_after t)
+        least = least_of bytes valid before (b ∷ more) v (reach before) FaultCode.Indent (inl early) (λ k d f. absurd (no_tab k f)) (λ d f. inr (refl, omega arith)) (λ k t f. stuck_after t)
             (λ q i nq f h. control_after i) (λ q nq f h. inr (refl, omega arith)) (λ q nq rises over. inr (refl, omega arith));
         inside = λ q nq. let some = some_text q.shape q.text nq.stands.shape in omega arith;
         next = λ q nq. inl (content_next c.content q nq);
       }
     where
-      stuck_after : (t : Bool) → NotBefore (reach before) 103 (reach before) (cond t 105 104)
+      stuck_after : (t : Bool) → IsNoLater (reach before) FaultCode.Indent (reach before) (cond t FaultCode.Text FaultCode.Character)
       stuck_after true = inr (refl, omega arith)
       stuck_after false = inr (refl, omega arith)
 
-      control_after : (i : ℕ) → NotBefore (reach before) 103 (reach before + i) 104
+      control_after : (i : ℕ) → IsNoLater (reach before) FaultCode.Indent (reach before + i) FaultCode.Character
       control_after zero = inr (omega arith, omega arith)
       control_after (suc i) = inl (omega arith)
 
   -- the byte at the place begins a character, or not
   byte_by : (next : Outcome) (other : Option SpottedFault) (t : Bool) → IsContent (b ∷ more) → (valid == l.spot.at) ≡ t → ((k : ℕ) → BeginsContent before (b ∷ more) → first_tab (line before) ≡ Some k → ⊥)
-      → (reach before < valid → Follows file bytes valid l (or_stop other next)) → Follows file bytes valid l (or_stop (cond t (Some (l.spot, 101)) other) next)
+      → (reach before < valid → Follows file bytes valid l (or_stop other next)) → Follows file bytes valid l (or_stop (cond t (Some (l.spot, FaultCode.Utf8)) other) next)
   byte_by next other true c e no_tab go =
       let at = m.spot.at in let same = eqb-true valid l.spot.at e in
-      stops (reach before) 101 l.spot m.spot (bad_first c (omega arith) no_tab)
+      stops (reach before) FaultCode.Utf8 l.spot m.spot (bad_first c (omega arith) no_tab)
   byte_by next other false c e no_tab go = let at = m.spot.at in let other' = eqb-false valid l.spot.at e in go (early_go at other' within)
     where
       early_go : l.spot.at ≡ reach before → (valid ≡ l.spot.at → ⊥) → reach before ≤ valid → reach before < valid
       early_go at ne h = elim (cases_order (reach before) valid) [ inl e ↦ absurd (ne (sym e ∙ sym at)) | inr (inl lt) ↦ lt | inr (inr gt) ↦ absurd (omega arith) ]
 
   width_by : (next : Outcome) (t : Bool) → BeginsContent before (b ∷ more) → reach before < valid → first_tab (line before) ≡ None → fits l.spaces l.widths ≡ t
-      → (Clear valid before → Follows file bytes valid l next) → Follows file bytes valid l (or_stop (cond t None (Some (l.spot, 103))) next)
+      → (Clear valid before → Follows file bytes valid l next) → Follows file bytes valid l (or_stop (cond t None (Some (l.spot, FaultCode.Indent))) next)
   width_by next true c early none e go = go (record { early = early; laid = λ h. record { no_tab = none; fitting = rw (← m.spaces, ← m.widths) e } })
-  width_by next false c early none e go = stops (reach before) 103 l.spot m.spot (width_first c early (λ k f. none_some k (sym none ∙ f)) (rw (← m.spaces, ← m.widths) e))
+  width_by next false c early none e go = stops (reach before) FaultCode.Indent l.spot m.spot (width_first c early (λ k f. none_some k (sym none ∙ f)) (rw (← m.spaces, ← m.widths) e))
     where
       none_some : (k : ℕ) → None ≡ Some k → ⊥
       none_some k e = cc
@@ -242,12 +246,12 @@ module _ (file : ℕ) (bytes : List ℕ) (valid : ℕ) (l : Layout) (v : Valid b
   tab_by : (next : Outcome) (o : Option ℕ) (t : Option Spot) → BeginsContent before (b ∷ more) → first_tab (line before) ≡ o → IsTab bytes o t
       → (Clear valid before → Follows file bytes valid l next) → Follows file bytes valid l (or_stop (first_white_fault l valid t) next)
   tab_by next None None c e is go =
-      byte_by next (cond (fits l.spaces l.widths) None (Some (l.spot, 103))) (valid == l.spot.at) c.content refl (λ k d f. none_some k (sym e ∙ f))
+      byte_by next (cond (fits l.spaces l.widths) None (Some (l.spot, FaultCode.Indent))) (valid == l.spot.at) c.content refl (λ k d f. none_some k (sym e ∙ f))
       (λ early. width_by next (fits l.spaces l.widths) c early e refl go)
     where
       none_some : (k : ℕ) → None ≡ Some k → ⊥
       none_some k e = cc
-  tab_by next (Some n) (Some s) c e is go = stops n 102 s is (tab_first n c e)
+  tab_by next (Some n) (Some s) c e is go = stops n FaultCode.Tab s is (tab_first n c e)
   tab_by next None (Some s) c e is go = absurd is
   tab_by next (Some n) None c e is go = absurd is
 
@@ -262,32 +266,32 @@ module _ (file : ℕ) (bytes : List ℕ) (valid : ℕ) (l : Layout) (v : Valid b
 
   -- nothing fits
 
-  stuck_first : Clear valid before → IsStuck (b ∷ more) → (t : Bool) → is_quote b ≡ t → IsFirstHere bytes valid before (b ∷ more) (reach before) (cond t 105 104)
+  stuck_first : Clear valid before → IsStuck (b ∷ more) → (t : Bool) → is_quote b ≡ t → IsFirstHere bytes valid before (b ∷ more) (reach before) (cond t FaultCode.Text FaultCode.Character)
   stuck_first clear k t e =
       let no_piece' : (q : Piece) → IsNext before (b ∷ more) q → ⊥ = λ q nq. k.none q.shape q.text nq.behind nq.stands.shape nq.split in
       let laid : BeginsContent before (b ∷ more) → IsLaidOut before = λ c. clear.laid c.first in
       record {
         fault = fault_go k t e;
         early = inl clear.early;
-        least = least_of bytes valid before (b ∷ more) v (reach before) (cond t 105 104) (inl clear.early)
+        least = least_of bytes valid before (b ∷ more) v (reach before) (cond t FaultCode.Text FaultCode.Character) (inl clear.early)
             (λ j d f. absurd (some_not_none (first_tab (line before)) (ap is_some f) (laid d).no_tab)) (λ d f. absurd (false≢true (sym f ∙ (laid d).fitting)))
             (λ k' u f. same_go t u (sym e ∙ f)) (λ q i nq f h. absurd (no_piece' q nq)) (λ q nq f h. absurd (no_piece' q nq)) (λ q nq rises over. absurd (no_piece' q nq));
         inside = λ q nq. absurd (no_piece' q nq);
         next = λ q nq. absurd (no_piece' q nq);
       }
     where
-      fault_go : IsStuck (b ∷ more) → (t : Bool) → is_quote b ≡ t → FaultBehind bytes before (b ∷ more) (reach before) (cond t 105 104)
+      fault_go : IsStuck (b ∷ more) → (t : Bool) → is_quote b ≡ t → FaultBehind bytes before (b ∷ more) (reach before) (cond t FaultCode.Text FaultCode.Character)
       fault_go k true e = no_string refl refl k e
       fault_go k false e = no_piece refl refl k e
 
-      same_go : (t u : Bool) → t ≡ u → NotBefore (reach before) (cond t 105 104) (reach before) (cond u 105 104)
-      same_go t u e = inr (refl, subst (λ w. cond t 105 104 ≤ cond w 105 104) e (le_same (cond t 105 104)))
+      same_go : (t u : Bool) → t ≡ u → IsNoLater (reach before) (cond t FaultCode.Text FaultCode.Character) (reach before) (cond u FaultCode.Text FaultCode.Character)
+      same_go t u e = inr (refl, subst (λ w. number_of (cond t FaultCode.Text FaultCode.Character) ≤ number_of (cond w FaultCode.Text FaultCode.Character)) e (le_same (number_of (cond t FaultCode.Text FaultCode.Character))))
         where
           le_same : (n : ℕ) → n ≤ n
           le_same n = omega arith
 
-  pub stuck_step : IsStuck (b ∷ more) → Clear valid before → Follows file bytes valid l (Stops l.spot (cond (is_quote b) 105 104))
-  stuck_step k clear = stops (reach before) (cond (is_quote b) 105 104) l.spot m.spot (stuck_first clear k (is_quote b) refl)
+  pub stuck_step : IsStuck (b ∷ more) → Clear valid before → Follows file bytes valid l (Stops l.spot (cond (is_quote b) FaultCode.Text FaultCode.Character))
+  stuck_step k clear = stops (reach before) (cond (is_quote b) FaultCode.Text FaultCode.Character) l.spot m.spot (stuck_first clear k (is_quote b) refl)
 
   -- a token
 
@@ -295,11 +299,11 @@ module _ (file : ℕ) (bytes : List ℕ) (valid : ℕ) (l : Layout) (v : Valid b
   laid_or clear c = clear.laid c.first
 
   -- the faults at a token, but for those of the token itself
-  token_least : (s : Shape) (n : ℕ) (x : Next s (b ∷ more) n) → is_lexeme s ≡ true → Clear valid before → (at code : ℕ) → (at < valid) ⊎ ((at ≡ valid) × (code ≡ 101))
-      → ((i : ℕ) → s ≡ StringShape → HasControl x.text i → NotBefore at code (reach before + i) 104)
-      → (kind_of s x.text ≡ None → NotBefore at code (reach before) 106)
-      → (64 < depth (piece_of_text before s x.text ∷ before) → NotBefore at code (reach before) 107)
-      → (k c : ℕ) → FaultBehind bytes before (b ∷ more) k c → NotBefore at code k c
+  token_least : (s : Shape) (n : ℕ) (x : Next s (b ∷ more) n) → is_lexeme s ≡ true → Clear valid before → (at : ℕ) (code : FaultCode) → (at < valid) ⊎ ((at ≡ valid) × (code ≡ FaultCode.Utf8))
+      → ((i : ℕ) → s ≡ StringShape → HasControl x.text i → IsNoLater at code (reach before + i) FaultCode.Character)
+      → (kind_of s x.text ≡ None → IsNoLater at code (reach before) FaultCode.Number)
+      → (64 < depth (piece_of_text before s x.text ∷ before) → IsNoLater at code (reach before) FaultCode.Deep)
+      → (k : ℕ) (c : FaultCode) → FaultBehind bytes before (b ∷ more) k c → IsNoLater at code k c
   token_least s n x lex clear at code early control number deep =
       let p = piece_of_text before s x.text in
       let same : (q : Piece) → IsNext before (b ∷ more) q → q ≡ p = λ q nq. is_next_same before (b ∷ more) q p nq (is_next s n x) in
@@ -317,26 +321,26 @@ module _ (file : ℕ) (bytes : List ℕ) (valid : ℕ) (l : Layout) (v : Valid b
   token_next : (s : Shape) (n : ℕ) (x : Next s (b ∷ more) n) → is_lexeme s ≡ true → (q : Piece) → IsNext before (b ∷ more) q → (is_lexeme q.shape ≡ true) ⊎ (q.shape ≡ Comment)
   token_next s n x lex q nq = inl (ap (λ (r : Piece). is_lexeme r.shape) (is_next_same before (b ∷ more) q (piece_of_text before s x.text) nq (is_next s n x)) ∙ lex)
 
-  number_first : (s : Shape) (n : ℕ) (x : Next s (b ∷ more) n) → is_lexeme s ≡ true → Clear valid before → kind_of s x.text ≡ None → IsFirstHere bytes valid before (b ∷ more) (reach before) 106
+  number_first : (s : Shape) (n : ℕ) (x : Next s (b ∷ more) n) → is_lexeme s ≡ true → Clear valid before → kind_of s x.text ≡ None → IsFirstHere bytes valid before (b ∷ more) (reach before) FaultCode.Number
   number_first s n x lex clear none =
       let shape = none_number s x.text lex x.shape none in
       let some = some_text s x.text x.shape in
       record {
         fault = no_number (piece_of_text before s x.text) refl refl (is_next s n x) shape none;
         early = inl clear.early;
-        least = token_least s n x lex clear (reach before) 106 (inl clear.early) (λ i e h. absurd (number_no_string (sym shape ∙ e))) (λ e. inr (refl, omega arith)) (λ over. inr (refl, omega arith));
+        least = token_least s n x lex clear (reach before) FaultCode.Number (inl clear.early) (λ i e h. absurd (number_no_string (sym shape ∙ e))) (λ e. inr (refl, omega arith)) (λ over. inr (refl, omega arith));
         inside = token_inside s n x (reach before) (omega arith);
         next = token_next s n x lex;
       }
 
-  deep_first : (s : Shape) (n : ℕ) (x : Next s (b ∷ more) n) → is_lexeme s ≡ true → Clear valid before → IsSome (kind_of s x.text) → 64 < depth (piece_of_text before s x.text ∷ before) → IsFirstHere bytes valid before (b ∷ more) (reach before) 107
+  deep_first : (s : Shape) (n : ℕ) (x : Next s (b ∷ more) n) → is_lexeme s ≡ true → Clear valid before → IsSome (kind_of s x.text) → 64 < depth (piece_of_text before s x.text ∷ before) → IsFirstHere bytes valid before (b ∷ more) (reach before) FaultCode.Deep
   deep_first s n x lex clear known over =
       let some = some_text s x.text x.shape in
       let ok = depth_ok before sound in
       record {
         fault = too_deep (piece_of_text before s x.text) refl refl (is_next s n x) (omega arith) over;
         early = inl clear.early;
-        least = token_least s n x lex clear (reach before) 107 (inl clear.early)
+        least = token_least s n x lex clear (reach before) FaultCode.Deep (inl clear.early)
             (λ i e h. let far = string_control x.text i (subst (λ u. IsShape u x.text) e x.shape) h in inl (omega arith))
             (λ e. absurd (some_not_none (kind_of s x.text) known e)) (λ o. inr (refl, omega arith));
         inside = token_inside s n x (reach before) (omega arith);
@@ -344,28 +348,28 @@ module _ (file : ℕ) (bytes : List ℕ) (valid : ℕ) (l : Layout) (v : Valid b
       }
 
   control_first : (s : Shape) (n : ℕ) (x : Next s (b ∷ more) n) → is_lexeme s ≡ true → Clear valid before → IsSome (kind_of s x.text) → depth (piece_of_text before s x.text ∷ before) ≤ 64
-      → (i : ℕ) → s ≡ StringShape → FirstControl x.text i → reach before + i < valid → IsFirstHere bytes valid before (b ∷ more) (reach before + i) 104
+      → (i : ℕ) → s ≡ StringShape → FirstControl x.text i → reach before + i < valid → IsFirstHere bytes valid before (b ∷ more) (reach before + i) FaultCode.Character
   control_first s n x lex clear known shallow i string c early =
       let inside = c.within in
       record {
         fault = bad_control (piece_of_text before s x.text) i refl (is_next s n x) string c.there refl;
         early = inl early;
-        least = token_least s n x lex clear (reach before + i) 104 (inl early)
-            (λ j e h. let far = c.least j h in not_before (reach before + i) (reach before + j) 104 104 (omega arith) (omega arith))
+        least = token_least s n x lex clear (reach before + i) FaultCode.Character (inl early)
+            (λ j e h. let far = c.least j h in not_before (reach before + i) (reach before + j) FaultCode.Character FaultCode.Character (omega arith) (omega arith))
             (λ e. absurd (some_not_none (kind_of s x.text) known e)) (λ o. absurd (omega arith));
         inside = token_inside s n x (reach before + i) (omega arith);
         next = token_next s n x lex;
       }
 
   end_first : (s : Shape) (n : ℕ) (x : Next s (b ∷ more) n) → is_lexeme s ≡ true → Clear valid before → IsSome (kind_of s x.text) → depth (piece_of_text before s x.text ∷ before) ≤ 64
-      → valid < reach before + length x.text → ((i : ℕ) → s ≡ StringShape → HasControl x.text i → valid ≤ reach before + i) → IsFirstHere bytes valid before (b ∷ more) valid 101
+      → valid < reach before + length x.text → ((i : ℕ) → s ≡ StringShape → HasControl x.text i → valid ≤ reach before + i) → IsFirstHere bytes valid before (b ∷ more) valid FaultCode.Utf8
   end_first s n x lex clear known shallow inside controls' =
       let end = inside_bytes s n x in
       record {
         fault = bad_byte refl (v.bad (omega arith)) within (token_inside s n x valid inside);
         early = inr (refl, refl);
-        least = token_least s n x lex clear valid 101 (inr (refl, refl))
-            (λ j e h. let far = controls' j e h in not_before valid (reach before + j) 101 104 far (omega arith))
+        least = token_least s n x lex clear valid FaultCode.Utf8 (inr (refl, refl))
+            (λ j e h. let far = controls' j e h in not_before valid (reach before + j) FaultCode.Utf8 FaultCode.Character far (omega arith))
             (λ e. absurd (some_not_none (kind_of s x.text) known e)) (λ o. absurd (omega arith));
         inside = token_inside s n x valid inside;
         next = token_next s n x lex;
@@ -384,12 +388,12 @@ module _ (file : ℕ) (bytes : List ℕ) (valid : ℕ) (l : Layout) (v : Valid b
   -- the end of a token
   end_by : (s : Shape) (n : ℕ) (x : Next s (b ∷ more) n) → is_lexeme s ≡ true → Clear valid before → (kind : TokenKind) → kind_of s x.text ≡ Some kind → depth (piece_of_text before s x.text ∷ before) ≤ 64
       → ((i : ℕ) → s ≡ StringShape → HasControl x.text i → valid ≤ reach before + i) → (t : Bool) → nat_lt valid (l.spot.at + length x.text) ≡ t
-      → Follows file bytes valid l (or_stop (cond t (Some (moved l.spot (valid - l.spot.at), 101)) None) (Goes (after_lexeme file l (length x.text) kind)))
+      → Follows file bytes valid l (or_stop (cond t (Some (moved l.spot (valid - l.spot.at), FaultCode.Utf8)) None) (Goes (after_lexeme file l (length x.text) kind)))
   end_by s n x lex clear kind e shallow controls' true f =
       let at = m.spot.at in
       let low = ltb-true valid (l.spot.at + length x.text) f in
       let here : reach before + (valid - l.spot.at) ≡ valid = omega arith in
-      stops valid 101 (moved l.spot (valid - l.spot.at)) (subst (λ k. IsSpot bytes k (moved l.spot (valid - l.spot.at))) here (token_spot s n x lex (valid - l.spot.at) (omega arith)))
+      stops valid FaultCode.Utf8 (moved l.spot (valid - l.spot.at)) (subst (λ k. IsSpot bytes k (moved l.spot (valid - l.spot.at))) here (token_spot s n x lex (valid - l.spot.at) (omega arith)))
       (end_first s n x lex clear (ap is_some e) shallow (omega arith) controls')
   end_by s n x lex clear kind e shallow controls' false f =
       let at = m.spot.at in
@@ -409,12 +413,12 @@ module _ (file : ℕ) (bytes : List ℕ) (valid : ℕ) (l : Layout) (v : Valid b
   control_by s n x lex clear kind e shallow (Some i) (string, c) = here (nat_lt (l.spot.at + i) valid) refl
     where
       here : (t : Bool) → nat_lt (l.spot.at + i) valid ≡ t
-          → Follows file bytes valid l (or_stop (cond t (Some (moved l.spot i, 104)) (end_fault l valid (length x.text))) (Goes (after_lexeme file l (length x.text) kind)))
+          → Follows file bytes valid l (or_stop (cond t (Some (moved l.spot i, FaultCode.Character)) (end_fault l valid (length x.text))) (Goes (after_lexeme file l (length x.text) kind)))
       here true f =
           let at = m.spot.at in
           let low = ltb-true (l.spot.at + i) valid f in
           let inside = c.within in
-          stops (reach before + i) 104 (moved l.spot i) (token_spot s n x lex i (omega arith)) (control_first s n x lex clear (ap is_some e) shallow i string c (omega arith))
+          stops (reach before + i) FaultCode.Character (moved l.spot i) (token_spot s n x lex i (omega arith)) (control_first s n x lex clear (ap is_some e) shallow i string c (omega arith))
       here false f =
           let at = m.spot.at in
           let high = ltb-false (l.spot.at + i) valid f in
@@ -422,7 +426,7 @@ module _ (file : ℕ) (bytes : List ℕ) (valid : ℕ) (l : Layout) (v : Valid b
 
   deep_by : (s : Shape) (n : ℕ) (x : Next s (b ∷ more) n) → is_lexeme s ≡ true → Clear valid before → (kind : TokenKind) → kind_of s x.text ≡ Some kind
       → (t : Bool) → nat_lt 64 (brackets_behind (Some kind) l.brackets + length (widths_behind l)) ≡ t
-      → Follows file bytes valid l (or_stop (cond t (Some (l.spot, 107)) (control_or_end l valid (length x.text) (controls s x.text))) (Goes (after_lexeme file l (length x.text) kind)))
+      → Follows file bytes valid l (or_stop (cond t (Some (l.spot, FaultCode.Deep)) (control_or_end l valid (length x.text) (controls s x.text))) (Goes (after_lexeme file l (length x.text) kind)))
   deep_by s n x lex clear kind e t f =
       let mm = token_matches s n x lex kind e in
       let same : brackets_behind (Some kind) l.brackets + length (widths_behind l) ≡ depth (piece_of_text before s x.text ∷ before) =
@@ -431,12 +435,12 @@ module _ (file : ℕ) (bytes : List ℕ) (valid : ℕ) (l : Layout) (v : Valid b
     where
       deep_go : (s : Shape) (n : ℕ) (x : Next s (b ∷ more) n) → is_lexeme s ≡ true → Clear valid before → (kind : TokenKind) → kind_of s x.text ≡ Some kind
           → (t : Bool) → nat_lt 64 (depth (piece_of_text before s x.text ∷ before)) ≡ t
-          → Follows file bytes valid l (or_stop (cond t (Some (l.spot, 107)) (control_or_end l valid (length x.text) (controls s x.text))) (Goes (after_lexeme file l (length x.text) kind)))
-      deep_go s n x lex clear kind e true f = stops (reach before) 107 l.spot m.spot (deep_first s n x lex clear (ap is_some e) (ltb-true 64 (depth (piece_of_text before s x.text ∷ before)) f))
+          → Follows file bytes valid l (or_stop (cond t (Some (l.spot, FaultCode.Deep)) (control_or_end l valid (length x.text) (controls s x.text))) (Goes (after_lexeme file l (length x.text) kind)))
+      deep_go s n x lex clear kind e true f = stops (reach before) FaultCode.Deep l.spot m.spot (deep_first s n x lex clear (ap is_some e) (ltb-true 64 (depth (piece_of_text before s x.text ∷ before)) f))
       deep_go s n x lex clear kind e false f = control_by s n x lex clear kind e (ltb-false 64 (depth (piece_of_text before s x.text ∷ before)) f) (controls s x.text) (controls_are s x.text lex)
 
   lexeme_by : (s : Shape) (n : ℕ) (x : Next s (b ∷ more) n) → is_lexeme s ≡ true → Clear valid before → (k : Option TokenKind) → kind_of s x.text ≡ k → Follows file bytes valid l (lexeme_of file valid l s x.text k)
-  lexeme_by s n x lex clear None e = stops (reach before) 106 l.spot m.spot (number_first s n x lex clear e)
+  lexeme_by s n x lex clear None e = stops (reach before) FaultCode.Number l.spot m.spot (number_first s n x lex clear e)
   lexeme_by s n x lex clear (Some kind) e = deep_by s n x lex clear kind e (nat_lt 64 (brackets_behind (Some kind) l.brackets + length (widths_behind l))) refl
 
   pub lexeme_step : (n : ℕ) → piece_len (first_shape b) (b ∷ more) ≡ Some n → is_lexeme (first_shape b) ≡ true → Clear valid before

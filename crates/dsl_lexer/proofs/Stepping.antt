@@ -5,6 +5,8 @@ use Rattle.std.specs.Str.{IsValidUpTo}
 use Rattle.std.proofs.lemmas.Bool.{and_parts, true≢false}
 use Rattle.std.proofs.lemmas.List.{append_assoc, length-append, take-append-drop, length-take-le}
 use Rattle.std.proofs.lemmas.List.Folds.{list_all-append}
+use Rattle.osc_base.specs.declared.fault.FaultCode.{FaultCode}
+use Rattle.osc_base.specs.FaultRows.{IsNoLater}
 use Rattle.dsl_lexer.specs.Progress.{IsSpot, Matches, Valid, Reached, IsStop}
 use Rattle.dsl_lexer.specs.declared.spot.Spot.{Spot}
 use Rattle.dsl_lexer.specs.declared.layout.Layout.{Layout}
@@ -14,25 +16,25 @@ use Rattle.dsl_lexer.specs.Shapes.{Space, Tab, Comment, LineEnd, Joint, MarkShap
 use Rattle.dsl_lexer.specs.Kinds.{kind_of}
 use Rattle.dsl_lexer.specs.Pieces.{Piece, reach, Cut, IsStuck}
 use Rattle.dsl_lexer.specs.Layout.{brackets_behind, brackets, ends_line, is_tab, line, width, or_else, first_tab, widths, opened, fits, depth, tokens}
-use Rattle.dsl_lexer.specs.Language.{HasControl, IsSound, AreSound, BeginsContent, IsNext, begins_with, FaultBehind, bad_byte, early_tab, bad_width, no_piece, bad_control, no_string, no_number, too_deep}
+use Rattle.dsl_lexer.specs.SourceTokens.{HasControl, IsSound, AreSound, BeginsContent, IsNext, begins_with, FaultBehind, bad_byte, early_tab, bad_width, no_piece, bad_control, no_string, no_number, too_deep}
 use Rattle.dsl_lexer.specs.Steps.{moved, on_next_line, after_separator}
 use Rattle.dsl_lexer.proofs.Spots.{no_feed, spot_over, spot_below, flat, Ends, line_end_ends, joint_ends}
 use Rattle.dsl_lexer.proofs.Ascii.{separator_ascii, ascii_piece}
 use Rattle.dsl_lexer.proofs.Matching.{length-placed, place_same, space_matches, tab_matches, comment_matches, joint_matches, line_end_matches}
-use Rattle.dsl_lexer.proofs.Firsts.{NotBefore, IsFirstHere, some_is, bad_later, first_of_all}
+use Rattle.dsl_lexer.proofs.Firsts.{IsFirstHere, some_is, bad_later, first_of_all}
 use Rattle.dsl_lexer.proofs.Cutting.{some_text, spelled}
 
 -- the faults at one place, each with its offset and code
 
-module _ (bytes : List ℕ) (valid : ℕ) (before : List Piece) (rest : List ℕ) (v : Valid bytes valid) (n code : ℕ) where
-  pub least_of : ((n < valid) ⊎ ((n ≡ valid) × (code ≡ 101)))
-      → ((m : ℕ) → BeginsContent before rest → first_tab (line before) ≡ Some m → NotBefore n code m 102)
-      → (BeginsContent before rest → fits (width (line before)) (opened (widths before)) ≡ false → NotBefore n code (reach before) 103)
-      → (IsStuck rest → (t : Bool) → begins_with is_quote rest ≡ t → NotBefore n code (reach before) (cond t 105 104))
-      → ((p : Piece) (i : ℕ) → IsNext before rest p → p.shape ≡ StringShape → HasControl p.text i → NotBefore n code (reach before + i) 104)
-      → ((p : Piece) → IsNext before rest p → p.shape ≡ NumberShape → kind_of p.shape p.text ≡ None → NotBefore n code (reach before) 106)
-      → ((p : Piece) → IsNext before rest p → depth before < depth (p ∷ before) → 64 < depth (p ∷ before) → NotBefore n code (reach before) 107)
-      → (m c : ℕ) → FaultBehind bytes before rest m c → NotBefore n code m c
+module _ (bytes : List ℕ) (valid : ℕ) (before : List Piece) (rest : List ℕ) (v : Valid bytes valid) (n : ℕ) (code : FaultCode) where
+  pub least_of : ((n < valid) ⊎ ((n ≡ valid) × (code ≡ FaultCode.Utf8)))
+      → ((m : ℕ) → BeginsContent before rest → first_tab (line before) ≡ Some m → IsNoLater n code m FaultCode.Tab)
+      → (BeginsContent before rest → fits (width (line before)) (opened (widths before)) ≡ false → IsNoLater n code (reach before) FaultCode.Indent)
+      → (IsStuck rest → (t : Bool) → begins_with is_quote rest ≡ t → IsNoLater n code (reach before) (cond t FaultCode.Text FaultCode.Character))
+      → ((p : Piece) (i : ℕ) → IsNext before rest p → p.shape ≡ StringShape → HasControl p.text i → IsNoLater n code (reach before + i) FaultCode.Character)
+      → ((p : Piece) → IsNext before rest p → p.shape ≡ NumberShape → kind_of p.shape p.text ≡ None → IsNoLater n code (reach before) FaultCode.Number)
+      → ((p : Piece) → IsNext before rest p → depth before < depth (p ∷ before) → 64 < depth (p ∷ before) → IsNoLater n code (reach before) FaultCode.Deep)
+      → (m : ℕ) (c : FaultCode) → FaultBehind bytes before rest m c → IsNoLater n code m c
   least_of early t w s k u d m c (bad_byte e bad reached ends) = bad_later n code valid m c early (v.only m bad) e
   least_of early t w s k u d m c (early_tab e begun there) = rw e (t m begun there)
   least_of early t w s k u d m c (bad_width e at begun off) = rw (e, at) (w begun off)
@@ -82,7 +84,7 @@ tab_before bytes (p ∷ before) rest n cut e =
 
 -- from the first fault at the pieces to the first at all
 module _ (file : ℕ) (bytes : List ℕ) (valid : ℕ) (l : Layout) (v : Valid bytes valid) (before : List Piece) (rest : List ℕ) (cut : Cut bytes before rest) (sound : AreSound before) (m : Matches file bytes before l) (within : reach before ≤ valid) where
-  pub stop_here : (n code : ℕ) (s : Spot) → IsSpot bytes n s → IsFirstHere bytes valid before rest n code → IsStop file bytes l s code
+  pub stop_here : (n : ℕ) (code : FaultCode) (s : Spot) → IsSpot bytes n s → IsFirstHere bytes valid before rest n code → IsStop file bytes l s code
   stop_here n code s is first = record {
     first = λ fault place same.
         let count : length l.tokens ≡ length (tokens before) = ap length m.tokens ∙ length-placed file bytes 0 (tokens before) in

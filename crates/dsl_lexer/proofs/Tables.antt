@@ -43,19 +43,3 @@ mark_shape_is Joint h = absurd (false≢true h)
 mark_shape_is NameShape h = absurd (false≢true h)
 mark_shape_is NumberShape h = absurd (false≢true h)
 mark_shape_is StringShape h = absurd (false≢true h)
-
--- only the words of a text's own length matter
-skip : {K : Type 0} (text word : List ℕ) (kind : K) (rest : Option K) (n : ℕ) → length text ≡ n → (length word == n) ≡ false → cond (bytes_eq text word) (Some kind) rest ≡ rest
-skip text word kind rest n size other =
-    cond-false (bytes_eq text word) (Some kind) rest (false_from_ne_true (bytes_eq text word) (λ e.
-    let same = (bytes_eq-Decides text word).0 e in
-    false≢true (sym other ∙ eq-eqb (length word) n (sym (ap length same) ∙ size))))
-
-keep : {K : Type 0} (text word : List ℕ) (kind : K) (more short : List (List ℕ × K)) (n : ℕ) (t : Bool) → length text ≡ n → (length word == n) ≡ t → entry text more ≡ entry text short
-    → entry text ((word, kind) ∷ more) ≡ entry text (cond t ((word, kind) ∷ short) short)
-keep text word kind more short n true size e h = ap (λ o. cond (bytes_eq text word) (Some kind) o) h
-keep text word kind more short n false size e h = skip text word kind (entry text more) n size e ∙ h
-
-pub entry_by_length : {K : Type 0} (table : List (List ℕ × K)) (text : List ℕ) (n : ℕ) → length text ≡ n → entry text table ≡ entry text (filter (λ e. length e.0 == n) table)
-entry_by_length [] text n size = refl
-entry_by_length ((word, kind) ∷ more) text n size = keep text word kind more (filter (λ e. length e.0 == n) more) n (length word == n) size refl (entry_by_length more text n size)

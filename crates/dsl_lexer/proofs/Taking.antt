@@ -2,6 +2,7 @@
 use Rattle.std.proofs.Common.{◌≡◌, ℕ, ◌+◌, ◌<◌, ◌≤◌, List, [], ◌∷◌, ◌++◌, length, take, drop, refl, ap, sym, ◌∙◌, subst, arith}
 use Rattle.std.specs.Str.{IsUtf8}
 use Rattle.std.proofs.lemmas.List.{length-append, take_at, length-drop}
+use Rattle.osc_base.specs.Stops.{OnStop}
 use Rattle.dsl_lexer.specs.declared.layout.Layout.{Layout}
 use Rattle.dsl_lexer.specs.Shapes.{IsShape}
 use Rattle.dsl_lexer.specs.Kinds.{string_chars}
@@ -10,9 +11,10 @@ use Rattle.dsl_lexer.specs.Pieces.{reach, Cut}
 use Rattle.dsl_lexer.specs.Layout.{tokens}
 use Rattle.dsl_lexer.specs.Room.{HasRoom}
 use Rattle.dsl_lexer.specs.Steps.{step_of}
-use Rattle.dsl_lexer.specs.Language.{OnFault, IsFirstFault}
-use Rattle.dsl_lexer.specs.declared.stop.LexStop.{LexStop}
-use Rattle.dsl_lexer.specs.declared.stop.LexStop.TheVariants.{At, Memory}
+use Rattle.dsl_lexer.specs.SourceTokens.{IsFirstFault}
+use Rattle.osc_base.specs.declared.fault.Fault.{Fault}
+use Rattle.osc_base.specs.declared.stop.Stop.{Stop}
+use Rattle.osc_base.specs.declared.stop.Stop.TheVariants.{At, Memory}
 use Rattle.std.specs.Prelude.{Result, Ok, Err, OnOk, IfErr}
 use Rattle.dsl_lexer.proofs.StepLaw.{step_law}
 use Rattle.dsl_lexer.specs.Progress.{Valid, Reached, IsStop, Follows, Gives, CanTakeFront}
@@ -75,13 +77,13 @@ law_at file bytes valid l r v more =
     let here : r.rest ≡ drop l.spot.at bytes = sym (cut_rest bytes r.before r.rest r.cut) ∙ ap (λ n. drop n bytes) (sym r.matches.spot.at) in
     law_go file bytes valid l r v (drop l.spot.at bytes) here (omega (arith, length-drop l.spot.at bytes))
 
-pub step_goes : (file : ℕ) (bytes : List ℕ) (valid : ℕ) (l next : Layout) (result : Result (Unit {0}) LexStop) → Reached file bytes valid l → Valid bytes valid → l.spot.at < length bytes
+pub step_goes : (file : ℕ) (bytes : List ℕ) (valid : ℕ) (l next : Layout) (result : Result (Unit {0}) (Stop Fault)) → Reached file bytes valid l → Valid bytes valid → l.spot.at < length bytes
     → Gives file l (step_of file valid l (drop l.spot.at bytes)) result next → OnOk result (Reached file bytes valid next × (l.spot.at < next.spot.at))
 step_goes file bytes valid l next (Ok done) r v more gives = subst (Follows file bytes valid l) gives (law_at file bytes valid l r v more)
 step_goes file bytes valid l next (Err stop) r v more gives = tt
 
-pub step_stops : (file : ℕ) (bytes : List ℕ) (valid : ℕ) (l next : Layout) (result : Result (Unit {0}) LexStop) → Reached file bytes valid l → Valid bytes valid → l.spot.at < length bytes
-    → Gives file l (step_of file valid l (drop l.spot.at bytes)) result next → IfErr result (λ stop. OnFault stop (IsFirstFault file bytes))
+pub step_stops : (file : ℕ) (bytes : List ℕ) (valid : ℕ) (l next : Layout) (result : Result (Unit {0}) (Stop Fault)) → Reached file bytes valid l → Valid bytes valid → l.spot.at < length bytes
+    → Gives file l (step_of file valid l (drop l.spot.at bytes)) result next → IfErr result (λ stop. OnStop stop (IsFirstFault file bytes))
 step_stops file bytes valid l next (Ok done) r v more gives = tt
 step_stops file bytes valid l next (Err Memory) r v more gives = tt
 step_stops file bytes valid l next (Err (At fault)) r v more (s, e, place) =

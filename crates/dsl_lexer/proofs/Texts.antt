@@ -28,7 +28,7 @@ valid_all bytes u = record {
   within = omega arith;
   bad = λ h. absurd (omega arith);
   only = λ n bad. sym (utf8_valid_len-IsValidUpTo bytes n bad) ∙ utf8_valid_len-IsUtf8 bytes u;
-  good = λ e. u;
+  utf8 = λ e. u;
 }
 
 pub valid_part : (bytes : List ℕ) (n : ℕ) → IsValidUpTo bytes n → Valid bytes n
@@ -38,13 +38,13 @@ valid_part bytes n bad =
       within = omega arith;
       bad = λ h. bad;
       only = λ m other. sym (utf8_valid_len-IsValidUpTo bytes m other) ∙ utf8_valid_len-IsValidUpTo bytes n bad;
-      good = λ e. absurd (omega arith);
+      utf8 = λ e. absurd (omega arith);
     }
 
 pub valid_front : (bytes : List ℕ) (valid : ℕ) → Valid bytes valid → IsUtf8 (take valid bytes)
 valid_front bytes valid v =
     elim (cases_order valid (length bytes)) [
-      | inl e ↦ rw (take_all valid bytes (omega arith)) (v.good e)
+      | inl e ↦ rw (take_all valid bytes (omega arith)) (v.utf8 e)
       | inr (inl short) ↦ (v.bad short).front
       | inr (inr long) ↦ let w = v.within in absurd (omega arith)
     ]

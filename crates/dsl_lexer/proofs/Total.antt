@@ -9,7 +9,7 @@ use Rattle.dsl_tree.specs.declared.token.Token.{Token}
 use Rattle.dsl_lexer.specs.declared.layout.Layout.{Layout}
 use Rattle.dsl_lexer.specs.Steps.{place_of, at_start, all_tokens, Outcome, Goes, Stops, step_of}
 use Rattle.dsl_lexer.specs.Progress.{Valid, Reached, Follows}
-use Rattle.dsl_lexer.specs.Language.{TokensCut, IsFirstFault}
+use Rattle.dsl_lexer.specs.SourceTokens.{TokensCut, IsFirstFault}
 use Rattle.dsl_lexer.specs.Laws.{CutOrFirstFault}
 use Rattle.dsl_lexer.proofs.Matching.{start_matches}
 use Rattle.dsl_lexer.proofs.Texts.{valid_all, valid_part}

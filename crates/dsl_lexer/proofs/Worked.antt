@@ -1,12 +1,13 @@
 -- Worked sources: their tokens with their places, and their first faults.
 use Rattle.std.specs.Prelude.{ℕ, List, [], ◌∷◌, ◌++◌, replicate, codes, refl}
+use Rattle.osc_base.specs.declared.fault.FaultCode.{FaultCode}
 use Rattle.osc_base.specs.declared.fault.Fault.{Fault}
 use Rattle.dsl_tree.specs.declared.token.Token.{Token}
 use Rattle.dsl_tree.specs.declared.token.TokenKind.{TokenKind}
 use Rattle.dsl_tree.specs.declared.token.TokenKind.TheVariants.{Newline, Indent, Dedent, End, Mark, Word, Name, Number, Physical, Chars}
 use Rattle.dsl_tree.specs.declared.token.MarkKind.TheVariants.{OpenRound, CloseRound, OpenSquare, CloseSquare, Colon, Dot, TwoDots}
 use Rattle.dsl_tree.specs.declared.token.WordKind.TheVariants.{ScenarioWord, KeepWord, InWord, ImportWord, DoWord, SerialWord, ParallelWord, WithWord}
-use Rattle.dsl_lexer.specs.Language.{TokensCut, IsFirstFault}
+use Rattle.dsl_lexer.specs.SourceTokens.{TokensCut, IsFirstFault}
 use Rattle.dsl_lexer.specs.Scan.{number_len, closing, mark_len, line_end_len, control_at}
 use Rattle.std.proofs.Common.{subst, suc, zero, ◌<◌, take, arith}
 use Rattle.std.specs.Str.{IsUtf8, IsValidUpTo, is_utf8, chars}
@@ -21,7 +22,7 @@ use Rattle.dsl_lexer.proofs.Running.{ran, ran_ascii}
 abbrev at : ℕ → ℕ → ℕ → TokenKind → Token
 at line column number kind = record { place = record { file = 7; line = line; column = column; token = number }; kind = kind }
 
-abbrev fault : ℕ → ℕ → ℕ → ℕ → Fault
+abbrev fault : FaultCode → ℕ → ℕ → ℕ → Fault
 fault code line column number = record { place = record { file = 7; line = line; column = column; token = number }; code = code }
 
 -- sources and their tokens
@@ -192,140 +193,140 @@ joined_start = ran_ascii 7 joined_start_source _ refl refl
 -- sources and their first faults
 
 -- a tab before the content
-abbrev early_tab_is_102_source : List ℕ
-early_tab_is_102_source = codes "scenario top:" ++ 10 ∷ 9 ∷ (codes "x: int" ++ 10 ∷ [])
+abbrev early_tab_is_tab_source : List ℕ
+early_tab_is_tab_source = codes "scenario top:" ++ 10 ∷ 9 ∷ (codes "x: int" ++ 10 ∷ [])
 
-early_tab_is_102 : IsFirstFault 7 early_tab_is_102_source (fault 102 2 1 4)
+early_tab_is_tab : IsFirstFault 7 early_tab_is_tab_source (fault FaultCode.Tab 2 1 4)
 unfolding number_len closing mark_len line_end_len control_at
-early_tab_is_102 = ran_ascii 7 early_tab_is_102_source _ refl refl
+early_tab_is_tab = ran_ascii 7 early_tab_is_tab_source _ refl refl
 
 -- a tab before a joined line end
-abbrev tab_in_joined_is_102_source : List ℕ
-tab_in_joined_is_102_source = 9 ∷ 92 ∷ 10 ∷ (codes "x")
+abbrev tab_in_joined_is_tab_source : List ℕ
+tab_in_joined_is_tab_source = 9 ∷ 92 ∷ 10 ∷ (codes "x")
 
-tab_in_joined_is_102 : IsFirstFault 7 tab_in_joined_is_102_source (fault 102 1 1 0)
+tab_in_joined_is_tab : IsFirstFault 7 tab_in_joined_is_tab_source (fault FaultCode.Tab 1 1 0)
 unfolding number_len closing mark_len line_end_len control_at
-tab_in_joined_is_102 = ran_ascii 7 tab_in_joined_is_102_source _ refl refl
+tab_in_joined_is_tab = ran_ascii 7 tab_in_joined_is_tab_source _ refl refl
 
 -- a width that is neither opened nor the greatest
-abbrev bad_width_is_103_source : List ℕ
-bad_width_is_103_source = codes "scenario top:" ++ 10 ∷ (codes "        x: int" ++ 10 ∷ (codes "    y: int" ++ 10 ∷ []))
+abbrev bad_width_is_indent_source : List ℕ
+bad_width_is_indent_source = codes "scenario top:" ++ 10 ∷ (codes "        x: int" ++ 10 ∷ (codes "    y: int" ++ 10 ∷ []))
 
-bad_width_is_103 : IsFirstFault 7 bad_width_is_103_source (fault 103 3 5 9)
+bad_width_is_indent : IsFirstFault 7 bad_width_is_indent_source (fault FaultCode.Indent 3 5 9)
 unfolding number_len closing mark_len line_end_len control_at
-bad_width_is_103 = ran_ascii 7 bad_width_is_103_source _ refl refl
+bad_width_is_indent = ran_ascii 7 bad_width_is_indent_source _ refl refl
 
--- 103 wins over 104 at its place
+-- `Indent` wins over `Character` at its place
 abbrev width_before_character_source : List ℕ
 width_before_character_source = codes "  x" ++ 10 ∷ (codes " $")
 
-width_before_character : IsFirstFault 7 width_before_character_source (fault 103 2 2 3)
+width_before_character : IsFirstFault 7 width_before_character_source (fault FaultCode.Indent 2 2 3)
 unfolding number_len closing mark_len line_end_len control_at
 width_before_character = ran_ascii 7 width_before_character_source _ refl refl
 
 -- a carriage return that is no line end
-abbrev carriage_return_is_104_source : List ℕ
-carriage_return_is_104_source = codes "a" ++ 13 ∷ 13 ∷ 10 ∷ []
+abbrev carriage_return_is_character_source : List ℕ
+carriage_return_is_character_source = codes "a" ++ 13 ∷ 13 ∷ 10 ∷ []
 
-carriage_return_is_104 : IsFirstFault 7 carriage_return_is_104_source (fault 104 1 2 1)
+carriage_return_is_character : IsFirstFault 7 carriage_return_is_character_source (fault FaultCode.Character 1 2 1)
 unfolding number_len closing mark_len line_end_len control_at
-carriage_return_is_104 = ran_ascii 7 carriage_return_is_104_source _ refl refl
+carriage_return_is_character = ran_ascii 7 carriage_return_is_character_source _ refl refl
 
 -- a control character in a string
-abbrev control_is_104_source : List ℕ
-control_is_104_source = 34 ∷ (codes "a" ++ 1 ∷ (codes "b" ++ 34 ∷ []))
+abbrev control_is_character_source : List ℕ
+control_is_character_source = 34 ∷ (codes "a" ++ 1 ∷ (codes "b" ++ 34 ∷ []))
 
-control_is_104 : IsFirstFault 7 control_is_104_source (fault 104 1 3 0)
+control_is_character : IsFirstFault 7 control_is_character_source (fault FaultCode.Character 1 3 0)
 unfolding number_len closing mark_len line_end_len control_at
-control_is_104 = ran_ascii 7 control_is_104_source _ refl refl
+control_is_character = ran_ascii 7 control_is_character_source _ refl refl
 
 -- U+0085 in a string
-abbrev next_line_is_104_source : List ℕ
-next_line_is_104_source = 34 ∷ 194 ∷ 133 ∷ 34 ∷ []
+abbrev next_line_is_character_source : List ℕ
+next_line_is_character_source = 34 ∷ 194 ∷ 133 ∷ 34 ∷ []
 
-next_line_utf8 : IsUtf8 next_line_is_104_source
+next_line_utf8 : IsUtf8 next_line_is_character_source
 unfolding encode
 next_line_utf8 = (34 ∷ 133 ∷ 34 ∷ [], (refl, refl))
 
-next_line_is_104 : IsFirstFault 7 next_line_is_104_source (fault 104 1 2 0)
+next_line_is_character : IsFirstFault 7 next_line_is_character_source (fault FaultCode.Character 1 2 0)
 unfolding number_len closing mark_len line_end_len control_at
-next_line_is_104 = ran 7 4 next_line_is_104_source _ (valid_all next_line_is_104_source next_line_utf8) refl
+next_line_is_character = ran 7 4 next_line_is_character_source _ (valid_all next_line_is_character_source next_line_utf8) refl
 
 -- an escape that is none
-abbrev escape_is_105_source : List ℕ
-escape_is_105_source = codes "import " ++ 34 ∷ (codes "a" ++ 92 ∷ (codes "n" ++ 34 ∷ 10 ∷ []))
+abbrev escape_is_text_source : List ℕ
+escape_is_text_source = codes "import " ++ 34 ∷ (codes "a" ++ 92 ∷ (codes "n" ++ 34 ∷ 10 ∷ []))
 
-escape_is_105 : IsFirstFault 7 escape_is_105_source (fault 105 1 8 1)
+escape_is_text : IsFirstFault 7 escape_is_text_source (fault FaultCode.Text 1 8 1)
 unfolding number_len closing mark_len line_end_len control_at
-escape_is_105 = ran_ascii 7 escape_is_105_source _ refl refl
+escape_is_text = ran_ascii 7 escape_is_text_source _ refl refl
 
 -- no closing quote before the line end
-abbrev unclosed_is_105_source : List ℕ
-unclosed_is_105_source = codes "x " ++ 34 ∷ (codes "a" ++ 10 ∷ 34 ∷ [])
+abbrev unclosed_is_text_source : List ℕ
+unclosed_is_text_source = codes "x " ++ 34 ∷ (codes "a" ++ 10 ∷ 34 ∷ [])
 
-unclosed_is_105 : IsFirstFault 7 unclosed_is_105_source (fault 105 1 3 1)
+unclosed_is_text : IsFirstFault 7 unclosed_is_text_source (fault FaultCode.Text 1 3 1)
 unfolding number_len closing mark_len line_end_len control_at
-unclosed_is_105 = ran_ascii 7 unclosed_is_105_source _ refl refl
+unclosed_is_text = ran_ascii 7 unclosed_is_text_source _ refl refl
 
 -- a word behind a number
-abbrev word_is_106_source : List ℕ
-word_is_106_source = codes "keep(3in [3..3])"
+abbrev word_is_number_source : List ℕ
+word_is_number_source = codes "keep(3in [3..3])"
 
-word_is_106 : IsFirstFault 7 word_is_106_source (fault 106 1 6 2)
+word_is_number : IsFirstFault 7 word_is_number_source (fault FaultCode.Number 1 6 2)
 unfolding number_len closing mark_len line_end_len control_at
-word_is_106 = ran_ascii 7 word_is_106_source _ refl refl
+word_is_number = ran_ascii 7 word_is_number_source _ refl refl
 
 -- 19 digits
-abbrev digits_are_106_source : List ℕ
-digits_are_106_source = codes "0000000000000000.003"
+abbrev digits_are_number_source : List ℕ
+digits_are_number_source = codes "0000000000000000.003"
 
-digits_are_106 : IsFirstFault 7 digits_are_106_source (fault 106 1 1 0)
+digits_are_number : IsFirstFault 7 digits_are_number_source (fault FaultCode.Number 1 1 0)
 unfolding number_len closing mark_len line_end_len control_at
-digits_are_106 = ran_ascii 7 digits_are_106_source _ refl refl
+digits_are_number = ran_ascii 7 digits_are_number_source _ refl refl
 
 -- no hexadecimal digit
-abbrev hexadecimal_is_106_source : List ℕ
-hexadecimal_is_106_source = codes "0xg"
+abbrev hexadecimal_is_number_source : List ℕ
+hexadecimal_is_number_source = codes "0xg"
 
-hexadecimal_is_106 : IsFirstFault 7 hexadecimal_is_106_source (fault 106 1 1 0)
+hexadecimal_is_number : IsFirstFault 7 hexadecimal_is_number_source (fault FaultCode.Number 1 1 0)
 unfolding number_len closing mark_len line_end_len control_at
-hexadecimal_is_106 = ran_ascii 7 hexadecimal_is_106_source _ refl refl
+hexadecimal_is_number = ran_ascii 7 hexadecimal_is_number_source _ refl refl
 
 -- the 65th bracket
-abbrev brackets_are_107_source : List ℕ
-brackets_are_107_source = replicate 65 40
+abbrev brackets_are_deep_source : List ℕ
+brackets_are_deep_source = replicate 65 40
 
-brackets_are_107 : IsFirstFault 7 brackets_are_107_source (fault 107 1 65 64)
+brackets_are_deep : IsFirstFault 7 brackets_are_deep_source (fault FaultCode.Deep 1 65 64)
 unfolding number_len closing mark_len line_end_len control_at
-brackets_are_107 = ran_ascii 7 brackets_are_107_source _ refl refl
+brackets_are_deep = ran_ascii 7 brackets_are_deep_source _ refl refl
 
 -- a block and 64 brackets
-abbrev block_and_brackets_are_107_source : List ℕ
-block_and_brackets_are_107_source = codes "a" ++ 10 ∷ 32 ∷ replicate 64 40
+abbrev block_and_brackets_are_deep_source : List ℕ
+block_and_brackets_are_deep_source = codes "a" ++ 10 ∷ 32 ∷ replicate 64 40
 
-block_and_brackets_are_107 : IsFirstFault 7 block_and_brackets_are_107_source (fault 107 2 65 66)
+block_and_brackets_are_deep : IsFirstFault 7 block_and_brackets_are_deep_source (fault FaultCode.Deep 2 65 66)
 unfolding number_len closing mark_len line_end_len control_at
-block_and_brackets_are_107 = ran_ascii 7 block_and_brackets_are_107_source _ refl refl
+block_and_brackets_are_deep = ran_ascii 7 block_and_brackets_are_deep_source _ refl refl
 
 -- a byte that begins no character, in a comment
-abbrev bad_byte_is_101_source : List ℕ
-bad_byte_is_101_source = 35 ∷ 255 ∷ []
+abbrev bad_byte_is_utf8_source : List ℕ
+bad_byte_is_utf8_source = 35 ∷ 255 ∷ []
 
-no_text : (m : ℕ) → 1 < m → ¬ (IsUtf8 (take m bad_byte_is_101_source))
+no_text : (m : ℕ) → 1 < m → ¬ (IsUtf8 (take m bad_byte_is_utf8_source))
 unfolding is_utf8 chars encode
 no_text zero h u = absurd (omega arith)
 no_text (suc zero) h u = absurd (omega arith)
-no_text (suc (suc m)) h u = absurd (false≢true (is_utf8-from_IsUtf8 (35 ∷ 255 ∷ []) (subst IsUtf8 (take_all (suc (suc m)) bad_byte_is_101_source (omega arith)) u)))
+no_text (suc (suc m)) h u = absurd (false≢true (is_utf8-from_IsUtf8 (35 ∷ 255 ∷ []) (subst IsUtf8 (take_all (suc (suc m)) bad_byte_is_utf8_source (omega arith)) u)))
 
-bad_byte_bad : IsValidUpTo bad_byte_is_101_source 1
+bad_byte_bad : IsValidUpTo bad_byte_is_utf8_source 1
 unfolding encode
 bad_byte_bad = record { short = omega arith; front = (35 ∷ [], (refl, refl)); longest = no_text }
 
-bad_byte_is_101 : IsFirstFault 7 bad_byte_is_101_source (fault 101 1 2 0)
+bad_byte_is_utf8 : IsFirstFault 7 bad_byte_is_utf8_source (fault FaultCode.Utf8 1 2 0)
 unfolding number_len closing mark_len line_end_len control_at
-bad_byte_is_101 = ran 7 1 bad_byte_is_101_source _ (valid_part bad_byte_is_101_source 1 bad_byte_bad) refl
+bad_byte_is_utf8 = ran 7 1 bad_byte_is_utf8_source _ (valid_part bad_byte_is_utf8_source 1 bad_byte_bad) refl
 
--- 105 at the quote stands before a byte that begins no character
+-- `Text` at the quote stands before a byte that begins no character
 abbrev text_before_bad_source : List ℕ
 text_before_bad_source = 34 ∷ 97 ∷ 255 ∷ 10 ∷ []
 
@@ -342,11 +343,11 @@ text_before_bad_bad : IsValidUpTo text_before_bad_source 2
 unfolding encode
 text_before_bad_bad = record { short = omega arith; front = (34 ∷ 97 ∷ [], (refl, refl)); longest = no_longer_text }
 
-text_before_bad : IsFirstFault 7 text_before_bad_source (fault 105 1 1 0)
+text_before_bad : IsFirstFault 7 text_before_bad_source (fault FaultCode.Text 1 1 0)
 unfolding number_len closing mark_len line_end_len control_at
 text_before_bad = ran 7 2 text_before_bad_source _ (valid_part text_before_bad_source 2 text_before_bad_bad) refl
 
--- 101 wins over 104 at its place
+-- `Utf8` wins over `Character` at its place
 abbrev bad_before_character_source : List ℕ
 bad_before_character_source = 255 ∷ []
 
@@ -360,6 +361,6 @@ bad_before_character_bad : IsValidUpTo bad_before_character_source 0
 unfolding encode
 bad_before_character_bad = record { short = omega arith; front = ([], (refl, refl)); longest = no_text_at_all }
 
-bad_before_character : IsFirstFault 7 bad_before_character_source (fault 101 1 1 0)
+bad_before_character : IsFirstFault 7 bad_before_character_source (fault FaultCode.Utf8 1 1 0)
 unfolding number_len closing mark_len line_end_len control_at
 bad_before_character = ran 7 0 bad_before_character_source _ (valid_part bad_before_character_source 0 bad_before_character_bad) refl

@@ -8,8 +8,8 @@ use Rattle.dsl_tree.specs.declared.token.TokenKind.{TokenKind}
 use Rattle.dsl_tree.specs.declared.token.TokenKind.TheVariants.{Mark, Word, LeftOut, Name, Number, Physical, Chars}
 use Rattle.dsl_tree.specs.declared.token.WordKind.{WordKind}
 use Rattle.dsl_tree.specs.declared.token.WordKind.TheVariants.{ImportWord, TypeWord, UnitWord, IsWord, OfWord, EnumWord, StructWord, ActorWord, ActionWord, ScenarioWord, InheritsWord, ExtendWord, ListWord, KeepWord, HardWord, DefaultWord, RemoveDefaultWord, DoWord, SerialWord, ParallelWord, OneOfWord, WaitWord, ElapsedWord, WithWord, ItWord, InWord, RangeWord, AndWord, OrWord, NotWord, TrueWord, FalseWord}
-use Rattle.dsl_tree.specs.declared.token.LeftKind.{LeftKind}
-use Rattle.dsl_tree.specs.declared.token.LeftKind.TheVariants.{NamespaceWord, ExportWord, EventWord, OnWord, UntilWord, EmitWord, RiseWord, FallWord, EveryWord, VarWord, SampleWord, GlobalWord, DefWord, ExternalWord, CallWord, CoverWord, RecordWord, ModifierWord}
+use Rattle.dsl_tree.specs.declared.token.ExcludedWord.{ExcludedWord}
+use Rattle.dsl_tree.specs.declared.token.ExcludedWord.TheVariants.{NamespaceWord, ExportWord, EventWord, OnWord, UntilWord, EmitWord, RiseWord, FallWord, EveryWord, VarWord, SampleWord, GlobalWord, DefWord, ExternalWord, CallWord, CoverWord, RecordWord, ModifierWord}
 use Rattle.dsl_lexer.specs.Bytes.{is_digit, is_hexadecimal_digit, is_backslash}
 use Rattle.dsl_lexer.specs.declared.shape.Shape.{Shape}
 use Rattle.dsl_lexer.specs.Shapes.{MarkShape, NameShape, NumberShape, StringShape, entry, marks}
@@ -25,7 +25,7 @@ reserved_words = (codes "import", ImportWord) ∷ (codes "type", TypeWord) ∷ (
     ∷ (codes "in", InWord) ∷ (codes "range", RangeWord) ∷ (codes "and", AndWord) ∷ (codes "or", OrWord)
     ∷ (codes "not", NotWord) ∷ (codes "true", TrueWord) ∷ (codes "false", FalseWord) ∷ []
 
-abbrev pub left_out_words : List (List ℕ × LeftKind)
+abbrev pub left_out_words : List (List ℕ × ExcludedWord)
 left_out_words = (codes "namespace", NamespaceWord) ∷ (codes "export", ExportWord) ∷ (codes "event", EventWord)
     ∷ (codes "on", OnWord) ∷ (codes "until", UntilWord) ∷ (codes "emit", EmitWord) ∷ (codes "rise", RiseWord)
     ∷ (codes "fall", FallWord) ∷ (codes "every", EveryWord) ∷ (codes "var", VarWord) ∷ (codes "sample", SampleWord)
@@ -33,7 +33,7 @@ left_out_words = (codes "namespace", NamespaceWord) ∷ (codes "export", ExportW
     ∷ (codes "cover", CoverWord) ∷ (codes "record", RecordWord) ∷ (codes "modifier", ModifierWord) ∷ []
 
 -- a name is a reserved word, else a left-out word, else a name of the program's own
-abbrev pub first_kind : Option WordKind → Option LeftKind → List ℕ → TokenKind
+abbrev pub first_kind : Option WordKind → Option ExcludedWord → List ℕ → TokenKind
 first_kind (Some word) left text = Word word
 first_kind None (Some word) text = LeftOut word
 first_kind None None text = Name text

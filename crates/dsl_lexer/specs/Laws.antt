@@ -1,12 +1,13 @@
 -- Laws of the tokens and faults of a source, which `laws` proves.
 use Rattle.std.specs.Prelude.{ℕ, ◌<◌, ◌≡◌, ◌↔◌, List, [], ◌∷◌, ◌++◌, ◌⊎◌}
 use Rattle.std.specs.List.{AllByRecursion}
+use Rattle.osc_base.specs.declared.fault.FaultCode.{FaultCode}
 use Rattle.osc_base.specs.declared.fault.Fault.{Fault}
 use Rattle.dsl_tree.specs.declared.token.Token.{Token}
 use Rattle.dsl_lexer.specs.Shapes.{IsInside}
 use Rattle.dsl_lexer.specs.Kinds.{string_chars}
 use Rattle.dsl_lexer.specs.Layout.{IsOpened, opened}
-use Rattle.dsl_lexer.specs.Language.{TokensCut, FaultAt, IsFirstFault, EndsOnce}
+use Rattle.dsl_lexer.specs.SourceTokens.{TokensCut, FaultAt, IsFirstFault, EndsOnce}
 
 -- at most one token list cuts the bytes
 abbrev pub OneList : Type 0
@@ -14,7 +15,7 @@ OneList = (file : ℕ) (bytes : List ℕ) (xs ys : List Token) → TokensCut fil
 
 -- where a token list cuts the bytes there is no fault
 abbrev pub CutOrFault : Type 0
-CutOrFault = (file : ℕ) (bytes : List ℕ) (xs : List Token) (n code count : ℕ) → TokensCut file bytes xs → FaultAt bytes n code count → ⊥
+CutOrFault = (file : ℕ) (bytes : List ℕ) (xs : List Token) (n : ℕ) (code : FaultCode) (count : ℕ) → TokensCut file bytes xs → FaultAt bytes n code count → ⊥
 
 -- a source has tokens or a first fault
 abbrev pub CutOrFirstFault : Type 0

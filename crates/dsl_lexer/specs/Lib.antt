@@ -7,6 +7,6 @@ pub mod Values
 pub mod Scan
 pub mod Room
 pub mod Steps
-pub mod Language
+pub mod SourceTokens
 pub mod Progress
 pub mod Laws

@@ -2,11 +2,12 @@
 -- to `TokensCut` and `IsFirstFault`.
 use Rattle.std.specs.Prelude.{ℕ, ◌+◌, ◌<◌, ◌≤◌, ◌≡◌, List, length, take, Option, Some, None, Result, Ok, Err}
 use Rattle.std.specs.Str.{IsUtf8, IsValidUpTo}
+use Rattle.osc_base.specs.declared.fault.FaultCode.{FaultCode}
 use Rattle.osc_base.specs.declared.fault.Fault.{Fault}
 use Rattle.dsl_lexer.specs.declared.spot.Spot.{Spot}
 use Rattle.dsl_lexer.specs.declared.layout.Layout.{Layout}
-use Rattle.dsl_lexer.specs.declared.stop.LexStop.{LexStop}
-use Rattle.dsl_lexer.specs.declared.stop.LexStop.TheVariants.{At, Memory}
+use Rattle.osc_base.specs.declared.stop.Stop.{Stop}
+use Rattle.osc_base.specs.declared.stop.Stop.TheVariants.{At, Memory}
 use Rattle.dsl_lexer.specs.declared.shape.Shape.{Shape}
 use Rattle.dsl_lexer.specs.Shapes.{StringShape, IsShape}
 use Rattle.dsl_lexer.specs.Kinds.{string_chars}
@@ -15,7 +16,7 @@ use Rattle.dsl_lexer.specs.Room.{HasRoom}
 use Rattle.dsl_lexer.specs.Bytes.{line_at, column_at}
 use Rattle.dsl_lexer.specs.Pieces.{Piece, reach, Cut}
 use Rattle.dsl_lexer.specs.Layout.{brackets, line, width, first_tab, widths, opened, has_lexeme, behind_last, tokens, placed}
-use Rattle.dsl_lexer.specs.Language.{AreSound, IsFirstFault}
+use Rattle.dsl_lexer.specs.SourceTokens.{AreSound, IsFirstFault}
 use Rattle.dsl_lexer.specs.Steps.{front_shape, place_of, Outcome, Goes, Stops}
 
 -- the spot of the byte at offset n
@@ -46,7 +47,7 @@ pub record Valid (bytes : List ℕ) (valid : ℕ) : Type 0 where
   pub within : valid ≤ length bytes
   pub bad : valid < length bytes → IsValidUpTo bytes valid
   pub only : (n : ℕ) → IsValidUpTo bytes n → n ≡ valid
-  pub good : valid ≡ length bytes → IsUtf8 bytes
+  pub utf8 : valid ≡ length bytes → IsUtf8 bytes
 
 -- what is known at a place
 
@@ -59,7 +60,7 @@ pub record Reached (file : ℕ) (bytes : List ℕ) (valid : ℕ) (l : Layout) : 
   pub within : reach before ≤ valid
 
 -- what a stop says
-pub record IsStop (file : ℕ) (bytes : List ℕ) (l : Layout) (s : Spot) (code : ℕ) : Type 0 where
+pub record IsStop (file : ℕ) (bytes : List ℕ) (l : Layout) (s : Spot) (code : FaultCode) : Type 0 where
   pub first : (fault : Fault) → fault.place ≡ place_of file s (length l.tokens) → fault.code ≡ code → IsFirstFault file bytes fault
 
 abbrev pub Follows : ℕ → List ℕ → ℕ → Layout → Outcome → Type 0
@@ -67,11 +68,11 @@ Follows file bytes valid l (Goes next) = Reached file bytes valid next × (l.spo
 Follows file bytes valid l (Stops s code) = IsStop file bytes l s code
 
 -- what a step of the code gave: how it went on, or where it stopped
-abbrev pub GivesStop : ℕ → Layout → Outcome → LexStop → Type 0
+abbrev pub GivesStop : ℕ → Layout → Outcome → Stop Fault → Type 0
 GivesStop file old outcome Memory = Unit {0}
 GivesStop file old outcome (At fault) = (s : Spot) × (outcome ≡ Stops s fault.code) × (fault.place ≡ place_of file s (length old.tokens))
 
-abbrev pub Gives : ℕ → Layout → Outcome → Result (Unit {0}) LexStop → Layout → Type 0
+abbrev pub Gives : ℕ → Layout → Outcome → Result (Unit {0}) (Stop Fault) → Layout → Type 0
 Gives file old outcome (Ok done) next = outcome ≡ Goes next
 Gives file old outcome (Err stop) next = GivesStop file old outcome stop
 

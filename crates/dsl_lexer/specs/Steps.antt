@@ -1,6 +1,7 @@
 -- What the steps of the lexer make of what it knows, as its functions compute it. This is no part of the meaning: the
 -- lemmas of proofs/ tie it to `TokensCut` and `IsFirstFault`.
 use Rattle.std.specs.Prelude.{ℕ, ◌+◌, ◌-◌, ◌==◌, ◌&&◌, replicate, Bool, true, false, nat_lt, if◌then◌else◌, List, [], ◌∷◌, ◌++◌, filter, length, take, slice_index, Option, Some, None}
+use Rattle.osc_base.specs.declared.fault.FaultCode.{FaultCode}
 use Rattle.osc_base.specs.declared.fault.Place.{Place}
 use Rattle.dsl_tree.specs.declared.token.Token.{Token}
 use Rattle.dsl_tree.specs.declared.token.TokenKind.{TokenKind}
@@ -11,7 +12,7 @@ use Rattle.dsl_lexer.specs.declared.shape.Shape.{Shape}
 use Rattle.dsl_lexer.specs.Bytes.{is_quote}
 use Rattle.dsl_lexer.specs.Shapes.{Space, Tab, Comment, Joint, StringShape, is_lexeme}
 use Rattle.dsl_lexer.specs.Kinds.{kind_of}
-use Rattle.dsl_lexer.specs.Language.{begins_with}
+use Rattle.dsl_lexer.specs.SourceTokens.{begins_with}
 use Rattle.dsl_lexer.specs.Layout.{brackets_behind, fits, blocks}
 use Rattle.dsl_lexer.specs.Scan.{first_shape, piece_len, control_at}
 
@@ -105,27 +106,27 @@ all_tokens file l = with_dedents file l ++ stamped file l.spot (length (with_ded
 -- faults: the spot and the code
 
 abbrev pub SpottedFault : Type 0
-SpottedFault = Spot × ℕ
+SpottedFault = Spot × FaultCode
 
 -- a tab before the first token, a byte that begins no character, or a width that doesn't fit
 abbrev pub bad_byte_or : Layout → ℕ → Option SpottedFault → Option SpottedFault
-bad_byte_or l valid other = if valid == l.spot.at then Some (l.spot, 101) else other
+bad_byte_or l valid other = if valid == l.spot.at then Some (l.spot, FaultCode.Utf8) else other
 
 abbrev pub first_white_fault : Layout → ℕ → Option Spot → Option SpottedFault
-first_white_fault l valid (Some tab) = Some (tab, 102)
-first_white_fault l valid None = bad_byte_or l valid (if fits l.spaces l.widths then None else Some (l.spot, 103))
+first_white_fault l valid (Some tab) = Some (tab, FaultCode.Tab)
+first_white_fault l valid None = bad_byte_or l valid (if fits l.spaces l.widths then None else Some (l.spot, FaultCode.Indent))
 
 abbrev pub white_fault : Layout → ℕ → Option SpottedFault
 white_fault l valid = if l.started then bad_byte_or l valid None else first_white_fault l valid l.tab
 
 -- a byte of the piece that begins no character
 abbrev pub end_fault : Layout → ℕ → ℕ → Option SpottedFault
-end_fault l valid len = if nat_lt valid (l.spot.at + len) then Some (moved l.spot (valid - l.spot.at), 101) else None
+end_fault l valid len = if nat_lt valid (l.spot.at + len) then Some (moved l.spot (valid - l.spot.at), FaultCode.Utf8) else None
 
 -- a control character that stands before such a byte
 abbrev pub control_or_end : Layout → ℕ → ℕ → Option ℕ → Option SpottedFault
 control_or_end l valid len None = end_fault l valid len
-control_or_end l valid len (Some i) = if nat_lt (l.spot.at + i) valid then Some (moved l.spot i, 104) else end_fault l valid len
+control_or_end l valid len (Some i) = if nat_lt (l.spot.at + i) valid then Some (moved l.spot i, FaultCode.Character) else end_fault l valid len
 
 abbrev pub controls : Shape → List ℕ → Option ℕ
 controls StringShape text = control_at text
@@ -133,13 +134,13 @@ controls _ text = None
 
 -- too deep a nesting, a control character, or a byte that begins no character
 abbrev pub lexeme_fault : Layout → ℕ → Shape → List ℕ → ℕ → Option SpottedFault
-lexeme_fault l valid shape text brackets = if nat_lt 64 (brackets + length (widths_behind l)) then Some (l.spot, 107) else control_or_end l valid (length text) (controls shape text)
+lexeme_fault l valid shape text brackets = if nat_lt 64 (brackets + length (widths_behind l)) then Some (l.spot, FaultCode.Deep) else control_or_end l valid (length text) (controls shape text)
 
 -- a step: either the lexer goes on, or it stops at a fault
 
 pub data Outcome : Type 0 where
   Goes : Layout → Outcome
-  Stops : Spot → (code : ℕ) → Outcome
+  Stops : Spot → (code : FaultCode) → Outcome
 
 abbrev pub or_stop : Option SpottedFault → Outcome → Outcome
 or_stop None next = next
@@ -156,12 +157,12 @@ abbrev pub separator_of : ℕ → ℕ → Layout → Shape → ℕ → Outcome
 separator_of file valid l shape len = or_stop (end_fault l valid len) (Goes (after_separator file l shape len))
 
 abbrev pub lexeme_of : ℕ → ℕ → Layout → Shape → List ℕ → Option TokenKind → Outcome
-lexeme_of file valid l shape text None = Stops l.spot 106
+lexeme_of file valid l shape text None = Stops l.spot FaultCode.Number
 lexeme_of file valid l shape text (Some kind) =
     or_stop (lexeme_fault l valid shape text (brackets_behind (Some kind) l.brackets)) (Goes (after_lexeme file l (length text) kind))
 
 abbrev pub content_of : ℕ → ℕ → Layout → Shape → List ℕ → Option ℕ → Outcome
-content_of file valid l shape rest None = Stops l.spot (if begins_with is_quote rest then 105 else 104)
+content_of file valid l shape rest None = Stops l.spot (if begins_with is_quote rest then FaultCode.Text else FaultCode.Character)
 content_of file valid l shape rest (Some len) = lexeme_of file valid l shape (take len rest) (kind_of shape (take len rest))
 
 abbrev pub piece_of : ℕ → ℕ → Layout → Shape → List ℕ → Bool → Option ℕ → Outcome

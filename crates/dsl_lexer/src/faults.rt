@@ -8,34 +8,35 @@ use crate::layout::Layout;
 use crate::scan;
 use crate::shape::Shape;
 use crate::spot::Spot;
+use osc_base::FaultCode;
 
 /// A fault in the white space before a line's first token, a byte that begins no character, or a width that
 /// doesn't fit.
-pub fn white_fault(layout: &Layout, valid: usize) -> Option<(Spot, u16)>
+pub fn white_fault(layout: &Layout, valid: usize) -> Option<(Spot, FaultCode)>
     ensures { result ≡ steps.white_fault layout.now valid }
 {
     if !layout.started {
         if let Some(tab) = layout.tab {
-            return Some((tab, 102));
+            return Some((tab, FaultCode::Tab));
         }
     }
     if valid == layout.spot.at {
-        return Some((layout.spot, 101));
+        return Some((layout.spot, FaultCode::Utf8));
     }
     if !layout.started && !layout.widths.fits(layout.spaces) {
-        return Some((layout.spot, 103));
+        return Some((layout.spot, FaultCode::Indent));
     }
     None
 }
 
 /// A byte of the next `len` that begins no character.
-pub fn end_fault(layout: &Layout, valid: usize, len: usize) -> Option<(Spot, u16)>
+pub fn end_fault(layout: &Layout, valid: usize, len: usize) -> Option<(Spot, FaultCode)>
     requires room { HasRoom layout.now len }
     requires behind { layout.now.spot.at ≤ valid }
     ensures { result ≡ steps.end_fault layout.now valid len }
 {
     if valid < layout.spot.at + len {
-        return Some((layout.spot.past(valid - layout.spot.at), 101));
+        return Some((layout.spot.past(valid - layout.spot.at), FaultCode::Utf8));
     }
     None
 }
@@ -61,7 +62,7 @@ pub fn lexeme_fault(
     shape: Shape,
     text: &[u8],
     brackets: u32,
-) -> Option<(Spot, u16)>
+) -> Option<(Spot, FaultCode)>
     requires room { HasRoom layout.now (length text.now) }
     requires some { 1 ≤ length text.now }
     requires behind { layout.now.spot.at ≤ valid }
@@ -69,12 +70,12 @@ pub fn lexeme_fault(
     ensures { result ≡ steps.lexeme_fault layout.now valid shape text.now brackets }
 {
     if depth_behind(layout, brackets) > 64 {
-        return Some((layout.spot, 107));
+        return Some((layout.spot, FaultCode::Deep));
     }
     if let Shape::StringShape = shape {
         if let Some(i) = scan::control_at(text) {
             if layout.spot.at + i < valid {
-                return Some((layout.spot.past(i), 104));
+                return Some((layout.spot.past(i), FaultCode::Character));
             }
         }
     }

@@ -7,7 +7,8 @@ ghost use Rattle.dsl_lexer.specs.Room.{HasRoom};
 ghost use Rattle.dsl_lexer.specs.Steps as steps;
 ghost use Rattle.dsl_lexer.specs.Progress.{CanTake, CanTakeFront, Valid, Reached, Gives, GivesStop};
 ghost use Rattle.dsl_lexer.specs.Laws.{OneList, CutOrFault, CutOrFirstFault, OneFault, EndIsLast, OpenedLaw, CharsLaw};
-ghost use Rattle.dsl_lexer.specs.Language.{OnFault, TokensCut, IsFirstFault, IsUncut, EndsOnce};
+ghost use Rattle.osc_base.specs.Stops.{OnStop};
+ghost use Rattle.dsl_lexer.specs.SourceTokens.{TokensCut, IsFirstFault, IsUncut, EndsOnce};
 
 use crate::layout::{self, Layout};
 use crate::shape::Shape;
@@ -15,7 +16,7 @@ use crate::spot::Spot;
 use crate::stop::LexStop;
 use crate::{faults, kinds, pieces, scan};
 use dsl_tree::{TokenKind, Tokens};
-use osc_base::Fault;
+use osc_base::{Fault, FaultCode};
 use std::alloc::{AllocError, Global};
 
 /// The length of the longest front that is UTF-8.
@@ -28,7 +29,7 @@ fn valid_len(bytes: &[u8]) -> usize
     }
 }
 
-fn stop_at(file: u32, layout: &Layout, fault: (Spot, u16)) -> LexStop
+fn stop_at(file: u32, layout: &Layout, fault: (Spot, FaultCode)) -> LexStop
     requires { length layout.now.tokens < 2 ^ 32 }
     ensures { GivesStop file layout.now (steps.Stops fault.0 fault.1) result }
 {
@@ -76,7 +77,7 @@ fn take_plain(
     ensures { Gives file layout.old (steps.lexeme_of file valid layout.old shape text.now (kinds_of.kind_of shape text.now)) result layout.new }
 {
     let Some(kind) = pieces::plain_kind(alloc, shape, text)? else {
-        return Err(stop_at(file, layout, (layout.spot, 106)));
+        return Err(stop_at(file, layout, (layout.spot, FaultCode::Number)));
     };
     let brackets = layout::brackets_behind_token(&kind, layout.brackets);
     if let Some(fault) = faults::lexeme_fault(layout, valid, shape, text, brackets) {
@@ -175,7 +176,11 @@ fn take_content(
         return Err(stop_at(file, layout, fault));
     }
     let Some(len) = len else {
-        let code = if scan::is_quote(rest[0]) { 105 } else { 104 };
+        let code = if scan::is_quote(rest[0]) {
+            FaultCode::Text
+        } else {
+            FaultCode::Character
+        };
         return Err(stop_at(file, layout, (layout.spot, code)));
     };
     take_token(alloc, file, layout, valid, shape, &rest[..len])
@@ -219,8 +224,8 @@ fn step(
     requires more { layout.old.spot.at < length bytes.now }
     requires small { length bytes.now ≤ 1048576 }
     ensures on { OnOk result (Reached file bytes.now valid layout.new × (layout.old.spot.at < layout.new.spot.at)) }
-    ensures fault { IfErr result (λ stop. OnFault stop (IsFirstFault file bytes.now)) }
-    ensures uncut { IfErr result (λ stop. OnFault stop (λ _. IsUncut file bytes.now)) }
+    ensures fault { IfErr result (λ stop. OnStop stop (IsFirstFault file bytes.now)) }
+    ensures uncut { IfErr result (λ stop. OnStop stop (λ _. IsUncut file bytes.now)) }
 {
     take_front(alloc, file, layout, valid, &bytes[layout.spot.at..])
 }
@@ -233,8 +238,8 @@ pub fn lex(alloc: Global, file: u32, bytes: &[u8]) -> Result<Tokens, LexStop>
     requires { length bytes.now ≤ 1048576 }
     ensures tokens { IfOk result (TokensCut file bytes.now) }
     ensures end { IfOk result EndsOnce }
-    ensures fault { IfErr result (λ stop. OnFault stop (IsFirstFault file bytes.now)) }
-    ensures uncut { IfErr result (λ stop. OnFault stop (λ _. IsUncut file bytes.now)) }
+    ensures fault { IfErr result (λ stop. OnStop stop (IsFirstFault file bytes.now)) }
+    ensures uncut { IfErr result (λ stop. OnStop stop (λ _. IsUncut file bytes.now)) }
 {
     let valid = valid_len(bytes);
     let mut layout = Layout::new(alloc);

@@ -50,7 +50,10 @@ fn shown(rt: &HostRuntime, source: &[u8]) -> io::Result<String> {
             let place = fault.place;
             let line = format!(in alloc;
                 "fault {} {}:{}:{}",
-                fault.code, place.file, place.line, place.column
+                fault.code.number(),
+                place.file,
+                place.line,
+                place.column
             )?;
             out.push_str(line.as_str())?;
         }

@@ -11,7 +11,7 @@ use Rattle.dsl_tree.specs.declared.expr.Expr.TheViews
 use Rattle.dsl_tree.specs.Codes.{code, has, mark_code, word_code}
 use Rattle.dsl_tree.specs.Grammar.{Part, Symbol, Seen, Bare, Of}
 use Rattle.dsl_tree.specs.Forest.{Forest, nil, sub}
-use Rattle.dsl_tree.specs.Tables.{first}
+use Rattle.dsl_tree.specs.Lookahead.{first}
 use Rattle.dsl_tree.specs.Written.{mark, word_at}
 use Rattle.dsl_tree.specs.Reading.{Stops, Parsed, NotTaken, PartFault, RowFault}
 use Rattle.dsl_tree.specs.Language.{Ended}

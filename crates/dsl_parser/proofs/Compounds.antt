@@ -15,14 +15,15 @@ use Rattle.dsl_tree.specs.WrittenFile.{compound_heading}
 use Rattle.dsl_tree.specs.Forest.{Forest, nil, seen, bare, sub, wrong}
 use Rattle.dsl_tree.specs.WrittenFile as written
 use Rattle.dsl_tree.specs.Reading.{starts, Starts, Stops, void, Parsed, Built, NotTaken}
-use Rattle.dsl_tree.specs.Tables.{subset}
+use Rattle.dsl_tree.specs.Lookahead.{subset}
 use Rattle.dsl_tree.proofs.Sets.{Starts-subset, both_ways, or_left}
 use Rattle.dsl_tree.proofs.Tests.{either_of}
 use Rattle.dsl_tree.proofs.RuleFaults.{not_taken_stops}
-use Rattle.dsl_parser.specs.declared.stop.Stop.{Stop}
+use Rattle.osc_base.specs.declared.stop.Stop.{Stop}
 use Rattle.dsl_parser.proofs.Stopping.{on_stop}
 use Rattle.dsl_tree.specs.declared.token.WordKind.{WordKind}
-use Rattle.dsl_parser.specs.Readers.{OnStop, IsRead}
+use Rattle.osc_base.specs.Stops.{OnStop}
+use Rattle.dsl_parser.specs.Readers.{IsRead}
 use Rattle.dsl_parser.specs.Compounds.{kind_word, is_plain, heading_rest, plain_rule, owned_rule}
 use Rattle.dsl_parser.proofs.Taking.{read_seen}
 use Rattle.dsl_parser.proofs.Loops.{read_name}
@@ -89,7 +90,7 @@ compound_full CompoundKind.Action c = refl
 compound_full CompoundKind.Scenario c = refl
 
 -- the word that the tokens begin with is there
-pub never_word : (w : WordKind) (kind : CompoundKind) (e : Stop) (ts : List Token) (P : ℕ → Type 0) → w ≡ kind_word kind
+pub never_word : (w : WordKind) (kind : CompoundKind) (e : Stop ℕ) (ts : List Token) (P : ℕ → Type 0) → w ≡ kind_word kind
     → OnStop e (NotTaken (word_code w ∷ []) ts) → Starts (word_code (kind_word kind) ∷ []) ts → OnStop e P
 never_word w kind e ts P same h start = on_stop e (NotTaken (word_code w ∷ []) ts) P (λ n m. both_ways (starts (word_code w ∷ []) ts)
     (subst (λ (v : WordKind). Starts (word_code v ∷ []) ts) (sym same) start) (not_taken_stops (word_code w ∷ []) ts n m)) h

@@ -12,7 +12,7 @@ use Rattle.dsl_tree.specs.declared.expr.RelationSign.{RelationSign}
 use Rattle.dsl_tree.specs.Codes.{code, has, mark_code, word_code}
 use Rattle.dsl_tree.specs.Grammar.{Part, Symbol, Seen, Of, rules}
 use Rattle.dsl_tree.specs.Forest.{Forest, nil, seen, sub, AnyRule}
-use Rattle.dsl_tree.specs.Tables.{first, empty}
+use Rattle.dsl_tree.specs.Lookahead.{first, empty}
 use Rattle.dsl_tree.specs.Written.{sign_kind}
 use Rattle.dsl_tree.specs.Reading.{Stops, Parsed, PartFault}
 use Rattle.dsl_tree.proofs.Build.{parsed_none}

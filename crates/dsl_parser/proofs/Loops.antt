@@ -7,7 +7,7 @@ use Rattle.dsl_tree.specs.declared.token.TokenKind.{TokenKind}
 use Rattle.dsl_tree.specs.Codes.{code, has}
 use Rattle.dsl_tree.specs.Grammar.{Part, Symbol, rules, Seen, Bare, Of}
 use Rattle.dsl_tree.specs.Forest.{Forest, nil, seen, bare, sub}
-use Rattle.dsl_tree.specs.Tables.{first, firsts, empty}
+use Rattle.dsl_tree.specs.Lookahead.{first, firsts, empty}
 use Rattle.dsl_tree.specs.Reading.{Starts, Stops, void, Parsed, Built, PartFault, Along}
 use Rattle.dsl_tree.specs.Language.{Ended}
 use Rattle.dsl_tree.proofs.Sets.{two_ways, both_ways}
@@ -16,8 +16,9 @@ use Rattle.dsl_tree.proofs.Law.{part_follows}
 use Rattle.dsl_tree.proofs.Faults.{ready, in_part, past_part}
 use Rattle.dsl_tree.proofs.RuleFaults.{RuleOf, all_apart, by_rule}
 use Rattle.dsl_tree.proofs.Build.{built_none, built_part, parsed_full, parsed_none, along_start, along_step, along_end}
-use Rattle.dsl_parser.specs.declared.stop.Stop.{Stop}
-use Rattle.dsl_parser.specs.Readers.{OnStop, IsRead, names}
+use Rattle.osc_base.specs.declared.stop.Stop.{Stop}
+use Rattle.osc_base.specs.Stops.{OnStop}
+use Rattle.dsl_parser.specs.Readers.{IsRead, names}
 use Rattle.dsl_parser.specs.Rows.{Continued}
 use Rattle.dsl_parser.proofs.OtherKinds.{name_fits}
 use Rattle.dsl_parser.proofs.Taking.{read_starts, read_bare, read_seen, behind_bare, behind_seen}
@@ -78,7 +79,7 @@ one_row X p forest_of first before after ts rest Q e c q = subst Q (sym (c.split
 pub whole_row : (X : Type 0) (p : Part) (forest_of : List X → Forest) (before after : List X) (ts rest : List Token) → before ≡ [] → Continued X p forest_of before after ts rest → Parsed p (forest_of after) ts rest
 whole_row X p forest_of before after ts rest e c = subst (λ (v : List X). Parsed p (forest_of v) ts rest) (sym (c.split ∙ ap (λ (v : List X). v ++ c.others) e)) c.read
 
-pub loop_stop : (X : Type 0) (p : Part) (forest_of : List X → Forest) (before now : List X) (start rest : List Token) (e : Stop)
+pub loop_stop : (X : Type 0) (p : Part) (forest_of : List X → Forest) (before now : List X) (start rest : List Token) (e : Stop ℕ)
     → Continuing X p forest_of before now start rest → OnStop e (PartFault p rest) → OnStop e (PartFault p start)
 loop_stop X p forest_of before now start rest e loop = on_stop e (PartFault p rest) (PartFault p start) loop.along.faults
 

@@ -11,7 +11,7 @@ use Rattle.dsl_tree.specs.declared.expr.Suffix.{Suffix}
 use Rattle.dsl_tree.specs.Codes.{mark_code}
 use Rattle.dsl_tree.specs.Grammar.{Part, Symbol, Seen, Bare, Of}
 use Rattle.dsl_tree.specs.Forest.{Forest, nil, sub}
-use Rattle.dsl_tree.specs.Tables.{first}
+use Rattle.dsl_tree.specs.Lookahead.{first}
 use Rattle.dsl_tree.specs.Written.{mark, mark_at, ident}
 use Rattle.dsl_tree.specs.Reading.{starts, Starts, Stops, Parsed, NotTaken, PartFault, RowFault, Along}
 use Rattle.dsl_tree.proofs.Seen.{seen_dot_suffix, seen_index_suffix}

@@ -8,7 +8,7 @@ use Rattle.dsl_tree.specs.declared.token.TokenKind.{TokenKind}
 use Rattle.dsl_tree.specs.declared.token.MarkKind.{MarkKind}
 use Rattle.dsl_tree.specs.declared.token.WordKind.{WordKind}
 use Rattle.dsl_tree.specs.Codes.{code, has, mark_code, word_code, name_code, number_code, text_code, si_text, factor_text, offset_text}
-use Rattle.dsl_tree.specs.Tables.{subset}
+use Rattle.dsl_tree.specs.Lookahead.{subset}
 use Rattle.dsl_tree.specs.Reading.{Stops}
 use Rattle.dsl_tree.proofs.Sets.{both_ways, is_false, has-subset, starts-cons}
 use Rattle.dsl_parser.specs.Readers.{names, numbers}

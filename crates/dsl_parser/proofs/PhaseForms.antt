@@ -10,7 +10,7 @@ use Rattle.dsl_tree.specs.declared.phases.InvokeHead.{InvokeHead}
 use Rattle.dsl_tree.specs.Codes.{has, mark_code, word_code, name_code}
 use Rattle.dsl_tree.specs.Grammar.{Part, Symbol, Of}
 use Rattle.dsl_tree.specs.Forest.{Forest, nil, seen, bare, sub}
-use Rattle.dsl_tree.specs.Tables.{first}
+use Rattle.dsl_tree.specs.Lookahead.{first}
 use Rattle.dsl_tree.specs.PhaseTree.{PhaseTree, PhaseRow, ArgumentTree, PartTree}
 use Rattle.dsl_tree.specs.WrittenPhases.{phase, invocation_rest, opened, block_phases}
 use Rattle.dsl_tree.specs.Reading.{Starts, Stops, Parsed, Built, NotTaken, PartFault, RowFault}
@@ -18,9 +18,10 @@ use Rattle.dsl_tree.proofs.Sets.{has-subset, starts-cons}
 use Rattle.dsl_tree.proofs.Faults.{in_part}
 use Rattle.dsl_tree.proofs.RuleFaults.{by_rule, not_taken_stops}
 use Rattle.dsl_tree.proofs.Build.{built_none, built_part, parsed_full}
-use Rattle.dsl_parser.specs.Readers.{OnStop, IsRead, names}
+use Rattle.osc_base.specs.Stops.{OnStop}
+use Rattle.dsl_parser.specs.Readers.{IsRead, names}
 use Rattle.dsl_parser.specs.PhaseStarts.{Front, CorePhase, behind_label, behind_name, WholePhase, Opens, Started, composition_rule, composition_block, phases_block, headed}
-use Rattle.dsl_parser.specs.declared.stop.Stop.{Stop}
+use Rattle.osc_base.specs.declared.stop.Stop.{Stop}
 use Rattle.dsl_parser.specs.declared.phases.CompositionHead.{CompositionHead}
 use Rattle.dsl_parser.specs.declared.phases.PhaseStart.{PhaseStart}
 use Rattle.dsl_parser.specs.declared.phases.PhaseStart.TheVariants.{Whole, Composition}
@@ -148,7 +149,7 @@ started name (Composition of) ts us end read h = start_opens name of ts us end r
 
 -- The first token is no name and not `actor`
 
-pub no_head : (e : Stop) (ts : List Token) → OnStop e (NotTaken names ts) → Stops (word_code WordKind.ActorWord ∷ []) ts → OnStop e (NotTaken heads ts)
+pub no_head : (e : Stop ℕ) (ts : List Token) → OnStop e (NotTaken names ts) → Stops (word_code WordKind.ActorWord ∷ []) ts → OnStop e (NotTaken heads ts)
 no_head e ts h stop = on_stop e (NotTaken names ts) (NotTaken heads ts) both h
   where
     both : (n : ℕ) → NotTaken names ts n → NotTaken heads ts n
@@ -162,10 +163,10 @@ no_head e ts h stop = on_stop e (NotTaken names ts) (NotTaken heads ts) both h
 
 -- Compositions
 
-pub front_stop : (rule rest : List Symbol) (whole : Forest → Forest) (ts us : List Token) (e : Stop) → Front rule rest whole ts us → OnStop e (RowFault rest us) → OnStop e (RowFault rule ts)
+pub front_stop : (rule rest : List Symbol) (whole : Forest → Forest) (ts us : List Token) (e : Stop ℕ) → Front rule rest whole ts us → OnStop e (RowFault rest us) → OnStop e (RowFault rule ts)
 front_stop rule rest whole ts us e front = on_stop e (RowFault rest us) (RowFault rule ts) front.faults
 
-pub opens_stop : (p : Part) (whole : Forest → Forest) (label : Option Ident) (ts us : List Token) (e : Stop) → Opens p whole label ts us → OnStop e (RowFault composition_rule us) → OnStop e (PartFault p ts)
+pub opens_stop : (p : Part) (whole : Forest → Forest) (label : Option Ident) (ts us : List Token) (e : Stop ℕ) → Opens p whole label ts us → OnStop e (RowFault composition_rule us) → OnStop e (PartFault p ts)
 opens_stop p whole label ts us e opens h = on_stop e (PartFault Part.Composition us) (PartFault p ts) opens.faults (stop_only Part.Composition composition_rule us e refl h)
 
 pub whole_phase : (tree : PhaseTree) (ts end : List Token) → WholePhase Part.Phase (λ f. f) tree ts end → Parsed Part.Phase (phase tree) ts end

@@ -6,8 +6,8 @@ use Rattle.dsl_tree.specs.declared.token.TokenKind.{TokenKind}
 use Rattle.dsl_tree.specs.Codes.{code, has}
 use Rattle.dsl_tree.specs.Grammar.{Part, Symbol, Seen, Bare, Of, rules}
 use Rattle.dsl_tree.specs.Forest.{Forest, nil, seen, bare, sub, Spells, AnyRule, Follows, IsOf}
-use Rattle.dsl_tree.specs.Tables as Tables
-use Rattle.dsl_tree.specs.Tables.{first, empty, goes_on, firsts, empties, stops}
+use Rattle.dsl_tree.specs.Lookahead as Lookahead
+use Rattle.dsl_tree.specs.Lookahead.{first, empty, goes_on, firsts, empties, stops}
 use Rattle.dsl_tree.specs.Reading.{starts, Starts, Stops, void, Parsed, Built, NotTaken, PartFault, RowFault}
 use Rattle.dsl_tree.proofs.Sets.{both_ways, is_false, starts-cons, Stops-subset}
 use Rattle.dsl_tree.proofs.Fits.{by_rules, any_map}
@@ -61,8 +61,8 @@ by_others p r ts left rule excludes fault = record {
       (Stops-subset (stops r) (goes_on p) z ends stop) s;
 }
   where
-    ends : Tables.subset (stops r) (goes_on p) ≡ true
-    ends = by_rules p (λ s. s ≡ r) (Tables.subset (stops r) (goes_on p) ≡ true) rule (λ s fit e. subst (λ (v : List Symbol). Tables.subset (stops v) (goes_on p) ≡ true) e fit.ends)
+    ends : Lookahead.subset (stops r) (goes_on p) ≡ true
+    ends = by_rules p (λ s. s ≡ r) (Lookahead.subset (stops r) (goes_on p) ≡ true) rule (λ s fit e. subst (λ (v : List Symbol). Lookahead.subset (stops v) (goes_on p) ≡ true) e fit.ends)
 
 -- A part that is another part
 

@@ -8,7 +8,7 @@ use Rattle.dsl_tree.specs.declared.expr.Further.{Further}
 use Rattle.dsl_tree.specs.Codes.{code, has}
 use Rattle.dsl_tree.specs.Grammar.{Symbol, Seen, Of, rules}
 use Rattle.dsl_tree.specs.Forest.{Forest, nil}
-use Rattle.dsl_tree.specs.Tables.{empty}
+use Rattle.dsl_tree.specs.Lookahead.{empty}
 use Rattle.dsl_tree.specs.Written.{operator_kind}
 use Rattle.dsl_tree.specs.Reading.{starts, Starts, Stops, Parsed, PartFault, Along}
 use Rattle.dsl_tree.proofs.Sets.{both_ways}

@@ -20,8 +20,8 @@ use Rattle.dsl_parser.proofs.Taking.{read_starts, read_bare, behind_bare}
 use Rattle.dsl_parser.proofs.Stopping.{by_rest}
 use Rattle.dsl_parser.proofs.Loops.{OneMore}
 
-abbrev pub ends : List ℕ
-ends = factor_name ∷ offset_name ∷ []
+abbrev pub end_codes : List ℕ
+end_codes = factor_name ∷ offset_name ∷ []
 
 abbrev comma : List ℕ
 comma = mark_code MarkKind.Comma ∷ []
@@ -40,14 +40,14 @@ behind_comma f place rest next end read parsed =
     (read_bare comma (Of Part.UnitMore ∷ []) (sub f nil) place (TokenKind.Mark MarkKind.Comma) rest next end read refl (built_part Part.UnitMore [] f nil next end end parsed (built_none end)))
 
 pub more_bases : (last : Forest) (b : BasePart) (place : Place) (rest next more : List Token)
-    → IsRead place (TokenKind.Mark MarkKind.Comma) rest next → Stops ends next → Parsed Part.Base (base b) next more → OneMore BasePart Part.UnitTail (λ bs. unit_tail bs last) b rest more
+    → IsRead place (TokenKind.Mark MarkKind.Comma) rest next → Stops end_codes next → Parsed Part.Base (base b) next more → OneMore BasePart Part.UnitTail (λ bs. unit_tail bs last) b rest more
 more_bases last b place rest next more read stop parsed = record {
   reads = λ others end h. behind_comma (sub (base b) (sub (unit_tail others last) nil)) place rest next end read
       (parsed_full Part.UnitMore base_rule (sub (base b) (sub (unit_tail others last) nil)) next end (inl refl) refl
       (built_part Part.Base (Of Part.UnitTail ∷ []) (base b) (sub (unit_tail others last) nil) next more end parsed (built_part Part.UnitTail [] (unit_tail others last) nil more end end h (built_none end))));
   faults = λ left fault. by_rule Part.UnitTail more_rule rest left (inr (inl refl)) refl (read_starts comma place (TokenKind.Mark MarkKind.Comma) rest next read refl)
       (behind_bare comma (Of Part.UnitMore ∷ []) place (TokenKind.Mark MarkKind.Comma) rest next left read refl (in_part Part.UnitMore [] next left refl
-      (by_rest Part.UnitMore base_rule ends next left (inl refl) refl refl refl refl stop (past_part Part.Base (Of Part.UnitTail ∷ []) (base b) next more left refl parsed (in_part Part.UnitTail [] more left refl fault)))));
+      (by_rest Part.UnitMore base_rule end_codes next left (inl refl) refl refl refl refl stop (past_part Part.Base (Of Part.UnitTail ∷ []) (base b) next more left refl parsed (in_part Part.UnitTail [] more left refl fault)))));
 }
 
 pub with_ends : (factor offset : Option Signed) (place : Place) (rest next end : List Token)

@@ -3,12 +3,6 @@ use Rattle.std.specs.Prelude.{◌≡◌, List, [], ◌∷◌, ◌++◌}
 use Rattle.osc_base.specs.declared.fault.Fault.{Fault}
 use Rattle.dsl_tree.specs.declared.token.Token.{Token}
 use Rattle.dsl_tree.specs.Language.{IsViable, fault_code}
-use Rattle.dsl_parser.specs.declared.stop.ParseStop.{ParseStop}
-use Rattle.dsl_parser.specs.declared.stop.ParseStop.TheVariants.{At, Memory}
-
-abbrev pub OnFault : ParseStop → (Fault → Type 0) → Type 0
-OnFault Memory P = Unit {0}
-OnFault (At fault) P = P fault
 
 -- `FirstFault` of dsl_tree has two halves. The first: the spelling of some tree begins with the
 -- tokens before the fault.

@@ -12,7 +12,7 @@ use Rattle.dsl_tree.specs.declared.token.WordKind.TheVariants.{ActorWord, ItWord
 use Rattle.dsl_tree.specs.Codes.{word_code, si_name, factor_name, offset_name, other_name, small_number, large_number, point_number, physical_code, text_code}
 use Rattle.dsl_tree.specs.Grammar.{Part}
 use Rattle.dsl_tree.specs.Forest.{Forest, nil, seen, sub}
-use Rattle.dsl_tree.specs.Tables.{first}
+use Rattle.dsl_tree.specs.Lookahead.{first}
 use Rattle.dsl_tree.specs.Reading.{Parsed}
 use Rattle.dsl_tree.specs.Views.{SuffixTree, Named, At, expr_tree, suffix_tree}
 use Rattle.dsl_tree.specs.Written.{at, written, operator_kind, mark, mark_at, ident, expr}

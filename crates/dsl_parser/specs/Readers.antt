@@ -5,14 +5,8 @@ use Rattle.dsl_tree.specs.declared.token.Token.{Token}
 use Rattle.dsl_tree.specs.declared.token.TokenKind.{TokenKind}
 use Rattle.dsl_tree.specs.Codes.{si_text, factor_text, offset_text, si_name, factor_name, offset_name, other_name, small_number, large_number, point_number}
 use Rattle.dsl_tree.specs.Language.{Ended}
-use Rattle.dsl_parser.specs.declared.stop.Stop.{Stop}
-use Rattle.dsl_parser.specs.declared.stop.Stop.TheVariants.{At, Memory}
 use Rattle.dsl_parser.specs.declared.names.KnownName.{KnownName}
 use Rattle.dsl_parser.specs.declared.names.KnownName.TheVariants.{Si, Factor, Offset}
-
-abbrev pub OnStop : Stop → (ℕ → Type 0) → Type 0
-OnStop Memory P = Unit {0}
-OnStop (At left) P = P left
 
 -- the first token is this one, and the rest are the tokens behind it
 pub record IsRead (place : Place) (kind : TokenKind) (tokens rest : List Token) : Type 0 where

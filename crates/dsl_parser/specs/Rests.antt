@@ -113,7 +113,7 @@ rules_block = Of Part.Rule ∷ Of Part.RulesTail ∷ dedent ∷ []
 
 abbrev pub written_rules : List RuleTree → Forest
 written_rules [] = wrong
-written_rules (r ∷ rs) = sub (phases.rule r) (sub (phases.rules_tail rs) phases.closed)
+written_rules (r ∷ rs) = sub (phases.rule r) (sub (phases.rules_tail rs) phases.block_end)
 
 abbrev pub with_rules : List Symbol
 with_rules = mark Colon ∷ newline ∷ indent ∷ rules_block
@@ -142,7 +142,7 @@ members_block = Of Part.Member ∷ Of Part.MembersTail ∷ dedent ∷ []
 
 abbrev pub written_members : List MemberTree → Forest
 written_members [] = wrong
-written_members (m ∷ ms) = sub (file.member m) (sub (file.members_tail ms) phases.closed)
+written_members (m ∷ ms) = sub (file.member m) (sub (file.members_tail ms) phases.block_end)
 
 -- Invocations
 
@@ -155,7 +155,7 @@ parts_block = Of Part.InvocationPart ∷ Of Part.PartsTail ∷ dedent ∷ []
 
 abbrev pub written_parts : List PartTree → Forest
 written_parts [] = wrong
-written_parts (p ∷ ps) = sub (phases.invocation_part p) (sub (phases.parts_tail ps) phases.closed)
+written_parts (p ∷ ps) = sub (phases.invocation_part p) (sub (phases.parts_tail ps) phases.block_end)
 
 abbrev pub with_parts : List Symbol
 with_parts = mark Colon ∷ newline ∷ indent ∷ parts_block

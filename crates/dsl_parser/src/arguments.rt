@@ -9,11 +9,11 @@ ghost use Rattle.dsl_tree.specs.Reading.{Stops, Parsed, PartFault, RowFault};
 ghost use Rattle.dsl_tree.specs.Language.{Ended};
 ghost use Rattle.dsl_tree.specs.Views.{argument_tree};
 ghost use Rattle.dsl_tree.specs.WrittenPhases as written;
-ghost use Rattle.dsl_parser.specs.declared.stop.Stop.{Stop};
-ghost use Rattle.dsl_parser.specs.Readers.{OnStop};
+ghost use Rattle.osc_base.specs.declared.stop.Stop.{Stop};
+ghost use Rattle.osc_base.specs.Stops.{OnStop};
 ghost use Rattle.dsl_parser.specs.Arguments.{arguments_of, named_of, named_rest, IsLabel, NoLabel, IsNext, IsNamedTail, IsNamedRest};
 
-use crate::expressions::whole;
+use crate::expressions::expression;
 use crate::names::expect_name;
 use crate::stop::Stop;
 use crate::tokens::{expect_mark, take_mark};
@@ -58,7 +58,7 @@ fn next_named(alloc: Global, tokens: &[Token]) -> Result<Option<(Argument, &[Tok
     };
     let (name, label) = expect_name(alloc, behind)?;
     let (_, start) = expect_mark(label, MarkKind::Colon)?;
-    let (value, rest) = whole(alloc, start)?;
+    let (value, rest) = expression(alloc, start)?;
     let argument = Argument {
         name: Some(name),
         value,
@@ -102,7 +102,7 @@ fn named(
     ensures fault { IfErr result (λ e. OnStop e (RowFault named_rest tokens.now)) }
 {
     let mut items = items;
-    let (value, rest) = whole(alloc, tokens)?;
+    let (value, rest) = expression(alloc, tokens)?;
     items.push(Argument {
         name: Some(name),
         value,
@@ -135,7 +135,7 @@ fn all(alloc: Global, tokens: &[Token]) -> Result<(Row<Argument>, &[Token]), Sto
         if let Some((name, start)) = take_label(alloc, rest)? {
             return named(alloc, items, name, start);
         }
-        let (value, behind) = whole(alloc, rest)?;
+        let (value, behind) = expression(alloc, rest)?;
         items.push(Argument { name: None, value })?;
         let Some((_, more)) = take_mark(behind, MarkKind::Comma) else {
             let (_, end) = expect_mark(behind, MarkKind::CloseRound)?;

@@ -4,12 +4,12 @@ ghost use Rattle.std.specs.Prelude.{◌≡◌, ◌<◌, ◌≤◌, [], ◌∷◌
 ghost use Rattle.dsl_tree.specs.Codes.{word_code};
 ghost use Rattle.dsl_tree.specs.Grammar.{Part};
 ghost use Rattle.dsl_tree.specs.FileTree.{DeclarationTree};
-ghost use Rattle.dsl_tree.specs.Tables.{first};
+ghost use Rattle.dsl_tree.specs.Lookahead.{first};
 ghost use Rattle.dsl_tree.specs.Views.{compound_tree, declaration_tree};
 ghost use Rattle.dsl_tree.specs.WrittenFile as written;
 ghost use Rattle.dsl_tree.specs.Reading.{starts, Stops, Parsed, Built, PartFault, RowFault};
 ghost use Rattle.dsl_tree.specs.Language.{Ended};
-ghost use Rattle.dsl_parser.specs.Readers.{OnStop};
+ghost use Rattle.osc_base.specs.Stops.{OnStop};
 ghost use Rattle.dsl_parser.specs.Compounds.{kind_word, compound_codes, unit_codes, is_plain, heading_rest, written_heading, plain_rule, owned_rule, written_extension, extend_rule};
 
 use crate::enums::{enum_declaration, enum_items};
@@ -22,8 +22,8 @@ use crate::stop::Stop;
 use crate::tokens::{expect_mark, expect_word, take_mark};
 use crate::units::{type_declaration, unit_declaration};
 use dsl_tree::{
-    CompoundDecl, CompoundKind, Declaration, EnumItem, Heir, MarkKind, Member, MoreEnum,
-    MoreMembers, QName, Token, WordKind,
+    CompoundDecl, CompoundKind, Declaration, EnumExtension, EnumItem, Heir, MarkKind, Member,
+    MemberExtension, QName, Token, WordKind,
 };
 use osc_base::Row;
 use std::alloc::Global;
@@ -185,9 +185,12 @@ fn extension(alloc: Global, tokens: &[Token]) -> Result<(Declaration, &[Token]),
     let (_, colon) = expect_mark(rest, MarkKind::Colon)?;
     let (added, end) = extension_rest(alloc, colon)?;
     match added {
-        Addition::Items(items) => Ok((Declaration::MoreEnum(MoreEnum { place, name, items }), end)),
+        Addition::Items(items) => Ok((
+            Declaration::EnumExtension(EnumExtension { place, name, items }),
+            end,
+        )),
         Addition::Members(members) => Ok((
-            Declaration::MoreMembers(MoreMembers {
+            Declaration::MemberExtension(MemberExtension {
                 place,
                 name,
                 members,
@@ -218,7 +221,7 @@ fn compound_kind(tokens: &[Token]) -> Option<CompoundKind>
     None
 }
 
-fn measure(alloc: Global, tokens: &[Token]) -> Result<(Declaration, &[Token]), Stop>
+fn type_or_unit(alloc: Global, tokens: &[Token]) -> Result<(Declaration, &[Token]), Stop>
     requires begins { starts unit_codes tokens.now ≡ true }
     requires ended { Ended tokens.now }
     ensures ok { IfOk result (λ x. Parsed Part.Declaration (written.declaration (declaration_tree x.0)) tokens.now x.1.now) }
@@ -249,16 +252,16 @@ fn declaration(alloc: Global, tokens: &[Token]) -> Result<(Declaration, &[Token]
         let (items, end) = enum_declaration(alloc, tokens)?;
         return Ok((Declaration::Enum(items), end));
     }
-    if begins_measure(tokens) {
-        let (measure, end) = measure(alloc, tokens)?;
-        return Ok((measure, end));
+    if begins_type_or_unit(tokens) {
+        let (declared, end) = type_or_unit(alloc, tokens)?;
+        return Ok((declared, end));
     }
     let (extension, end) = extension(alloc, tokens)?;
     Ok((extension, end))
 }
 
 /// Whether the first token begins a type or a unit.
-fn begins_measure(tokens: &[Token]) -> bool
+fn begins_type_or_unit(tokens: &[Token]) -> bool
     requires { Ended tokens.now }
     ensures { result ≡ starts unit_codes tokens.now }
 {
@@ -281,7 +284,7 @@ fn begins_declaration(tokens: &[Token]) -> bool
     requires { Ended tokens.now }
     ensures { result ≡ starts (first Part.Declaration) tokens.now }
 {
-    begins_measure(tokens)
+    begins_type_or_unit(tokens)
         || begins_word(tokens, WordKind::EnumWord)
         || begins_compound(tokens)
         || begins_word(tokens, WordKind::ExtendWord)

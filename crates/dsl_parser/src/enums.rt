@@ -6,7 +6,7 @@ ghost use Rattle.dsl_tree.specs.WrittenFile as written;
 ghost use Rattle.dsl_tree.specs.Reading.{Parsed, Built, PartFault, RowFault};
 ghost use Rattle.dsl_tree.specs.Language.{Ended};
 ghost use Rattle.dsl_tree.specs.declared.enums.EnumItem.{EnumItem};
-ghost use Rattle.dsl_parser.specs.Readers.{OnStop};
+ghost use Rattle.osc_base.specs.Stops.{OnStop};
 ghost use Rattle.dsl_parser.specs.Rests.{enum_rule};
 ghost use Rattle.dsl_parser.specs.Rows.{Continued};
 

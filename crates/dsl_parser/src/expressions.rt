@@ -8,17 +8,17 @@ ghost use Rattle.dsl_tree.specs.declared.token.MarkKind.{MarkKind};
 ghost use Rattle.dsl_tree.specs.declared.token.WordKind.{WordKind};
 ghost use Rattle.dsl_tree.specs.Codes.{mark_code, word_code};
 ghost use Rattle.dsl_tree.specs.Grammar.{Part};
-ghost use Rattle.dsl_tree.specs.Tables.{first};
+ghost use Rattle.dsl_tree.specs.Lookahead.{first};
 ghost use Rattle.dsl_tree.specs.Reading.{starts, Starts, Stops, Parsed, PartFault};
 ghost use Rattle.dsl_tree.specs.Language.{Ended};
 ghost use Rattle.dsl_tree.specs.Views.{expr_tree};
 ghost use Rattle.dsl_tree.specs.Written as written;
-ghost use Rattle.dsl_parser.specs.Readers.{OnStop};
+ghost use Rattle.osc_base.specs.Stops.{OnStop};
 ghost use Rattle.dsl_parser.specs.Levels.{at_level, row_part, row_level, item_part, item_level, tail_part, tail_of, suffix_of, suffixes_of, items_of, IsBracketed, IsListing};
 
 use crate::levels::{RowLevel, row_of, starts_operator, take_operator, take_sign};
 use crate::names::expect_name;
-use crate::nodes::{self, closed};
+use crate::nodes::{self, before_mark};
 use crate::operands::leaf;
 use crate::stop::Stop;
 use crate::tokens::{expect_mark, take_mark, take_word};
@@ -35,12 +35,12 @@ pub fn expr(alloc: Global, tokens: &[Token]) -> Result<(Expr, &[Token]), Stop>
     ensures shorter { IfOk result (λ x. length x.1.now < length tokens.now) }
     ensures fault { IfErr result (λ e. OnStop e (PartFault Part.Expr tokens.now)) }
 {
-    whole(alloc, tokens)
+    expression(alloc, tokens)
 }
 
 /// A whole expression.
 #[cycle(expressions)]
-pub fn whole(alloc: Global, tokens: &[Token]) -> Result<(Expr, &[Token]), Stop>
+pub fn expression(alloc: Global, tokens: &[Token]) -> Result<(Expr, &[Token]), Stop>
     requires { Ended tokens.now }
     ensures ok { IfOk result (λ x. Parsed Part.Expr (at_level 0 x.0) tokens.now x.1.now) }
     ensures ended { IfOk result (λ x. Ended x.1.now) }
@@ -235,8 +235,8 @@ fn suffix(alloc: Global, tokens: &[Token]) -> Result<Option<(Suffix, &[Token])>,
     let Some((place, behind)) = take_mark(tokens, MarkKind::OpenSquare) else {
         return Ok(None);
     };
-    let (index, rest) = whole(alloc, behind)?;
-    let (index, rest) = closed(index, rest, MarkKind::CloseSquare)?;
+    let (index, rest) = expression(alloc, behind)?;
+    let (index, rest) = before_mark(index, rest, MarkKind::CloseSquare)?;
     Ok(Some((Suffix::Index { place, index }, rest)))
 }
 
@@ -277,7 +277,7 @@ fn group(alloc: Global, tokens: &[Token]) -> Result<Option<(Expr, &[Token])>, St
     let Some((place, behind)) = take_mark(tokens, MarkKind::OpenRound) else {
         return Ok(None);
     };
-    let (inner, rest) = whole(alloc, behind)?;
+    let (inner, rest) = expression(alloc, behind)?;
     let inner = Boxed::new(alloc, inner)?;
     let (_, rest) = expect_mark(rest, MarkKind::CloseRound)?;
     Ok(Some((Expr::Group { place, inner }, rest)))
@@ -297,10 +297,10 @@ fn range_call(alloc: Global, tokens: &[Token]) -> Result<Option<(Expr, &[Token])
         return Ok(None);
     };
     let (_, behind) = expect_mark(behind, MarkKind::OpenRound)?;
-    let (low, rest) = whole(alloc, behind)?;
+    let (low, rest) = expression(alloc, behind)?;
     let low = Boxed::new(alloc, low)?;
     let (_, behind) = expect_mark(rest, MarkKind::Comma)?;
-    let (high, rest) = whole(alloc, behind)?;
+    let (high, rest) = expression(alloc, behind)?;
     let high = Boxed::new(alloc, high)?;
     let (_, rest) = expect_mark(rest, MarkKind::CloseRound)?;
     Ok(Some((Expr::RangeCall { place, low, high }, rest)))
@@ -319,7 +319,7 @@ fn bracket(alloc: Global, tokens: &[Token]) -> Result<Option<(Expr, &[Token])>, 
     let Some((place, behind)) = take_mark(tokens, MarkKind::OpenSquare) else {
         return Ok(None);
     };
-    let (first, rest) = whole(alloc, behind)?;
+    let (first, rest) = expression(alloc, behind)?;
     let (found, rest) = bracket_rest(alloc, place, first, rest)?;
     Ok(Some((found, rest)))
 }
@@ -340,7 +340,7 @@ fn bracket_rest(
 {
     if let Some((_, behind)) = take_mark(tokens, MarkKind::TwoDots) {
         let low = Boxed::new(alloc, first)?;
-        let (high, rest) = whole(alloc, behind)?;
+        let (high, rest) = expression(alloc, behind)?;
         let high = Boxed::new(alloc, high)?;
         let (_, rest) = expect_mark(rest, MarkKind::CloseSquare)?;
         return Ok((Expr::Span { place, low, high }, rest));
@@ -363,7 +363,7 @@ fn listed(alloc: Global, first: Expr, tokens: &[Token]) -> Result<(Row<Expr>, &[
     items.push(first)?;
     let mut rest = tokens;
     'items: while let Some((_, behind)) = take_mark(rest, MarkKind::Comma) {
-        let (item, after) = whole(alloc, behind)?;
+        let (item, after) = expression(alloc, behind)?;
         items.push(item)?;
         rest = after;
     }

@@ -6,7 +6,7 @@ ghost use Rattle.dsl_tree.specs.Views.{file_tree};
 ghost use Rattle.dsl_tree.specs.WrittenFile as written;
 ghost use Rattle.dsl_tree.specs.Reading.{Parsed, PartFault};
 ghost use Rattle.dsl_tree.specs.Language.{Ended};
-ghost use Rattle.dsl_parser.specs.Readers.{OnStop};
+ghost use Rattle.osc_base.specs.Stops.{OnStop};
 
 use crate::declarations::declarations;
 use crate::imports::imports;

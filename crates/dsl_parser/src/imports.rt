@@ -8,7 +8,7 @@ ghost use Rattle.dsl_tree.specs.Reading.{Parsed, Built, PartFault, RowFault};
 ghost use Rattle.dsl_tree.specs.Language.{Ended};
 ghost use Rattle.dsl_tree.specs.declared.parts.Ident.{Ident};
 ghost use Rattle.dsl_tree.specs.declared.file.Import.{Import};
-ghost use Rattle.dsl_parser.specs.Readers.{OnStop};
+ghost use Rattle.osc_base.specs.Stops.{OnStop};
 ghost use Rattle.dsl_parser.specs.Rests.{dotted_import};
 ghost use Rattle.dsl_parser.specs.Rows.{Continued};
 

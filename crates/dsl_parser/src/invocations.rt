@@ -7,7 +7,7 @@ ghost use Rattle.dsl_tree.specs.WrittenPhases as written;
 ghost use Rattle.dsl_tree.specs.Reading.{Parsed, Built, PartFault, RowFault};
 ghost use Rattle.dsl_tree.specs.Language.{Ended};
 ghost use Rattle.dsl_tree.specs.declared.phases.InvokePart.{InvokePart};
-ghost use Rattle.dsl_parser.specs.Readers.{OnStop};
+ghost use Rattle.osc_base.specs.Stops.{OnStop};
 ghost use Rattle.dsl_parser.specs.Rests.{modifier_rule, parts_block, with_parts, written_parts, written_with_parts};
 ghost use Rattle.dsl_parser.specs.Rows.{Continued};
 

@@ -6,7 +6,8 @@ ghost use Rattle.dsl_tree.specs.declared.token.TokenKind.{TokenKind};
 ghost use Rattle.dsl_tree.specs.Codes.{code};
 ghost use Rattle.dsl_tree.specs.Reading.{Stops, NotTaken};
 ghost use Rattle.dsl_tree.specs.Language.{Ended};
-ghost use Rattle.dsl_parser.specs.Readers.{OnStop, IsRead};
+ghost use Rattle.osc_base.specs.Stops.{OnStop};
+ghost use Rattle.dsl_parser.specs.Readers.{IsRead};
 
 use crate::stop::Stop;
 use dsl_tree::{Token, TokenKind};

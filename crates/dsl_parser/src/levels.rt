@@ -8,7 +8,7 @@ ghost use Rattle.dsl_tree.specs.Language.{Ended};
 ghost use Rattle.dsl_tree.specs.declared.expr.Further.{Further};
 ghost use Rattle.dsl_tree.specs.Written.{operator_kind, sign_kind};
 ghost use Rattle.dsl_tree.specs.Grammar.{Part};
-ghost use Rattle.dsl_tree.specs.Tables.{first};
+ghost use Rattle.dsl_tree.specs.Lookahead.{first};
 ghost use Rattle.dsl_parser.specs.Readers.{IsRead};
 ghost use Rattle.dsl_parser.specs.Levels.{at_level, operators, row_level, item_level, tail_of};
 

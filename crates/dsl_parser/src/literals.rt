@@ -5,8 +5,9 @@ ghost use Rattle.dsl_tree.specs.declared.token.TokenKind.{TokenKind};
 ghost use Rattle.dsl_tree.specs.Codes.{code, has, number_code, small_number, text_code};
 ghost use Rattle.dsl_tree.specs.Reading.{Stops, NotTaken};
 ghost use Rattle.dsl_tree.specs.Language.{Ended};
-ghost use Rattle.dsl_parser.specs.declared.stop.Stop.{Stop};
-ghost use Rattle.dsl_parser.specs.Readers.{OnStop, IsRead, numbers, whole_numbers};
+ghost use Rattle.osc_base.specs.declared.stop.Stop.{Stop};
+ghost use Rattle.osc_base.specs.Stops.{OnStop};
+ghost use Rattle.dsl_parser.specs.Readers.{IsRead, numbers, whole_numbers};
 
 use crate::stop::Stop;
 use dsl_tree::{Digits, Token, TokenKind};

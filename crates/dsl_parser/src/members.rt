@@ -8,7 +8,7 @@ ghost use Rattle.dsl_tree.specs.Reading.{Parsed, Built, PartFault, RowFault};
 ghost use Rattle.dsl_tree.specs.Language.{Ended};
 ghost use Rattle.dsl_tree.specs.declared.parts.Ident.{Ident};
 ghost use Rattle.dsl_tree.specs.declared.compounds.Member.{Member};
-ghost use Rattle.dsl_parser.specs.Readers.{OnStop};
+ghost use Rattle.osc_base.specs.Stops.{OnStop};
 ghost use Rattle.dsl_parser.specs.Rests.{field_rule, field_rest, written_field_rest, do_rule, members_block, written_members};
 ghost use Rattle.dsl_parser.specs.Rows.{Continued};
 
@@ -119,7 +119,7 @@ fn field(alloc: Global, tokens: &[Token]) -> Result<(FieldDecl, &[Token]), Stop>
     Ok((field, end))
 }
 
-fn behaviour(alloc: Global, tokens: &[Token]) -> Result<(Member, &[Token]), Stop>
+fn do_member(alloc: Global, tokens: &[Token]) -> Result<(Member, &[Token]), Stop>
     requires { Ended tokens.now }
     ensures ok { IfOk result (λ x. Built do_rule (written.member (member_tree x.0)) tokens.now x.1.now) }
     ensures ended { IfOk result (λ x. Ended x.1.now) }
@@ -143,8 +143,8 @@ fn member(alloc: Global, tokens: &[Token]) -> Result<(Member, &[Token]), Stop>
         return Ok((Member::Rule(found), end));
     }
     if begins_word(tokens, WordKind::DoWord) {
-        let (behaviour, end) = behaviour(alloc, tokens)?;
-        return Ok((behaviour, end));
+        let (member, end) = do_member(alloc, tokens)?;
+        return Ok((member, end));
     }
     let (field, end) = field(alloc, tokens)?;
     Ok((Member::Field(field), end))

@@ -9,7 +9,8 @@ ghost use Rattle.dsl_tree.specs.Forest.{nil, sub};
 ghost use Rattle.dsl_tree.specs.Views.{suffix_tree};
 ghost use Rattle.dsl_tree.specs.Reading.{NotTaken};
 ghost use Rattle.dsl_tree.specs.Language.{Ended};
-ghost use Rattle.dsl_parser.specs.Readers.{OnStop, IsRead};
+ghost use Rattle.osc_base.specs.Stops.{OnStop};
+ghost use Rattle.dsl_parser.specs.Readers.{IsRead};
 ghost use Rattle.dsl_parser.specs.Levels.{at_level, suffixes_of, is_named, ends_named};
 
 use crate::stop::Stop;
@@ -44,7 +45,7 @@ pub fn with_suffixes(head: Boxed<Expr>, suffixes: Row<Suffix>) -> Expr
 }
 
 /// The expression, behind which the mark has to stand.
-pub fn closed(expr: Expr, tokens: &[Token], mark: MarkKind) -> Result<(Expr, &[Token]), Stop>
+pub fn before_mark(expr: Expr, tokens: &[Token], mark: MarkKind) -> Result<(Expr, &[Token]), Stop>
     requires { Ended tokens.now }
     ensures same { IfOk result (λ x. x.0 ≡ expr) }
     ensures ok { IfOk result (λ x. (place : Place) × IsRead place (TokenKind.Mark mark) tokens.now x.1.now) }

@@ -4,11 +4,12 @@ ghost use Rattle.std.specs.Prelude.{◌≡◌, ◌≤◌, ◌<◌, [], ◌∷◌
 ghost use Rattle.dsl_tree.specs.Codes.{code, has, word_code};
 ghost use Rattle.dsl_tree.specs.Forest.{nil, seen, sub};
 ghost use Rattle.dsl_tree.specs.Written.{word_at, ident};
-ghost use Rattle.dsl_parser.specs.declared.stop.Stop.{Stop};
+ghost use Rattle.osc_base.specs.declared.stop.Stop.{Stop};
 ghost use Rattle.dsl_tree.specs.Grammar.{Part};
 ghost use Rattle.dsl_tree.specs.Reading.{Stops, Parsed, PartFault};
 ghost use Rattle.dsl_tree.specs.Language.{Ended};
-ghost use Rattle.dsl_parser.specs.Readers.{OnStop, names};
+ghost use Rattle.osc_base.specs.Stops.{OnStop};
+ghost use Rattle.dsl_parser.specs.Readers.{names};
 ghost use Rattle.dsl_parser.specs.Levels.{at_level, enum_member, truth_codes, simple_codes, leaf_codes};
 
 use crate::names::{expect_name, take_name};

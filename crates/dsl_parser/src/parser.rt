@@ -4,27 +4,28 @@ ghost use Rattle.dsl_tree.specs.Grammar.{Part};
 ghost use Rattle.dsl_tree.specs.Reading.{PartFault};
 ghost use Rattle.dsl_tree.specs.Views.{file_tree};
 ghost use Rattle.dsl_tree.specs.Language.{Ended, Spelled, FirstFault, fault_code};
-ghost use Rattle.dsl_parser.specs.Answers.{OnFault, HasViableFront, HasDeadToken};
+ghost use Rattle.osc_base.specs.Stops.{OnStop};
+ghost use Rattle.dsl_parser.specs.Answers.{HasViableFront, HasDeadToken};
 
 use crate::files::file;
 use crate::stop::{ParseStop, Stop};
 use dsl_tree::{File, Token, TokenKind, Tokens};
-use osc_base::Fault;
+use osc_base::{Fault, FaultCode};
 use std::alloc::Global;
 
 /// The tree that the tokens spell.
 ///
 /// They are as the lexer gives them: `End` is the last token, and no other one. Where they spell no
-/// tree, the fault is at the first token with which no tree goes on; its code is 202 where this is a
-/// word that the profile leaves out, else 201. The other error is want of memory.
+/// tree, the fault is at the first token with which no tree goes on; its code is `LeftOut` when this
+/// is a word that the profile leaves out, else `Syntax`. The other error is out of memory.
 pub fn parse(alloc: Global, tokens: &Tokens) -> Result<File, ParseStop>
     requires ended { Ended tokens.now }
     ensures tree { IfOk result (λ f. Spelled (file_tree f) tokens.now) }
     ensures only { IfOk result (λ f. (t : FileTree) → Spelled t tokens.now → t ≡ file_tree f) }
-    ensures fault { IfErr result (λ e. OnFault e (FirstFault tokens.now)) }
-    ensures viable { IfErr result (λ e. OnFault e (HasViableFront tokens.now)) }
-    ensures dead { IfErr result (λ e. OnFault e (HasDeadToken tokens.now)) }
-    ensures none { IfErr result (λ e. OnFault e (λ fault. (t : FileTree) → Spelled t tokens.now → ⊥)) }
+    ensures fault { IfErr result (λ e. OnStop e (FirstFault tokens.now)) }
+    ensures viable { IfErr result (λ e. OnStop e (HasViableFront tokens.now)) }
+    ensures dead { IfErr result (λ e. OnStop e (HasDeadToken tokens.now)) }
+    ensures none { IfErr result (λ e. OnStop e (λ fault. (t : FileTree) → Spelled t tokens.now → ⊥)) }
 {
     let tokens = tokens.as_slice();
     match file(alloc, tokens) {
@@ -35,12 +36,12 @@ pub fn parse(alloc: Global, tokens: &Tokens) -> Result<File, ParseStop>
 }
 
 /// The code of a fault at a token of this kind.
-fn code_at(kind: &TokenKind) -> u16
+fn code_at(kind: &TokenKind) -> FaultCode
     ensures { result ≡ fault_code kind.now }
 {
     match kind {
-        TokenKind::LeftOut(_) => 202,
-        _ => 201,
+        TokenKind::LeftOut(_) => FaultCode::LeftOut,
+        _ => FaultCode::Syntax,
     }
 }
 

@@ -6,7 +6,7 @@ ghost use Rattle.dsl_tree.specs.Reading.{NotTaken, Parsed, PartFault};
 ghost use Rattle.dsl_tree.specs.Language.{Ended};
 ghost use Rattle.dsl_tree.specs.Views.{path_tree};
 ghost use Rattle.dsl_tree.specs.Written as written;
-ghost use Rattle.dsl_parser.specs.Readers.{OnStop};
+ghost use Rattle.osc_base.specs.Stops.{OnStop};
 ghost use Rattle.dsl_parser.specs.Arguments.{IsHeadRead, head_codes};
 
 use crate::expressions::suffixes;

@@ -9,7 +9,8 @@ ghost use Rattle.dsl_tree.specs.WrittenPhases as written;
 ghost use Rattle.dsl_tree.specs.Reading.{Parsed, Built, NotTaken, PartFault, RowFault};
 ghost use Rattle.dsl_tree.specs.Language.{Ended};
 ghost use Rattle.dsl_tree.specs.declared.token.TokenKind.{TokenKind};
-ghost use Rattle.dsl_parser.specs.Readers.{OnStop, IsRead};
+ghost use Rattle.osc_base.specs.Stops.{OnStop};
+ghost use Rattle.dsl_parser.specs.Readers.{IsRead};
 ghost use Rattle.dsl_parser.specs.PhaseStarts.{wait_rest, written_wait_rest, composition_codes, composition_rule, composition_block, phases_block, headed, Front, CorePhase, behind_label, behind_name, Started};
 
 use crate::expressions::expr;
@@ -20,7 +21,7 @@ use crate::rows::row_of as one_row;
 use crate::starts::{begins_composition, begins_phase, begins_word};
 use crate::stop::Stop;
 use crate::tokens::{expect_mark, expect_word, take_mark, take_word};
-use crate::units::closed;
+use crate::units::bracket_and_line_end;
 use dsl_tree::{
     Argument, CompKind, CompNode, Expr, Ident, InvokeHead, InvokeNode, MarkKind, Phase, Token,
     WaitNode, WordKind,
@@ -63,7 +64,7 @@ fn elapsed(alloc: Global, tokens: &[Token]) -> Result<(Expr, &[Token]), Stop>
     let (_, word) = expect_word(tokens, WordKind::ElapsedWord)?;
     let (_, open) = expect_mark(word, MarkKind::OpenRound)?;
     let (elapsed, rest) = expr(alloc, open)?;
-    let end = closed(rest)?;
+    let end = bracket_and_line_end(rest)?;
     Ok((elapsed, end))
 }
 

@@ -8,7 +8,7 @@ ghost use Rattle.dsl_tree.specs.WrittenPhases as written;
 ghost use Rattle.dsl_tree.specs.Reading.{Parsed, Built, PartFault, RowFault};
 ghost use Rattle.dsl_tree.specs.Language.{Ended};
 ghost use Rattle.dsl_tree.specs.declared.rules.RuleDecl.{RuleDecl};
-ghost use Rattle.dsl_parser.specs.Readers.{OnStop};
+ghost use Rattle.osc_base.specs.Stops.{OnStop};
 ghost use Rattle.dsl_parser.specs.Rests.{keep_rule, remove_rule, rules_block, with_rules, written_rules, written_with_rules};
 ghost use Rattle.dsl_parser.specs.Rows.{Continued};
 
@@ -19,7 +19,7 @@ use crate::rows::row_of;
 use crate::starts::{begins_rule, begins_word};
 use crate::stop::Stop;
 use crate::tokens::{expect_mark, expect_word, take_mark, take_word};
-use crate::units::closed;
+use crate::units::bracket_and_line_end;
 use dsl_tree::{Expr, KeepKind, MarkKind, RuleDecl, Token, WordKind};
 use osc_base::Row;
 use std::alloc::Global;
@@ -50,7 +50,7 @@ fn keep(alloc: Global, tokens: &[Token]) -> Result<(RuleDecl, &[Token]), Stop>
     let (_, open) = expect_mark(behind, MarkKind::OpenRound)?;
     let (kind, inner) = keep_kind(open);
     let (expr, rest) = expr(alloc, inner)?;
-    let end = closed(rest)?;
+    let end = bracket_and_line_end(rest)?;
     Ok((RuleDecl::Keep { place, kind, expr }, end))
 }
 
@@ -64,7 +64,7 @@ fn remove(alloc: Global, tokens: &[Token]) -> Result<(RuleDecl, &[Token]), Stop>
     let (place, behind) = expect_word(tokens, WordKind::RemoveDefaultWord)?;
     let (_, open) = expect_mark(behind, MarkKind::OpenRound)?;
     let (path, rest) = path(alloc, open)?;
-    let end = closed(rest)?;
+    let end = bracket_and_line_end(rest)?;
     Ok((RuleDecl::Remove { place, path }, end))
 }
 

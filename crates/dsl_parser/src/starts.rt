@@ -3,7 +3,7 @@
 ghost use Rattle.std.specs.Prelude.{◌≡◌, [], ◌∷◌};
 ghost use Rattle.dsl_tree.specs.Codes.{word_code};
 ghost use Rattle.dsl_tree.specs.Grammar.{Part};
-ghost use Rattle.dsl_tree.specs.Tables.{first};
+ghost use Rattle.dsl_tree.specs.Lookahead.{first};
 ghost use Rattle.dsl_tree.specs.Reading.{starts};
 ghost use Rattle.dsl_tree.specs.Language.{Ended};
 ghost use Rattle.dsl_parser.specs.Readers.{names};

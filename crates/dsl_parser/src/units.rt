@@ -9,7 +9,7 @@ ghost use Rattle.dsl_tree.specs.WrittenFile as written;
 ghost use Rattle.dsl_tree.specs.Reading.{Stops, Parsed, Built, PartFault, RowFault};
 ghost use Rattle.dsl_tree.specs.Language.{Ended};
 ghost use Rattle.dsl_tree.specs.declared.units.BasePart.{BasePart};
-ghost use Rattle.dsl_parser.specs.Readers.{OnStop};
+ghost use Rattle.osc_base.specs.Stops.{OnStop};
 ghost use Rattle.dsl_parser.specs.Rests.{optional_dash, closing, type_rule, type_si, type_bases, unit_rule, unit_of, unit_si, unit_bases, factor_rest, offset_rest};
 ghost use Rattle.dsl_parser.specs.Rests as rest;
 ghost use Rattle.dsl_parser.specs.Rows.{Continued};
@@ -93,7 +93,7 @@ fn base(alloc: Global, tokens: &[Token]) -> Result<(BasePart, &[Token]), Stop>
 }
 
 /// The closing bracket and the line end.
-pub fn closed(tokens: &[Token]) -> Result<&[Token], Stop>
+pub fn bracket_and_line_end(tokens: &[Token]) -> Result<&[Token], Stop>
     requires { Ended tokens.now }
     ensures ok { IfOk result (λ rest. Built closing written.bases_end tokens.now rest.now) }
     ensures ended { IfOk result (λ rest. Ended rest.now) }
@@ -136,7 +136,7 @@ fn bases_of_type(alloc: Global, tokens: &[Token]) -> Result<(Row<BasePart>, &[To
 {
     let (first, behind) = base(alloc, tokens)?;
     let (bases, rest) = bases_tail(alloc, row_of(alloc, first)?, behind)?;
-    let end = closed(rest)?;
+    let end = bracket_and_line_end(rest)?;
     Ok((bases, end))
 }
 
@@ -183,7 +183,7 @@ fn offset_behind(tokens: &[Token]) -> Result<(Signed, &[Token]), Stop>
 {
     let (_, colon) = expect_mark(tokens, MarkKind::Colon)?;
     let (offset, rest) = signed(colon)?;
-    let end = closed(rest)?;
+    let end = bracket_and_line_end(rest)?;
     Ok((offset, end))
 }
 
@@ -201,7 +201,7 @@ fn factor_tail(tokens: &[Token]) -> Result<(Option<Signed>, &[Token]), Stop>
             Ok((Some(offset), end))
         }
         None => {
-            let end = closed(tokens)?;
+            let end = bracket_and_line_end(tokens)?;
             Ok((None, end))
         }
     }
@@ -222,7 +222,7 @@ fn factor_behind(tokens: &[Token]) -> Result<(UnitEnd, &[Token]), Stop>
 }
 
 /// The factor or the offset behind a comma, if one of them stands there.
-fn ends(tokens: &[Token]) -> Result<Option<(UnitEnd, &[Token])>, Stop>
+fn end_of_unit(tokens: &[Token]) -> Result<Option<(UnitEnd, &[Token])>, Stop>
     requires { Ended tokens.now }
     ensures some { IfOk result (λ o. IfSome o (λ x. Parsed Part.UnitMore (rest.unit_more x.0.factor x.0.offset) tokens.now x.1.now)) }
     ensures none { IfOk result (λ o. IfNone o (Stops (factor_name ∷ offset_name ∷ []) tokens.now)) }
@@ -262,14 +262,14 @@ fn unit_tail(
     let mut bases = bases;
     let mut rest = tokens;
     while let Some((_, next)) = take_mark(rest, MarkKind::Comma) {
-        if let Some((found, end)) = ends(next)? {
+        if let Some((found, end)) = end_of_unit(next)? {
             return Ok((bases, found, end));
         }
         let (item, after) = base(alloc, next)?;
         bases.push(item)?;
         rest = after;
     }
-    let end = closed(rest)?;
+    let end = bracket_and_line_end(rest)?;
     let found = UnitEnd {
         factor: None,
         offset: None,

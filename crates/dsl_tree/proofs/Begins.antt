@@ -4,7 +4,7 @@ use Rattle.dsl_tree.specs.declared.token.Token.{Token}
 use Rattle.dsl_tree.specs.Codes.{code, has}
 use Rattle.dsl_tree.specs.Grammar.{Part, Symbol, rules, Seen, Bare, Of}
 use Rattle.dsl_tree.specs.Forest.{Forest, nil, seen, bare, sub, wrong, Spells, AnyRule, Follows}
-use Rattle.dsl_tree.specs.Tables.{first, empty, firsts, empties}
+use Rattle.dsl_tree.specs.Lookahead.{first, empty, firsts, empties}
 use Rattle.dsl_tree.specs.Reading.{Starts, void}
 use Rattle.dsl_tree.proofs.Tests.{left_of, right_of}
 use Rattle.dsl_tree.proofs.Sets.{both_ways, and_both, starts-cons, Starts-subset, Starts-append_left, Starts-append_right}

@@ -4,7 +4,7 @@ use Rattle.std.proofs.lemmas.List.{append-nil}
 use Rattle.dsl_tree.specs.declared.token.Token.{Token}
 use Rattle.dsl_tree.specs.Grammar.{Part, Symbol, rules, Seen, Bare, Of}
 use Rattle.dsl_tree.specs.Forest.{Forest, nil, seen, bare, sub, Spells, AnyRule}
-use Rattle.dsl_tree.specs.Tables.{first}
+use Rattle.dsl_tree.specs.Lookahead.{first}
 use Rattle.dsl_tree.specs.Reading.{Stops, void, Whole, Parsed, Built, Taken, PartFault, Along}
 use Rattle.dsl_tree.proofs.Sets.{starts-nil}
 use Rattle.dsl_tree.proofs.Fits.{any_map}

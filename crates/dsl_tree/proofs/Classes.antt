@@ -5,7 +5,7 @@ use Rattle.std.specs.Str.{bytes_eq}
 use Rattle.std.proofs.lemmas.Bool.{false≢true, eqb-true}
 use Rattle.std.proofs.lemmas.Slice.Eq.{bytes_eq-Decides}
 use Rattle.dsl_tree.specs.declared.token.TokenKind.{TokenKind}
-use Rattle.dsl_tree.specs.declared.token.LeftKind.{LeftKind}
+use Rattle.dsl_tree.specs.declared.token.ExcludedWord.{ExcludedWord}
 use Rattle.dsl_tree.specs.declared.token.MarkKind.{MarkKind}
 use Rattle.dsl_tree.specs.declared.token.MarkKind.TheVariants.{OpenRound, CloseRound, OpenSquare, CloseSquare, Colon, Comma, Dot, TwoDots, Assign, Equal, Differ, Below, AtMost, Above, AtLeast, Arrow, Plus, Dash, Star, Slash, Bang}
 use Rattle.dsl_tree.specs.declared.token.WordKind.{WordKind}
@@ -27,7 +27,7 @@ Value Names = List ℕ
 Value Numbers = ℕ × ℕ
 Value Physicals = ℕ × ℕ × List ℕ
 Value Texts = List ℕ
-Value LeftOuts = LeftKind
+Value LeftOuts = ExcludedWord
 Value (Plain kind) = Unit {0}
 
 abbrev pub kind_of : (x : Class) → Value x → TokenKind

@@ -1,7 +1,7 @@
 -- END stands at the end of each list of tokens that spells a file, and nowhere else. So an ended list of tokens has a tree
 -- or a first fault.
-use Rattle.std.proofs.Common.{◌≡◌, ℕ, List, [], ◌∷◌, ◌++◌, Bool, true, false, refl, sym, ◌∙◌, ap, ap₂, subst, inl, inr, ◌&&◌, not, append_assoc, append-nil}
-use Rattle.std.proofs.lemmas.Bool.{false≢true}
+use Rattle.std.proofs.Common.{◌≡◌, ℕ, List, [], ◌∷◌, ◌++◌, Bool, true, false, refl, sym, ◌∙◌, ap, ap₂, subst, inl, inr, ◌&&◌, ◌||◌, not, append_assoc, append-nil}
+use Rattle.osc_base.specs.declared.fault.FaultCode.{FaultCode}
 use Rattle.osc_base.specs.declared.fault.Place.{Place}
 use Rattle.dsl_tree.specs.declared.token.Token.{Token}
 use Rattle.dsl_tree.specs.declared.token.TokenKind.{TokenKind}
@@ -12,7 +12,8 @@ use Rattle.dsl_tree.specs.FileTree.{FileTree}
 use Rattle.dsl_tree.specs.WrittenFile.{file, imports, declarations}
 use Rattle.dsl_tree.specs.Language.{is_end, Ended, Spelled, IsViable, fault_code, TreeOrFault, OneFirstFault}
 use Rattle.dsl_tree.proofs.Tests.{left_of, right_of}
-use Rattle.dsl_tree.proofs.Sets.{both_ways, not_true}
+use Rattle.dsl_tree.proofs.EachPart.{each_part}
+use Rattle.dsl_tree.proofs.Sets.{both_ways, not_true, implied}
 
 -- no token of a row of symbols is END, and no part of it is a file
 
@@ -31,78 +32,7 @@ all_endless [] = true
 all_endless (r ∷ rs) = endless r && all_endless rs
 
 endless_rules : (p : Part) → is_no_file p ≡ true → all_endless (rules p) ≡ true
-endless_rules Part.File h = absurd (false≢true h)
-endless_rules Part.Imports h = refl
-endless_rules Part.Import h = refl
-endless_rules Part.ImportRest h = refl
-endless_rules Part.DottedNames h = refl
-endless_rules Part.Declarations h = refl
-endless_rules Part.Declaration h = refl
-endless_rules Part.BasesTail h = refl
-endless_rules Part.UnitTail h = refl
-endless_rules Part.UnitMore h = refl
-endless_rules Part.FactorTail h = refl
-endless_rules Part.Base h = refl
-endless_rules Part.OptionalDash h = refl
-endless_rules Part.Signed h = refl
-endless_rules Part.EnumItems h = refl
-endless_rules Part.EnumItem h = refl
-endless_rules Part.ItemNumber h = refl
-endless_rules Part.ItemsTail h = refl
-endless_rules Part.QualifiedName h = refl
-endless_rules Part.SecondName h = refl
-endless_rules Part.OptionalHeir h = refl
-endless_rules Part.HeirCondition h = refl
-endless_rules Part.ConditionValue h = refl
-endless_rules Part.EnumMember h = refl
-endless_rules Part.Body h = refl
-endless_rules Part.Block h = refl
-endless_rules Part.ExtensionRest h = refl
-endless_rules Part.MembersTail h = refl
-endless_rules Part.Member h = refl
-endless_rules Part.NamesTail h = refl
-endless_rules Part.FieldType h = refl
-endless_rules Part.Initial h = refl
-endless_rules Part.FieldEnd h = refl
-endless_rules Part.RulesTail h = refl
-endless_rules Part.Rule h = refl
-endless_rules Part.KeepKind h = refl
-endless_rules Part.Path h = refl
-endless_rules Part.SuffixesTail h = refl
-endless_rules Part.Suffix h = refl
-endless_rules Part.Phase h = refl
-endless_rules Part.PhaseAfterName h = refl
-endless_rules Part.LabelledPhase h = refl
-endless_rules Part.Composition h = refl
-endless_rules Part.CompositionArguments h = refl
-endless_rules Part.PhasesTail h = refl
-endless_rules Part.Wait h = refl
-endless_rules Part.InvocationRest h = refl
-endless_rules Part.InvocationArguments h = refl
-endless_rules Part.InvocationEnd h = refl
-endless_rules Part.InvocationPart h = refl
-endless_rules Part.PartsTail h = refl
-endless_rules Part.Arguments h = refl
-endless_rules Part.ArgumentsTail h = refl
-endless_rules Part.NamedTail h = refl
-endless_rules Part.Expr h = refl
-endless_rules Part.ImpliesTail h = refl
-endless_rules Part.Or h = refl
-endless_rules Part.OrTail h = refl
-endless_rules Part.And h = refl
-endless_rules Part.AndTail h = refl
-endless_rules Part.Not h = refl
-endless_rules Part.Relation h = refl
-endless_rules Part.RelationTail h = refl
-endless_rules Part.Sum h = refl
-endless_rules Part.SumTail h = refl
-endless_rules Part.Product h = refl
-endless_rules Part.ProductTail h = refl
-endless_rules Part.Minus h = refl
-endless_rules Part.Postfix h = refl
-endless_rules Part.Primary h = refl
-endless_rules Part.BracketRest h = refl
-endless_rules Part.ListedTail h = refl
+endless_rules p h = implied (is_no_file p) (all_endless (rules p)) (each_part (λ (q : Part). not (is_no_file q) || all_endless (rules q)) refl p) h
 
 -- none of a forest's tokens is END
 abbrev Endless : Forest → Type 0
@@ -243,6 +173,6 @@ one_first_fault tokens fault other f g = go (splits f.front g.front f.back g.bac
     go (same e k) =
         let p : fault.place ≡ other.place = f.place ∙ (ap (λ (t : Token). t.place) k ∙ sym g.place) in
         let c : fault.code ≡ other.code = f.code ∙ (ap (λ (t : Token). fault_code t.kind) k ∙ sym g.code) in
-        ap₂ (λ (p : Place) (c : ℕ). record { place = p; code = c }) p c
+        ap₂ (λ (p : Place) (c : FaultCode). record { place = p; code = c }) p c
     go (before more e) = absurd (f.dead (viable_front (f.front ++ f.token ∷ []) more (subst IsViable e g.viable)))
     go (behind more e) = absurd (g.dead (viable_front (g.front ++ g.token ∷ []) more (subst IsViable e f.viable)))

@@ -5,7 +5,7 @@ use Rattle.dsl_tree.specs.declared.token.TokenKind.{TokenKind}
 use Rattle.dsl_tree.specs.Codes.{code, has}
 use Rattle.dsl_tree.specs.Grammar.{Part, Symbol, rules, Seen, Bare, Of}
 use Rattle.dsl_tree.specs.Forest.{Forest, nil, seen, bare, sub, wrong, Spells, Follows}
-use Rattle.dsl_tree.specs.Tables.{first, goes_on, firsts, stops, apart, sound}
+use Rattle.dsl_tree.specs.Lookahead.{first, goes_on, firsts, stops, apart, sound}
 use Rattle.dsl_tree.specs.Reading.{starts, Stops, void, Whole, Parsed, Taken, NotTaken, PartFault, RowFault}
 use Rattle.dsl_tree.proofs.Tests.{left_of, right_of}
 use Rattle.dsl_tree.proofs.Sets.{both_ways, starts-cons, Stops-apart, Stops-left}

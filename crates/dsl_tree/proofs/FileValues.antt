@@ -38,7 +38,7 @@ use Rattle.dsl_tree.specs.Views.{SuffixTree, Named, At, with_suffixes, expr_tree
 use Rattle.dsl_tree.proofs.Tests.{is_whole, left_of, right_of}
 use Rattle.dsl_tree.proofs.ReadBack.{path_head_whole}
 use Rattle.dsl_tree.proofs.WrittenRows.{suffix_tail, front_of_row, path_of_row}
-use Rattle.dsl_tree.proofs.PhaseWords.{head_whole, label_whole}
+use Rattle.dsl_tree.proofs.WholeForests.{head_whole, label_whole}
 use Rattle.dsl_tree.proofs.Values.{value_of, suffix_rest, suffix_value, suffix_whole, suffix_back, expr_back}
 
 -- Paths
@@ -310,8 +310,8 @@ declaration_value (DeclarationTree.TypeDeclaration d) = Declaration.Physical d
 declaration_value (DeclarationTree.UnitDeclaration d) = Declaration.Unit d
 declaration_value (DeclarationTree.EnumDeclaration d) = Declaration.Enum d
 declaration_value (DeclarationTree.CompoundDeclaration c) = Declaration.Compound (compound_value c)
-declaration_value (DeclarationTree.MemberExtension e) = Declaration.MoreMembers (record { place = e.place; name = e.name; members = map member_value e.members })
-declaration_value (DeclarationTree.EnumExtension e) = Declaration.MoreEnum e
+declaration_value (DeclarationTree.MemberExtension e) = Declaration.MemberExtension (record { place = e.place; name = e.name; members = map member_value e.members })
+declaration_value (DeclarationTree.EnumExtension e) = Declaration.EnumExtension e
 
 declaration_back : (d : Declaration) → is_whole (declaration (declaration_tree d)) ≡ true → declaration_value (declaration_tree d) ≡ d
 declaration_back (Declaration.Physical d) h = refl
@@ -320,10 +320,10 @@ declaration_back (Declaration.Enum d) h = refl
 declaration_back (Declaration.Compound c) h =
     ap (λ (ms : List Member). Declaration.Compound (record { place = c.place; kind = c.kind; name = c.name; heir = c.heir; members = ms }))
     (body_members c.members (left_of _ _ (right_of (is_whole (optional_heir c.heir)) _ (heading_whole c.kind (compound_tree c) h))))
-declaration_back (Declaration.MoreMembers e) h =
-    ap (λ (ms : List Member). Declaration.MoreMembers (record { place = e.place; name = e.name; members = ms }))
+declaration_back (Declaration.MemberExtension e) h =
+    ap (λ (ms : List Member). Declaration.MemberExtension (record { place = e.place; name = e.name; members = ms }))
     (block_members e.members (left_of _ _ (left_of _ _ (right_of (is_whole (qualified_name e.name)) _ h))))
-declaration_back (Declaration.MoreEnum e) h = refl
+declaration_back (Declaration.EnumExtension e) h = refl
 
 declarations_back : (ds : List Declaration) → is_whole (declarations (map declaration_tree ds)) ≡ true → map declaration_value (map declaration_tree ds) ≡ ds
 declarations_back [] h = refl

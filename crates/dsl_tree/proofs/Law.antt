@@ -8,7 +8,7 @@ use Rattle.dsl_tree.specs.declared.token.TokenKind.{TokenKind}
 use Rattle.dsl_tree.specs.Codes.{code, has}
 use Rattle.dsl_tree.specs.Grammar.{Part, Symbol, rules, Seen, Bare, Of}
 use Rattle.dsl_tree.specs.Forest.{Forest, nil, seen, bare, sub, Spells, AnyRule, Follows}
-use Rattle.dsl_tree.specs.Tables.{first, goes_on, firsts, empties, stops, seconds, least, apart, sound, two_apart, told}
+use Rattle.dsl_tree.specs.Lookahead.{first, goes_on, firsts, empties, stops, seconds, least, apart, sound, two_apart, are_told_apart}
 use Rattle.dsl_tree.specs.Reading.{starts, Starts, Stops, void, Whole, Parsed}
 use Rattle.dsl_tree.proofs.Tests.{left_of, right_of, either_of, count}
 use Rattle.dsl_tree.proofs.Sets.{two_ways, both_ways, not_true, starts-nil, starts-cons, Starts-subset, Stops-subset, Stops-apart, Stops-left, Stops-right, and_both}
@@ -84,7 +84,7 @@ opened p ss a g ts m z s (any, stop, w) sa sg = go (void g) refl any stop
         part_whole p a ts m (part_follows p a [] any')
         (⊎_elim (λ v. both_ways (void g) v e) (λ (v, b). Stops-apart (firsts ss) (goes_on p) m (left_of (apart (firsts ss) (goes_on p)) (sound ss) s) b) (begins g ss m z (whole_follows g ss z w) sg)) sa
 
--- Two forests of one part, of rules that are told apart, aren't spelled by the same tokens
+-- Two forests of one part, of rules that are are_told_apart apart, aren't spelled by the same tokens
 
 -- the second token of a rule that begins with two
 pub record TwoTokens (r : List Symbol) (ts : List Token) : Type 0 where
@@ -124,7 +124,7 @@ no_two r a ts m two fa sa =
 two_tokens : (r s : List Symbol) (a b : Forest) (ts m n : List Token) → two_apart s r ≡ true → Follows a r → Follows b s → Spells a ts m → Spells b ts n → ⊥
 two_tokens r s a b ts m n h fa fb sa sb = no_two r a ts m (begun_two r s b ts n h fb sb) fa sa
 
-clash : (p : Part) (r s : List Symbol) (a b : Forest) (ts m n : List Token) → Fit p r → Fit p s → told r s ≡ true → Whole a r m → Whole b s n
+clash : (p : Part) (r s : List Symbol) (a b : Forest) (ts m n : List Token) → Fit p r → Fit p s → are_told_apart r s ≡ true → Whole a r m → Whole b s n
     → Stops (cond (void a) (first p) []) m → Stops (cond (void b) (first p) []) n → Spells a ts m → Spells b ts n → ⊥
 clash p r s a b ts m n fit fit' tells wa wb stop stop' sa sb =
     ⊎_elim (λ one. go (void a) (void b) refl refl (left_of (apart (firsts r) (firsts s)) (not (empties r && empties s)) one)

@@ -3,6 +3,7 @@ pub mod SeenPhases
 pub mod Tests
 mod Worked
 mod WorkedFaults
+pub mod EachPart
 pub mod Checked
 pub mod Sets
 pub mod Fits
@@ -18,11 +19,8 @@ pub mod ReadBack
 pub mod PhaseReaders
 pub mod FileReaders
 pub mod OneTrees
-pub mod Rows
 pub mod Leaves
-pub mod ExprWords
-pub mod PhaseWords
-pub mod FileWords
+pub mod WholeForests
 pub mod WrittenRows
 pub mod FirstNames
 pub mod Values

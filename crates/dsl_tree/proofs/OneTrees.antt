@@ -7,7 +7,6 @@ use Rattle.dsl_tree.specs.Grammar.{Part, Symbol, Seen, Bare, Of}
 use Rattle.dsl_tree.specs.Forest.{Forest, nil, seen, bare, sub, wrong, Spells, Follows, IsOf}
 use Rattle.dsl_tree.specs.FileTree.{FileTree}
 use Rattle.dsl_tree.specs.Views.{file_tree}
-use Rattle.dsl_tree.specs.Words.{file_words}
 use Rattle.dsl_tree.specs.WrittenFile.{file}
 use Rattle.dsl_tree.specs.Language.{OneFile, FollowsGrammar, Spelled, OneTree, OneSpelling, FaultsSpellNothing}
 use Rattle.dsl_tree.proofs.Tests.{is_whole}
@@ -16,7 +15,6 @@ use Rattle.dsl_tree.proofs.Fits.{by_rules}
 use Rattle.dsl_tree.proofs.Law.{one_forest}
 use Rattle.dsl_tree.proofs.FileReaders.{read_file, file_back}
 use Rattle.dsl_tree.proofs.Leaves.{leaves, Spells-leaves}
-use Rattle.dsl_tree.proofs.FileWords.{file_leaves}
 use Rattle.dsl_tree.proofs.FileValues.{file_value, file_back_value}
 
 -- `wrong` stands nowhere in a forest that follows a rule
@@ -63,15 +61,6 @@ no_tree_at_fault tokens fault tree first spelled =
       back = first.back;
       spelled = subst (Spelled tree) (first.split ∙ sym (append_assoc first.front (first.token ∷ []) first.back)) spelled;
     })
-
--- the tokens that `spell` pushes
-pub pushed_spells : (f : File) (tokens : List Token) → FollowsGrammar (file_tree f) → tokens ≡ file_words f → Spelled (file_tree f) tokens
-pushed_spells f tokens follows e =
-    let whole : is_whole (file (file_tree f)) ≡ true = is_is_whole Part.File (file (file_tree f)) follows in
-    record {
-      follows = follows;
-      spells = subst (λ (v : List Token). Spells (file (file_tree f)) v []) (file_leaves f whole ∙ sym e) (Spells-leaves f.end (file (file_tree f)) [] whole);
-    }
 
 -- two files with one tree that follows the grammar are one
 pub same_file : (f g : File) → FollowsGrammar (file_tree f) → file_tree f ≡ file_tree g → f ≡ g

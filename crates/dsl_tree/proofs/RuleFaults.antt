@@ -7,7 +7,7 @@ use Rattle.dsl_tree.specs.declared.token.TokenKind.{TokenKind}
 use Rattle.dsl_tree.specs.Codes.{code, has}
 use Rattle.dsl_tree.specs.Grammar.{Part, Symbol, rules, Seen, Bare}
 use Rattle.dsl_tree.specs.Forest.{Forest, seen, bare, Spells, AnyRule, Follows, IsOf}
-use Rattle.dsl_tree.specs.Tables.{first, empty, goes_on, firsts, empties, stops, seconds, least, apart, two_apart}
+use Rattle.dsl_tree.specs.Lookahead.{first, empty, goes_on, firsts, empties, stops, seconds, least, apart, two_apart}
 use Rattle.dsl_tree.specs.Reading.{starts, Starts, Stops, void, Taken, NotTaken, CanBegin, PartFault, RowFault}
 use Rattle.dsl_tree.proofs.Tests.{left_of, right_of}
 use Rattle.dsl_tree.proofs.Sets.{both_ways, starts-nil, starts-cons, Starts-subset, Stops-subset, Stops-apart}

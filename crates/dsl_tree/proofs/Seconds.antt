@@ -3,7 +3,7 @@ use Rattle.std.proofs.Common.{◌≡◌, ◌⊎◌, ℕ, ◌+◌, ◌≤◌, Lis
 use Rattle.dsl_tree.specs.declared.token.Token.{Token}
 use Rattle.dsl_tree.specs.Grammar.{Symbol, Seen, Bare, Of}
 use Rattle.dsl_tree.specs.Forest.{Forest, nil, seen, bare, sub, wrong, Spells, Follows}
-use Rattle.dsl_tree.specs.Tables.{empty, second, firsts, seconds, least}
+use Rattle.dsl_tree.specs.Lookahead.{empty, second, firsts, seconds, least}
 use Rattle.dsl_tree.specs.Reading.{Starts, void}
 use Rattle.dsl_tree.proofs.Tests.{left_of, right_of, count}
 use Rattle.dsl_tree.proofs.Sets.{two_ways, both_ways, Starts-subset, Starts-append_left, Starts-append_right}

@@ -3,7 +3,7 @@ use Rattle.std.proofs.Common.{◌≡◌, ◌⊎◌, ℕ, List, [], ◌∷◌, �
 use Rattle.std.proofs.lemmas.Bool.{eqb-true, false≢true}
 use Rattle.dsl_tree.specs.declared.token.Token.{Token}
 use Rattle.dsl_tree.specs.Codes.{code, has}
-use Rattle.dsl_tree.specs.Tables.{subset, apart}
+use Rattle.dsl_tree.specs.Lookahead.{subset, apart}
 use Rattle.dsl_tree.specs.Reading.{starts, Starts, Stops}
 use Rattle.dsl_tree.proofs.Tests.{left_of, right_of, either_of}
 

@@ -8,9 +8,10 @@ use Rattle.dsl_tree.specs.declared.token.MarkKind.{MarkKind}
 use Rattle.dsl_tree.specs.declared.token.MarkKind.TheVariants.{Below}
 use Rattle.dsl_tree.specs.declared.token.WordKind.{WordKind}
 use Rattle.dsl_tree.specs.Codes.{code, has, si_text, factor_text, offset_text}
-use Rattle.dsl_tree.specs.Grammar.{Part, Symbol, Seen, Bare, Of}
+use Rattle.dsl_tree.specs.Grammar.{Part, Symbol, Seen, Bare, Of, rules}
 use Rattle.dsl_tree.specs.Forest.{Forest, nil, seen, bare, sub, Follows, IsOf, Spells}
-use Rattle.dsl_tree.proofs.Tests.{Is-follows, is_whole, tokens_of, Spells-tokens_of, left_of, right_of}
+use Rattle.dsl_tree.proofs.EachPart.{each_part}
+use Rattle.dsl_tree.proofs.Tests.{Is-follows, any_rule, follows, is_whole, tokens_of, Spells-tokens_of, left_of, right_of}
 use Rattle.dsl_tree.proofs.Sets.{and_both}
 
 abbrev nowhere : Place
@@ -310,152 +311,10 @@ example Part.BracketRest = xBracketRest
 example Part.ListedTail = xListedTail
 
 pub is_example : (p : Part) → IsOf p (example p)
-is_example Part.File = Is-follows Part.File xFile refl
-is_example Part.Imports = Is-follows Part.Imports xImports refl
-is_example Part.Import = Is-follows Part.Import xImport refl
-is_example Part.ImportRest = Is-follows Part.ImportRest xImportRest refl
-is_example Part.DottedNames = Is-follows Part.DottedNames xDottedNames refl
-is_example Part.Declarations = Is-follows Part.Declarations xDeclarations refl
-is_example Part.Declaration = Is-follows Part.Declaration xDeclaration refl
-is_example Part.BasesTail = Is-follows Part.BasesTail xBasesTail refl
-is_example Part.UnitTail = Is-follows Part.UnitTail xUnitTail refl
-is_example Part.UnitMore = Is-follows Part.UnitMore xUnitMore refl
-is_example Part.FactorTail = Is-follows Part.FactorTail xFactorTail refl
-is_example Part.Base = Is-follows Part.Base xBase refl
-is_example Part.OptionalDash = Is-follows Part.OptionalDash xOptionalDash refl
-is_example Part.Signed = Is-follows Part.Signed xSigned refl
-is_example Part.EnumItems = Is-follows Part.EnumItems xEnumItems refl
-is_example Part.EnumItem = Is-follows Part.EnumItem xEnumItem refl
-is_example Part.ItemNumber = Is-follows Part.ItemNumber xItemNumber refl
-is_example Part.ItemsTail = Is-follows Part.ItemsTail xItemsTail refl
-is_example Part.QualifiedName = Is-follows Part.QualifiedName xQualifiedName refl
-is_example Part.SecondName = Is-follows Part.SecondName xSecondName refl
-is_example Part.OptionalHeir = Is-follows Part.OptionalHeir xOptionalHeir refl
-is_example Part.HeirCondition = Is-follows Part.HeirCondition xHeirCondition refl
-is_example Part.ConditionValue = Is-follows Part.ConditionValue xConditionValue refl
-is_example Part.EnumMember = Is-follows Part.EnumMember xEnumMember refl
-is_example Part.Body = Is-follows Part.Body xBody refl
-is_example Part.Block = Is-follows Part.Block xBlock refl
-is_example Part.ExtensionRest = Is-follows Part.ExtensionRest xExtensionRest refl
-is_example Part.MembersTail = Is-follows Part.MembersTail xMembersTail refl
-is_example Part.Member = Is-follows Part.Member xMember refl
-is_example Part.NamesTail = Is-follows Part.NamesTail xNamesTail refl
-is_example Part.FieldType = Is-follows Part.FieldType xFieldType refl
-is_example Part.Initial = Is-follows Part.Initial xInitial refl
-is_example Part.FieldEnd = Is-follows Part.FieldEnd xFieldEnd refl
-is_example Part.RulesTail = Is-follows Part.RulesTail xRulesTail refl
-is_example Part.Rule = Is-follows Part.Rule xRule refl
-is_example Part.KeepKind = Is-follows Part.KeepKind xKeepKind refl
-is_example Part.Path = Is-follows Part.Path xPath refl
-is_example Part.SuffixesTail = Is-follows Part.SuffixesTail xSuffixesTail refl
-is_example Part.Suffix = Is-follows Part.Suffix xSuffix refl
-is_example Part.Phase = Is-follows Part.Phase xPhase refl
-is_example Part.PhaseAfterName = Is-follows Part.PhaseAfterName xPhaseAfterName refl
-is_example Part.LabelledPhase = Is-follows Part.LabelledPhase xLabelledPhase refl
-is_example Part.Composition = Is-follows Part.Composition xComposition refl
-is_example Part.CompositionArguments = Is-follows Part.CompositionArguments xCompositionArguments refl
-is_example Part.PhasesTail = Is-follows Part.PhasesTail xPhasesTail refl
-is_example Part.Wait = Is-follows Part.Wait xWait refl
-is_example Part.InvocationRest = Is-follows Part.InvocationRest xInvocationRest refl
-is_example Part.InvocationArguments = Is-follows Part.InvocationArguments xInvocationArguments refl
-is_example Part.InvocationEnd = Is-follows Part.InvocationEnd xInvocationEnd refl
-is_example Part.InvocationPart = Is-follows Part.InvocationPart xInvocationPart refl
-is_example Part.PartsTail = Is-follows Part.PartsTail xPartsTail refl
-is_example Part.Arguments = Is-follows Part.Arguments xArguments refl
-is_example Part.ArgumentsTail = Is-follows Part.ArgumentsTail xArgumentsTail refl
-is_example Part.NamedTail = Is-follows Part.NamedTail xNamedTail refl
-is_example Part.Expr = Is-follows Part.Expr xExpr refl
-is_example Part.ImpliesTail = Is-follows Part.ImpliesTail xImpliesTail refl
-is_example Part.Or = Is-follows Part.Or xOr refl
-is_example Part.OrTail = Is-follows Part.OrTail xOrTail refl
-is_example Part.And = Is-follows Part.And xAnd refl
-is_example Part.AndTail = Is-follows Part.AndTail xAndTail refl
-is_example Part.Not = Is-follows Part.Not xNot refl
-is_example Part.Relation = Is-follows Part.Relation xRelation refl
-is_example Part.RelationTail = Is-follows Part.RelationTail xRelationTail refl
-is_example Part.Sum = Is-follows Part.Sum xSum refl
-is_example Part.SumTail = Is-follows Part.SumTail xSumTail refl
-is_example Part.Product = Is-follows Part.Product xProduct refl
-is_example Part.ProductTail = Is-follows Part.ProductTail xProductTail refl
-is_example Part.Minus = Is-follows Part.Minus xMinus refl
-is_example Part.Postfix = Is-follows Part.Postfix xPostfix refl
-is_example Part.Primary = Is-follows Part.Primary xPrimary refl
-is_example Part.BracketRest = Is-follows Part.BracketRest xBracketRest refl
-is_example Part.ListedTail = Is-follows Part.ListedTail xListedTail refl
+is_example p = Is-follows p (example p) (each_part (λ (q : Part). any_rule (rules q) (follows (example q))) refl p)
 
 pub whole_example : (p : Part) → is_whole (example p) ≡ true
-whole_example Part.File = refl
-whole_example Part.Imports = refl
-whole_example Part.Import = refl
-whole_example Part.ImportRest = refl
-whole_example Part.DottedNames = refl
-whole_example Part.Declarations = refl
-whole_example Part.Declaration = refl
-whole_example Part.BasesTail = refl
-whole_example Part.UnitTail = refl
-whole_example Part.UnitMore = refl
-whole_example Part.FactorTail = refl
-whole_example Part.Base = refl
-whole_example Part.OptionalDash = refl
-whole_example Part.Signed = refl
-whole_example Part.EnumItems = refl
-whole_example Part.EnumItem = refl
-whole_example Part.ItemNumber = refl
-whole_example Part.ItemsTail = refl
-whole_example Part.QualifiedName = refl
-whole_example Part.SecondName = refl
-whole_example Part.OptionalHeir = refl
-whole_example Part.HeirCondition = refl
-whole_example Part.ConditionValue = refl
-whole_example Part.EnumMember = refl
-whole_example Part.Body = refl
-whole_example Part.Block = refl
-whole_example Part.ExtensionRest = refl
-whole_example Part.MembersTail = refl
-whole_example Part.Member = refl
-whole_example Part.NamesTail = refl
-whole_example Part.FieldType = refl
-whole_example Part.Initial = refl
-whole_example Part.FieldEnd = refl
-whole_example Part.RulesTail = refl
-whole_example Part.Rule = refl
-whole_example Part.KeepKind = refl
-whole_example Part.Path = refl
-whole_example Part.SuffixesTail = refl
-whole_example Part.Suffix = refl
-whole_example Part.Phase = refl
-whole_example Part.PhaseAfterName = refl
-whole_example Part.LabelledPhase = refl
-whole_example Part.Composition = refl
-whole_example Part.CompositionArguments = refl
-whole_example Part.PhasesTail = refl
-whole_example Part.Wait = refl
-whole_example Part.InvocationRest = refl
-whole_example Part.InvocationArguments = refl
-whole_example Part.InvocationEnd = refl
-whole_example Part.InvocationPart = refl
-whole_example Part.PartsTail = refl
-whole_example Part.Arguments = refl
-whole_example Part.ArgumentsTail = refl
-whole_example Part.NamedTail = refl
-whole_example Part.Expr = refl
-whole_example Part.ImpliesTail = refl
-whole_example Part.Or = refl
-whole_example Part.OrTail = refl
-whole_example Part.And = refl
-whole_example Part.AndTail = refl
-whole_example Part.Not = refl
-whole_example Part.Relation = refl
-whole_example Part.RelationTail = refl
-whole_example Part.Sum = refl
-whole_example Part.SumTail = refl
-whole_example Part.Product = refl
-whole_example Part.ProductTail = refl
-whole_example Part.Minus = refl
-whole_example Part.Postfix = refl
-whole_example Part.Primary = refl
-whole_example Part.BracketRest = refl
-whole_example Part.ListedTail = refl
+whole_example p = each_part (λ (q : Part). is_whole (example q)) refl p
 
 -- a kind of token for each code that the grammar has
 abbrev kinds : List TokenKind

@@ -11,7 +11,7 @@ use Rattle.dsl_tree.specs.Grammar.{Part}
 use Rattle.dsl_tree.specs.Forest.{Forest, nil, seen, sub, IsOf, Spells}
 use Rattle.dsl_tree.specs.FileTree.{FileTree}
 use Rattle.dsl_tree.specs.WrittenFile.{file, imports, declarations}
-use Rattle.dsl_tree.specs.Tables.{goes_on}
+use Rattle.dsl_tree.specs.Lookahead.{goes_on}
 use Rattle.dsl_tree.specs.Reading.{Parsed, CanBegin, PartFault}
 use Rattle.dsl_tree.specs.Language.{Spelled, IsViable, FirstFault, Ended, is_end, fault_code}
 use Rattle.dsl_tree.proofs.Sets.{both_ways, starts-nil}

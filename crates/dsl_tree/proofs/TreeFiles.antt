@@ -20,7 +20,7 @@ use Rattle.dsl_tree.specs.Views.{with_suffixes, expr_tree, suffix_tree, head_tre
 use Rattle.dsl_tree.proofs.Tests.{is_whole, left_of, right_of}
 use Rattle.dsl_tree.proofs.ReadBack.{front_whole}
 use Rattle.dsl_tree.proofs.OneTrees.{is_is_whole}
-use Rattle.dsl_tree.proofs.PhaseWords.{head_whole, label_whole}
+use Rattle.dsl_tree.proofs.WholeForests.{head_whole, label_whole}
 use Rattle.dsl_tree.proofs.SeenPhases.{seen_comp, seen_invoke, seen_wait}
 use Rattle.dsl_tree.proofs.Values.{value_of, suffix_rest}
 use Rattle.dsl_tree.proofs.FileValues.{heading_whole, head_of, path_value, rule_value, argument_value, named_parts, part_value, comp_of, phase_value, phases_value, field_value, member_value, declaration_value, file_value}

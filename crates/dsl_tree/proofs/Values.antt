@@ -16,7 +16,7 @@ use Rattle.dsl_tree.specs.Written.{at, written, listed_tail, expr}
 use Rattle.dsl_tree.specs.Views as Views
 use Rattle.dsl_tree.specs.Views.{SuffixTree, FurtherTree, Named, At, grouped, with_suffixes, named_row, indexed_row, expr_tree, suffix_tree, further_tree}
 use Rattle.dsl_tree.proofs.Tests.{is_whole, left_of, right_of}
-use Rattle.dsl_tree.proofs.Leaves.{whole_at}
+use Rattle.dsl_tree.proofs.WholeForests.{whole_at}
 use Rattle.dsl_tree.proofs.WrittenRows.{further_tail, suffix_tail, or_own, and_own, sum_own, product_own, post_own}
 
 -- what is read where a tree has no value

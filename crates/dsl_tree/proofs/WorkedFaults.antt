@@ -1,17 +1,18 @@
 -- Worked lists of tokens that spell no tree, each with its first fault.
 use Rattle.std.proofs.Common.{◌≡◌, ℕ, List, [], ◌∷◌, map, drop, refl, inl, inr}
 use Rattle.std.specs.Prelude.{codes}
+use Rattle.osc_base.specs.declared.fault.FaultCode.{FaultCode}
 use Rattle.osc_base.specs.declared.fault.Fault.{Fault}
 use Rattle.dsl_tree.specs.declared.token.Token.{Token}
 use Rattle.dsl_tree.specs.declared.token.TokenKind.{TokenKind}
-use Rattle.dsl_tree.specs.declared.token.LeftKind.{LeftKind}
+use Rattle.dsl_tree.specs.declared.token.ExcludedWord.{ExcludedWord}
 use Rattle.dsl_tree.specs.declared.token.MarkKind.{MarkKind}
 use Rattle.dsl_tree.specs.declared.token.MarkKind.TheVariants.{Below}
 use Rattle.dsl_tree.specs.declared.token.WordKind.{WordKind}
 use Rattle.dsl_tree.specs.Codes.{code, mark_code, word_code}
 use Rattle.dsl_tree.specs.Grammar.{Part, Symbol, Seen, Of, mark, placed_word, newline, indent, dedent}
 use Rattle.dsl_tree.specs.Forest.{Forest, nil, sub}
-use Rattle.dsl_tree.specs.Tables.{first}
+use Rattle.dsl_tree.specs.Lookahead.{first}
 use Rattle.dsl_tree.specs.Written.{ident, raised}
 use Rattle.dsl_tree.specs.Reading.{Stops, Parsed, PartFault, RowFault}
 use Rattle.dsl_tree.specs.Language.{FirstFault}
@@ -39,12 +40,12 @@ no_declaration =
     past_part Part.Declarations (Seen (code TokenKind.End ∷ []) ∷ []) nil (tokens_from 0 left_out_tokens) (tokens_from 0 left_out_tokens) 2 refl
     (record { whole = inl tt; stop = refl; spells = refl })
     (wrong_seen (code TokenKind.End ∷ []) [] (tokens_from 0 left_out_tokens) 2 refl
-    (record { token = record { place = at 0; kind = TokenKind.LeftOut LeftKind.CoverWord }; back = tokens_from 1 (TokenKind.End ∷ []); split = refl; count = refl; misfits = refl }))
+    (record { token = record { place = at 0; kind = TokenKind.LeftOut ExcludedWord.CoverWord }; back = tokens_from 1 (TokenKind.End ∷ []); split = refl; count = refl; misfits = refl }))
 
-left_out : (fault : Fault) → fault.place ≡ at 0 → fault.code ≡ 202 → FirstFault (tokens_from 0 left_out_tokens) fault
+left_out : (fault : Fault) → fault.place ≡ at 0 → fault.code ≡ FaultCode.LeftOut → FirstFault (tokens_from 0 left_out_tokens) fault
 left_out fault place number =
     first_fault_at (tokens_from 0 left_out_tokens) 2 (no_imports (tokens_from 0 left_out_tokens) 2 refl no_declaration) fault
-    (record { place = at 0; kind = TokenKind.LeftOut LeftKind.CoverWord }) (tokens_from 1 (TokenKind.End ∷ [])) refl place number
+    (record { place = at 0; kind = TokenKind.LeftOut ExcludedWord.CoverWord }) (tokens_from 1 (TokenKind.End ∷ [])) refl place number
 
 -- A scenario
 
@@ -81,7 +82,7 @@ nameless_name =
     no_rule Part.QualifiedName (tokens_from 1 (TokenKind.Mark MarkKind.Colon ∷ TokenKind.End ∷ [])) 2 refl
     (record { token = record { place = at 1; kind = TokenKind.Mark MarkKind.Colon }; back = tokens_from 2 (TokenKind.End ∷ []); split = refl; count = refl; misfits = refl })
 
-nameless : (fault : Fault) → fault.place ≡ at 1 → fault.code ≡ 201 → FirstFault (tokens_from 0 nameless_tokens) fault
+nameless : (fault : Fault) → fault.place ≡ at 1 → fault.code ≡ FaultCode.Syntax → FirstFault (tokens_from 0 nameless_tokens) fault
 nameless fault place number =
     first_fault_at (tokens_from 0 nameless_tokens) 2
     (in_scenario (tokens_from 1 (TokenKind.Mark MarkKind.Colon ∷ TokenKind.End ∷ [])) 2
@@ -167,6 +168,6 @@ broken_scenario =
     past_part Part.QualifiedName (Of Part.OptionalHeir ∷ Of Part.Body ∷ []) heading (broken 1) (broken 2) 3 refl heading_read
     (past_part Part.OptionalHeir (Of Part.Body ∷ []) nil (broken 2) (broken 2) 3 refl (record { whole = inl tt; stop = refl; spells = refl }) (in_part Part.Body [] (broken 2) 3 refl broken_body))
 
-no_end : (fault : Fault) → fault.place ≡ at 9 → fault.code ≡ 201 → FirstFault (tokens_from 0 broken_tokens) fault
+no_end : (fault : Fault) → fault.place ≡ at 9 → fault.code ≡ FaultCode.Syntax → FirstFault (tokens_from 0 broken_tokens) fault
 no_end fault place number =
     first_fault_at (tokens_from 0 broken_tokens) 3 (in_scenario (broken 1) 3 broken_scenario) fault (record { place = at 9; kind = TokenKind.Newline }) (broken 10) refl place number

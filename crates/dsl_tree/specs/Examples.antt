@@ -8,7 +8,7 @@ use Rattle.dsl_tree.specs.declared.phases.CompKind.{CompKind}
 use Rattle.dsl_tree.specs.declared.phases.InvokeHead.{InvokeHead}
 use Rattle.dsl_tree.specs.declared.token.Token.{Token}
 use Rattle.dsl_tree.specs.declared.token.TokenKind.{TokenKind}
-use Rattle.dsl_tree.specs.declared.token.LeftKind.{LeftKind}
+use Rattle.dsl_tree.specs.declared.token.ExcludedWord.{ExcludedWord}
 use Rattle.dsl_tree.specs.declared.token.MarkKind.{MarkKind}
 use Rattle.dsl_tree.specs.declared.token.WordKind.{WordKind}
 use Rattle.dsl_tree.specs.declared.expr.Operator.{Operator}
@@ -177,7 +177,7 @@ two_places = record { place = at 0; minus = false; number = record { place = at 
 -- Lists of tokens that spell no tree: a left-out word at the beginning, a scenario without a name, and
 -- an expression that ends behind its sign
 abbrev pub left_out_tokens : List TokenKind
-left_out_tokens = TokenKind.LeftOut LeftKind.CoverWord ∷ TokenKind.End ∷ []
+left_out_tokens = TokenKind.LeftOut ExcludedWord.CoverWord ∷ TokenKind.End ∷ []
 
 abbrev pub nameless_tokens : List TokenKind
 nameless_tokens = TokenKind.Word WordKind.ScenarioWord ∷ TokenKind.Mark MarkKind.Colon ∷ TokenKind.End ∷ []

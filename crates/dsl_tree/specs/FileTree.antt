@@ -8,7 +8,7 @@ use Rattle.dsl_tree.specs.declared.file.Import.{Import}
 use Rattle.dsl_tree.specs.declared.units.PhysicalDecl.{PhysicalDecl}
 use Rattle.dsl_tree.specs.declared.units.UnitDecl.{UnitDecl}
 use Rattle.dsl_tree.specs.declared.enums.EnumDecl.{EnumDecl}
-use Rattle.dsl_tree.specs.declared.enums.MoreEnum.{MoreEnum}
+use Rattle.dsl_tree.specs.declared.enums.EnumExtension.{EnumExtension as Extension}
 use Rattle.dsl_tree.specs.declared.compounds.CompoundKind.{CompoundKind}
 use Rattle.dsl_tree.specs.declared.compounds.Heir.{Heir}
 use Rattle.dsl_tree.specs.ExprTree.{ExprTree}
@@ -44,7 +44,7 @@ pub data DeclarationTree : Type 0 where
   EnumDeclaration : (declaration : EnumDecl) → DeclarationTree
   CompoundDeclaration : (declaration : CompoundTree) → DeclarationTree
   MemberExtension : (extension : MoreTree) → DeclarationTree
-  EnumExtension : (extension : MoreEnum) → DeclarationTree
+  EnumExtension : (extension : Extension) → DeclarationTree
 
 pub record FileTree : Type 0 where
   pub imports : List Import

@@ -1,5 +1,6 @@
 -- The language: which lists of tokens spell a tree, and where a list that spells none goes wrong.
-use Rattle.std.specs.Prelude.{◌≡◌, ℕ, List, [], ◌∷◌, ◌++◌, Bool, true, false, map}
+use Rattle.std.specs.Prelude.{◌≡◌, List, [], ◌∷◌, ◌++◌, Bool, true, false, map}
+use Rattle.osc_base.specs.declared.fault.FaultCode.{FaultCode}
 use Rattle.osc_base.specs.declared.fault.Fault.{Fault}
 use Rattle.dsl_tree.specs.declared.token.Token.{Token}
 use Rattle.dsl_tree.specs.declared.token.TokenKind.{TokenKind}
@@ -37,10 +38,10 @@ pub record IsViable (front : List Token) : Type 0 where
   pub back : List Token
   pub spelled : Spelled tree (front ++ back)
 
--- the code of a fault at a token: 202 where it is a left-out word, else 201
-abbrev pub fault_code : TokenKind → ℕ
-fault_code (TokenKind.LeftOut word) = 202
-fault_code _ = 201
+-- the code of a fault at a token: `LeftOut` when it is a word that is left out, else `Syntax`
+abbrev pub fault_code : TokenKind → FaultCode
+fault_code (TokenKind.LeftOut word) = FaultCode.LeftOut
+fault_code _ = FaultCode.Syntax
 
 -- the fault is at the first token with which no spelling of a tree goes on
 pub record FirstFault (tokens : List Token) (fault : Fault) : Type 0 where

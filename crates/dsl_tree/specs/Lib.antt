@@ -10,6 +10,6 @@ pub mod WrittenPhases
 pub mod WrittenFile
 pub mod Language
 pub mod Examples
-pub mod Tables
+pub mod PartLists
+pub mod Lookahead
 pub mod Reading
-pub mod Words

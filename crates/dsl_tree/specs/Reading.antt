@@ -4,7 +4,7 @@ use Rattle.dsl_tree.specs.declared.token.Token.{Token}
 use Rattle.dsl_tree.specs.Codes.{code, has}
 use Rattle.dsl_tree.specs.Grammar.{Part, Symbol, Seen, Bare, Of, rules}
 use Rattle.dsl_tree.specs.Forest.{Forest, nil, seen, bare, sub, wrong, Spells, AnyRule, Follows, IsOf}
-use Rattle.dsl_tree.specs.Tables.{first, goes_on, stops}
+use Rattle.dsl_tree.specs.Lookahead.{first, goes_on, stops}
 
 -- whether the first token has one of these codes
 abbrev pub starts : List ℕ → List Token → Bool

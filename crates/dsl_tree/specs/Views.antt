@@ -25,7 +25,7 @@ use Rattle.dsl_tree.specs.declared.phases.Phase.TheFolds.{fold-Phase, fold-CompN
 use Rattle.dsl_tree.specs.declared.compounds.FieldDecl.{FieldDecl}
 use Rattle.dsl_tree.specs.declared.compounds.Member.{Member}
 use Rattle.dsl_tree.specs.declared.compounds.CompoundDecl.{CompoundDecl}
-use Rattle.dsl_tree.specs.declared.compounds.MoreMembers.{MoreMembers}
+use Rattle.dsl_tree.specs.declared.compounds.MemberExtension.{MemberExtension}
 use Rattle.dsl_tree.specs.declared.file.Declaration.{Declaration}
 use Rattle.dsl_tree.specs.declared.file.File.{File}
 use Rattle.dsl_tree.specs.ExprTree as ExprTrees
@@ -165,7 +165,7 @@ member_tree (Member.Do place phase) = MemberTree.Do place (phase_tree phase)
 abbrev pub compound_tree : CompoundDecl → CompoundTree
 compound_tree c = record { place = c.place; kind = c.kind; name = c.name; heir = c.heir; members = map member_tree c.members }
 
-abbrev pub more_tree : MoreMembers → MoreTree
+abbrev pub more_tree : MemberExtension → MoreTree
 more_tree m = record { place = m.place; name = m.name; members = map member_tree m.members }
 
 abbrev pub declaration_tree : Declaration → DeclarationTree
@@ -173,8 +173,8 @@ declaration_tree (Declaration.Physical d) = DeclarationTree.TypeDeclaration d
 declaration_tree (Declaration.Unit d) = DeclarationTree.UnitDeclaration d
 declaration_tree (Declaration.Enum d) = DeclarationTree.EnumDeclaration d
 declaration_tree (Declaration.Compound d) = DeclarationTree.CompoundDeclaration (compound_tree d)
-declaration_tree (Declaration.MoreMembers d) = DeclarationTree.MemberExtension (more_tree d)
-declaration_tree (Declaration.MoreEnum d) = DeclarationTree.EnumExtension d
+declaration_tree (Declaration.MemberExtension d) = DeclarationTree.MemberExtension (more_tree d)
+declaration_tree (Declaration.EnumExtension d) = DeclarationTree.EnumExtension d
 
 abbrev pub file_tree : File → FileTree
 file_tree f = record { imports = f.imports; decls = map declaration_tree f.decls; end = f.end }

@@ -24,7 +24,7 @@ use Rattle.dsl_tree.specs.PhaseTree.{RuleTree}
 use Rattle.dsl_tree.specs.FileTree.{FieldTree, MemberTree, Field, Rule, Do, CompoundTree, DeclarationTree, TypeDeclaration, UnitDeclaration, EnumDeclaration, CompoundDeclaration, MemberExtension, EnumExtension, FileTree}
 use Rattle.dsl_tree.specs.Forest.{Forest, nil, seen, bare, sub, wrong}
 use Rattle.dsl_tree.specs.Written.{mark, word, mark_at, word_at, ident, digits, truth_word, expr}
-use Rattle.dsl_tree.specs.WrittenPhases.{newline, opened, closed, with_block, by_option, dotted_names, rule, rules_tail, phase}
+use Rattle.dsl_tree.specs.WrittenPhases.{newline, opened, block_end, with_block, by_option, dotted_names, rule, rules_tail, phase}
 
 -- Imports
 
@@ -158,7 +158,7 @@ initial (Some value) = mark MarkKind.Assign (sub (expr value) nil)
 
 abbrev pub field_end : List RuleTree → Forest
 field_end [] = newline nil
-field_end (r ∷ rs) = with_block (sub (rule r) (sub (rules_tail rs) closed))
+field_end (r ∷ rs) = with_block (sub (rule r) (sub (rules_tail rs) block_end))
 
 -- a field behind its first name
 abbrev pub field_rest : List Ident → FieldTree → Forest
@@ -180,7 +180,7 @@ members_tail (m ∷ ms) = sub (member m) (sub (members_tail ms) nil)
 -- a block of members, one at least
 abbrev pub block : List MemberTree → Forest
 block [] = wrong
-block (m ∷ ms) = opened (sub (member m) (sub (members_tail ms) closed))
+block (m ∷ ms) = opened (sub (member m) (sub (members_tail ms) block_end))
 
 abbrev pub body : List MemberTree → Forest
 body [] = newline nil

@@ -20,8 +20,8 @@ newline f = bare TokenKind.Newline f
 abbrev pub opened : Forest → Forest
 opened f = newline (bare TokenKind.Indent f)
 
-abbrev pub closed : Forest
-closed = bare TokenKind.Dedent nil
+abbrev pub block_end : Forest
+block_end = bare TokenKind.Dedent nil
 
 -- `with:` and the beginning of its block
 abbrev pub with_block : Forest → Forest
@@ -93,7 +93,7 @@ parts_tail (p ∷ ps) = sub (invocation_part p) (sub (parts_tail ps) nil)
 
 abbrev pub invocation_end : List PartTree → Forest
 invocation_end [] = newline nil
-invocation_end (p ∷ ps) = with_block (sub (invocation_part p) (sub (parts_tail ps) closed))
+invocation_end (p ∷ ps) = with_block (sub (invocation_part p) (sub (parts_tail ps) block_end))
 
 -- an invocation behind its head
 abbrev pub invocation_rest : List Ident → List ArgumentTree → List PartTree → Forest
@@ -147,7 +147,7 @@ abbrev mutual
   -- the phases of a block, one at least, and its end; and those behind the first
   pub block_phases : PhaseRow → Forest
   block_phases End = wrong
-  block_phases (Phase first others) = sub (phase first) (sub (phases_tail others) closed)
+  block_phases (Phase first others) = sub (phase first) (sub (phases_tail others) block_end)
 
   pub phases_tail : PhaseRow → Forest
   phases_tail End = nil

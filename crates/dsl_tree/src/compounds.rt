@@ -48,7 +48,7 @@ pub struct CompoundDecl {
 
 /// `extend NAME:` and a block of one member or more. The place is that of `extend`.
 #[derive(Drop)]
-pub struct MoreMembers {
+pub struct MemberExtension {
     pub place: Place,
     pub name: QName,
     pub members: Row<Member>,

@@ -18,7 +18,7 @@ pub struct EnumDecl {
 
 /// `extend NAME: [ITEMS]`, with one item or more. The place is that of `extend`.
 #[derive(Drop)]
-pub struct MoreEnum {
+pub struct EnumExtension {
     pub place: Place,
     pub name: QName,
     pub items: Row<EnumItem>,

@@ -1,4 +1,6 @@
-use crate::{CompoundDecl, EnumDecl, Ident, MoreEnum, MoreMembers, PhysicalDecl, UnitDecl};
+use crate::{
+    CompoundDecl, EnumDecl, EnumExtension, Ident, MemberExtension, PhysicalDecl, UnitDecl,
+};
 use osc_base::{Place, Row, Text};
 
 /// A source file: its imports, then its declarations. `end` is where the file ends.
@@ -29,6 +31,6 @@ pub enum Declaration {
     Unit(UnitDecl),
     Enum(EnumDecl),
     Compound(CompoundDecl),
-    MoreMembers(MoreMembers),
-    MoreEnum(MoreEnum),
+    MemberExtension(MemberExtension),
+    EnumExtension(EnumExtension),
 }

@@ -9,17 +9,14 @@ mod laws;
 mod parts;
 mod phases;
 mod rules;
-mod spell_expr;
-mod spell_file;
-mod spell_phase;
-mod spell_tree;
 mod token;
 mod units;
 
 pub use compounds::{
-    CompoundDecl, CompoundKind, ConditionValue, FieldDecl, Heir, HeirCondition, Member, MoreMembers,
+    CompoundDecl, CompoundKind, ConditionValue, FieldDecl, Heir, HeirCondition, Member,
+    MemberExtension,
 };
-pub use enums::{EnumDecl, EnumItem, MoreEnum};
+pub use enums::{EnumDecl, EnumExtension, EnumItem};
 pub use expr::{Expr, Further, Operator, RelationSign, Suffix};
 pub use file::{Declaration, File, Import};
 pub use laws::{
@@ -31,6 +28,5 @@ pub use phases::{
     Argument, CompKind, CompNode, InvokeHead, InvokeNode, InvokePart, ModifierNode, Phase, WaitNode,
 };
 pub use rules::{KeepKind, PathHead, PathNode, RuleDecl};
-pub use spell_tree::spell;
-pub use token::{LeftKind, MarkKind, Token, TokenKind, Tokens, WordKind};
+pub use token::{ExcludedWord, MarkKind, Token, TokenKind, Tokens, WordKind};
 pub use units::{BasePart, PhysicalDecl, UnitDecl};

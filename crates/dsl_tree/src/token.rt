@@ -27,7 +27,7 @@ pub enum TokenKind {
     End,
     Mark(MarkKind),
     Word(WordKind),
-    LeftOut(LeftKind),
+    LeftOut(ExcludedWord),
     Name(Text),
     Number { digits: u64, places: u8 },
     Physical { digits: u64, places: u8, unit: Text },
@@ -99,7 +99,7 @@ pub enum WordKind {
 
 /// The words of the language that this profile leaves out: they are no names, and no rule takes one.
 #[derive(Clone, Copy, PartialEq, Eq)]
-pub enum LeftKind {
+pub enum ExcludedWord {
     NamespaceWord,
     ExportWord,
     EventWord,

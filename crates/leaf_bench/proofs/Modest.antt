@@ -13,7 +13,7 @@ use Rattle.box_eval.specs.declared.verdict.Verdict.{Verdict}
 use Rattle.box_eval.specs.declared.verdict.Verdict.TheVariants.{True, False, Open}
 use Rattle.box_eval.specs.Box.{pair, low_at, high_at}
 use Rattle.box_eval.specs.Rules.{CanJudge}
-use Rattle.box_eval.specs.Reach.{slots_of, reach_of, greatest_in_rule, slots_in_term, Judged, Seen, rule_judged, term_seen}
+use Rattle.box_eval.specs.Reach.{slot_bound, reach_of, greatest_in_rule, slots_in_term, Judged, Seen, rule_judged, term_seen}
 use Rattle.box_eval.proofs.Equations.{folds, fold-Always, fold-Both, fold-Not}
 use Rattle.leaf_bench.specs.Small.{IsSmall, IsModest, number_open}
 
@@ -92,7 +92,7 @@ module _ (ends : List Pair) (slot : ℕ) where
     small.high_most (slot + 1),
   )
 
-near_slots : (slot : ℕ) → slots_of (near slot) ≡ max (slot + 1) (max (slot + 1 + 1) 0)
+near_slots : (slot : ℕ) → slot_bound (near slot) ≡ max (slot + 1) (max (slot + 1 + 1) 0)
 near_slots slot = simp folds
 
 pub modest_near : (slot : ℕ) → slot < 8 → IsModest (near slot)

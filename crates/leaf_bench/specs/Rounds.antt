@@ -3,7 +3,7 @@ use Rattle.std.specs.Prelude.{◌≡◌, ℕ, ◌&&◌, nat_lt, int_lt, pos, ◌
 use Rattle.box_eval.specs.Box.{low_at, high_at, up_to}
 use Rattle.bound_trail.specs.History.{History, mark_of, present, with_box}
 
--- a slot's high end lowered by one, where there is room for a set and the slot has more than one value
+-- a slot's high end lowered by one, if there is room for a set and the slot has more than one value
 abbrev pub lowered : History → ℕ → History
 lowered history slot =
     let ends = present history in

@@ -5,7 +5,7 @@ use Rattle.box_eval.specs.declared.bounds.Pair.{Pair}
 use Rattle.box_eval.specs.declared.verdict.Verdict.{Verdict}
 use Rattle.box_eval.specs.declared.verdict.Verdict.TheVariants.{True, False, Open}
 use Rattle.box_eval.specs.Box.{low_at, high_at}
-use Rattle.box_eval.specs.Reach.{slots_of, reach_of}
+use Rattle.box_eval.specs.Reach.{slot_bound, reach_of}
 
 -- a box of nine slots, each of whose ends is from 0 to 100
 pub record IsSmall (ends : List Pair) : Type 0 where
@@ -17,7 +17,7 @@ pub record IsSmall (ends : List Pair) : Type 0 where
 
 -- a rule over nine slots, whose terms stay within 1,000 in each such box
 pub record IsModest (rule : Rule) : Type 0 where
-  pub slots : slots_of rule ≤ 9
+  pub slots : slot_bound rule ≤ 9
   pub reach : (ends : List Pair) → IsSmall ends → reach_of ends rule ≤ 1000
 
 -- 1 for an open verdict

@@ -43,7 +43,7 @@ fn judge_all(rule: &Rule, narrow: &Bounds, wide: &Bounds, rounds: u32) -> u64
     count
 }
 
-/// 1 where the verdict is open, and else 0.
+/// 1 if the verdict is open, and else 0.
 fn judge_once(rule: &Rule, bounds: &Bounds) -> u64
     requires { CanJudge bounds.now.pairs rule.now }
     ensures { result ≡ number_open (verdict_of bounds.now.pairs rule.now) }
@@ -66,7 +66,7 @@ fn make_box(alloc: Global, high: i64) -> Result<Bounds, AllocError>
     })
 }
 
-/// Not all of: each of the first eight slots is at most nine more than the next. It has fifty nodes.
+/// The negation of this: each of the first eight slots is at most nine more than the next. It has fifty nodes.
 fn make_rule(alloc: Global) -> Result<Rule, AllocError>
     ensures { IfOk result (λ rule. IsModest rule) }
 {

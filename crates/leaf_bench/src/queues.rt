@@ -6,7 +6,7 @@ ghost use Rattle.leaf_bench.specs.Turns.{turned};
 use std::alloc::{AllocError, Global};
 use wake_ring::WakeRing;
 
-/// What the answers of `rounds` rounds add up to.
+/// The sum of the results of `rounds` rounds.
 pub(crate) fn answers(alloc: Global, rounds: u32) -> Result<u64, AllocError>
     ensures { IfOk result (λ n. n ≤ rounds * 66) }
 {
@@ -14,7 +14,7 @@ pub(crate) fn answers(alloc: Global, rounds: u32) -> Result<u64, AllocError>
     Ok(turn_all(&mut ring, rounds))
 }
 
-/// Makes so many rounds, and adds up their answers.
+/// Makes so many rounds, and adds up their results.
 fn turn_all(ring: &mut WakeRing, rounds: u32) -> u64
     requires { ring.old.bound ≡ 64 }
     ensures { result ≤ rounds * 66 }
@@ -26,8 +26,8 @@ fn turn_all(ring: &mut WakeRing, rounds: u32) -> u64
     sum
 }
 
-/// Pushes two numbers, removes one, takes one, and adds up 1 for each of the first three calls that answers true and the
-/// number that is taken.
+/// Pushes two numbers, removes one and takes one. It adds up the number that it takes, and 1 for each of the first three
+/// calls that returns true.
 fn turn(ring: &mut WakeRing, number: u32) -> u32
     requires bound { ring.old.bound ≡ 64 }
     requires number { number < 64 }

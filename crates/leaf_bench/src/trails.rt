@@ -51,7 +51,7 @@ fn set_and_undo(trail: &mut Trail) -> u32
     sets
 }
 
-/// Lowers the high end of a slot by one, where it is above the low end and there is room for a set.
+/// Lowers the high end of a slot by one, if it is above the low end and there is room for a set.
 fn lower(trail: &mut Trail, slot: u32)
     requires { slot < length (present trail.old) }
     ensures { trail.new ≡ lowered trail.old slot }

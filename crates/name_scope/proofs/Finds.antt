@@ -3,7 +3,7 @@ use Rattle.std.proofs.Common.{◌≡◌, ◌∙◌, refl, ap, ℕ, suc, ◌+◌,
 use Rattle.std.specs.Option.{option_or, IfSome}
 use Rattle.name_scope.specs.declared.ids.DeclId.{DeclId}
 use Rattle.name_scope.specs.declared.ids.NameKind.{NameKind}
-use Rattle.name_scope.specs.Loading.{AddedFile}
+use Rattle.name_scope.specs.FileNumbers.{AddedFile}
 use Rattle.name_scope.specs.Declaring.{declares, first_place, found_from, found, IsDeclared}
 
 record PlaceOf {X : Type 0} (test : X → Bool) (n : ℕ) (xs : List X) (i : ℕ) : Type 0 where

@@ -1,5 +1,4 @@
 pub mod Tables
-pub mod Firsts
 pub mod Numbering
 pub mod Mentions
 pub mod Places

@@ -7,7 +7,7 @@ use Rattle.osc_base.specs.declared.fault.Place.{Place}
 use Rattle.dsl_tree.specs.declared.parts.Ident.{Ident}
 use Rattle.dsl_tree.specs.declared.file.Import.{Import}
 use Rattle.name_scope.specs.declared.names.FileName.{FileName}
-use Rattle.name_scope.specs.Loading.{AddedFile, meant_name, dotted_name, import_place, is_meant, same_name, is_numbered, with_name, with_imports, with_files, wanted_name, wanted_mention, first_mention_in, first_mention, mention_of}
+use Rattle.name_scope.specs.FileNumbers.{AddedFile, meant_name, dotted_name, import_place, is_meant, same_name, is_numbered, with_name, with_imports, with_files, wanted_name, wanted_mention, first_mention_in, first_mention, mention_of}
 use Rattle.name_scope.proofs.Numbering.{below, imports_stay, files_stay}
 
 same_itself : (n : FileName) → same_name n n ≡ true

@@ -2,7 +2,7 @@
 use Rattle.std.proofs.Common.{◌≡◌, ◌∙◌, refl, sym, ap, ℕ, zero, suc, ◌<◌, ◌≤◌, ◌⊎◌, inl, inr, Bool, true, false, cond, List, [], ◌∷◌, ◌++◌, Option, Some, None, length, slice_get, option_map, arith, length-append}
 use Rattle.dsl_tree.specs.declared.file.Import.{Import}
 use Rattle.name_scope.specs.declared.names.FileName.{FileName}
-use Rattle.name_scope.specs.Loading.{AddedFile, name_text, meant_name, is_numbered, with_name, with_imports, with_files, numbered_names, names_before, wanted_name}
+use Rattle.name_scope.specs.FileNumbers.{AddedFile, name_text, meant_name, is_numbered, with_name, with_imports, with_files, numbered_names, names_before, wanted_name}
 use Rattle.name_scope.specs.Sources.{IsProgram}
 
 -- a place of a list stays where the list grows

@@ -6,7 +6,7 @@ use Rattle.std.proofs.lemmas.Bool.Decides.{nat_tests}
 use Rattle.std.proofs.lemmas.List.Folds.{list_any-append}
 use Rattle.dsl_tree.specs.declared.file.Declaration.{Declaration}
 use Rattle.name_scope.specs.declared.ids.NameKind.{NameKind}
-use Rattle.name_scope.specs.Loading.{AddedFile}
+use Rattle.name_scope.specs.FileNumbers.{AddedFile}
 use Rattle.name_scope.specs.Declaring.{declares, first_place}
 use Rattle.name_scope.specs.Headings.{declarations, takes}
 

@@ -1,6 +1,7 @@
 -- Worked programs, by computation.
 use Rattle.std.proofs.Common.{◌≡◌, refl, ℕ, List, [], ◌∷◌, Option, Some, None, codes}
 use Rattle.osc_base.specs.declared.fault.Place.{Place}
+use Rattle.osc_base.specs.declared.fault.FaultCode.{FaultCode}
 use Rattle.osc_base.specs.declared.fault.Fault.{Fault}
 use Rattle.dsl_tree.specs.declared.parts.Ident.{Ident}
 use Rattle.dsl_tree.specs.declared.parts.QName.{QName}
@@ -10,15 +11,15 @@ use Rattle.dsl_tree.specs.declared.file.Declaration.{Declaration}
 use Rattle.dsl_tree.specs.declared.file.Import.{Import}
 use Rattle.name_scope.specs.declared.ids.NameKind.{NameKind}
 use Rattle.name_scope.specs.declared.names.FileName.{FileName}
-use Rattle.name_scope.specs.Loading.{AddedFile, numbered_names, wanted_name, wanted_mention, adding_fault}
+use Rattle.name_scope.specs.FileNumbers.{AddedFile, numbered_names, wanted_name, wanted_mention, adding_fault}
 use Rattle.name_scope.specs.Declaring.{found}
-use Rattle.name_scope.specs.FaultRows.{first_fault}
+use Rattle.osc_base.specs.FaultRows.{first_fault}
 use Rattle.name_scope.specs.Headings.{heading_rows}
 
 abbrev at : ℕ → ℕ → Place
 at file token = record { file = file; line = 1; column = 1; token = token }
 
-abbrev fault : ℕ → ℕ → ℕ → Fault
+abbrev fault : ℕ → ℕ → FaultCode → Fault
 fault file token code = record { place = at file token; code = code }
 
 abbrev name : ℕ → ℕ → List ℕ → Ident
@@ -71,7 +72,7 @@ other_owned = refl
 abbrev again : AddedFile
 again = file_of (codes "b.osc") (Import.Named (at 1 1) (codes "a.osc") ∷ []) (compound CompoundKind.Scenario (alone (name 1 4 (codes "top"))) None ∷ [])
 
-top_twice : first_fault (heading_rows (first ∷ again ∷ [])) ≡ Some (fault 1 4 311)
+top_twice : first_fault (heading_rows (first ∷ again ∷ [])) ≡ Some (fault 1 4 FaultCode.Twice)
 top_twice = refl
 
 top_found : found NameKind.BehaviourName None (codes "top") (first ∷ again ∷ []) ≡ Some (record { file = 0; index = 0 })
@@ -81,7 +82,7 @@ top_found = refl
 abbrev dotted : List ℕ → AddedFile
 dotted text = file_of (codes "main.osc") (Import.Dotted (name 0 1 text ∷ name 0 3 (codes "a") ∷ []) ∷ Import.Named (at 0 6) (codes "osc") ∷ []) []
 
-library_missing : adding_fault [] (dotted (codes "lib")) ≡ Some (fault 0 1 301)
+library_missing : adding_fault [] (dotted (codes "lib")) ≡ Some (fault 0 1 FaultCode.MissingImport)
 library_missing = refl
 
 library_asked : adding_fault [] (dotted (codes "osc")) ≡ None
@@ -95,10 +96,10 @@ library_apart = refl
 abbrev headings : List Declaration → Option Fault
 headings decls = first_fault (heading_rows (file_of (codes "main.osc") [] decls ∷ []))
 
-basic_declared : headings (compound CompoundKind.Struct (alone (name 0 1 (codes "int"))) None ∷ []) ≡ Some (fault 0 1 311)
+basic_declared : headings (compound CompoundKind.Struct (alone (name 0 1 (codes "int"))) None ∷ []) ≡ Some (fault 0 1 FaultCode.Twice)
 basic_declared = refl
 
-owner_missing : headings (compound CompoundKind.Action (owned (name 0 1 (codes "car")) (name 0 3 (codes "go"))) None ∷ []) ≡ Some (fault 0 1 312)
+owner_missing : headings (compound CompoundKind.Action (owned (name 0 1 (codes "car")) (name 0 3 (codes "go"))) None ∷ []) ≡ Some (fault 0 1 FaultCode.Unknown)
 owner_missing = refl
 
 abbrev car_goes : List Declaration
@@ -111,7 +112,7 @@ owner_there : headings car_goes ≡ None
 owner_there = refl
 
 -- `inherits car.stop`: the owner is declared, and has no such behaviour
-base_missing : headings (compound CompoundKind.Action (owned (name 0 1 (codes "car")) (name 0 3 (codes "halt"))) (Some (record { base = owned (name 0 5 (codes "car")) (name 0 7 (codes "stop")); condition = None })) ∷ compound CompoundKind.Actor (alone (name 0 9 (codes "car"))) None ∷ []) ≡ Some (fault 0 7 312)
+base_missing : headings (compound CompoundKind.Action (owned (name 0 1 (codes "car")) (name 0 3 (codes "halt"))) (Some (record { base = owned (name 0 5 (codes "car")) (name 0 7 (codes "stop")); condition = None })) ∷ compound CompoundKind.Actor (alone (name 0 9 (codes "car"))) None ∷ []) ≡ Some (fault 0 7 FaultCode.Unknown)
 base_missing = refl
 
 -- owned behaviours of two owners have names of their own

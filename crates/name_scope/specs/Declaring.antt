@@ -8,7 +8,7 @@ use Rattle.dsl_tree.specs.declared.compounds.CompoundKind.{CompoundKind}
 use Rattle.dsl_tree.specs.declared.file.Declaration.{Declaration}
 use Rattle.name_scope.specs.declared.ids.DeclId.{DeclId}
 use Rattle.name_scope.specs.declared.ids.NameKind.{NameKind}
-use Rattle.name_scope.specs.Loading.{AddedFile}
+use Rattle.name_scope.specs.FileNumbers.{AddedFile}
 
 -- A declared name, and where it stands. Only a behaviour has an owner: that of `vehicle.drive` is `vehicle`, and its name `drive`.
 pub record DeclaredName : Type 0 where
@@ -20,15 +20,15 @@ pub record DeclaredName : Type 0 where
 abbrev pub named : NameKind → Option (List ℕ) → Ident → DeclaredName
 named kind owner i = record { kind = kind; owner = owner; name = i.text; place = i.place }
 
-abbrev pub behaviour : Ident → Option Ident → DeclaredName
-behaviour first None = named NameKind.BehaviourName None first
-behaviour owner (Some name) = named NameKind.BehaviourName (Some owner.text) name
+abbrev pub behaviour_name : Ident → Option Ident → DeclaredName
+behaviour_name first None = named NameKind.BehaviourName None first
+behaviour_name owner (Some name) = named NameKind.BehaviourName (Some owner.text) name
 
 abbrev pub compound_name : CompoundKind → QName → DeclaredName
 compound_name CompoundKind.Struct q = named NameKind.TypeName None q.first
 compound_name CompoundKind.Actor q = named NameKind.TypeName None q.first
-compound_name CompoundKind.Action q = behaviour q.first q.second
-compound_name CompoundKind.Scenario q = behaviour q.first q.second
+compound_name CompoundKind.Action q = behaviour_name q.first q.second
+compound_name CompoundKind.Scenario q = behaviour_name q.first q.second
 
 -- extensions declare no name
 abbrev pub declared_name : Declaration → Option DeclaredName
@@ -36,8 +36,8 @@ declared_name (Declaration.Physical d) = Some (named NameKind.TypeName None d.na
 declared_name (Declaration.Unit d) = Some (named NameKind.UnitName None d.name)
 declared_name (Declaration.Enum d) = Some (named NameKind.TypeName None d.name)
 declared_name (Declaration.Compound d) = Some (compound_name d.kind d.name)
-declared_name (Declaration.MoreMembers d) = None
-declared_name (Declaration.MoreEnum d) = None
+declared_name (Declaration.MemberExtension d) = None
+declared_name (Declaration.EnumExtension d) = None
 
 abbrev pub same_kind : NameKind → NameKind → Bool
 same_kind NameKind.TypeName NameKind.TypeName = true

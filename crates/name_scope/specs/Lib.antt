@@ -1,7 +1,6 @@
-pub mod Loading
+pub mod FileNumbers
 pub mod Wanted
 pub mod Declaring
-pub mod FaultRows
 pub mod Headings
 pub mod Library
 pub mod Tables

@@ -6,7 +6,7 @@ use Rattle.dsl_tree.specs.Views.{file_tree}
 use Rattle.name_scope.specs.declared.ids.NameKind.{NameKind}
 use Rattle.name_scope.specs.declared.names.FileName.{FileName}
 use Rattle.name_scope.specs.declared.table.DeclTable.{DeclTable}
-use Rattle.name_scope.specs.Loading.{AddedFile, name_text, numbered_names}
+use Rattle.name_scope.specs.FileNumbers.{AddedFile, name_text, numbered_names}
 use Rattle.name_scope.specs.Tables.{place_of}
 use Rattle.name_scope.specs.Declaring.{declares, first_place}
 

@@ -1,7 +1,7 @@
 //! The faults of names in headings.
 
 ghost use Rattle.std.specs.Prelude.{◌≡◌, [], ◌∷◌, ◌++◌, flat_map, Option, option_map};
-ghost use Rattle.name_scope.specs.FaultRows.{first_from, first_fault};
+ghost use Rattle.osc_base.specs.FaultRows.{first_from, first_fault};
 ghost use Rattle.name_scope.specs.Declaring.{declared_name};
 ghost use Rattle.name_scope.specs.Headings.{declarations, twice_rows, unknown_row, unowned_row, qualified_rows, owner_rows, value_rows, condition_rows, heir_rows, member_rows, reference_rows, rows_behind, heading_rows};
 ghost use Rattle.name_scope.specs.Earlier.{earlier_of};
@@ -14,12 +14,7 @@ use crate::table::{Declared, name_declared};
 use dsl_tree::{
     CompoundDecl, ConditionValue, Declaration, Heir, HeirCondition, Ident, Member, QName,
 };
-use osc_base::{Fault, Place};
-
-/// The code of a name that is declared twice.
-const TWICE: u16 = 311;
-/// The code of a name that isn't declared.
-const UNKNOWN: u16 = 312;
+use osc_base::{Fault, FaultCode, Place};
 
 fn place_of(declared: Declared<'_>) -> Place
     ensures { result ≡ (seen_name declared.entry).place }
@@ -41,7 +36,7 @@ fn with_twice(
         Some(declared) => with_fault(
             first,
             place_of(declared),
-            TWICE,
+            FaultCode::Twice,
             is_taken(earlier, declared),
         ),
         None => first,
@@ -54,7 +49,7 @@ fn with_unknown(first: Option<Fault>, all: &[Source], name: &Ident) -> Option<Fa
     with_fault(
         first,
         name.place,
-        UNKNOWN,
+        FaultCode::Unknown,
         !is_declared(all, name.text.as_str()),
     )
 }
@@ -64,7 +59,7 @@ fn with_unowned(first: Option<Fault>, all: &[Source], owner: &Ident, name: &Iden
 {
     let owner = owner.text.as_str();
     let unowned = is_declared(all, owner) && !is_owned_in(all, owner, name.text.as_str());
-    with_fault(first, name.place, UNKNOWN, unowned)
+    with_fault(first, name.place, FaultCode::Unknown, unowned)
 }
 
 /// Faults of a name of a base or of an extended type.
@@ -156,11 +151,11 @@ fn with_references(first: Option<Fault>, all: &[Source], declaration: &Declarati
         Declaration::Physical(_) | Declaration::Enum(_) => first,
         Declaration::Unit(d) => with_unknown(first, all, &d.of),
         Declaration::Compound(d) => with_compound(first, all, d),
-        Declaration::MoreMembers(d) => {
+        Declaration::MemberExtension(d) => {
             let first = with_qualified(first, all, &d.name);
             with_members(first, all, d.members.as_slice())
         }
-        Declaration::MoreEnum(d) => with_qualified(first, all, &d.name),
+        Declaration::EnumExtension(d) => with_qualified(first, all, &d.name),
     }
 }
 
@@ -176,7 +171,7 @@ fn with_declaration(
     with_references(first, all, declaration)
 }
 
-/// Faults of the headings of a file that stands behind others.
+/// Faults of the headings of a file that comes after others.
 fn with_file(first: Option<Fault>, all: &[Source], files: &[Source], file: &Source) -> Option<Fault>
     ensures { result ≡ first_from first (rows_behind (declarations all.now) (declarations files.now) file.now.file.decls) }
 {

@@ -99,7 +99,7 @@ fn is_declared_before(earlier: Earlier<'_>, name: &str) -> bool
     is_basic(name) || takes_before(earlier, name)
 }
 
-/// Whether a name of the same space is declared before.
+/// Whether the name is declared before in its space.
 pub fn is_taken(earlier: Earlier<'_>, declared: Declared<'_>) -> bool
     ensures { result ≡ has_taken (earlier_of earlier.entry) (seen_name declared.entry).kind (seen_name declared.entry).owner (seen_name declared.entry).name }
 {

@@ -1,9 +1,9 @@
-//! The first of several faults.
+//! The first fault of a list.
 
 ghost use Rattle.std.specs.Prelude.{◌≡◌, Some};
-ghost use Rattle.name_scope.specs.FaultRows.{first_of, row_fault, is_before as precedes};
+ghost use Rattle.osc_base.specs.FaultRows.{first_of, row, row_fault, is_before as precedes};
 
-use osc_base::{Fault, Place};
+use osc_base::{Fault, FaultCode, Place};
 
 fn is_before(f: &Fault, g: &Fault) -> bool
     ensures { result ≡ precedes f.now g.now }
@@ -12,7 +12,7 @@ fn is_before(f: &Fault, g: &Fault) -> bool
     f_place.file < g_place.file
         || (f_place.file == g_place.file
             && (f_place.token < g_place.token
-                || (f_place.token == g_place.token && f.code < g.code)))
+                || (f_place.token == g_place.token && f.code.number() < g.code.number())))
 }
 
 fn least(first: Option<Fault>, fault: Fault) -> Fault
@@ -31,8 +31,8 @@ fn least(first: Option<Fault>, fault: Fault) -> Fault
 }
 
 /// The first fault, after one more that may be there.
-pub fn with_fault(first: Option<Fault>, place: Place, code: u16, holds: bool) -> Option<Fault>
-    ensures { result ≡ first_of first (row_fault (record { fault = record { place = place; code = code }; holds = holds })) }
+pub fn with_fault(first: Option<Fault>, place: Place, code: FaultCode, holds: bool) -> Option<Fault>
+    ensures { result ≡ first_of first (row_fault (row place code holds)) }
 {
     if holds {
         Some(least(first, Fault { place, code }))

@@ -1,15 +1,16 @@
 ghost use Rattle.std.specs.Prelude.{◌≡◌, ◌≤◌, [], ◌∷◌, ◌++◌, length, take, option_map, IfOk, IfErr, OnOk, OnErr};
-ghost use Rattle.name_scope.specs.Loading.{meant_name, dotted_name, import_fault, first_import_fault, with_name, with_imports, same_name, is_meant, first_mention_in};
-ghost use Rattle.name_scope.specs.Loading.{import_place as place_of, is_numbered as has_number};
+ghost use Rattle.name_scope.specs.FileNumbers.{meant_name, dotted_name, import_fault, first_import_fault, with_name, with_imports, same_name, is_meant, first_mention_in};
+ghost use Rattle.name_scope.specs.FileNumbers.{import_place as place_of, is_numbered as has_number};
 ghost use Rattle.osc_base.specs.declared.fault.Fault.{Fault};
+ghost use Rattle.osc_base.specs.declared.stop.Stop.{Stop};
 ghost use Rattle.name_scope.specs.Wanted.{file_name};
 
 use crate::program::AddStop;
 use dsl_tree::{Ident, Import};
-use osc_base::{Fault, Place, Text};
+use osc_base::{Fault, FaultCode, Place, Text};
 use std::alloc::{AllocError, Global};
 
-/// The most files that a program has, the library included.
+/// The most files that a program has, including the library.
 pub const MOST_FILES: usize = 64;
 
 /// The name of a file of the program.
@@ -25,11 +26,6 @@ pub enum Wanted<'a> {
     Library,
     Named(&'a str),
 }
-
-/// The code of an import that asks for no file.
-const NO_FILE: u16 = 301;
-/// The code of an import that asks for one file too many.
-const TOO_MANY: u16 = 302;
 
 impl FileName {
     /// The name as callers see it.
@@ -72,7 +68,7 @@ fn dotted<'a>(names: &[Ident]) -> Option<Wanted<'a>>
     }
 }
 
-/// Where the token behind the word `import` is.
+/// The place of the token after the word `import`.
 pub fn import_place(import: &Import) -> Option<Place>
     ensures { result ≡ place_of import.now }
 {
@@ -111,7 +107,7 @@ fn mentions(import: &Import, wanted: Wanted<'_>) -> bool
     }
 }
 
-/// Where the first import that asks for the file stands.
+/// The place of the first import that asks for the file.
 pub fn first_mention(imports: &[Import], wanted: Wanted<'_>) -> Option<Place>
     ensures { result ≡ first_mention_in (file_name wanted.entry) imports.now }
 {
@@ -136,13 +132,13 @@ pub fn push_name(
     Ok(())
 }
 
-/// Gives the file that an import asks for the next number, where it has none.
+/// Gives the file that an import asks for the next number, if it has none.
 fn number_import(alloc: Global, names: &mut Vec<FileName>, import: &Import) -> Result<(), AddStop>
     requires { length names.old.items ≤ 64 }
     ensures ok { OnOk result (import_fault names.old.items import.now ≡ None) }
     ensures named { OnOk result (names.new.items ≡ with_name names.old.items (meant_name import.now)) }
     ensures few { length names.new.items ≤ 64 }
-    ensures at { IfErr result (λ stop. (f : Fault) → stop ≡ AddStop.At f → import_fault names.old.items import.now ≡ Some f) }
+    ensures at { IfErr result (λ stop. (f : Fault) → stop ≡ Stop.At f → import_fault names.old.items import.now ≡ Some f) }
     ensures kept { OnErr result (names.new.items ≡ names.old.items) }
 {
     let Some(place) = import_place(import) else {
@@ -151,7 +147,7 @@ fn number_import(alloc: Global, names: &mut Vec<FileName>, import: &Import) -> R
     let Some(wanted) = meant(import) else {
         return Err(AddStop::At(Fault {
             place,
-            code: NO_FILE,
+            code: FaultCode::MissingImport,
         }));
     };
     if is_numbered(wanted, names) {
@@ -160,7 +156,7 @@ fn number_import(alloc: Global, names: &mut Vec<FileName>, import: &Import) -> R
     if names.len() >= MOST_FILES {
         return Err(AddStop::At(Fault {
             place,
-            code: TOO_MANY,
+            code: FaultCode::TooManyFiles,
         }));
     }
     push_name(alloc, names, wanted)?;
@@ -177,7 +173,7 @@ pub fn number_imports(
     ensures ok { OnOk result (first_import_fault names.old.items imports.now ≡ None) }
     ensures named { OnOk result (names.new.items ≡ with_imports names.old.items imports.now) }
     ensures few { length names.new.items ≤ 64 }
-    ensures at { IfErr result (λ stop. (f : Fault) → stop ≡ AddStop.At f → first_import_fault names.old.items imports.now ≡ Some f) }
+    ensures at { IfErr result (λ stop. (f : Fault) → stop ≡ Stop.At f → first_import_fault names.old.items imports.now ≡ Some f) }
     ensures front { take (length names.old.items) names.new.items ≡ names.old.items }
 {
     for import in imports {

@@ -1,13 +1,14 @@
 ghost use Rattle.std.specs.Prelude.{◌≡◌, [], ◌∷◌, ◌++◌, ◌⊎◌, ◌<◌, ◌≤◌, Some, length, slice_get, option_map, option_copied, is_some, IfSome, IfOk, IfErr, OnOk, OnErr};
 ghost use Rattle.osc_base.specs.declared.fault.Fault.{Fault};
+ghost use Rattle.osc_base.specs.declared.stop.Stop.{Stop};
 ghost use Rattle.dsl_tree.specs.Language.{FollowsGrammar};
 ghost use Rattle.dsl_tree.specs.Views.{file_tree};
-ghost use Rattle.name_scope.specs.Loading.{name_text, is_library_at, numbered_names, names_before, adding_fault, wanted_name, wanted_mention};
+ghost use Rattle.name_scope.specs.FileNumbers.{name_text, is_library_at, numbered_names, names_before, adding_fault, wanted_name, wanted_mention};
 ghost use Rattle.name_scope.specs.Wanted.{file_name};
 ghost use Rattle.name_scope.specs.Declaring.{found, IsDeclared};
-ghost use Rattle.name_scope.specs.FaultRows.{IsFault, IsFirst, first_fault};
+ghost use Rattle.osc_base.specs.FaultRows.{IsFault, IsFirst, first_fault};
 ghost use Rattle.name_scope.specs.Headings.{heading_rows};
-ghost use Rattle.name_scope.specs.Loading.{first_mention as mention_in};
+ghost use Rattle.name_scope.specs.FileNumbers.{first_mention as mention_in};
 ghost use Rattle.name_scope.specs.Sources.{IsProgram};
 ghost use Rattle.std.specs.Prelude.{take as take_front, None, ◌^◌};
 
@@ -17,30 +18,15 @@ use crate::names::{FileName, Wanted, first_mention, number_imports, push_name};
 use crate::source::Source;
 use crate::{DeclId, NameKind};
 use dsl_tree::File;
-use osc_base::{Fault, Place, Text};
+use osc_base::{Fault, Place, Stop, Text};
 use std::alloc::{AllocError, Global};
 use std::marker::Model;
 
-/// Why a file wasn't added.
-#[derive(Drop)]
-pub enum AddStop {
-    /// An import of the file has a fault, and this is the first: 301 where it is dotted and its first
-    /// name isn't `osc`, 302 where it would bring the 65th file.
-    At(Fault),
-    /// Memory was missing.
-    Memory,
-}
-
-impl From<AllocError> for AddStop {
-    ghost use Rattle.name_scope.specs.declared.program.AddStop.TheVariants.{Memory};
-    ghost use Rattle.std.specs.Prelude.{◌≡◌};
-
-    ghost from_gives = { λ _ e. e ≡ Memory };
-
-    fn from(_error: AllocError) -> AddStop {
-        AddStop::Memory
-    }
-}
+/// Why a file wasn't added: an import of it has a fault, and this is the first; or out of memory.
+///
+/// The code is `MissingImport` when the import is dotted and its first name isn't `osc`, and `TooManyFiles`
+/// when it would bring the 65th file.
+pub type AddStop = Stop<Fault>;
 
 /// The files of a program in load order. Contracts see it as the list of the added files.
 ///
@@ -55,7 +41,7 @@ pub struct Program {
 
 impl Model for Program {
     ghost use Rattle.std.specs.Prelude.{List};
-    ghost use Rattle.name_scope.specs.Loading.{AddedFile};
+    ghost use Rattle.name_scope.specs.FileNumbers.{AddedFile};
     ghost use Rattle.std.specs.Coded.{codes};
     ghost use Rattle.dsl_tree.specs.contracts.file.File as file_type;
 
@@ -85,14 +71,14 @@ impl Program {
     /// Adds the main file, or the file that is wanted, whose name for the library is `osc`. The tree has to
     /// follow the grammar.
     ///
-    /// `At` comes exactly where an import of the file has a fault. Where the file isn't added, the program
-    /// stays as it was.
+    /// `At` comes exactly when an import of the file has a fault. If the file isn't added, the program is
+    /// unchanged.
     pub fn add_file(&mut self, name: Text, file: File) -> Result<(), AddStop>
         requires next { (self.old ≡ []) ⊎ (option_map name_text (wanted_name self.old) ≡ Some name) }
         requires grammar { FollowsGrammar (file_tree file) }
         ensures added { OnOk result (self.new ≡ self.old ++ record { name = name; file = file } ∷ []) }
         ensures sound { OnOk result (adding_fault self.old (record { name = name; file = file }) ≡ None) }
-        ensures fault { IfErr result (λ stop. (f : Fault) → stop ≡ AddStop.At f → adding_fault self.old (record { name = name; file = file }) ≡ Some f) }
+        ensures fault { IfErr result (λ stop. (f : Fault) → stop ≡ Stop.At f → adding_fault self.old (record { name = name; file = file }) ≡ Some f) }
         ensures kept { OnErr result (self.new ≡ self.old) }
     {
         let count = self.names.len();
@@ -105,7 +91,7 @@ impl Program {
         }
     }
 
-    /// The next file that is numbered and isn't added yet. `None` exactly where every numbered file was added.
+    /// The next file that is numbered and isn't added yet. `None` exactly when every numbered file was added.
     pub fn wanted(&self) -> Option<Wanted<'_>>
         ensures name { option_map file_name result ≡ wanted_name self.now }
         ensures room { IfSome result (λ _. length self.now < 64) }
@@ -114,8 +100,8 @@ impl Program {
         Some(name.wanted())
     }
 
-    /// Where the import that asks first for the wanted file stands: the place of its string, or of its first
-    /// name. `None` exactly where no file is wanted.
+    /// The place of the import that asks first for the wanted file: that of its string, or of its first name.
+    /// `None` exactly when no file is wanted.
     pub fn wanted_place(&self) -> Option<Place>
         ensures place { result ≡ wanted_mention self.now }
         ensures wanted { is_some result ≡ is_some (wanted_name self.now) }
@@ -124,7 +110,7 @@ impl Program {
         place_in(self.sources.as_slice(), wanted)
     }
 
-    /// The first declaration of the name, in load order. Only behaviours have owners. `None` exactly where
+    /// The first declaration of the name, in load order. Only behaviours have owners. `None` exactly when
     /// nothing of that kind, owner and name is declared.
     pub fn find(&self, kind: NameKind, owner: Option<&str>, name: &str) -> Option<DeclId>
         ensures first { result ≡ found kind (option_copied owner.entry) name.now self.now }
@@ -133,8 +119,9 @@ impl Program {
         find_in(self.sources.as_slice(), kind, owner, name)
     }
 
-    /// The least fault of names in headings, by file, token and code: 311 at a name that is declared twice,
-    /// 312 at a type, owner, base or extended type that isn't declared. `None` exactly where there is none.
+    /// The least fault of names in headings, by file, token and code: `Twice` at a name that is declared
+    /// before, `Unknown` at a type, owner, base or extended type that isn't declared. `None` exactly when
+    /// there is none.
     pub fn name_faults(&self, _alloc: Global) -> Result<Option<Fault>, AllocError>
         ensures first { IfOk result (λ f. f ≡ first_fault (heading_rows self.now)) }
         ensures least { IfOk result (λ f. IsFirst (IsFault (heading_rows self.now)) f) }
@@ -150,7 +137,7 @@ impl Program {
         self.sources.len() as u32
     }
 
-    /// The file of that number. `None` exactly where the number isn't below `files`.
+    /// The file of that number. `None` exactly when the number isn't below `files`.
     pub fn file(&self, number: u32) -> Option<&File>
         ensures file { option_copied result ≡ option_map (λ f. f.file) (slice_get self.now number) }
         ensures follows { IfSome result (λ f. FollowsGrammar (file_tree f.now)) }
@@ -167,7 +154,7 @@ impl Program {
         matches!(self.names.get(number as usize), Some(FileName::Library))
     }
 
-    /// The name of the file of that number, `osc` for the library. `None` exactly where the number isn't
+    /// The name of the file of that number, `osc` for the library. `None` exactly when the number isn't
     /// below `files`.
     pub fn name(&self, number: u32) -> Option<&str>
         ensures name { option_copied result ≡ option_map (λ f. f.name) (slice_get self.now number) }
@@ -192,7 +179,7 @@ fn take(
     ensures added { OnOk result (sources.new.items ≡ sources.old.items ++ record { name = name; file = file } ∷ []) }
     ensures program { OnOk result (IsProgram sources.new.items names.new.items) }
     ensures sound { OnOk result (adding_fault sources.old.items (record { name = name; file = file }) ≡ None) }
-    ensures fault { IfErr result (λ stop. (f : Fault) → stop ≡ AddStop.At f → adding_fault sources.old.items (record { name = name; file = file }) ≡ Some f) }
+    ensures fault { IfErr result (λ stop. (f : Fault) → stop ≡ Stop.At f → adding_fault sources.old.items (record { name = name; file = file }) ≡ Some f) }
     ensures kept { OnErr result (sources.new.items ≡ sources.old.items) }
     ensures front { take_front (length names.old.items) names.new.items ≡ names.old.items }
 {
@@ -235,7 +222,7 @@ fn push_source(
     Ok(())
 }
 
-/// Where the first import of the files that asks for one stands.
+/// The place of the first import of the files that asks for one.
 fn place_in(sources: &[Source], wanted: Wanted<'_>) -> Option<Place>
     ensures { result ≡ mention_in (file_name wanted.entry) sources.now }
 {

@@ -19,7 +19,7 @@ pub struct Source {
 }
 
 impl Model for Source {
-    ghost use Rattle.name_scope.specs.Loading.{AddedFile};
+    ghost use Rattle.name_scope.specs.FileNumbers.{AddedFile};
     ghost use Rattle.std.specs.Coded.{codes};
     ghost use Rattle.dsl_tree.specs.contracts.file.File as file_type;
 

@@ -2,7 +2,7 @@ ghost use Rattle.std.specs.Prelude.{◌≡◌, ℕ, ◌+◌, ◌<◌, ◌^◌, L
 ghost use Rattle.std.specs.Option.{option_or};
 ghost use Rattle.name_scope.specs.declared.ids.NameKind.{NameKind};
 ghost use Rattle.name_scope.specs.Declaring.{declared_name, declares, first_place, is_name, same_names, compound_name};
-ghost use Rattle.name_scope.specs.Declaring.{behaviour as behaviour_of};
+ghost use Rattle.name_scope.specs.Declaring.{behaviour_name};
 ghost use Rattle.name_scope.specs.Seen.{seen_name};
 ghost use Rattle.name_scope.specs.Tables.{place_in, place_within, place_of};
 ghost use Rattle.std.specs.HashMap.{get_by_text};
@@ -21,8 +21,8 @@ pub enum Declared<'a> {
     Owned { owner: &'a Ident, name: &'a Ident },
 }
 
-fn behaviour(name: &QName) -> Declared<'_>
-    ensures { seen_name result ≡ behaviour_of name.now.first name.now.second }
+fn declared_behaviour(name: &QName) -> Declared<'_>
+    ensures { seen_name result ≡ behaviour_name name.now.first name.now.second }
 {
     match &name.second {
         None => Declared::Behaviour(&name.first),
@@ -38,7 +38,7 @@ fn compound(kind: CompoundKind, name: &QName) -> Declared<'_>
 {
     match kind {
         CompoundKind::Struct | CompoundKind::Actor => Declared::Type(&name.first),
-        CompoundKind::Action | CompoundKind::Scenario => behaviour(name),
+        CompoundKind::Action | CompoundKind::Scenario => declared_behaviour(name),
     }
 }
 
@@ -51,7 +51,7 @@ pub fn name_declared(declaration: &Declaration) -> Option<Declared<'_>>
         Declaration::Unit(d) => Some(Declared::Unit(&d.name)),
         Declaration::Enum(d) => Some(Declared::Type(&d.name)),
         Declaration::Compound(d) => Some(compound(d.kind, &d.name)),
-        Declaration::MoreMembers(_) | Declaration::MoreEnum(_) => None,
+        Declaration::MemberExtension(_) | Declaration::EnumExtension(_) => None,
     }
 }
 
@@ -76,7 +76,7 @@ impl NameTable {
         self.places.get(name).copied()
     }
 
-    /// Keeps the place for the name, where it has none yet.
+    /// Keeps the place for the name, if it has none yet.
     fn note(&mut self, alloc: Global, name: &str, place: u32) -> Result<(), AllocError>
         ensures { OnOk result ((other : List ℕ) → place_in self.new other ≡ option_or (place_in self.old other) (cond (bytes_eq name.now other) (Some place) None)) }
     {
@@ -98,7 +98,7 @@ pub struct DeclTable {
     owned: IndexMap<String, NameTable>,
 }
 
-/// The place behind. A place that a `u32` doesn't hold is want of memory.
+/// The next place. A place that a `u32` doesn't hold counts as out of memory.
 fn next_place(place: u32) -> Result<u32, AllocError>
     ensures next { IfOk result (λ n. n ≡ place + 1) }
     ensures small { IfOk result (λ n. n < 2 ^ 32) }
@@ -109,7 +109,7 @@ fn next_place(place: u32) -> Result<u32, AllocError>
     }
 }
 
-/// Takes out the table of an owner, which is empty where there is none.
+/// Takes out the table of an owner. It is empty if there is none.
 fn take_table(alloc: Global, owned: &mut IndexMap<String, NameTable>, owner: &str) -> NameTable
     ensures was { (name : List ℕ) → place_in result name ≡ place_within (get_by_text owned.old owner.now) name }
     ensures others { (other : List ℕ) → get_by_text owned.new other ≡ cond (bytes_eq owner.now other) None (get_by_text owned.old other) }
@@ -161,7 +161,7 @@ impl DeclTable {
         Ok(())
     }
 
-    /// Keeps the place for a declared name, where the name has none yet.
+    /// Keeps the place for a declared name, if the name has none yet.
     fn note(&mut self, alloc: Global, declared: Declared<'_>, place: u32) -> Result<(), AllocError>
         ensures { OnOk result ((kind : NameKind) (owner : Option (List ℕ)) (name : List ℕ) → place_of self.new kind owner name ≡ option_or (place_of self.old kind owner name) (cond (is_name kind owner name (Some (seen_name declared.entry))) (Some place) None)) }
     {
@@ -190,7 +190,7 @@ impl DeclTable {
         }
     }
 
-    /// The table of the declarations of a file. More of them than a `u32` counts are want of memory.
+    /// The table of the declarations of a file. More of them than a `u32` counts are out of memory.
     pub fn of(alloc: Global, decls: &[Declaration]) -> Result<DeclTable, AllocError>
         ensures few { OnOk result (length decls.now < 2 ^ 32) }
         ensures first { IfOk result (λ t. (kind : NameKind) (owner : Option (List ℕ)) (name : List ℕ) → place_of t kind owner name ≡ first_place (declares kind owner name) 0 decls.now) }

@@ -1,11 +1,11 @@
 ghost use Rattle.std.specs.Prelude.{◌≡◌, option_map, IfOk};
 ghost use Rattle.dsl_tree.specs.Language.{FollowsGrammar};
 ghost use Rattle.dsl_tree.specs.Views.{file_tree};
-ghost use Rattle.name_scope.specs.Loading.{name_text, wanted_name};
+ghost use Rattle.name_scope.specs.FileNumbers.{name_text, wanted_name};
 
 use crate::{AddStop, DeclId, NameKind, Program, Wanted, library_text};
 use dsl_tree::{CompoundDecl, CompoundKind, Declaration, File, Ident, Import, QName};
-use osc_base::{Fault, Place, Row, Text};
+use osc_base::{Fault, FaultCode, Place, Row, Text};
 use std::alloc::{AllocError, Global};
 use std::test::Fail;
 
@@ -114,7 +114,7 @@ fn files_that_import_each_other(rt: HostRuntime) -> Result<(), Fail> {
     );
     let twice = Fault {
         place: place(1, 2, 10, 4),
-        code: 311,
+        code: FaultCode::Twice,
     };
     assert_eq!(rt; program.name_faults(alloc)?, Some(twice));
     Ok(())

@@ -1,23 +1,21 @@
 //! The program `osc`: it hands its arguments, the files of the system and standard output to
-//! `command`, and ends with the status that this answers.
+//! `command`, and ends with the number that this returns.
 #![tactic(auto)]
 
 use outside_io::{FileShelf, OutSink};
-use scenario_tool::command;
+use scenario_tool::{Status, command};
 use std::process::ExitCode;
 use std::{env, io};
 
-/// The status where memory is missing while the arguments are collected.
-const NO_MEMORY: u8 = 8;
-/// The status where the arguments can't be collected for another cause, as one that isn't UTF-8.
+/// The number when the arguments can't be collected, as when one isn't UTF-8. `command` never returns it.
 const NO_ARGUMENTS: u8 = 9;
 
 fn main(rt: HostRuntime) -> ExitCode {
     let words = match words(&rt) {
         Ok(words) => words,
-        Err(error) if error.kind() == io::ErrorKind::OutOfMemory => return ExitCode::from(
-            NO_MEMORY,
-        ),
+        Err(error) if error.kind() == io::ErrorKind::OutOfMemory => {
+            return ExitCode::from(Status::OutOfMemory.number());
+        }
         Err(_) => return ExitCode::from(NO_ARGUMENTS),
     };
     let mut shelf = FileShelf::new(&rt);

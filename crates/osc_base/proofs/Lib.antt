@@ -1,3 +1,5 @@
+pub mod FaultCodes
+pub mod FaultRows
 pub mod Fractions
 pub mod Integers
 pub mod Multiples

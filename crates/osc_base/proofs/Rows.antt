@@ -1,5 +1,5 @@
 -- Worked path texts, by computation.
-use Rattle.std.proofs.Common.{◌≡◌, refl, List, [], ◌∷◌, codes}
+use Rattle.std.proofs.Common.{◌≡◌, refl, [], ◌∷◌, codes}
 use Rattle.std.specs.Fmt.{digits}
 use Rattle.osc_base.specs.declared.path.Step.TheVariants.{Name, Index, Member}
 use Rattle.osc_base.specs.Path.{path_text}

@@ -22,24 +22,24 @@ pub record OverCommon (f g : Fraction) : Type 0 where
 abbrev pub AreWithin : {f g : Fraction} → OverCommon f g → Type 0
 AreWithin over = IsWithin (pos over.common) × IsWithin over.left × IsWithin over.right
 
--- a sum is taken over the least common denominator, and there is one exactly where no part passes 2^120
+-- a sum is taken over the least common denominator, and there is one exactly when no part passes 2^120
 pub record AddsExactly (f g : Fraction) (result : Option Fraction) : Type 0 where
   pub over : OverCommon f g
   pub exactly : IsSome result ↔ (AreWithin over × IsWithin (over.left +ℤ over.right))
   pub parts : IfSome result (λ (sum : Fraction). (sum.num ≡ over.left +ℤ over.right) × (sum.den ≡ pos over.common))
 
--- a product multiplies both parts, and there is one exactly where neither product passes 2^120
+-- a product multiplies both parts, and there is one exactly when neither product passes 2^120
 pub record MultipliesExactly (f g : Fraction) (result : Option Fraction) : Type 0 where
   pub exactly : IsSome result ↔ (IsWithin (f.num *ℤ g.num) × IsWithin (f.den *ℤ g.den))
   pub parts : IfSome result (λ (p : Fraction). (p.num ≡ f.num *ℤ g.num) × (p.den ≡ f.den *ℤ g.den))
 
--- two fractions are compared over the least common denominator, exactly where no part passes 2^120
+-- two fractions are compared over the least common denominator, exactly when no part passes 2^120
 pub record ComparesExactly (f g : Fraction) (result : Option Ordering) : Type 0 where
   pub over : OverCommon f g
   pub exactly : IsSome result ↔ AreWithin over
   pub parts : IfSome result (λ ordering. ordering ≡ int_cmp over.left over.right)
 
--- rounding takes the floor of (2000 * num + den) / (2 * den), exactly where no part of that passes 2^120
+-- rounding takes the floor of (2000 * num + den) / (2 * den), exactly when no part of that passes 2^120
 pub record RoundsExactly (f : Fraction) (result : Option ℤ) : Type 0 where
   pub exactly : IsSome result ↔ (IsWithin (pos 2000 *ℤ f.num) × IsWithin (pos 2000 *ℤ f.num +ℤ f.den) × IsWithin (pos 2 *ℤ f.den))
   pub parts : IfSome result (IsFloor (record { numerator = pos 2000 *ℤ f.num +ℤ f.den; denominator = pos 2 *ℤ f.den }))

@@ -2,3 +2,11 @@ pub mod formers
 pub mod Path
 pub mod Fraction
 pub mod Number
+pub mod FaultCodes
+pub mod FaultRows
+pub mod LowestTerms
+pub mod Comparisons
+pub mod Paths
+pub mod Modifiers
+pub mod SlotNames
+pub mod Stops

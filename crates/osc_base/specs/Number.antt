@@ -9,7 +9,7 @@ pub record Number : Type 0 where
   pub numerator : ℤ
   pub denominator : ℤ
 
--- one number, in the same or in other terms
+-- they are one number, with equal or with other terms
 abbrev pub IsSame : Number → Number → Type 0
 IsSame x y = x.numerator *ℤ y.denominator ≡ y.numerator *ℤ x.denominator
 

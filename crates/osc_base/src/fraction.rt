@@ -8,8 +8,8 @@ use std::cmp::Ordering;
 
 /// An exact fraction. Its denominator is at least 1.
 ///
-/// Fractions in different terms may stand for one number. The calls that answer `None` do so where a part of their
-/// calculation passes 2^120 in magnitude.
+/// Fractions with different terms may stand for one number. A call returns `None` when a part of its calculation
+/// passes 2^120 in magnitude.
 #[derive(Debug, Clone, Copy)]
 pub struct Fraction {
     pub num: i128,
@@ -17,7 +17,7 @@ pub struct Fraction {
     ghost positive: { pos 1 ≤ℤ den },
 }
 
-/// The most digits of a decimal, read as one number, and the most of them behind its point.
+/// The most digits of a decimal, read as one number, and the most of them after its point.
 const MOST_DIGITS: u64 = 999_999_999_999_999_999;
 
 const MOST_PLACES: u32 = 18;
@@ -36,7 +36,7 @@ struct Widened {
 impl Fraction {
     ghost use Rattle.osc_base.specs.Fraction.{AddsExactly, AreWithin, ComparesExactly, MultipliesExactly, OverCommon, RoundsExactly, value};
 
-    /// `digits / 10^places` in lowest terms. `None` where `places` passes 18 or `digits` passes 10^18 - 1.
+    /// `digits / 10^places` in lowest terms. `None` when `places` passes 18 or `digits` passes 10^18 - 1.
     pub fn decimal(digits: u64, places: u32) -> Option<Fraction>
         ensures exact { IsSome result ↔ ((places ≤ 18) × (digits < 10 ^ 18)) }
         ensures value { IfSome result (λ f. IsSame (value f) (record { numerator = pos digits; denominator = pos (10 ^ places) })) }
@@ -54,7 +54,7 @@ impl Fraction {
         })
     }
 
-    /// The sum, over the least common multiple of the denominators. `None` where that denominator, a numerator
+    /// The sum, over the least common multiple of the denominators. `None` when that denominator, a numerator
     /// widened to it or the sum passes 2^120.
     pub fn add(&self, other: &Fraction) -> Option<Fraction>
         ensures exact { AddsExactly self.now other.now result }
@@ -67,7 +67,7 @@ impl Fraction {
         })
     }
 
-    /// The product of the numerators over that of the denominators. `None` where one of these passes 2^120.
+    /// The product of the numerators over that of the denominators. `None` when one of these passes 2^120.
     pub fn times(&self, other: &Fraction) -> Option<Fraction>
         ensures exact { MultipliesExactly self.now other.now result }
         ensures value { IfSome result (λ f. IsSame (value f) (product_of (value self.now) (value other.now))) }
@@ -78,7 +78,7 @@ impl Fraction {
         })
     }
 
-    /// How the two numbers compare. `None` where the least common multiple of the denominators or a numerator widened
+    /// How the two numbers compare. `None` when the least common multiple of the denominators or a numerator widened
     /// to it passes 2^120.
     pub fn compare(&self, other: &Fraction) -> Option<Ordering>
         ensures exact { ComparesExactly self.now other.now result }
@@ -89,7 +89,7 @@ impl Fraction {
     }
 
     /// The nearest whole number of thousandths, halves upward: the floor of `(2000 * num + den) / (2 * den)`. `None`
-    /// where a product or the sum in this passes 2^120.
+    /// when a product or the sum in this passes 2^120.
     pub fn nearest_thousandth(&self) -> Option<i128>
         ensures exact { RoundsExactly self.now result }
         ensures value { IfSome result (λ count. IsNearestThousandth (value self.now) count) }
@@ -164,7 +164,7 @@ fn gcd(a: u128, b: u128) -> u128
     x
 }
 
-/// The least common multiple, where it is at most 2^120.
+/// The least common multiple, if it is at most 2^120.
 fn least_common_multiple(a: u128, b: u128) -> Option<u128>
     requires first { 0 < a }
     requires second { 0 < b }

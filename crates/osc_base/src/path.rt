@@ -13,7 +13,8 @@ pub enum Step {
     Member(u32),
 }
 
-/// Where an object, a field or a phase is found from the named scenario. The empty path is the root's.
+/// The way from the named scenario to an object, a field or a phase. The empty path leads to the scenario
+/// itself, the root.
 #[derive(Debug, PartialEq, Eq, Drop)]
 pub struct Path {
     pub steps: Row<Step>,

@@ -21,14 +21,14 @@ impl<T> Model for Row<T> {
 }
 
 impl<T> Row<T> {
-    /// Takes over `items`, without taking memory.
+    /// A row of these items. It doesn't allocate.
     pub fn of(items: Vec<T>) -> Row<T>
         ensures { result ≡ items.items }
     {
         Row { items }
     }
 
-    /// The empty row, which takes no memory.
+    /// The empty row. It doesn't allocate.
     pub fn new(alloc: Global) -> Row<T>
         ensures { result ≡ [] }
     {
@@ -46,7 +46,7 @@ impl<T> Row<T> {
 }
 
 impl<T: Drop> Row<T> {
-    /// Puts `item` at the end. Where memory is missing the row stays as it was, and the item is given up.
+    /// Puts `item` at the end. If it runs out of memory, the row is unchanged and the item is dropped.
     pub fn push(&mut self, item: T) -> Result<(), AllocError>
         ensures ok { OnOk result (self.new ≡ self.old ++ item ∷ []) }
         ensures err { OnErr result (self.new ≡ self.old) }

@@ -6,3 +6,11 @@ pub struct Sample {
     pub position: i64,
     pub speed: i64,
 }
+
+/// The numbers of the slots that hold a sample.
+#[derive(Debug, Clone, Copy, PartialEq, Eq)]
+pub struct SampleSlots {
+    pub lane: u32,
+    pub position: u32,
+    pub speed: u32,
+}

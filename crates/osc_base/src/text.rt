@@ -31,7 +31,7 @@ impl Text {
         Ok(Text { text })
     }
 
-    /// Takes over `text`, without taking memory.
+    /// A text of this string. It doesn't allocate.
     pub fn of(text: String) -> Text
         ensures { result ≡ string_bytes text }
     {

@@ -8,8 +8,8 @@ use std::rt::Files;
 
 /// The files of the system. It tells no content: contracts see its count of faults alone.
 ///
-/// A name that the system says isn't found has no file. Every other failure is a fault, as where a name is that of a
-/// directory, or where the caller may not read it.
+/// A name that the system says isn't found has no file. Every other failure is a fault, for example if the name is that
+/// of a directory, or if the caller may not read the file.
 #[derive(Drop)]
 pub struct FileShelf<'a, R: Files> {
     rt: &'a R,

@@ -1,7 +1,7 @@
-//! Where bytes come from and go to: shelves of files and sinks of bytes, in memory and real.
+//! Input and output: shelves of files and sinks of bytes, in memory and real.
 //!
-//! A call that fails on the outside's behalf counts its fault, so that a caller's contract can say that a fault is
-//! answered only where one came.
+//! A call of a shelf or sink that fails counts its fault. So a caller's contract can say that it reports a fault only if
+//! one came.
 #![tactic(auto)]
 
 mod file_shelf;

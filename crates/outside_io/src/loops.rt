@@ -15,7 +15,7 @@ pub enum ReadStop {
     Shelf,
     /// More bytes were left than the limit.
     TooLong,
-    /// Memory is missing.
+    /// Out of memory.
     Memory,
 }
 
@@ -36,10 +36,10 @@ impl From<AllocError> for ReadStop {
     }
 }
 
-/// Reads the rest of the fetched file: nothing where no file is fetched.
+/// Reads the rest of the fetched file: nothing if no file is fetched.
 ///
-/// `TooLong` comes where more than `limit` bytes were left, `Shelf` where the shelf failed, and `Memory` where memory
-/// is missing.
+/// `TooLong` comes when more than `limit` bytes were left, `Shelf` when the shelf failed, and `Memory` when it is out of
+/// memory.
 pub fn read_all<H: Shelf>(alloc: Global, shelf: &mut H, limit: usize) -> Result<Row<u8>, ReadStop>
     ensures all { IfOk result (λ bytes. IfSome (H.left shelf.old) (λ before. bytes ≡ before)) }
     ensures within { IfOk result (λ bytes. length bytes ≤ limit) }
@@ -71,9 +71,9 @@ pub fn read_all<H: Shelf>(alloc: Global, shelf: &mut H, limit: usize) -> Result<
     }
 }
 
-/// Writes all of `bytes`, offering all that is left in each call. It takes no memory.
+/// Writes all of `bytes`. Each call offers all that is left. It doesn't allocate.
 ///
-/// `Sink` comes where the sink failed; a front of the bytes is written then.
+/// `Sink` comes when the sink failed. A prefix of the bytes is written then.
 pub fn write_all<K: Sink>(sink: &mut K, bytes: &[u8]) -> Result<(), SinkStop>
     ensures whole { OnOk result (K.contents sink.new ≡ append_known (K.contents sink.old) bytes.now) }
     ensures part { OnErr result (AppendsPart (K.contents sink.old) (K.contents sink.new) bytes.now) }

@@ -1,16 +1,17 @@
-ghost use Rattle.std.specs.Prelude.{◌≡◌, ◌≤◌, ◌↔◌, [], IsErr, is_some, unwrap_or, IfOk, OnOk, OnErr, Contains, length, drop, position};
+ghost use Rattle.std.specs.Prelude.{◌≡◌, ◌≤◌, ◌↔◌, [], IsErr, is_some, unwrap_or, IfOk, OnOk, OnErr, Contains, length, drop, map, position};
 ghost use Rattle.std.specs.Str.{bytes_eq};
-ghost use Rattle.outside_io.specs.Files.{bytes_at, file_named, Takes};
+ghost use Rattle.outside_io.specs.Files.{bytes_at, file_named, file_of, Takes};
 ghost use Rattle.outside_io.specs.Memory.{after_call, after_fault, read_count};
 
 use crate::{NamedBytes, Shelf, ShelfFault};
 use osc_base::Row;
+use std::alloc::{AllocError, Global};
 use std::marker::Model;
 
 /// A shelf in memory, for tests and for callers that have the bytes at hand.
 ///
-/// Its calls are numbered from 0, and a call whose number is among those given fails. A call passes at most so many
-/// bytes as given. Of two files of one name the first counts.
+/// Its calls are numbered from 0, and a call whose number is among those given fails. A call passes at most the given
+/// number of bytes. If two files have one name, the first counts.
 #[derive(Debug, Drop)]
 pub struct MemoryShelf {
     files: Row<NamedBytes>,
@@ -52,7 +53,32 @@ impl MemoryShelf {
         }
     }
 
-    /// Numbers a call, and fails it where its number is among those that fail.
+    /// A shelf of copies of these files, each given by its name and its bytes; `most` and `failing` are as in `new`.
+    pub fn of(
+        alloc: Global,
+        files: &[(&str, &[u8])],
+        most: usize,
+        failing: &[u64],
+    ) -> Result<MemoryShelf, AllocError>
+        requires { 1 ≤ most }
+        ensures { IfOk result (λ shelf. shelf ≡ record {
+          files = map file_of files.now;
+          most = most;
+          failing = failing.now;
+          left = [];
+          calls = 0;
+          faults = 0;
+        }) }
+    {
+        let mut row = Row::new(alloc);
+        for (name, bytes) in files {
+            row.push(NamedBytes::copy(alloc, name, bytes)?)?;
+        }
+        let failing = Row::of(Vec::from_slice(alloc, failing)?);
+        Ok(MemoryShelf::new(row, most, failing))
+    }
+
+    /// Numbers a call, and fails it if its number is among those that fail.
     fn begin(&mut self) -> Result<(), ShelfFault>
         ensures fails { IsErr result ↔ Contains self.old.failing self.old.calls }
         ensures ok { OnOk result (self.new ≡ after_call self.old self.old.left) }

@@ -8,8 +8,8 @@ use std::marker::Model;
 
 /// A sink in memory with a fixed room.
 ///
-/// Its calls are numbered from 0, and a call whose number is among those given fails, as does a write with the room
-/// full. A call takes at most so many bytes as given. It takes memory in `new` alone.
+/// Its calls are numbered from 0, and a call whose number is among those given fails. A write fails too when the room is
+/// full. A call takes at most the given number of bytes. Only `new` allocates.
 #[derive(Debug, Drop)]
 pub struct MemorySink {
     taken: Vec<u8>,

@@ -7,17 +7,17 @@ ghost use Rattle.outside_io.specs.Bytes.{AppendsPart};
 #[derive(Debug, Clone, Copy, PartialEq, Eq)]
 pub struct SinkFault;
 
-/// What bytes are written to.
+/// What takes the bytes that are written.
 ///
-/// Contracts see what was written, where the sink tells that, and its count of faults. The count rises by one at each
+/// Contracts see what was written, if the sink tells that, and its count of faults. The count rises by one at each
 /// fault and at nothing else. It stops at the last value of a `u64`.
 pub trait Sink {
     ghost contents: { Self → Option (List ℕ) };
 
     ghost faults: { Self → ℕ };
 
-    /// Takes the front of `piece`, at least one byte of a piece that isn't empty, and answers how many bytes it took.
-    /// A write that takes none of them is a fault. Before a fault the sink may have taken some front of the piece.
+    /// Takes a prefix of `piece`, at least one byte of a piece that isn't empty, and returns its length. A write that
+    /// takes none of them is a fault. Before a fault the sink may have taken some prefix of the piece.
     fn write(&mut self, piece: &[u8]) -> Result<usize, SinkFault>
         ensures telling_kept { is_some (contents self.new) ≡ is_some (contents self.old) }
 

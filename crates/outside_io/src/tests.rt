@@ -1,32 +1,27 @@
 ghost use Rattle.std.specs.Prelude.{◌≤◌};
 
 use crate::{
-    FileShelf, MemoryShelf, MemorySink, NamedBytes, OutSink, ReadStop, Shelf, ShelfFault, Sink,
-    SinkFault, SinkStop, read_all, write_all,
+    FileShelf, MemoryShelf, MemorySink, OutSink, ReadStop, Shelf, ShelfFault, Sink, SinkFault,
+    SinkStop, read_all, write_all,
 };
-use osc_base::{Row, Text};
+use osc_base::Row;
 use std::alloc::{AllocError, Global};
 use std::fmt::Display;
 use std::io;
 use std::process::Abort;
 use std::test::Fail;
 
-fn file(alloc: Global, name: &str, bytes: &[u8]) -> Result<NamedBytes, AllocError> {
-    Ok(NamedBytes {
-        name: Text::copy(alloc, name)?,
-        bytes: Row::of(Vec::from_slice(alloc, bytes)?),
-    })
-}
-
 fn shelf(alloc: Global, most: usize, failing: &[u64]) -> Result<MemoryShelf, AllocError>
     requires { 1 ≤ most }
 {
-    let mut files = Row::new(alloc);
-    files.push(file(alloc, "a", b"first")?)?;
-    files.push(file(alloc, "empty", b"")?)?;
-    files.push(file(alloc, "a", b"second")?)?;
-    files.push(file(alloc, "long", &[7; 5000])?)?;
-    Ok(MemoryShelf::new(files, most, Row::of(Vec::from_slice(alloc, failing)?)))
+    let long = [7; 5000];
+    let files: [(&str, &[u8]); 4] = [
+        ("a", b"first"),
+        ("empty", b""),
+        ("a", b"second"),
+        ("long", &long),
+    ];
+    MemoryShelf::of(alloc, &files, most, failing)
 }
 
 fn sink(alloc: Global, room: usize, most: usize, failing: &[u64]) -> Result<MemorySink, AllocError>

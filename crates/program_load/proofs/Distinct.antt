@@ -3,7 +3,7 @@ use Rattle.std.proofs.Common.{◌≡◌, ◌∙◌, refl, sym, ap, ℕ, zero, su
 use Rattle.std.proofs.lemmas.Slice.Eq.{bytes_eq-Decides}
 use Rattle.dsl_tree.specs.declared.file.Import.{Import}
 use Rattle.name_scope.specs.declared.names.FileName.{FileName}
-use Rattle.name_scope.specs.Loading.{AddedFile, meant_name, same_name, is_numbered, with_name, with_imports, with_files, numbered_names}
+use Rattle.name_scope.specs.FileNumbers.{AddedFile, meant_name, same_name, is_numbered, with_name, with_imports, with_files, numbered_names}
 
 abbrev pub AreDistinct : List FileName → Type 0
 AreDistinct names = (k l : ℕ) (name : FileName) → slice_get names k ≡ Some name → slice_get names l ≡ Some name → k ≡ l

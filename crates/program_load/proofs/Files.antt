@@ -9,7 +9,7 @@ use Rattle.std.proofs.lemmas.Slice.Eq.{bytes_eq-Decides}
 use Rattle.outside_io.specs.declared.shelf.NamedBytes.{NamedBytes}
 use Rattle.outside_io.specs.Files.{file_named}
 use Rattle.name_scope.specs.declared.names.FileName.{FileName}
-use Rattle.name_scope.specs.Loading.{AddedFile}
+use Rattle.name_scope.specs.FileNumbers.{AddedFile}
 use Rattle.program_load.specs.Loading.{source_of, next_name, IsTaken, AreTakenAfter}
 
 -- ---- More files

@@ -1,13 +1,14 @@
 -- What holds of the files that were taken so far.
 use Rattle.std.proofs.Common.{◌≡◌, ◌∙◌, refl, sym, ap, subst, ℕ, ◌<◌, List, [], ◌∷◌, ◌++◌, length, slice_get, Option, Some, None, IfSome, Ok, Err, arith, length-append}
 use Rattle.outside_io.specs.declared.shelf.NamedBytes.{NamedBytes}
-use Rattle.outside_io.specs.Files.{file_named}
+use Rattle.outside_io.specs.Files.{SomeFiles, file_named}
 use Rattle.name_scope.specs.declared.names.FileName.{FileName}
-use Rattle.name_scope.specs.Loading.{AddedFile, name_text, numbered_names, names_before, wanted_name}
+use Rattle.name_scope.specs.FileNumbers.{AddedFile, name_text, numbered_names, names_before, wanted_name}
 use Rattle.name_scope.proofs.Numbering.{numbered_more, imports_stay}
 use Rattle.program_load.specs.declared.stop.LoadStop.{LoadStop}
-use Rattle.program_load.specs.Loading.{source_of, next_name, IsTaken, AreTaken, IsStopped, StopsAt, Stop}
-use Rattle.program_load.specs.Outcome.{SomeFiles, Allows}
+use Rattle.program_load.specs.declared.stop.Refusal.{Refusal}
+use Rattle.program_load.specs.Loading.{source_of, next_name, IsTaken, AreTaken, IsStopped, StopsAt}
+use Rattle.program_load.specs.Outcome.{Allows}
 use Rattle.program_load.specs.Steps.{IsFound, Takes, Stops}
 use Rattle.program_load.proofs.Distinct.{numbered_distinct}
 use Rattle.program_load.proofs.Files.{called, keeps, all_stay, one_more, last_found, Which, old, last, which_file}
@@ -147,7 +148,7 @@ begun told main before name after t = subst (λ xs. next_name main xs ≡ wanted
 
 -- ---- The answers
 
-stopped : (told : Option (List NamedBytes)) (main : List ℕ) (before : List AddedFile) (name : FileName) (stop : Stop) → Loads told main before → next_name main before ≡ Some name →
+stopped : (told : Option (List NamedBytes)) (main : List ℕ) (before : List AddedFile) (name : FileName) (stop : Refusal) → Loads told main before → next_name main before ≡ Some name →
     (found : Option (List ℕ)) → IsFound told name found → ((files : List NamedBytes) → source_of files name ≡ found → StopsAt files before name stop) → SomeFiles told (λ files. IsStopped files main stop)
 stopped told main before name stop l next found is stops =
     let r = reaches told main before name found l next is in
@@ -155,9 +156,7 @@ stopped told main before name stop l next found is stops =
 
 pub stop_allowed : (told : Option (List NamedBytes)) (main : List ℕ) (before : List AddedFile) (name : FileName) (stop : LoadStop) → Loads told main before → next_name main before ≡ Some name →
     Stops told before name stop → SomeFiles told (λ files. Allows files main (Err stop))
-stop_allowed told main before name LoadStop.Missing l next stops = stopped told main before name Stop.Missing l next stops.0 stops.1 stops.2
-stop_allowed told main before name (LoadStop.Long text) l next stops = stopped told main before name (Stop.Long text) l next stops.0 stops.1 stops.2
-stop_allowed told main before name (LoadStop.Refused file fault) l next stops = stopped told main before name (Stop.Refused file fault) l next stops.0 stops.1 stops.2
+stop_allowed told main before name (LoadStop.At refusal) l next stops = stopped told main before name refusal l next stops.0 stops.1 stops.2
 stop_allowed told main before name (LoadStop.Shelf text) l next stops =
     (l.files, l.all, record { taken = before; are_taken = l.taken; next = next ∙ ap Some stops })
 stop_allowed told main before name LoadStop.Memory l next stops = (l.files, l.all, tt)

@@ -1,5 +1,5 @@
 pub mod Fetching
-pub mod Reading
+pub mod SourceReading
 pub mod Turning
 pub mod Distinct
 pub mod Files

@@ -2,6 +2,7 @@
 use Rattle.std.proofs.Common.{◌≡◌, ◌∙◌, refl, sym, ap, ap₂, subst, ℕ, ◌<◌, ◌≤◌, List, [], ◌∷◌, ◌++◌, length, Option, Some, None, arith, append_assoc}
 use Rattle.std.proofs.lemmas.List.{append-nil}
 use Rattle.osc_base.specs.declared.fault.Place.{Place}
+use Rattle.osc_base.specs.declared.fault.FaultCode.{FaultCode}
 use Rattle.osc_base.specs.declared.fault.Fault.{Fault}
 use Rattle.dsl_tree.specs.declared.token.Token.{Token}
 use Rattle.dsl_tree.specs.declared.file.File.{File}
@@ -11,9 +12,10 @@ use Rattle.dsl_tree.proofs.OneTrees.{one_file_spelled}
 use Rattle.dsl_lexer.proofs.LawProofs as lexer
 use Rattle.outside_io.specs.declared.shelf.NamedBytes.{NamedBytes}
 use Rattle.name_scope.specs.declared.names.FileName.{FileName}
-use Rattle.name_scope.specs.Loading.{AddedFile, name_text, wanted_mention, adding_fault}
-use Rattle.program_load.specs.Reading.{IsRead, IsRefused}
-use Rattle.program_load.specs.Loading.{OneLoad, Stop, IsTaken, AreTakenAfter, StopsAt, no_main, no_file, too_long, unread, bad_import, IsLoaded, IsStopped, next_name, name_at, source_of, source_limit}
+use Rattle.name_scope.specs.FileNumbers.{AddedFile, name_text, wanted_mention, adding_fault}
+use Rattle.program_load.specs.SourceReading.{IsRead, IsRefused}
+use Rattle.program_load.specs.declared.stop.Refusal.{Refusal}
+use Rattle.program_load.specs.Loading.{OneLoad, IsTaken, AreTakenAfter, StopsAt, no_main, no_file, too_long, unread, bad_import, IsLoaded, IsStopped, next_name, name_at, source_of, source_limit}
 use Rattle.program_load.proofs.Sources.{same_fault, never_both}
 
 some_none : {A : Type 0} (x : A) (o : Option A) → o ≡ Some x → o ≡ None → ⊥
@@ -52,16 +54,16 @@ data Faulty (before : List AddedFile) (name : FileName) (source : List ℕ) (fau
   no_tree : IsRefused (length before) source fault → Faulty before name source fault
   no_import : (added : AddedFile) → IsOf (length before) source name added → adding_fault before added ≡ Some fault → Faulty before name source fault
 
-data Cause (files : List NamedBytes) (before : List AddedFile) (name : FileName) (stop : Stop) : Type 0 where
-  absent : source_of files name ≡ None → wanted_mention before ≡ None → stop ≡ Stop.Missing → Cause files before name stop
+data Cause (files : List NamedBytes) (before : List AddedFile) (name : FileName) (stop : Refusal) : Type 0 where
+  absent : source_of files name ≡ None → wanted_mention before ≡ None → stop ≡ Refusal.Missing → Cause files before name stop
   unbrought : (place : Place) → source_of files name ≡ None → wanted_mention before ≡ Some place →
-      stop ≡ Stop.Refused (name_at before place.file) (record { place = place; code = 301 }) → Cause files before name stop
-  beyond : (source : List ℕ) → source_of files name ≡ Some source → source_limit < length source → stop ≡ Stop.Long (name_text name) → Cause files before name stop
+      stop ≡ Refusal.Faulty (name_at before place.file) (record { place = place; code = FaultCode.MissingImport }) → Cause files before name stop
+  beyond : (source : List ℕ) → source_of files name ≡ Some source → source_limit < length source → stop ≡ Refusal.Long (name_text name) → Cause files before name stop
   faulty : (source : List ℕ) (fault : Fault) → source_of files name ≡ Some source → length source ≤ source_limit → Faulty before name source fault →
-      stop ≡ Stop.Refused (name_text name) fault → Cause files before name stop
+      stop ≡ Refusal.Faulty (name_text name) fault → Cause files before name stop
 
 module _ (files : List NamedBytes) (before : List AddedFile) (name : FileName) where
-  cause : (stop : Stop) → StopsAt files before name stop → Cause files before name stop
+  cause : (stop : Refusal) → StopsAt files before name stop → Cause files before name stop
   cause stop (no_main first none is) = absent none (ap wanted_mention first) is
   cause stop (no_file place none mention is) = unbrought place none mention is
   cause stop (too_long source there more is) = beyond source there more is
@@ -79,14 +81,14 @@ module _ (files : List NamedBytes) (before : List AddedFile) (name : FileName) w
   one_fault source source' fault fault' same (no_import added of adding) (no_import added' of' adding') =
       some_some fault fault' (adding_fault before added) adding (ap (adding_fault before) (same_added (length before) source source' name added added' same of of') ∙ adding')
 
-  one_cause : (stop other : Stop) → Cause files before name stop → Cause files before name other → stop ≡ other
+  one_cause : (stop other : Refusal) → Cause files before name stop → Cause files before name other → stop ≡ other
   one_cause stop other (absent none mention is) (absent none' mention' is') = is ∙ sym is'
   one_cause stop other (absent none mention is) (unbrought place none' mention' is') = absurd (some_none place (wanted_mention before) mention' mention)
   one_cause stop other (absent none mention is) (beyond source there more is') = absurd (some_none source (source_of files name) there none)
   one_cause stop other (absent none mention is) (faulty source fault there within because is') = absurd (some_none source (source_of files name) there none)
   one_cause stop other (unbrought place none mention is) (absent none' mention' is') = absurd (some_none place (wanted_mention before) mention mention')
   one_cause stop other (unbrought place none mention is) (unbrought place' none' mention' is') =
-      is ∙ ap (λ (p : Place). Stop.Refused (name_at before p.file) (record { place = p; code = 301 })) (some_some place place' (wanted_mention before) mention mention') ∙ sym is'
+      is ∙ ap (λ (p : Place). Refusal.Faulty (name_at before p.file) (record { place = p; code = FaultCode.MissingImport })) (some_some place place' (wanted_mention before) mention mention') ∙ sym is'
   one_cause stop other (unbrought place none mention is) (beyond source there more is') = absurd (some_none source (source_of files name) there none)
   one_cause stop other (unbrought place none mention is) (faulty source fault there within because is') = absurd (some_none source (source_of files name) there none)
   one_cause stop other (beyond source there more is) (absent none mention is') = absurd (some_none source (source_of files name) there none)
@@ -99,9 +101,9 @@ module _ (files : List NamedBytes) (before : List AddedFile) (name : FileName) w
   one_cause stop other (faulty source fault there within because is) (beyond source' there' more is') =
       absurd (not_within source' source (some_some source' source (source_of files name) there' there) more within)
   one_cause stop other (faulty source fault there within because is) (faulty source' fault' there' within' because' is') =
-      is ∙ ap (Stop.Refused (name_text name)) (one_fault source source' fault fault' (some_some source source' (source_of files name) there there') because because') ∙ sym is'
+      is ∙ ap (Refusal.Faulty (name_text name)) (one_fault source source' fault fault' (some_some source source' (source_of files name) there there') because because') ∙ sym is'
 
-  one_stop : (stop other : Stop) → StopsAt files before name stop → StopsAt files before name other → stop ≡ other
+  one_stop : (stop other : Refusal) → StopsAt files before name stop → StopsAt files before name other → stop ≡ other
   one_stop stop other one two = one_cause stop other (cause stop one) (cause other two)
 
   taken_of : (added : AddedFile) (t : IsTaken files before name added) → IsOf (length before) t.source name added
@@ -117,7 +119,7 @@ module _ (files : List NamedBytes) (before : List AddedFile) (name : FileName) w
   sound source fault added t same (no_import added' of adding) =
       some_none fault (adding_fault before added') adding (ap (adding_fault before) (same_added (length before) source t.source name added' added same of (taken_of added t)) ∙ t.imports)
 
-  not_caused : (added : AddedFile) (stop : Stop) → IsTaken files before name added → Cause files before name stop → ⊥
+  not_caused : (added : AddedFile) (stop : Refusal) → IsTaken files before name added → Cause files before name stop → ⊥
   not_caused added stop t (absent none mention is) = some_none t.source (source_of files name) t.there none
   not_caused added stop t (unbrought place none mention is) = some_none t.source (source_of files name) t.there none
   not_caused added stop t (beyond source there more is) =
@@ -125,7 +127,7 @@ module _ (files : List NamedBytes) (before : List AddedFile) (name : FileName) w
   not_caused added stop t (faulty source fault there within because is) =
       sound source fault added t (some_some source t.source (source_of files name) there t.there) because
 
-  not_both : (added : AddedFile) (stop : Stop) → IsTaken files before name added → StopsAt files before name stop → ⊥
+  not_both : (added : AddedFile) (stop : Refusal) → IsTaken files before name added → StopsAt files before name stop → ⊥
   not_both added stop t stops = not_caused added stop t (cause stop stops)
 
 -- ---- Two rows of files that are taken
@@ -165,7 +167,7 @@ module _ (files : List NamedBytes) (main : List ℕ) where
   whole : (program : List AddedFile) → IsLoaded files main program → HasNext files main program → ⊥
   whole program l h = some_none h.name (next_name main program) h.next l.whole
 
-  stopped : (stop : Stop) (s : IsStopped files main stop) → HasNext files main s.taken → ⊥
+  stopped : (stop : Refusal) (s : IsStopped files main stop) → HasNext files main s.taken → ⊥
   stopped stop s h =
       not_both files s.taken s.name h.added stop
       (subst (λ n. IsTaken files s.taken n h.added) (some_some h.name s.name (next_name main s.taken) h.next s.next) h.is_taken) s.stops
@@ -178,13 +180,13 @@ module _ (files : List NamedBytes) (main : List ℕ) where
       by (first_goes_on h) = absurd (whole other m h)
       by (second_goes_on h) = absurd (whole program l h)
 
-  same_stop : (stop other : Stop) (s : IsStopped files main stop) (t : IsStopped files main other) → s.taken ≡ t.taken → stop ≡ other
+  same_stop : (stop other : Refusal) (s : IsStopped files main stop) (t : IsStopped files main other) → s.taken ≡ t.taken → stop ≡ other
   same_stop stop other s t taken =
       let next = subst (λ xs. next_name main xs ≡ Some t.name) (sym taken) t.next in
       let name : t.name ≡ s.name = some_some t.name s.name (next_name main s.taken) next s.next in
       one_stop files s.taken s.name stop other s.stops (subst (λ n. StopsAt files s.taken n other) name (subst (λ xs. StopsAt files xs t.name other) (sym taken) t.stops))
 
-  one_end : (stop other : Stop) → IsStopped files main stop → IsStopped files main other → stop ≡ other
+  one_end : (stop other : Refusal) → IsStopped files main stop → IsStopped files main other → stop ≡ other
   one_end stop other s t = by (compared files main [] s.taken t.taken s.are_taken t.are_taken)
     where
       by : Compared files main s.taken t.taken → stop ≡ other
@@ -192,7 +194,7 @@ module _ (files : List NamedBytes) (main : List ℕ) where
       by (first_goes_on h) = absurd (stopped other t h)
       by (second_goes_on h) = absurd (stopped stop s h)
 
-  never_two : (program : List AddedFile) (stop : Stop) → IsLoaded files main program → IsStopped files main stop → ⊥
+  never_two : (program : List AddedFile) (stop : Refusal) → IsLoaded files main program → IsStopped files main stop → ⊥
   never_two program stop l s = by (compared files main [] program s.taken l.taken s.are_taken)
     where
       by : Compared files main program s.taken → ⊥

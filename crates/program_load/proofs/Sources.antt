@@ -7,7 +7,7 @@ use Rattle.dsl_tree.specs.Language.{Spelled, FirstFault}
 use Rattle.dsl_tree.proofs.OneTrees.{no_tree_at_fault}
 use Rattle.dsl_tree.proofs.Ends.{one_first_fault}
 use Rattle.dsl_lexer.proofs.LawProofs as lexer
-use Rattle.program_load.specs.Reading.{IsRead, IsRefused, lexical, syntactic}
+use Rattle.program_load.specs.SourceReading.{IsRead, IsRefused, lexical, syntactic}
 
 module _ (number : ℕ) (source : List ℕ) where
   pub same_fault : (fault fault' : Fault) → IsRefused number source fault → IsRefused number source fault' → fault ≡ fault'

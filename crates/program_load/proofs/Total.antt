@@ -4,6 +4,7 @@ use Rattle.std.specs.Option.{is_some, option_or}
 use Rattle.std.proofs.lemmas.Bool.{ltb-true}
 use Rattle.std.proofs.lemmas.Bool.Decides.{leb_tells}
 use Rattle.osc_base.specs.declared.fault.Place.{Place}
+use Rattle.osc_base.specs.declared.fault.FaultCode.{FaultCode}
 use Rattle.osc_base.specs.declared.fault.Fault.{Fault}
 use Rattle.dsl_tree.specs.declared.token.Token.{Token}
 use Rattle.dsl_tree.specs.declared.file.Import.{Import}
@@ -12,18 +13,19 @@ use Rattle.dsl_tree.specs.Views.{file_tree}
 use Rattle.dsl_tree.proofs.Ends.{tree_or_first_fault}
 use Rattle.dsl_tree.proofs.TreeFiles.{value_of_tree}
 use Rattle.dsl_tree.specs.Language.{Spelled}
-use Rattle.dsl_lexer.specs.Language.{TokensCut}
+use Rattle.dsl_lexer.specs.SourceTokens.{TokensCut}
 use Rattle.dsl_lexer.proofs.LawProofs as lexer
 use Rattle.dsl_lexer.proofs.Total.{cut_or_first_fault}
 use Rattle.outside_io.specs.declared.shelf.NamedBytes.{NamedBytes}
 use Rattle.name_scope.specs.declared.names.FileName.{FileName}
-use Rattle.name_scope.specs.Loading.{AddedFile, name_text, meant_name, import_place, is_numbered, with_name, with_imports, numbered_names, names_before, fault_at, import_fault, first_import_fault, adding_fault, wanted_mention}
+use Rattle.name_scope.specs.FileNumbers.{AddedFile, name_text, meant_name, import_place, is_numbered, with_name, with_imports, numbered_names, names_before, fault_at, import_fault, first_import_fault, adding_fault, wanted_mention}
 use Rattle.name_scope.proofs.Numbering.{below, numbered_more}
 use Rattle.name_scope.proofs.Mentions.{there, wanted_mentioned}
-use Rattle.program_load.specs.Reading.{IsRead, lexical, syntactic}
-use Rattle.program_load.specs.Loading.{SomeLoad, Stop, IsTaken, AreTaken, StopsAt, no_main, no_file, too_long, unread, bad_import, IsLoaded, IsStopped, next_name, name_at, source_of, source_limit}
+use Rattle.program_load.specs.SourceReading.{IsRead, lexical, syntactic}
+use Rattle.program_load.specs.declared.stop.Refusal.{Refusal}
+use Rattle.program_load.specs.Loading.{SomeLoad, IsTaken, AreTaken, StopsAt, no_main, no_file, too_long, unread, bad_import, IsLoaded, IsStopped, next_name, name_at, source_of, source_limit}
 use Rattle.program_load.proofs.Files.{one_more}
-use Rattle.program_load.proofs.Reading.{ended}
+use Rattle.program_load.proofs.SourceReading.{ended}
 
 -- ---- At most 64 names
 
@@ -49,7 +51,7 @@ few_name : (names : List FileName) (at : Option Place) (name : Option FileName) 
 few_name names at None placed few h = few
 few_name names None (Some name) placed few h = absurd (true≢false (sym (placed name refl)))
 few_name names (Some place) (Some name) placed few h =
-    few_by names name (record { place = place; code = 302 }) (is_numbered name names) (nat_lt (length names) 64) refl few h
+    few_by names name (record { place = place; code = FaultCode.TooManyFiles }) (is_numbered name names) (nat_lt (length names) 64) refl few h
 
 few_imports : (names : List FileName) (imports : List Import) → length names ≤ 64 → first_import_fault names imports ≡ None → length (with_imports names imports) ≤ 64
 few_imports names [] few h = few
@@ -75,13 +77,13 @@ room main (first ∷ others) name next few = let less = below (numbered_names (f
 -- ---- One turn
 
 module _ (files : List NamedBytes) (before : List AddedFile) (name : FileName)
-    (no_taken : (added : AddedFile) → IsTaken files before name added → ⊥) (no_stop : (stop : Stop) → StopsAt files before name stop → ⊥) where
+    (no_taken : (added : AddedFile) → IsTaken files before name added → ⊥) (no_stop : (stop : Refusal) → StopsAt files before name stop → ⊥) where
   some_added : (source : List ℕ) (tokens : List Token) (added : AddedFile) (o : Option Fault) → source_of files name ≡ Some source → length source ≤ source_limit →
       IsRead (length before) source tokens (file_tree added.file) → added.name ≡ name_text name → adding_fault before added ≡ o → ⊥
   some_added source tokens added None is within read called sound =
       no_taken added (record { source = source; there = is; within = within; tokens = tokens; read = read; called = called; imports = sound })
   some_added source tokens added (Some fault) is within read called sound =
-      no_stop (Stop.Refused (name_text name) fault) (bad_import source tokens added fault is within read called sound refl)
+      no_stop (Refusal.Faulty (name_text name) fault) (bad_import source tokens added fault is within read called sound refl)
 
   some_tree : (source : List ℕ) (tokens : List Token) (tree : FileTree) → source_of files name ≡ Some source → length source ≤ source_limit →
       TokensCut (length before) source tokens → Spelled tree tokens → ⊥
@@ -95,22 +97,22 @@ module _ (files : List NamedBytes) (before : List AddedFile) (name : FileName)
   some_cut source tokens is within cut =
       tree_or_first_fault tokens (ended tokens (lexer.end_is_last (length before) source tokens cut))
       (λ tree spelled. some_tree source tokens tree is within cut spelled)
-      (λ fault first. no_stop (Stop.Refused (name_text name) fault) (unread source fault is within (syntactic tokens cut first) refl))
+      (λ fault first. no_stop (Refusal.Faulty (name_text name) fault) (unread source fault is within (syntactic tokens cut first) refl))
 
   some_source : (source : List ℕ) → source_of files name ≡ Some source → ⊥
   some_source source is =
       elim (leb_tells (length source) source_limit) [
         | inl within ↦ elim (cut_or_first_fault (length before) source) [
           | inl tokens ↦ some_cut source tokens.0 is within.1 tokens.1
-          | inr first ↦ no_stop (Stop.Refused (name_text name) first.0) (unread source first.0 is within.1 (lexical first.1) refl)
+          | inr first ↦ no_stop (Refusal.Faulty (name_text name) first.0) (unread source first.0 is within.1 (lexical first.1) refl)
         ]
-        | inr beyond ↦ no_stop (Stop.Long (name_text name)) (too_long source is beyond.1 refl)
+        | inr beyond ↦ no_stop (Refusal.Long (name_text name)) (too_long source is beyond.1 refl)
       ]
 
   no_source : (main : List ℕ) (place : Option Place) → next_name main before ≡ Some name → wanted_mention before ≡ place → source_of files name ≡ None → ⊥
   no_source main (Some place) next mention is =
-      no_stop (Stop.Refused (name_at before place.file) (record { place = place; code = 301 })) (no_file place is mention refl)
-  no_source main None next mention is = no_stop Stop.Missing (no_main (unmentioned main before name next mention) is refl)
+      no_stop (Refusal.Faulty (name_at before place.file) (record { place = place; code = FaultCode.MissingImport })) (no_file place is mention refl)
+  no_source main None next mention is = no_stop Refusal.Missing (no_main (unmentioned main before name next mention) is refl)
     where
       unmentioned : (main : List ℕ) (before : List AddedFile) (name : FileName) → next_name main before ≡ Some name → wanted_mention before ≡ None → before ≡ []
       unmentioned main [] name next mention = refl
@@ -124,7 +126,7 @@ module _ (files : List NamedBytes) (before : List AddedFile) (name : FileName)
 -- ---- One turn after another
 
 module _ (files : List NamedBytes) (main : List ℕ) (no_program : (program : List AddedFile) → IsLoaded files main program → ⊥)
-    (no_stop : (stop : Stop) → IsStopped files main stop → ⊥) where
+    (no_stop : (stop : Refusal) → IsStopped files main stop → ⊥) where
   turns : (left : ℕ) (taken : List AddedFile) (next : Option FileName) → next_name main taken ≡ next → 64 ≤ length taken + left → length (numbered_names taken) ≤ 64 →
       AreTaken files main taken → ⊥
   turns left taken None is enough few t = no_program taken (record { taken = t; whole = is })

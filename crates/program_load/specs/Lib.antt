@@ -1,4 +1,4 @@
 pub mod Loading
 pub mod Outcome
-pub mod Reading
+pub mod SourceReading
 pub mod Steps

@@ -2,15 +2,17 @@
 -- first that stops the load.
 use Rattle.std.specs.Prelude.{◌≡◌, ◌≤◌, ◌<◌, ℕ, List, [], ◌∷◌, ◌++◌, Option, Some, None, length, slice_get, option_map, unwrap_or}
 use Rattle.osc_base.specs.declared.fault.Place.{Place}
+use Rattle.osc_base.specs.declared.fault.FaultCode.{FaultCode}
 use Rattle.osc_base.specs.declared.fault.Fault.{Fault}
 use Rattle.dsl_tree.specs.declared.token.Token.{Token}
 use Rattle.dsl_tree.specs.Views.{file_tree}
 use Rattle.outside_io.specs.declared.shelf.NamedBytes.{NamedBytes}
 use Rattle.outside_io.specs.Files.{file_named}
 use Rattle.name_scope.specs.declared.names.FileName.{FileName}
-use Rattle.name_scope.specs.Loading.{AddedFile, name_text, wanted_name, wanted_mention, adding_fault}
+use Rattle.name_scope.specs.FileNumbers.{AddedFile, name_text, wanted_name, wanted_mention, adding_fault}
 use Rattle.name_scope.specs.Library.{library_source}
-use Rattle.program_load.specs.Reading.{IsRead, IsRefused}
+use Rattle.program_load.specs.declared.stop.Refusal.{Refusal}
+use Rattle.program_load.specs.SourceReading.{IsRead, IsRefused}
 
 -- the longest source
 abbrev pub source_limit : ℕ
@@ -54,35 +56,29 @@ pub record IsLoaded (files : List NamedBytes) (main : List ℕ) (program : List 
 
 -- ---- Stops
 
--- why no program is loaded: the main file isn't there; a file is too long; or a file is refused for a fault
-pub data Stop : Type 0 where
-  Missing : Stop
-  Long : (name : List ℕ) → Stop
-  Refused : (file : List ℕ) (fault : Fault) → Stop
-
 -- the name of the file of that number
 abbrev pub name_at : List AddedFile → ℕ → List ℕ
 name_at taken number = unwrap_or (option_map (λ (added : AddedFile). added.name) (slice_get taken number)) []
 
 -- the load stops at the file of this name, behind those that were taken
-pub data StopsAt (files : List NamedBytes) (taken : List AddedFile) (name : FileName) (stop : Stop) : Type 0 where
+pub data StopsAt (files : List NamedBytes) (taken : List AddedFile) (name : FileName) (stop : Refusal) : Type 0 where
   -- the main file isn't there
-  no_main : taken ≡ [] → source_of files name ≡ None → stop ≡ Missing → StopsAt files taken name stop
-  -- another file isn't there: 301 at the import that mentions it first
+  no_main : taken ≡ [] → source_of files name ≡ None → stop ≡ Refusal.Missing → StopsAt files taken name stop
+  -- another file isn't there: `MissingImport` at the import that mentions it first
   no_file : (place : Place) → source_of files name ≡ None → wanted_mention taken ≡ Some place →
-      stop ≡ Refused (name_at taken place.file) (record { place = place; code = 301 }) → StopsAt files taken name stop
-  too_long : (source : List ℕ) → source_of files name ≡ Some source → source_limit < length source → stop ≡ Long (name_text name) →
+      stop ≡ Refusal.Faulty (name_at taken place.file) (record { place = place; code = FaultCode.MissingImport }) → StopsAt files taken name stop
+  too_long : (source : List ℕ) → source_of files name ≡ Some source → source_limit < length source → stop ≡ Refusal.Long (name_text name) →
       StopsAt files taken name stop
   -- the first fault of its bytes, else of its tokens
   unread : (source : List ℕ) (fault : Fault) → source_of files name ≡ Some source → length source ≤ source_limit →
-      IsRefused (length taken) source fault → stop ≡ Refused (name_text name) fault → StopsAt files taken name stop
+      IsRefused (length taken) source fault → stop ≡ Refusal.Faulty (name_text name) fault → StopsAt files taken name stop
   -- the first import that asks for no file, or for one too many
   bad_import : (source : List ℕ) (tokens : List Token) (added : AddedFile) (fault : Fault) → source_of files name ≡ Some source →
       length source ≤ source_limit → IsRead (length taken) source tokens (file_tree added.file) → added.name ≡ name_text name →
-      adding_fault taken added ≡ Some fault → stop ≡ Refused (name_text name) fault → StopsAt files taken name stop
+      adding_fault taken added ≡ Some fault → stop ≡ Refusal.Faulty (name_text name) fault → StopsAt files taken name stop
 
 -- no program is loaded, for this cause
-pub record IsStopped (files : List NamedBytes) (main : List ℕ) (stop : Stop) : Type 0 where
+pub record IsStopped (files : List NamedBytes) (main : List ℕ) (stop : Refusal) : Type 0 where
   pub taken : List AddedFile
   pub are_taken : AreTaken files main taken
   pub name : FileName
@@ -101,10 +97,10 @@ pub record IsTurn (files : List NamedBytes) (main name : List ℕ) : Type 0 wher
 abbrev pub OneLoad : Type 0
 OneLoad = (files : List NamedBytes) (main : List ℕ) →
     ((program other : List AddedFile) → IsLoaded files main program → IsLoaded files main other → program ≡ other)
-    × ((stop other : Stop) → IsStopped files main stop → IsStopped files main other → stop ≡ other)
-    × ((program : List AddedFile) (stop : Stop) → IsLoaded files main program → IsStopped files main stop → ⊥)
+    × ((stop other : Refusal) → IsStopped files main stop → IsStopped files main other → stop ≡ other)
+    × ((program : List AddedFile) (stop : Refusal) → IsLoaded files main program → IsStopped files main stop → ⊥)
 
 -- and they allow one of both: it can't be that they allow none
 abbrev pub SomeLoad : Type 0
 SomeLoad = (files : List NamedBytes) (main : List ℕ) →
-    ((program : List AddedFile) → IsLoaded files main program → ⊥) → ((stop : Stop) → IsStopped files main stop → ⊥) → ⊥
+    ((program : List AddedFile) → IsLoaded files main program → ⊥) → ((stop : Refusal) → IsStopped files main stop → ⊥) → ⊥

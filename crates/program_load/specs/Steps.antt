@@ -1,6 +1,7 @@
 -- The steps of a load, of a shelf that may tell its files or not.
 use Rattle.std.specs.Prelude.{◌≡◌, ◌≤◌, ◌<◌, ℕ, List, [], ◌∷◌, ◌++◌, Option, Some, None, IfSome, Result, Err, length}
 use Rattle.osc_base.specs.declared.fault.Place.{Place}
+use Rattle.osc_base.specs.declared.fault.FaultCode.{FaultCode}
 use Rattle.osc_base.specs.declared.fault.Fault.{Fault}
 use Rattle.dsl_tree.specs.declared.token.Token.{Token}
 use Rattle.dsl_tree.specs.declared.file.File.{File}
@@ -9,12 +10,13 @@ use Rattle.outside_io.specs.declared.shelf.NamedBytes.{NamedBytes}
 use Rattle.outside_io.specs.Files.{file_named}
 use Rattle.outside_io.specs.Counts.{Rises}
 use Rattle.name_scope.specs.declared.names.FileName.{FileName}
-use Rattle.name_scope.specs.Loading.{AddedFile, adding_fault}
+use Rattle.name_scope.specs.FileNumbers.{AddedFile, adding_fault}
 use Rattle.name_scope.specs.Library.{library_source}
 use Rattle.program_load.specs.declared.source.FileStop.{FileStop}
 use Rattle.program_load.specs.declared.stop.LoadStop.{LoadStop}
-use Rattle.program_load.specs.Reading.{IsRead, IsRefused}
-use Rattle.program_load.specs.Loading.{Stop, IsTaken, StopsAt, source_of, source_limit, name_at}
+use Rattle.program_load.specs.SourceReading.{IsRead, IsRefused}
+use Rattle.program_load.specs.declared.stop.Refusal.{Refusal}
+use Rattle.program_load.specs.Loading.{IsTaken, StopsAt, source_of, source_limit, name_at}
 
 -- what is found of a name: of the shelf's names it is what the files have that the shelf tells
 abbrev pub IsFound : Option (List NamedBytes) → FileName → Option (List ℕ) → Type 0
@@ -97,19 +99,17 @@ pub record Takes (told : Option (List NamedBytes)) (before : List AddedFile) (na
 
 -- the load stops at the file of this name
 abbrev pub Stops : Option (List NamedBytes) → List AddedFile → FileName → LoadStop → Type 0
-Stops told before name LoadStop.Missing = Given told name (λ files. StopsAt files before name Stop.Missing)
-Stops told before name (LoadStop.Long text) = Given told name (λ files. StopsAt files before name (Stop.Long text))
-Stops told before name (LoadStop.Refused file fault) = Given told name (λ files. StopsAt files before name (Stop.Refused file fault))
+Stops told before name (LoadStop.At refusal) = Given told name (λ files. StopsAt files before name refusal)
 Stops told before name (LoadStop.Shelf text) = name ≡ FileName.Named text
 Stops told before name LoadStop.Memory = Unit {0}
 
 -- why a file isn't added to those before it
 abbrev pub IsUnadded : List AddedFile → AddedFile → LoadStop → Type 0
-IsUnadded before added (LoadStop.Refused file fault) = (file ≡ added.name) × (adding_fault before added ≡ Some fault)
+IsUnadded before added (LoadStop.At (Refusal.Faulty file fault)) = (file ≡ added.name) × (adding_fault before added ≡ Some fault)
 IsUnadded before added LoadStop.Memory = Unit {0}
 IsUnadded before added _ = ⊥
 
--- why the load stops where the file whose turn it is isn't there
-abbrev pub missing_stop : List AddedFile → Option Place → LoadStop
-missing_stop taken None = LoadStop.Missing
-missing_stop taken (Some place) = LoadStop.Refused (name_at taken place.file) (record { place = place; code = 301 })
+-- why no program is loaded when the file whose turn it is isn't there
+abbrev pub missing_refusal : List AddedFile → Option Place → Refusal
+missing_refusal taken None = Refusal.Missing
+missing_refusal taken (Some place) = Refusal.Faulty (name_at taken place.file) (record { place = place; code = FaultCode.MissingImport })

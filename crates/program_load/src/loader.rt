@@ -1,6 +1,7 @@
 ghost use Rattle.std.specs.Prelude.{◌≡◌, ◌<◌, length, IfOk, IfSome};
-ghost use Rattle.name_scope.specs.Loading.{wanted_name};
-ghost use Rattle.program_load.specs.Outcome.{SomeFiles, Allows, Counts};
+ghost use Rattle.name_scope.specs.FileNumbers.{wanted_name};
+ghost use Rattle.outside_io.specs.Files.{SomeFiles};
+ghost use Rattle.program_load.specs.Outcome.{Allows, Counts};
 
 use crate::stop::LoadStop;
 use crate::turn::take_file;
@@ -23,7 +24,7 @@ fn next_name(alloc: Global, program: &Program) -> Result<Option<FileName>, Alloc
 ///
 /// Each file is fetched once, so imports may go in a circle; the library isn't fetched. The load stops at the first file that
 /// isn't there, is too long, or has a fault: of its bytes, else of its tokens, else of its imports. `Missing` speaks of the
-/// main file; where another isn't there the fault 301 stands at the import that asks for it first.
+/// main file; when another isn't there the fault `MissingImport` stands at the import that asks for it first.
 pub fn load<H: Shelf>(alloc: Global, shelf: &mut H, main: &str) -> Result<Program, LoadStop>
     ensures answer { SomeFiles (H.files shelf.old) (λ files. Allows files main.now result) }
     ensures counts { Counts result (H.faults shelf.old) (H.faults shelf.new) }

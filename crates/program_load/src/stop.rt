@@ -1,18 +1,25 @@
 use osc_base::{Fault, Text};
 use std::alloc::AllocError;
 
-/// Why no program was loaded.
+/// Why files hold no program.
 #[derive(Drop)]
-pub enum LoadStop {
+pub enum Refusal {
     /// The main file isn't there.
     Missing,
     /// The file of this name has more than 1,048,576 bytes.
     Long(Text),
     /// A file has a fault; `file` is the name by which the file of the fault's place was fetched.
-    Refused { file: Text, fault: Fault },
-    /// The shelf failed where it was the turn of the file of this name.
+    Faulty { file: Text, fault: Fault },
+}
+
+/// Why no program was loaded.
+#[derive(Drop)]
+pub enum LoadStop {
+    /// The files hold no program.
+    At(Refusal),
+    /// The shelf failed when it was the turn of the file of this name.
     Shelf(Text),
-    /// Memory was missing.
+    /// Out of memory.
     Memory,
 }
 

@@ -1,31 +1,20 @@
-use crate::{LoadStop, load};
+use crate::{LoadStop, Refusal, load};
 use name_scope::Program;
-use osc_base::{Row, Text};
+use osc_base::Row;
 use outside_io::{MemoryShelf, NamedBytes};
 use std::alloc::{AllocError, Global};
+use std::process::Abort;
 use std::test::Fail;
 
 const LIMIT: usize = 1_048_576;
 
-fn file(alloc: Global, name: &str, source: &[u8]) -> Result<NamedBytes, AllocError> {
-    Ok(NamedBytes {
-        name: Text::copy(alloc, name)?,
-        bytes: Row::of(Vec::from_slice(alloc, source)?),
-    })
-}
-
 /// A shelf of these files, whose calls of these numbers fail.
 fn shelf(
     alloc: Global,
-    files: &[(&str, &str)],
+    files: &[(&str, &[u8])],
     failing: &[u64],
 ) -> Result<MemoryShelf, AllocError> {
-    let mut row = Row::new(alloc);
-    for (name, source) in files {
-        row.push(file(alloc, name, source.as_bytes())?)?;
-    }
-    let failing = Row::of(Vec::from_slice(alloc, failing)?);
-    Ok(MemoryShelf::new(row, 4096, failing))
+    MemoryShelf::of(alloc, files, 4096, failing)
 }
 
 /// The names of the files of a program.
@@ -42,11 +31,11 @@ fn names(alloc: Global, program: &Program) -> Result<String, AllocError> {
 fn answer(alloc: Global, mut shelf: MemoryShelf) -> Result<String, AllocError> {
     match load(alloc, &mut shelf, "main.osc") {
         Ok(program) => names(alloc, &program),
-        Err(LoadStop::Missing) => String::from_str(alloc, "missing"),
-        Err(LoadStop::Long(name)) => format!(in alloc; "long {}", name.as_str()),
-        Err(LoadStop::Refused { file, fault }) => format!(in alloc;
+        Err(LoadStop::At(Refusal::Missing)) => String::from_str(alloc, "missing"),
+        Err(LoadStop::At(Refusal::Long(name))) => format!(in alloc; "long {}", name.as_str()),
+        Err(LoadStop::At(Refusal::Faulty { file, fault })) => format!(in alloc;
             "fault {} {}:{}:{}",
-            fault.code,
+            fault.code.number(),
             file.as_str(),
             fault.place.line,
             fault.place.column
@@ -56,84 +45,108 @@ fn answer(alloc: Global, mut shelf: MemoryShelf) -> Result<String, AllocError> {
     }
 }
 
-#[test]
-fn programs_of_a_few_files(rt: HostRuntime) -> Result<(), Fail> {
+/// Files, and what the load of them answers.
+type Answer<'a> = (&'a [(&'a str, &'a [u8])], &'a str);
+
+fn answers_are(rt: &(impl Abort + AllocGlobal), rows: &[Answer<'_>]) -> Result<(), Fail> {
     let alloc = rt.alloc();
-    let rows: [(&[(&str, &str)], &str); 14] = [
-        (&[], "missing"),
-        (&[("main.osc", "import \"main.osc\"\n")], "loads main.osc"),
-        (
-            &[("b", ""), ("main.osc", "import \"b\"\n")],
-            "loads main.osc b",
-        ),
-        (
-            &[("a'b", ""), ("main.osc", "import \"a\\'b\"\n")],
-            "loads main.osc a'b",
-        ),
-        (
-            &[
-                ("main.osc", "import \"./main.osc\"\n"),
-                ("./main.osc", "import \"./main.osc\"\n"),
-            ],
-            "loads main.osc ./main.osc",
-        ),
-        (
-            &[
-                ("main.osc", "import \"a\"\nimport \"b\"\n"),
-                ("a", "import \"c\"\nimport \"b\"\n"),
-                ("b", "import \"main.osc\"\n"),
-                ("c", "import osc.standard\n"),
-            ],
-            "loads main.osc a b c osc",
-        ),
-        (
-            &[("main.osc", "import \"osc\"\n")],
-            "fault 301 main.osc:1:8",
-        ),
-        (
-            &[("main.osc", "import  lib.osc\n")],
-            "fault 301 main.osc:1:9",
-        ),
-        (
-            &[
-                ("main.osc", "import \"a\"\nimport \"c\"\n"),
-                ("a", "import \"c\"\n"),
-            ],
-            "fault 301 main.osc:2:8",
-        ),
-        (
-            &[("main.osc", "import \"a\"\n"), ("a", "# a\nimport \"c\"\n")],
-            "fault 301 a:2:8",
-        ),
-        (
-            &[("main.osc", "import \"b\"\nimport \"c\"\n"), ("c", "$")],
-            "fault 301 main.osc:1:8",
-        ),
-        (
-            &[("main.osc", "import \"b\"\nimport \"c\"\n"), ("b", "$")],
-            "fault 104 b:1:1",
-        ),
-        (
-            &[("main.osc", "import \"b\"\nscenario top\n$")],
-            "fault 104 main.osc:3:1",
-        ),
-        (
-            &[("main.osc", "import \"b\"\nimport\n")],
-            "fault 201 main.osc:2:7",
-        ),
-    ];
     for (files, want) in rows {
-        assert_eq!(rt; answer(alloc, shelf(alloc, files, &[])?)?.as_str(), want);
+        assert_eq!(rt; answer(alloc, shelf(alloc, files, &[])?)?.as_str(), *want);
     }
     Ok(())
 }
 
 #[test]
+fn programs_of_a_few_files(rt: HostRuntime) -> Result<(), Fail> {
+    let rows: [Answer<'_>; 6] = [
+        (&[], "missing"),
+        (&[("main.osc", b"import \"main.osc\"\n")], "loads main.osc"),
+        (
+            &[("b", b""), ("main.osc", b"import \"b\"\n")],
+            "loads main.osc b",
+        ),
+        (
+            &[("a'b", b""), ("main.osc", b"import \"a\\'b\"\n")],
+            "loads main.osc a'b",
+        ),
+        (
+            &[
+                ("main.osc", b"import \"./main.osc\"\n"),
+                ("./main.osc", b"import \"./main.osc\"\n"),
+            ],
+            "loads main.osc ./main.osc",
+        ),
+        (
+            &[
+                ("main.osc", b"import \"a\"\nimport \"b\"\n"),
+                ("a", b"import \"c\"\nimport \"b\"\n"),
+                ("b", b"import \"main.osc\"\n"),
+                ("c", b"import osc.standard\n"),
+            ],
+            "loads main.osc a b c osc",
+        ),
+    ];
+    answers_are(&rt, &rows)
+}
+
+#[test]
+fn imports_that_are_refused(rt: HostRuntime) -> Result<(), Fail> {
+    let rows: [Answer<'_>; 5] = [
+        (
+            &[("main.osc", b"import \"osc\"\n")],
+            "fault 301 main.osc:1:8",
+        ),
+        (
+            &[("main.osc", b"import  lib.osc\n")],
+            "fault 301 main.osc:1:9",
+        ),
+        (
+            &[
+                ("main.osc", b"import \"a\"\nimport \"c\"\n"),
+                ("a", b"import \"c\"\n"),
+            ],
+            "fault 301 main.osc:2:8",
+        ),
+        (
+            &[
+                ("main.osc", b"import \"a\"\n"),
+                ("a", b"# a\nimport \"c\"\n"),
+            ],
+            "fault 301 a:2:8",
+        ),
+        (
+            &[("main.osc", b"import \"b\"\nimport \"c\"\n"), ("c", b"$")],
+            "fault 301 main.osc:1:8",
+        ),
+    ];
+    answers_are(&rt, &rows)
+}
+
+#[test]
+fn faults_of_the_file_whose_turn_it_is(rt: HostRuntime) -> Result<(), Fail> {
+    let rows: [Answer<'_>; 3] = [
+        (
+            &[("main.osc", b"import \"b\"\nimport \"c\"\n"), ("b", b"$")],
+            "fault 104 b:1:1",
+        ),
+        (
+            &[("main.osc", b"import \"b\"\nscenario top\n$")],
+            "fault 104 main.osc:3:1",
+        ),
+        (
+            &[("main.osc", b"import \"b\"\nimport\n")],
+            "fault 201 main.osc:2:7",
+        ),
+    ];
+    answers_are(&rt, &rows)
+}
+
+#[test]
 fn a_shelf_that_fails(rt: HostRuntime) -> Result<(), Fail> {
     let alloc = rt.alloc();
-    let files: [(&str, &str); 2] = [
-        ("main.osc", "import osc.standard\nimport \"b.osc\"\n"),
-        ("b.osc", "import \"main.osc\"\n"),
+    let files: [(&str, &[u8]); 2] = [
+        ("main.osc", b"import osc.standard\nimport \"b.osc\"\n"),
+        ("b.osc", b"import \"main.osc\"\n"),
     ];
     let rows: [(u64, &str); 7] = [
         (0, "shelf main.osc"),
@@ -153,30 +166,29 @@ fn a_shelf_that_fails(rt: HostRuntime) -> Result<(), Fail> {
     Ok(())
 }
 
-/// What is answered where `main.osc` imports `a`, and the comment `b` of so many bytes.
+/// What is answered when `main.osc` imports `a`, and the comment `b` of so many bytes.
 fn with_long(alloc: Global, a: &str, len: usize) -> Result<String, AllocError> {
-    let mut row = Row::new(alloc);
-    row.push(file(alloc, "main.osc", b"import \"a\"\nimport \"b\"\n")?)?;
-    row.push(file(alloc, "a", a.as_bytes())?)?;
-    row.push(NamedBytes {
-        name: Text::copy(alloc, "b")?,
-        bytes: Row::of(vec![in alloc; b'#'; len]?),
-    })?;
-    answer(alloc, MemoryShelf::new(row, 4096, Row::new(alloc)))
+    let long = vec![in alloc; b'#'; len]?;
+    let files: [(&str, &[u8]); 3] = [
+        ("main.osc", b"import \"a\"\nimport \"b\"\n"),
+        ("a", a.as_bytes()),
+        ("b", long.as_slice()),
+    ];
+    answer(alloc, shelf(alloc, &files, &[])?)
 }
 
-/// What is answered where `main.osc` imports the files f1, f2 and so on, and has one more line.
+/// What is answered when `main.osc` imports the files f1, f2 and so on, and has one more line.
 fn with_many(alloc: Global, count: u32, last: &str) -> Result<String, AllocError> {
     let mut row = Row::new(alloc);
     let mut main = String::new(alloc);
     for number in 1..=count {
         let name = format!(in alloc; "f{number}")?;
-        row.push(file(alloc, name.as_str(), b"")?)?;
+        row.push(NamedBytes::copy(alloc, name.as_str(), b"")?)?;
         let line = format!(in alloc; "import \"f{number}\"\n")?;
         main.push_str(line.as_str())?;
     }
     main.push_str(last)?;
-    row.push(file(alloc, "main.osc", main.as_bytes())?)?;
+    row.push(NamedBytes::copy(alloc, "main.osc", main.as_bytes())?)?;
     answer(alloc, MemoryShelf::new(row, 4096, Row::new(alloc)))
 }
 

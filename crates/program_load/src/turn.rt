@@ -1,22 +1,19 @@
 ghost use Rattle.std.specs.Prelude.{◌≡◌, ◌⊎◌, [], ◌∷◌, ◌++◌, None, Some, option_map, IfOk, IfErr, OnOk};
 ghost use Rattle.dsl_tree.specs.Language.{FollowsGrammar};
 ghost use Rattle.dsl_tree.specs.Views.{file_tree};
-ghost use Rattle.name_scope.specs.Loading.{name_text, wanted_name, wanted_mention, adding_fault};
+ghost use Rattle.name_scope.specs.FileNumbers.{name_text, wanted_name, wanted_mention, adding_fault};
 ghost use Rattle.name_scope.specs.Wanted.{file_name};
 ghost use Rattle.program_load.specs.Outcome.{Counts};
-ghost use Rattle.program_load.specs.Steps.{Takes, Stops, IsUnadded, missing_stop};
+ghost use Rattle.program_load.specs.Steps.{Takes, Stops, IsUnadded, missing_refusal};
 
 use crate::read::read_file;
 use crate::source::FileStop;
-use crate::stop::LoadStop;
+use crate::stop::{LoadStop, Refusal};
 use dsl_tree::File;
 use name_scope::{AddStop, Program, Wanted};
-use osc_base::{Fault, Text};
+use osc_base::{Fault, FaultCode, Text};
 use outside_io::Shelf;
 use std::alloc::{AllocError, Global};
-
-/// The code of an import whose file isn't there.
-const NO_FILE: u16 = 301;
 
 /// The text of a name, `osc` for the library.
 fn text_of<'a>(wanted: Wanted<'a>) -> &'a str
@@ -28,19 +25,19 @@ fn text_of<'a>(wanted: Wanted<'a>) -> &'a str
     }
 }
 
-/// Why the load stops where the file whose turn it is isn't there.
-fn missing(alloc: Global, program: &Program) -> Result<LoadStop, AllocError>
-    ensures { IfOk result (λ stop. stop ≡ missing_stop program.now (wanted_mention program.now)) }
+/// Why no program is loaded when the file whose turn it is isn't there.
+fn missing(alloc: Global, program: &Program) -> Result<Refusal, AllocError>
+    ensures { IfOk result (λ stop. stop ≡ missing_refusal program.now (wanted_mention program.now)) }
 {
     let Some(place) = program.wanted_place() else {
-        return Ok(LoadStop::Missing);
+        return Ok(Refusal::Missing);
     };
     let name = program.name(place.file).unwrap_or("");
-    Ok(LoadStop::Refused {
+    Ok(Refusal::Faulty {
         file: Text::copy(alloc, name)?,
         fault: Fault {
             place,
-            code: NO_FILE,
+            code: FaultCode::MissingImport,
         },
     })
 }
@@ -56,7 +53,7 @@ fn add(alloc: Global, program: &mut Program, name: Text, file: File) -> Result<(
     let copy = Text::copy(alloc, name.as_str())?;
     match program.add_file(name, file) {
         Ok(()) => Ok(()),
-        Err(AddStop::At(fault)) => Err(LoadStop::Refused { file: copy, fault }),
+        Err(AddStop::At(fault)) => Err(LoadStop::At(Refusal::Faulty { file: copy, fault })),
         Err(AddStop::Memory) => Err(LoadStop::Memory),
     }
 }
@@ -77,9 +74,9 @@ pub fn take_file<H: Shelf>(
     let name = Text::copy(alloc, text_of(wanted))?;
     match read_file(alloc, shelf, program.files(), wanted) {
         Ok(file) => add(alloc, program, name, file),
-        Err(FileStop::Missing) => Err(missing(alloc, program)?),
-        Err(FileStop::Long) => Err(LoadStop::Long(name)),
-        Err(FileStop::At(fault)) => Err(LoadStop::Refused { file: name, fault }),
+        Err(FileStop::Missing) => Err(LoadStop::At(missing(alloc, program)?)),
+        Err(FileStop::Long) => Err(LoadStop::At(Refusal::Long(name))),
+        Err(FileStop::At(fault)) => Err(LoadStop::At(Refusal::Faulty { file: name, fault })),
         Err(FileStop::Shelf) => Err(LoadStop::Shelf(name)),
         Err(FileStop::Memory) => Err(LoadStop::Memory),
     }

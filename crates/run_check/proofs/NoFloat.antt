@@ -1,14 +1,11 @@
 -- No number in a run's text is a float, so its compact text is exact.
-use Rattle.std.proofs.Common.{◌≡◌, ◌∙◌, ap, Result, Ok, Err, IfOk, String, refl, Bool, true, false, ◌||◌, List, [], ◌∷◌, map, ℤ, pos, negsuc}
-use Rattle.serde_json.specs.Data.{Data, number, string, array, Items}
-use Rattle.serde_json.specs.Find.{of_integer, is_float}
+use Rattle.std.proofs.Common.{◌≡◌, ◌∙◌, ap, Result, Ok, Err, IfOk, String, refl, false, List, [], ◌∷◌, map, ℤ, pos, negsuc}
+use Rattle.serde_json.specs.Data.{Data}
 use Rattle.serde_json.specs.View.{items_of}
 use Rattle.serde_json.specs.Written.{has_float, items_have_float, compact_text}
 use Rattle.std.specs.String.{string_bytes}
 use Rattle.std.specs.declared.alloc.Global.{Global}
 use Rattle.osc_base.specs.declared.sample.Sample.{Sample}
-use Rattle.composition.specs.declared.run.Choice.{Choice}
-use Rattle.composition.specs.declared.run.Span.{Span}
 use Rattle.composition.specs.declared.run.Trace.{Trace}
 use Rattle.composition.specs.declared.run.Value.{Value}
 use Rattle.composition.specs.declared.run.Run.{Run}

@@ -1,8 +1,7 @@
 -- Worked run texts, by computation.
-use Rattle.std.proofs.Common.{◌≡◌, refl, List, [], ◌∷◌, codes, pos, negsuc}
+use Rattle.std.proofs.Common.{◌≡◌, refl, [], ◌∷◌, codes, pos, negsuc}
 use Rattle.std.specs.Fmt.{digits}
 use Rattle.serde_json.proofs.OnLiterals.{serde_json_on_literals}
-use Rattle.osc_base.specs.declared.path.Path.{Path}
 use Rattle.osc_base.specs.declared.path.Step.TheVariants.{Name, Member}
 use Rattle.composition.specs.declared.run.Run.{Run}
 use Rattle.composition.specs.declared.run.Held.TheVariants.{Number, Chars}

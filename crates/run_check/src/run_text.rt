@@ -10,8 +10,8 @@ use osc_base::{Path, Sample, Text};
 use serde_json::{Value as Json, json};
 use std::alloc::{AllocError, Global};
 
-/// The text of a run, as `docs/FORMATS.md` describes it: a compact JSON object whose keys lie in
-/// byte order, then a line feed.
+/// The text of a run, as `docs/FORMATS.md` describes it: a compact JSON object whose keys are in byte order, then a line
+/// feed. Out of memory is the only error.
 #[tactic(auto, unfolding(crate::specs::RunText::run_text))]
 pub fn write_run(alloc: Global, run: &Run) -> Result<Text, AllocError>
     ensures { IfOk result (λ t. t ≡ run_text run.now) }

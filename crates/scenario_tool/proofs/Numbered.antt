@@ -2,8 +2,8 @@
 use Rattle.std.proofs.Common.{◌≡◌, ◌∙◌, refl, sym, ap, ℕ, zero, suc, ◌+◌, ◌<◌, List, [], ◌∷◌, length, drop, Option, Some, None, arith}
 use Rattle.std.specs.Prelude.{slice_get}
 use Rattle.osc_base.specs.declared.fault.Place.{Place}
-use Rattle.name_scope.specs.Loading.{AddedFile, is_library_at}
-use Rattle.scenario_tool.specs.PairForm.{first_of}
+use Rattle.name_scope.specs.FileNumbers.{AddedFile, is_library_at}
+use Rattle.std.specs.Option.{option_or}
 use Rattle.scenario_tool.specs.Programs.{unbuilt_file, unbuilt_from}
 
 -- the file of a number, and those from it on
@@ -22,16 +22,16 @@ numbered (f ∷ fs) (suc number) few =
 -- one file more
 here : (program : List AddedFile) (number : ℕ) (found all : Option Place) → number < length program → unbuilt_from program number (drop number program) ≡ all →
     ((added : AddedFile) → slice_get program number ≡ Some added → found ≡ unbuilt_file (is_library_at program number) added) →
-    first_of found (unbuilt_from program (number + 1) (drop (suc number) program)) ≡ all
+    option_or found (unbuilt_from program (number + 1) (drop (suc number) program)) ≡ all
 here program number found all few so_far own =
     let h = numbered program number few in
-    ap (λ o. first_of o (unbuilt_from program (number + 1) (drop (suc number) program))) (own h.added h.there)
+    ap (λ o. option_or o (unbuilt_from program (number + 1) (drop (suc number) program))) (own h.added h.there)
     ∙ (sym (ap (unbuilt_from program number) h.front) ∙ so_far)
 
 pub found_here : (program : List AddedFile) (number : ℕ) (found all : Option Place) (place : Place) → number < length program → unbuilt_from program number (drop number program) ≡ all →
     ((added : AddedFile) → slice_get program number ≡ Some added → found ≡ unbuilt_file (is_library_at program number) added) → found ≡ Some place → Some place ≡ all
 found_here program number found all place few so_far own is =
-    sym (ap (λ o. first_of o (unbuilt_from program (number + 1) (drop (suc number) program))) is) ∙ here program number found all few so_far own
+    sym (ap (λ o. option_or o (unbuilt_from program (number + 1) (drop (suc number) program))) is) ∙ here program number found all few so_far own
 
 pub none_here : (program : List AddedFile) (number : ℕ) (found all : Option Place) → number < length program → unbuilt_from program number (drop number program) ≡ all →
     ((added : AddedFile) → slice_get program number ≡ Some added → found ≡ unbuilt_file (is_library_at program number) added) → found ≡ None →
@@ -39,4 +39,4 @@ pub none_here : (program : List AddedFile) (number : ℕ) (found all : Option Pl
 none_here program number found all few so_far own is =
     let next : number + 1 ≡ suc number = omega arith in
     ap (λ n. unbuilt_from program (number + 1) (drop n program)) next
-    ∙ (sym (ap (λ o. first_of o (unbuilt_from program (number + 1) (drop (suc number) program))) is) ∙ here program number found all few so_far own)
+    ∙ (sym (ap (λ o. option_or o (unbuilt_from program (number + 1) (drop (suc number) program))) is) ∙ here program number found all few so_far own)

@@ -1,11 +1,9 @@
--- Words and files allow some answer.
-use Rattle.std.proofs.Common.{◌≡◌, ◌∙◌, refl, sym, subst, ℕ, ◌≤◌, pos, List, [], ◌∷◌, Option, Some, None, Bool, true, false, cond, nat_le, codes, arith}
-use Rattle.std.specs.Prelude.{◌≢◌, slice_get}
+-- Words and files have some right answer.
+use Rattle.std.proofs.Common.{◌≡◌, ◌∙◌, refl, sym, ap, subst, ℕ, ◌≤◌, pos, List, [], ◌∷◌, Option, Some, None, Bool, true, false, cond, nat_le, arith}
+use Rattle.std.specs.Prelude.{◌≢◌}
 use Rattle.std.proofs.lemmas.Bool.{leb-true}
-use Rattle.std.specs.Option.{option_map_or}
+use Rattle.std.specs.Option.{is_some, option_map_or, option_or}
 use Rattle.osc_base.specs.declared.path.Step.TheVariants.{Name}
-use Rattle.osc_base.specs.declared.fault.Place.{Place}
-use Rattle.osc_base.specs.declared.fault.Fault.{Fault}
 use Rattle.outside_io.specs.declared.shelf.NamedBytes.{NamedBytes}
 use Rattle.composition.specs.declared.run.Run.{Run}
 use Rattle.composition.specs.declared.run.Value.{Value}
@@ -17,17 +15,17 @@ use Rattle.dsl_tree.specs.declared.expr.RelationSign.{RelationSign}
 use Rattle.dsl_tree.specs.ExprTree.{ExprTree}
 use Rattle.dsl_tree.specs.PhaseTree.{RuleTree}
 use Rattle.dsl_tree.specs.FileTree.{MemberTree, CompoundTree}
-use Rattle.dsl_tree.specs.Views.{file_tree}
-use Rattle.name_scope.specs.Loading.{AddedFile}
-use Rattle.name_scope.specs.FaultRows.{first_fault}
-use Rattle.name_scope.specs.Headings.{heading_rows}
-use Rattle.program_load.specs.Loading.{IsLoaded, name_at}
+use Rattle.name_scope.specs.FileNumbers.{AddedFile}
+use Rattle.program_load.specs.declared.stop.Refusal.{Refusal}
+use Rattle.program_load.specs.Loading.{IsLoaded}
 use Rattle.program_load.proofs.Total.{some_load}
-use Rattle.command_words.specs.Words.{Asked, Wanted, request}
+use Rattle.command_words.specs.Shared.{Source}
+use Rattle.command_words.specs.Words.{Wanted, request}
 use Rattle.scenario_tool.specs.PairForm.{whole_number, range_of, held_range, ranged_fields}
-use Rattle.scenario_tool.specs.Programs.{not_built_at, scenario_named}
-use Rattle.scenario_tool.specs.Answers.{SomeAnswer, Answers, helps, refused_words, stopped, compiled, Compiles, not_built, bad_heading, no_scenario, runs, fault_text, stop_status, stop_text}
-use Rattle.scenario_tool.proofs.Compiled.{main_there}
+use Rattle.scenario_tool.specs.declared.replies.Reply.{Reply}
+use Rattle.scenario_tool.specs.Programs.{first_refusal, no_scenario, scenario_named, unnamed}
+use Rattle.scenario_tool.specs.Replies.{done, refused_source, words_refused}
+use Rattle.scenario_tool.specs.Answers.{AnswersTo, Generates, runs, Inputs, OnProgram, faulty, sound, OnSource, not_loaded, loaded, SomeAnswer}
 
 -- ---- A run for each list of members
 
@@ -79,42 +77,52 @@ is_instance : (fields : List RangedField) (h : Held fields) → IsRangedInstance
 unfolding run_of
 is_instance fields h = record { choices = refl; ends = refl; phases = refl; traces = refl; values = h.held }
 
--- ---- Some answer
+-- ---- Sources
 
-abbrev NoAnswer : List AddedFile → List ℕ → Type 0
-NoAnswer program scenario = (status : ℕ) (text : List ℕ) → Compiles program scenario status text → ⊥
-
-module _ (program : List AddedFile) (scenario : List ℕ) (some : program ≢ []) (none : NoAnswer program scenario) where
-  some_named : (named : Option CompoundTree) → not_built_at program ≡ None → first_fault (heading_rows program) ≡ None → scenario_named program scenario ≡ named → ⊥
-  some_named None built fine is =
-      let main = main_there program some in
-      none 3 (fault_text main.0.name 324 (file_tree main.0.file).end) (no_scenario main.0 built fine is main.1 refl refl)
-  some_named (Some named) built fine is =
-      let h = held_all named.members in
-      none 0 (run_text (run_of h.values)) (runs named (run_of h.values) built fine is (is_instance (ranged_fields named.members) h) refl refl)
-
-  some_headings : (found : Option Fault) → not_built_at program ≡ None → first_fault (heading_rows program) ≡ found → ⊥
-  some_headings (Some fault) built is = none 3 (fault_text (name_at program fault.place.file) fault.code fault.place) (bad_heading fault built is refl refl)
-  some_headings None built is = some_named (scenario_named program scenario) built is refl
-
-  some_built : (found : Option Place) → not_built_at program ≡ found → ⊥
-  some_built (Some place) is = none 3 (fault_text (name_at program place.file) 298 place) (not_built place is refl refl)
-  some_built None is = some_headings (first_fault (heading_rows program)) is refl
+rest_none : {A : Type 0} (o p : Option A) → option_or o p ≡ None → p ≡ None
+rest_none None p h = h
+rest_none (Some x) p h = absurd (none_some x (sym h))
 
 -- a program that was loaded has its main file
 loaded_some : (files : List NamedBytes) (main : List ℕ) (program : List AddedFile) → IsLoaded files main program → program ≢ []
-loaded_some files main [] loaded empty = let same : Some _ ≡ None = loaded.whole in cc
-loaded_some files main (first ∷ others) loaded empty = cc
+loaded_some files main [] its empty = let same : Some _ ≡ None = its.whole in cc
+loaded_some files main (first ∷ others) its empty = cc
 
-some_request : (files : List NamedBytes) (words : List (List ℕ)) (wanted : Wanted) → request words ≡ wanted →
-    ((status : ℕ) (text : List ℕ) → Answers files words status text → ⊥) → ⊥
-some_request files words (Wanted.Help help) is none = none 0 help (helps is refl)
-some_request files words Wanted.Refused is none = none 4 (codes "words\n") (refused_words is refl refl)
-some_request files words (Wanted.Generate asked) is none =
-    some_load files asked.file
-    (λ program loaded. some_built program asked.scenario (loaded_some files asked.file program loaded)
-    (λ status text result. none status text (compiled asked program is loaded result)) (not_built_at program) refl)
-    (λ stop stops. none (stop_status stop) (stop_text asked.file stop) (stopped asked stop is stops refl refl))
+module _ (Answer : CompoundTree → Reply → Type 0) (some : (scenario : CompoundTree) → ((reply : Reply) → Answer scenario reply → ⊥) → ⊥) where
+  unrefused : (program : List AddedFile) (scenario : List ℕ) (named : Option CompoundTree) → program ≢ [] → scenario_named program scenario ≡ named → named ≡ None →
+      unnamed program scenario ≡ None → ⊥
+  unrefused [] scenario named some is none h = some refl
+  unrefused (main ∷ others) scenario named some is none h =
+      none_some _ (sym h ∙ ap (λ o. cond (is_some o) None (no_scenario (main ∷ others))) (is ∙ none))
+
+  some_on_program : (program : List AddedFile) (source : Source) → program ≢ [] → ((reply : Reply) → OnProgram program source Answer reply → ⊥) → ⊥
+  some_on_program program source there none = by (first_refusal program source.scenario) refl
+    where
+      by_name : (named : Option CompoundTree) → scenario_named program source.scenario ≡ named → first_refusal program source.scenario ≡ None → ⊥
+      by_name (Some scenario) is fine = some scenario (λ reply answer. none reply (sound scenario fine is answer))
+      by_name None is fine = unrefused program source.scenario None there is refl (rest_none _ _ (rest_none _ _ fine))
+
+      by : (first : Option Refusal) → first_refusal program source.scenario ≡ first → ⊥
+      by (Some refusal) is = none (refused_source source.file refusal) (faulty refusal is refl)
+      by None is = by_name (scenario_named program source.scenario) refl is
+
+  some_on_source : (sources : List NamedBytes) (source : Source) → ((reply : Reply) → OnSource sources source Answer reply → ⊥) → ⊥
+  some_on_source sources source none =
+      some_load sources source.file
+      (λ program is. some_on_program program source (loaded_some sources source.file program is) (λ reply told. none reply (loaded program is told)))
+      (λ refusal is. none (refused_source source.file refusal) (not_loaded refusal is refl))
+
+-- ---- What is asked
+
+some_generate : (scenario : CompoundTree) → ((reply : Reply) → Generates scenario reply → ⊥) → ⊥
+some_generate scenario none =
+    let h = held_all scenario.members in
+    none (done (run_text (run_of h.values))) (runs (run_of h.values) (is_instance (ranged_fields scenario.members) h) refl)
+
+some_wanted : (inputs : Inputs) (wanted : Wanted) → ((reply : Reply) → AnswersTo inputs wanted reply → ⊥) → ⊥
+some_wanted inputs (Wanted.Help text) none = none (done text) refl
+some_wanted inputs (Wanted.Generate asked) none = some_on_source Generates some_generate inputs.sources asked.source none
+some_wanted inputs Wanted.Refused none = none words_refused refl
 
 pub some_answer : SomeAnswer
-some_answer files words none = some_request files words (request words) refl none
+some_answer inputs words = some_wanted inputs (request words)

@@ -1,114 +1,143 @@
--- What `command` may answer: a status and a text. A status is 0 for a run or a help text, 3 for a refused source, 4 for refused
--- words, 6 for a file, 7 where the sink failed and 8 where memory is missing.
-use Rattle.std.specs.Prelude.{◌≡◌, ℕ, List, ◌++◌, Option, Some, None, codes, slice_get, ◌⊎◌}
-use Rattle.std.specs.Fmt.{decimal}
+-- What `command` answers, and how a call of it ends.
+--
+-- `AnswersTo` says which replies are right, by what the words ask for. `AnswersOrShelfFails` adds the reply of a shelf that
+-- failed. `CallEnds` says what is written of a reply, and what the call returns. `IsAnswered` is the contract of `command`. A
+-- new command is a case of `AnswersTo`, of `HasTurn` and of `IsLeftOpen`.
+use Rattle.std.specs.Prelude.{◌≡◌, ℕ, List, Option, Some, None, is_some, ◌⊎◌}
 use Rattle.std.specs.Io.KnownBytes.{append_known}
-use Rattle.osc_base.specs.declared.fault.Place.{Place}
-use Rattle.osc_base.specs.declared.fault.Fault.{Fault}
 use Rattle.outside_io.specs.declared.shelf.NamedBytes.{NamedBytes}
-use Rattle.outside_io.specs.Counts.{Rises}
 use Rattle.outside_io.specs.Bytes.{AppendsPart}
+use Rattle.outside_io.specs.Counts.{Rises}
+use Rattle.outside_io.specs.Files.{SomeFiles}
 use Rattle.dsl_tree.specs.FileTree.{CompoundTree}
-use Rattle.dsl_tree.specs.Views.{file_tree}
-use Rattle.name_scope.specs.Loading.{AddedFile}
-use Rattle.name_scope.specs.FaultRows.{first_fault}
-use Rattle.name_scope.specs.Headings.{heading_rows}
-use Rattle.program_load.specs.Loading.{Stop, IsLoaded, IsStopped, IsTurn, name_at}
+use Rattle.name_scope.specs.FileNumbers.{AddedFile}
+use Rattle.program_load.specs.declared.stop.Refusal.{Refusal}
+use Rattle.program_load.specs.Loading.{IsLoaded, IsStopped, IsTurn}
 use Rattle.composition.specs.declared.run.Run.{Run}
 use Rattle.composition.specs.Instance.{IsRangedInstance}
 use Rattle.run_check.specs.RunText.{run_text}
-use Rattle.command_words.specs.Words.{Asked, Wanted, request}
+use Rattle.command_words.specs.Shared.{Source}
+use Rattle.command_words.specs.Words.{Wanted, request}
+use Rattle.scenario_tool.specs.declared.status.Status.{Status}
+use Rattle.scenario_tool.specs.declared.replies.Reply.{Reply}
 use Rattle.scenario_tool.specs.PairForm.{ranged_fields}
-use Rattle.scenario_tool.specs.Programs.{not_built_at, scenario_named}
-
--- ---- Texts
-
--- `fault CODE FILE:LINE:COLUMN`
-abbrev pub fault_text : List ℕ → ℕ → Place → List ℕ
-fault_text file code place =
-    codes "fault " ++ decimal code ++ codes " " ++ file ++ codes ":" ++ decimal place.line ++ codes ":" ++ decimal place.column ++ codes "\n"
-
--- `missing NAME`, `long NAME`, `shelf NAME`
-abbrev pub missing_text : List ℕ → List ℕ
-missing_text name = codes "missing " ++ name ++ codes "\n"
-
-abbrev pub long_text : List ℕ → List ℕ
-long_text name = codes "long " ++ name ++ codes "\n"
-
-abbrev pub shelf_text : List ℕ → List ℕ
-shelf_text name = codes "shelf " ++ name ++ codes "\n"
+use Rattle.scenario_tool.specs.Programs.{first_refusal, scenario_named}
+use Rattle.scenario_tool.specs.Replies.{done, failed_shelf, status_number, refused_source, words_refused}
 
 -- ---- Answers
 
--- what a program that was loaded is answered with
-pub data Compiles (program : List AddedFile) (scenario : List ℕ) (status : ℕ) (text : List ℕ) : Type 0 where
-  -- something in it isn't built yet
-  not_built : (place : Place) → not_built_at program ≡ Some place → status ≡ 3 → text ≡ fault_text (name_at program place.file) 298 place →
-      Compiles program scenario status text
-  -- the first fault of its headings
-  bad_heading : (fault : Fault) → not_built_at program ≡ None → first_fault (heading_rows program) ≡ Some fault → status ≡ 3 →
-      text ≡ fault_text (name_at program fault.place.file) fault.code fault.place → Compiles program scenario status text
-  -- it has no such scenario: at the end of its main file
-  no_scenario : (main : AddedFile) → not_built_at program ≡ None → first_fault (heading_rows program) ≡ None → scenario_named program scenario ≡ None →
-      slice_get program 0 ≡ Some main → status ≡ 3 → text ≡ fault_text main.name 324 (file_tree main.file).end → Compiles program scenario status text
-  runs : (named : CompoundTree) (run : Run) → not_built_at program ≡ None → first_fault (heading_rows program) ≡ None →
-      scenario_named program scenario ≡ Some named → IsRangedInstance (ranged_fields named.members) run → status ≡ 0 → text ≡ run_text run →
-      Compiles program scenario status text
+-- the files that a call may read: the source files that it loads, and the texts (runs, records) that its words name
+pub record Inputs : Type 0 where
+  pub sources : List NamedBytes
+  pub texts : List NamedBytes
 
--- where no program is loaded
-abbrev pub stop_status : Stop → ℕ
-stop_status Stop.Missing = 6
-stop_status (Stop.Long name) = 6
-stop_status (Stop.Refused file fault) = 3
+-- what is replied about a scenario of a program: the program's first refusal; else what the command answers
+pub data OnProgram (program : List AddedFile) (source : Source) (Answer : CompoundTree → Reply → Type 0) (reply : Reply) : Type 0 where
+  faulty : (refusal : Refusal) → first_refusal program source.scenario ≡ Some refusal → reply ≡ refused_source source.file refusal →
+      OnProgram program source Answer reply
+  sound : (scenario : CompoundTree) → first_refusal program source.scenario ≡ None → scenario_named program source.scenario ≡ Some scenario →
+      Answer scenario reply → OnProgram program source Answer reply
 
-abbrev pub stop_text : List ℕ → Stop → List ℕ
-stop_text main Stop.Missing = missing_text main
-stop_text main (Stop.Long name) = long_text name
-stop_text main (Stop.Refused file fault) = fault_text file fault.code fault.place
+-- what is replied about a source: why no program is loaded; else what is replied about the program
+pub data OnSource (sources : List NamedBytes) (source : Source) (Answer : CompoundTree → Reply → Type 0) (reply : Reply) : Type 0 where
+  not_loaded : (refusal : Refusal) → IsStopped sources source.file refusal → reply ≡ refused_source source.file refusal →
+      OnSource sources source Answer reply
+  loaded : (program : List AddedFile) → IsLoaded sources source.file program → OnProgram program source Answer reply →
+      OnSource sources source Answer reply
 
--- the answers that words and files allow, where nothing outside fails
-pub data Answers (files : List NamedBytes) (words : List (List ℕ)) (status : ℕ) (text : List ℕ) : Type 0 where
-  helps : request words ≡ Wanted.Help text → status ≡ 0 → Answers files words status text
-  refused_words : request words ≡ Wanted.Refused → status ≡ 4 → text ≡ codes "words\n" → Answers files words status text
-  stopped : (asked : Asked) (stop : Stop) → request words ≡ Wanted.Generate asked → IsStopped files asked.file stop → status ≡ stop_status stop →
-      text ≡ stop_text asked.file stop → Answers files words status text
-  compiled : (asked : Asked) (program : List AddedFile) → request words ≡ Wanted.Generate asked → IsLoaded files asked.file program →
-      Compiles program asked.scenario status text → Answers files words status text
+-- what `generate` answers about a scenario: an instance of it
+pub data Generates (scenario : CompoundTree) (reply : Reply) : Type 0 where
+  runs : (run : Run) → IsRangedInstance (ranged_fields scenario.members) run → reply ≡ done (run_text run) → Generates scenario reply
 
--- the answers where the shelf may have failed: its line comes exactly where its count of faults rose, by one, with the name
--- of the file whose turn it was. So a shelf that failed isn't used again.
-pub data Replies (files : List NamedBytes) (words : List (List ℕ)) (before after : ℕ) (status : ℕ) (text : List ℕ) : Type 0 where
-  answers : Answers files words status text → after ≡ before → Replies files words before after status text
-  shelf_failed : (asked : Asked) (name : List ℕ) → request words ≡ Wanted.Generate asked → IsTurn files asked.file name → Rises before after →
-      status ≡ 6 → text ≡ shelf_text name → Replies files words before after status text
+-- the right answers to what the words ask for
+abbrev pub AnswersTo : Inputs → Wanted → Reply → Type 0
+AnswersTo inputs (Wanted.Help text) reply = reply ≡ done text
+AnswersTo inputs (Wanted.Generate asked) reply = OnSource inputs.sources asked.source Generates reply
+AnswersTo inputs Wanted.Refused reply = reply ≡ words_refused
+
+-- ---- Answers, or a shelf that fails
+
+-- the file of this name has its turn to be read
+abbrev pub HasTurn : Inputs → Wanted → List ℕ → Type 0
+HasTurn inputs (Wanted.Help text) name = ⊥
+HasTurn inputs (Wanted.Generate asked) name = IsTurn inputs.sources asked.source.file name
+HasTurn inputs Wanted.Refused name = ⊥
+
+-- a right answer, and the shelf's count of faults stays; or the count rises, by one, and the reply names the file whose turn
+-- it was. So a shelf that failed isn't used again.
+pub data AnswersOrShelfFails (inputs : Inputs) (wanted : Wanted) (before after : ℕ) (reply : Reply) : Type 0 where
+  answers : AnswersTo inputs wanted reply → after ≡ before → AnswersOrShelfFails inputs wanted before after reply
+  shelf_fails : (name : List ℕ) → HasTurn inputs wanted name → Rises before after → reply ≡ failed_shelf name →
+      AnswersOrShelfFails inputs wanted before after reply
+
+-- ---- Calls
+
+-- what a contract sees of a shelf: the files, when it tells them, and the count of faults
+pub record ShelfView : Type 0 where
+  pub files : Option (List NamedBytes)
+  pub faults : ℕ
+
+-- what a contract sees of a sink: what was written, when it tells that, and the count of faults
+pub record SinkView : Type 0 where
+  pub contents : Option (List ℕ)
+  pub faults : ℕ
+
+-- how a call went: its words, the shelf and the sink before and after it, and the number that it returned
+pub record Call : Type 0 where
+  pub words : List (List ℕ)
+  pub shelf_before : ShelfView
+  pub shelf_after : ShelfView
+  pub sink_before : SinkView
+  pub sink_after : SinkView
+  pub status : ℕ
+
+-- the reply to the words of a call
+abbrev pub IsReplyIn : Inputs → Call → Reply → Type 0
+IsReplyIn inputs call reply = AnswersOrShelfFails inputs (request call.words) call.shelf_before.faults call.shelf_after.faults reply
 
 -- a count stays, or rises by one
 abbrev pub CountsOnce : ℕ → ℕ → Type 0
 CountsOnce before after = (after ≡ before) ⊎ Rises before after
 
--- how a call ends: its whole text is written; or the sink failed, and a front of such a text is written; or memory is
--- missing, and nothing is written. A sink or a shelf is given by what it told or its count before and after the call. The
--- sink's count rises only where the sink failed, and by one, so a sink that failed isn't used again.
-pub data Ends (files : List NamedBytes) (words : List (List ℕ)) (shelf_before shelf_after : ℕ) (out_before out_after : Option (List ℕ))
-    (sink_before sink_after status : ℕ) : Type 0 where
-  written : (text : List ℕ) → Replies files words shelf_before shelf_after status text → out_after ≡ append_known out_before text →
-      sink_after ≡ sink_before →
-      Ends files words shelf_before shelf_after out_before out_after sink_before sink_after status
-  sink_failed : (other : ℕ) (text : List ℕ) → Replies files words shelf_before shelf_after other text → AppendsPart out_before out_after text →
-      Rises sink_before sink_after → status ≡ 7 →
-      Ends files words shelf_before shelf_after out_before out_after sink_before sink_after status
-  no_memory : out_after ≡ out_before → sink_after ≡ sink_before → CountsOnce shelf_before shelf_after → status ≡ 8 →
-      Ends files words shelf_before shelf_after out_before out_after sink_before sink_after status
+-- how a call ends. The sink's count of faults rises only when the sink failed, and by one, so a sink that failed isn't used
+-- again.
+pub data CallEnds (inputs : Inputs) (call : Call) : Type 0 where
+  -- the whole text of the reply is written, and its status returned
+  written : (reply : Reply) → IsReplyIn inputs call reply → call.sink_after.contents ≡ append_known call.sink_before.contents reply.text →
+      call.sink_after.faults ≡ call.sink_before.faults → call.status ≡ status_number reply.status → CallEnds inputs call
+  -- the sink failed: some prefix of the text is written
+  sink_fails : (reply : Reply) → IsReplyIn inputs call reply → AppendsPart call.sink_before.contents call.sink_after.contents reply.text →
+      Rises call.sink_before.faults call.sink_after.faults → call.status ≡ status_number Status.SinkFailed → CallEnds inputs call
+  -- out of memory: nothing is written
+  no_memory : call.sink_after.contents ≡ call.sink_before.contents → call.sink_after.faults ≡ call.sink_before.faults →
+      CountsOnce call.shelf_before.faults call.shelf_after.faults → call.status ≡ status_number Status.OutOfMemory → CallEnds inputs call
 
--- ---- One answer
+-- the fact holds of the files that a shelf tells, as sources and as texts. When it tells none, a name may be read once as a
+-- source and once as a text, and the fact holds of some sources and some texts.
+abbrev pub SomeInputs : Option (List NamedBytes) → (Inputs → Type 0) → Type 0
+SomeInputs told Fact = SomeFiles told (λ sources. SomeFiles told (λ texts. Fact (record { sources = sources; texts = texts })))
 
--- words and files allow some answer: it can't be that they allow none
-abbrev pub SomeAnswer : Type 0
-SomeAnswer = (files : List NamedBytes) (words : List (List ℕ)) →
-    ((status : ℕ) (text : List ℕ) → Answers files words status text → ⊥) → ⊥
+-- what is promised of a call
+pub record IsAnswered (call : Call) : Type 0 where
+  pub ends : SomeInputs call.shelf_before.files (λ inputs. CallEnds inputs call)
+  -- the shelf keeps its files, and whether the sink tells stays
+  pub files_kept : call.shelf_after.files ≡ call.shelf_before.files
+  pub telling_kept : is_some call.sink_after.contents ≡ is_some call.sink_before.contents
 
--- words and files allow one status, and one text unless it is 0
+-- ---- Laws
+
+-- answers of which there may be several: the runs of `generate`
+abbrev pub IsLeftOpen : Wanted → Reply → Type 0
+IsLeftOpen (Wanted.Help text) reply = ⊥
+IsLeftOpen (Wanted.Generate asked) reply = reply.status ≡ Status.Done
+IsLeftOpen Wanted.Refused reply = ⊥
+
+-- there is one right answer, or both are left open
 abbrev pub OneAnswer : Type 0
-OneAnswer = (files : List NamedBytes) (words : List (List ℕ)) (status status' : ℕ) (text text' : List ℕ) →
-    Answers files words status text → Answers files words status' text' →
-    (status ≡ status') × ((status ≡ 0 → ⊥) → text ≡ text')
+OneAnswer = (inputs : Inputs) (words : List (List ℕ)) (reply other : Reply) →
+    AnswersTo inputs (request words) reply → AnswersTo inputs (request words) other →
+    (reply ≡ other) ⊎ (IsLeftOpen (request words) reply × IsLeftOpen (request words) other)
+
+-- and there is some right answer: it can't be that there is none
+abbrev pub SomeAnswer : Type 0
+SomeAnswer = (inputs : Inputs) (words : List (List ℕ)) → ((reply : Reply) → AnswersTo inputs (request words) reply → ⊥) → ⊥

@@ -2,4 +2,4 @@ pub mod Answers
 pub mod PairForm
 pub mod Programs
 pub mod Ranges
-pub mod Stops
+pub mod Replies

@@ -1,8 +1,8 @@
 -- What is built today of the language: scenarios without an owner and without an heir, whose members go in pairs: a field
 -- of whole numbers, and the constraint that holds it in a range.
 use Rattle.std.specs.Prelude.{ℕ, ◌==◌, nat_le, ◌&&◌, not, cond, Bool, true, false, List, [], ◌∷◌, ◌++◌, Option, Some, None, codes}
-use Rattle.std.specs.List.{list_any, find}
-use Rattle.std.specs.Option.{option_map, option_map_or}
+use Rattle.std.specs.List.{list_any}
+use Rattle.std.specs.Option.{is_none, option_map_or, option_or}
 use Rattle.std.specs.Str.{bytes_eq}
 use Rattle.osc_base.specs.declared.fault.Place.{Place}
 use Rattle.composition.specs.Instance.{RangedField}
@@ -10,18 +10,11 @@ use Rattle.dsl_tree.specs.declared.parts.Ident.{Ident}
 use Rattle.dsl_tree.specs.declared.rules.KeepKind.{KeepKind}
 use Rattle.dsl_tree.specs.declared.expr.RelationSign.{RelationSign}
 use Rattle.dsl_tree.specs.declared.compounds.CompoundKind.{CompoundKind}
-use Rattle.dsl_tree.specs.declared.token.Token.{Token}
-use Rattle.dsl_tree.specs.declared.token.TokenKind.{TokenKind}
-use Rattle.dsl_tree.specs.declared.token.WordKind.{WordKind}
 use Rattle.dsl_tree.specs.ExprTree.{ExprTree}
 use Rattle.dsl_tree.specs.PhaseTree.{RuleTree}
-use Rattle.dsl_tree.specs.FileTree.{FieldTree, MemberTree, CompoundTree, DeclarationTree, FileTree}
+use Rattle.dsl_tree.specs.FileTree.{FieldTree, MemberTree, CompoundTree, DeclarationTree}
 
 -- ---- Fields and their constraints
-
-abbrev pub is_absent : {A : Type 0} → Option A → Bool
-is_absent None = true
-is_absent (Some x) = false
 
 abbrev pub is_empty : {A : Type 0} → List A → Bool
 is_empty [] = true
@@ -35,7 +28,7 @@ only_name (name ∷ other ∷ others) = None
 
 -- a field of type `int` with nothing else
 abbrev pub is_bare_whole_number : FieldTree → Bool
-is_bare_whole_number f = bytes_eq f.of.text (codes "int") && (is_absent f.list && (is_absent f.initial && is_empty f.rules))
+is_bare_whole_number f = bytes_eq f.of.text (codes "int") && (is_none f.list && (is_none f.initial && is_empty f.rules))
 
 -- the name that `NAME: int` declares, with nothing else
 abbrev pub whole_number_field : MemberTree → Option Ident
@@ -47,7 +40,7 @@ abbrev pub whole_number : ExprTree → Option ℕ
 whole_number (ExprTree.Number n) = cond ((n.places == 0) && nat_le n.digits 1000000000) (Some n.digits) None
 whole_number _ = None
 
--- a range from its two ends, where they are numbers in order
+-- a range from its two ends, if they are numbers in order
 abbrev pub range_of : List ℕ → Option ℕ → Option ℕ → Option RangedField
 range_of name (Some least) (Some greatest) = cond (nat_le least greatest) (Some (record { name = name; least = least; greatest = greatest })) None
 range_of name _ _ = None
@@ -75,7 +68,7 @@ abbrev pub ranged_fields : List MemberTree → List RangedField
 ranged_fields [] = []
 ranged_fields (m ∷ ms) = option_map_or (λ (range : RangedField). range ∷ ranged_fields ms) (held_range m) (ranged_fields ms)
 
--- ---- Where the form isn't built yet
+-- ---- Places that aren't of the form
 
 abbrev pub first_place : Ident → List Ident → Place
 first_place of [] = of.place
@@ -95,7 +88,7 @@ member_place (MemberTree.Do place phase) = place
 abbrev pub is_free : List (List ℕ) → List ℕ → Bool
 is_free names name = not (bytes_eq name (codes "duration")) && not (list_any (bytes_eq name) names)
 
--- the first member that is none of a pair, behind pairs of fields of these names
+-- the first member that is none of a pair, after pairs of fields of these names
 abbrev pub unpaired : List (List ℕ) → List MemberTree → Option Place
 unpaired names [] = None
 unpaired names (field ∷ []) = Some (member_place field)
@@ -112,7 +105,7 @@ is_scenario _ = false
 
 -- a scenario without an owner and without an heir
 abbrev pub is_plain : CompoundTree → Bool
-is_plain c = is_scenario c.kind && (is_absent c.name.second && is_absent c.heir)
+is_plain c = is_scenario c.kind && (is_none c.name.second && is_none c.heir)
 
 -- the place of a declaration's first token
 abbrev pub declaration_place : DeclarationTree → Place
@@ -128,12 +121,7 @@ abbrev pub unbuilt : DeclarationTree → Option Place
 unbuilt (DeclarationTree.CompoundDeclaration c) = cond (is_plain c) (unpaired [] c.members) (Some c.place)
 unbuilt d = Some (declaration_place d)
 
--- the first of the two that is there
-abbrev pub first_of : Option Place → Option Place → Option Place
-first_of None other = other
-first_of (Some place) other = Some place
-
--- the same among declarations
+-- the first such place among declarations
 abbrev pub unbuilt_among : List DeclarationTree → Option Place
 unbuilt_among [] = None
-unbuilt_among (d ∷ ds) = first_of (unbuilt d) (unbuilt_among ds)
+unbuilt_among (d ∷ ds) = option_or (unbuilt d) (unbuilt_among ds)

@@ -1,15 +1,21 @@
--- What is asked of a program that was loaded: where it isn't built yet, and which scenario a word names.
-use Rattle.std.specs.Prelude.{ℕ, ◌==◌, ◌+◌, nat_lt, Bool, true, false, cond, List, [], ◌∷◌, Option, Some, None, option_map, length, slice_get}
+-- What is asked of a program that was loaded: where it isn't built yet, which scenario a word names, and its first refusal.
+use Rattle.std.specs.Prelude.{ℕ, ◌==◌, ◌+◌, nat_lt, Bool, true, false, cond, List, [], ◌∷◌, Option, Some, None, is_some, option_map, length, slice_get}
 use Rattle.std.specs.List.{position_or_len, before_first, after_first}
-use Rattle.std.specs.Option.{option_and_then}
+use Rattle.std.specs.Option.{option_and_then, option_or}
 use Rattle.osc_base.specs.declared.fault.Place.{Place}
+use Rattle.osc_base.specs.declared.fault.FaultCode.{FaultCode}
+use Rattle.osc_base.specs.declared.fault.Fault.{Fault}
 use Rattle.dsl_tree.specs.FileTree.{CompoundTree, DeclarationTree}
 use Rattle.dsl_tree.specs.Views.{file_tree}
 use Rattle.name_scope.specs.declared.ids.DeclId.{DeclId}
 use Rattle.name_scope.specs.declared.ids.NameKind.{NameKind}
-use Rattle.name_scope.specs.Loading.{AddedFile, is_library_at}
+use Rattle.name_scope.specs.FileNumbers.{AddedFile, is_library_at}
 use Rattle.name_scope.specs.Declaring.{found}
-use Rattle.scenario_tool.specs.PairForm.{unbuilt_among, first_of, is_scenario}
+use Rattle.osc_base.specs.FaultRows.{first_fault}
+use Rattle.name_scope.specs.Headings.{heading_rows}
+use Rattle.program_load.specs.declared.stop.Refusal.{Refusal}
+use Rattle.program_load.specs.Loading.{name_at}
+use Rattle.scenario_tool.specs.PairForm.{unbuilt_among, is_scenario}
 
 -- the declarations of a file
 abbrev pub declarations_of : AddedFile → List DeclarationTree
@@ -23,7 +29,7 @@ unbuilt_file false added = unbuilt_among (declarations_of added)
 -- the same among the files from this number on
 abbrev pub unbuilt_from : List AddedFile → ℕ → List AddedFile → Option Place
 unbuilt_from program number [] = None
-unbuilt_from program number (added ∷ later) = first_of (unbuilt_file (is_library_at program number) added) (unbuilt_from program (number + 1) later)
+unbuilt_from program number (added ∷ later) = option_or (unbuilt_file (is_library_at program number) added) (unbuilt_from program (number + 1) later)
 
 abbrev pub not_built_at : List AddedFile → Option Place
 not_built_at program = unbuilt_from program 0 program
@@ -52,7 +58,32 @@ abbrev pub as_scenario : DeclarationTree → Option CompoundTree
 as_scenario (DeclarationTree.CompoundDeclaration c) = cond (is_scenario c.kind) (Some c) None
 as_scenario _ = None
 
--- the scenario that the word names: the first action or scenario of that owner and name, where it is a scenario
+-- the scenario that the word names: the first action or scenario of that owner and name, if it is a scenario
 abbrev pub scenario_named : List AddedFile → List ℕ → Option CompoundTree
 scenario_named program word =
     option_and_then as_scenario (option_and_then (declaration_at program) (found NameKind.BehaviourName (owner_in word) (name_in word) program))
+
+-- ---- Refusals
+
+-- a fault of a program, with the name of its file
+abbrev pub faulty_at : List AddedFile → Fault → Refusal
+faulty_at program fault = Refusal.Faulty (name_at program fault.place.file) fault
+
+-- the fault of what isn't built yet
+abbrev pub unbuilt_fault : Place → Fault
+unbuilt_fault place = record { place = place; code = FaultCode.NotYet }
+
+-- a program without the named scenario has a fault at the end of its main file
+abbrev pub no_scenario : List AddedFile → Option Refusal
+no_scenario [] = None
+no_scenario (main ∷ others) = Some (Refusal.Faulty main.name (record { place = (file_tree main.file).end; code = FaultCode.NoScenario }))
+
+abbrev pub unnamed : List AddedFile → List ℕ → Option Refusal
+unnamed program scenario = cond (is_some (scenario_named program scenario)) None (no_scenario program)
+
+-- why a program is refused for a scenario: what isn't built yet; else the first fault of its headings; else it has no such
+-- scenario
+abbrev pub first_refusal : List AddedFile → List ℕ → Option Refusal
+first_refusal program scenario =
+    option_or (option_map (λ (place : Place). faulty_at program (unbuilt_fault place)) (not_built_at program))
+    (option_or (option_map (faulty_at program) (first_fault (heading_rows program))) (unnamed program scenario))

@@ -3,7 +3,7 @@
 ghost use Rattle.std.specs.Prelude.{◌≡◌, ◌<◌, map, IfOk, length, option_copied, slice_get, Some};
 ghost use Rattle.std.specs.Option.{option_map};
 ghost use Rattle.dsl_tree.specs.Views.{compound_tree, declaration_tree};
-ghost use Rattle.name_scope.specs.Loading.{AddedFile, is_library_at};
+ghost use Rattle.name_scope.specs.FileNumbers.{AddedFile, is_library_at};
 ghost use Rattle.scenario_tool.specs.PairForm.{unbuilt_among as unbuilt_in};
 ghost use Rattle.scenario_tool.specs.Programs.{not_built_at, unbuilt_file, owner_in, name_in, declaration_at, as_scenario, scenario_named};
 
@@ -13,7 +13,7 @@ use name_scope::{DeclId, NameKind, Program};
 use osc_base::Place;
 use std::alloc::{AllocError, Global};
 
-/// The first place at which what isn't built yet stands, in the order of the files. All of the library is built.
+/// The first place that isn't built yet, in the order of the files. All of the library is built.
 pub fn not_built(alloc: Global, program: &Program) -> Result<Option<Place>, AllocError>
     ensures { IfOk result (λ place. place ≡ not_built_at program.now) }
 {
@@ -25,7 +25,7 @@ pub fn not_built(alloc: Global, program: &Program) -> Result<Option<Place>, Allo
     Ok(None)
 }
 
-/// The same in the file of one number.
+/// The first place that isn't built yet in the file of this number.
 fn unbuilt_file(alloc: Global, program: &Program, number: u32) -> Result<Option<Place>, AllocError>
     requires { number < length program.now }
     ensures { IfOk result (λ place. (added : AddedFile) → slice_get program.now number ≡ Some added → place ≡ unbuilt_file (is_library_at program.now number) added) }

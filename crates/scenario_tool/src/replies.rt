@@ -1,84 +1,86 @@
-ghost use Rattle.std.specs.Prelude.{◌≡◌, IfOk, codes};
-ghost use Rattle.scenario_tool.specs.Answers.{fault_text, missing_text, long_text, shelf_text};
-ghost use Rattle.scenario_tool.specs.Stops.{Answered};
+ghost use Rattle.std.specs.Prelude.{◌≡◌, IfOk};
+ghost use Rattle.scenario_tool.specs.Replies.{done, failed_shelf, fault_of, long_file, missing_file, refused_source, words_refused};
 
-use osc_base::{Place, Text};
-use program_load::LoadStop;
+use crate::status::Status;
+use osc_base::{Fault, Text};
+use program_load::Refusal;
 use std::alloc::{AllocError, Global};
 
 /// A status and the text that comes with it.
 #[derive(Drop)]
 pub struct Reply {
-    pub status: u8,
+    pub status: Status,
     pub text: Text,
 }
 
-/// The source has a fault at this place.
-pub fn fault(alloc: Global, code: u16, file: &str, place: Place) -> Result<Reply, AllocError>
-    ensures status { IfOk result (λ reply. reply.status ≡ 3) }
-    ensures text { IfOk result (λ reply. reply.text ≡ fault_text file.now code place) }
+/// What was asked for.
+pub fn done(text: Text) -> Reply
+    ensures { result ≡ done text }
 {
-    let (line, column) = (place.line, place.column);
-    let text = Text::of(format!(in alloc; "fault {code} {file}:{line}:{column}\n")?);
-    Ok(Reply { status: 3, text })
-}
-
-/// There is no file of the name.
-fn missing(alloc: Global, file: &str) -> Result<Reply, AllocError>
-    ensures status { IfOk result (λ reply. reply.status ≡ 6) }
-    ensures text { IfOk result (λ reply. reply.text ≡ missing_text file.now) }
-{
-    let text = Text::of(format!(in alloc; "missing {file}\n")?);
-    Ok(Reply { status: 6, text })
-}
-
-/// The file is longer than its limit.
-fn long(alloc: Global, file: &str) -> Result<Reply, AllocError>
-    ensures status { IfOk result (λ reply. reply.status ≡ 6) }
-    ensures text { IfOk result (λ reply. reply.text ≡ long_text file.now) }
-{
-    let text = Text::of(format!(in alloc; "long {file}\n")?);
-    Ok(Reply { status: 6, text })
-}
-
-/// The shelf failed at the file.
-fn shelf(alloc: Global, file: &str) -> Result<Reply, AllocError>
-    ensures status { IfOk result (λ reply. reply.status ≡ 6) }
-    ensures text { IfOk result (λ reply. reply.text ≡ shelf_text file.now) }
-{
-    let text = Text::of(format!(in alloc; "shelf {file}\n")?);
-    Ok(Reply { status: 6, text })
+    Reply {
+        status: Status::Done,
+        text,
+    }
 }
 
 /// The words ask for nothing that is known.
-pub fn words(alloc: Global) -> Result<Reply, AllocError>
-    ensures status { IfOk result (λ reply. reply.status ≡ 4) }
-    ensures text { IfOk result (λ reply. reply.text ≡ codes "words\n") }
+pub fn words_refused(alloc: Global) -> Result<Reply, AllocError>
+    ensures { IfOk result (λ reply. reply ≡ words_refused) }
 {
-    let text = Text::copy(alloc, "words\n")?;
-    Ok(Reply { status: 4, text })
+    Ok(Reply {
+        status: Status::WordsRefused,
+        text: Text::copy(alloc, "words\n")?,
+    })
 }
 
-/// The text of help that was asked for.
-pub fn help(alloc: Global, text: &str) -> Result<Reply, AllocError>
-    ensures status { IfOk result (λ reply. reply.status ≡ 0) }
-    ensures text { IfOk result (λ reply. reply.text ≡ text.now) }
+/// The source has this fault, in the file of this name.
+pub fn fault(alloc: Global, file: &str, fault: Fault) -> Result<Reply, AllocError>
+    ensures { IfOk result (λ reply. reply ≡ fault_of file.now fault) }
 {
-    let text = Text::copy(alloc, text)?;
-    Ok(Reply { status: 0, text })
+    let (code, line, column) = (fault.code.number(), fault.place.line, fault.place.column);
+    Ok(Reply {
+        status: Status::SourceRefused,
+        text: Text::of(format!(in alloc; "fault {code} {file}:{line}:{column}\n")?),
+    })
 }
 
-/// No program was loaded of this main file.
-pub fn stopped(alloc: Global, main: &str, stop: &LoadStop) -> Result<Reply, AllocError>
-    ensures { IfOk result (λ reply. Answered main.now stop.now reply.status reply.text) }
+/// There is no file of the name.
+fn missing_file(alloc: Global, name: &str) -> Result<Reply, AllocError>
+    ensures { IfOk result (λ reply. reply ≡ missing_file name.now) }
 {
-    match stop {
-        LoadStop::Missing => missing(alloc, main),
-        LoadStop::Long(name) => long(alloc, name.as_str()),
-        LoadStop::Refused { file, fault: first } => {
-            fault(alloc, first.code, file.as_str(), first.place)
-        }
-        LoadStop::Shelf(name) => shelf(alloc, name.as_str()),
-        LoadStop::Memory => Err(AllocError),
+    Ok(Reply {
+        status: Status::FileUnusable,
+        text: Text::of(format!(in alloc; "missing {name}\n")?),
+    })
+}
+
+/// The file is longer than its limit.
+fn long_file(alloc: Global, name: &str) -> Result<Reply, AllocError>
+    ensures { IfOk result (λ reply. reply ≡ long_file name.now) }
+{
+    Ok(Reply {
+        status: Status::FileUnusable,
+        text: Text::of(format!(in alloc; "long {name}\n")?),
+    })
+}
+
+/// The shelf failed at the file.
+pub fn failed_shelf(alloc: Global, name: &str) -> Result<Reply, AllocError>
+    ensures { IfOk result (λ reply. reply ≡ failed_shelf name.now) }
+{
+    Ok(Reply {
+        status: Status::FileUnusable,
+        text: Text::of(format!(in alloc; "shelf {name}\n")?),
+    })
+}
+
+/// The source files of this main file are refused.
+pub fn refused_source(alloc: Global, main: &str, refusal: &Refusal) -> Result<Reply, AllocError>
+    ensures { IfOk result (λ reply. reply ≡ refused_source main.now refusal.now) }
+{
+    match refusal {
+        Refusal::Missing => missing_file(alloc, main),
+        Refusal::Long(name) => long_file(alloc, name.as_str()),
+        Refusal::Faulty { file, fault: first } => fault(alloc, file.as_str(), *first),
     }
 }

@@ -1,74 +1,75 @@
-ghost use Rattle.std.specs.Prelude.{◌≡◌, is_some, IfOk, List, ℕ, map, string_bytes};
+ghost use Rattle.std.specs.Prelude.{◌≡◌, IfOk, map, string_bytes};
 ghost use Rattle.command_words.specs.Seen.{asked_by};
 ghost use Rattle.command_words.specs.Words.{Wanted, request};
-ghost use Rattle.program_load.specs.Outcome.{SomeFiles};
-ghost use Rattle.scenario_tool.specs.Answers.{CountsOnce, Ends, Replies};
+ghost use Rattle.scenario_tool.specs.Answers.{AnswersOrShelfFails, CountsOnce, IsAnswered, SomeInputs};
 
 use crate::compile::compile;
-use crate::replies::{Reply, help, stopped, words as refused_words};
+use crate::replies::{Reply, done, failed_shelf, refused_source, words_refused};
+use crate::status::Status;
 use command_words::{GenerateWords, Request, read_words};
+use osc_base::Text;
 use outside_io::{Shelf, Sink, write_all};
-use program_load::load;
+use program_load::{LoadStop, load};
 use std::alloc::{AllocError, Global};
 
-/// The status where the sink failed.
-const SINK_FAILED: u8 = 7;
-/// The status where memory is missing.
-const NO_MEMORY: u8 = 8;
-
 /// Answers the words after the program's name: it reads the files that they name from `shelf`, writes its
-/// text to `out`, and gives the status with which the program ends.
+/// text to `out`, and returns the number with which the program ends.
 ///
-/// The definition `Ends` says which statuses and texts are allowed; `docs/FORMATS.md` lists them. Of a
-/// shelf that tells its files the answer is that of these files; of another, that of some files.
+/// The definition `IsAnswered` says which numbers and texts are right; `docs/FORMATS.md` lists them. If the
+/// shelf tells its files, the answer is that of these files, else that of some files.
 pub fn command<H: Shelf, K: Sink>(
     alloc: Global,
     words: &Vec<String>,
     shelf: &mut H,
     out: &mut K,
 ) -> u8
-    ensures ends { SomeFiles (H.files shelf.old) (λ files. Ends files (map string_bytes words.now.items)
-        (H.faults shelf.old) (H.faults shelf.new) (K.contents out.old) (K.contents out.new)
-        (K.faults out.old) (K.faults out.new) result) }
-    ensures files_kept { H.files shelf.new ≡ H.files shelf.old }
-    ensures telling_kept { is_some (K.contents out.new) ≡ is_some (K.contents out.old) }
+    ensures { IsAnswered (record {
+      words = map string_bytes words.now.items;
+      shelf_before = record { files = H.files shelf.old; faults = H.faults shelf.old };
+      shelf_after = record { files = H.files shelf.new; faults = H.faults shelf.new };
+      sink_before = record { contents = K.contents out.old; faults = K.faults out.old };
+      sink_after = record { contents = K.contents out.new; faults = K.faults out.new };
+      status = result;
+    }) }
 {
     let Ok(reply) = reply_to(alloc, words, shelf) else {
-        return NO_MEMORY;
+        return Status::OutOfMemory.number();
     };
     match write_all(out, reply.text.as_str().as_bytes()) {
-        Ok(()) => reply.status,
-        Err(_) => SINK_FAILED,
+        Ok(()) => reply.status.number(),
+        Err(_) => Status::SinkFailed.number(),
     }
 }
 
-/// The status and the text with which the words are answered.
+/// The reply to the words.
 fn reply_to<H: Shelf>(alloc: Global, words: &[String], shelf: &mut H) -> Result<Reply, AllocError>
-    ensures reply { IfOk result (λ reply. SomeFiles (H.files shelf.old) (λ files. Replies files (map string_bytes words.now)
-        (H.faults shelf.old) (H.faults shelf.new) reply.status reply.text)) }
+    ensures reply { IfOk result (λ reply. SomeInputs (H.files shelf.old) (λ inputs.
+        AnswersOrShelfFails inputs (request (map string_bytes words.now)) (H.faults shelf.old) (H.faults shelf.new) reply)) }
     ensures counted { CountsOnce (H.faults shelf.old) (H.faults shelf.new) }
     ensures files_kept { H.files shelf.new ≡ H.files shelf.old }
 {
     match read_words(alloc, words)? {
-        Request::Help(text) => help(alloc, text),
-        Request::Generate(asked) => reply_to_run(alloc, asked, shelf),
-        Request::Refused => refused_words(alloc),
+        Request::Help(text) => Ok(done(Text::copy(alloc, text)?)),
+        Request::Generate(asked) => reply_to_generate(alloc, asked, shelf),
+        Request::Refused => words_refused(alloc),
     }
 }
 
-/// The status and the text with which a run of a scenario of a file is answered.
-fn reply_to_run<H: Shelf>(
+/// The reply to what `generate` is asked for.
+fn reply_to_generate<H: Shelf>(
     alloc: Global,
     asked: GenerateWords<'_>,
     shelf: &mut H,
 ) -> Result<Reply, AllocError>
-    ensures reply { IfOk result (λ reply. (words : List (List ℕ)) → request words ≡ Wanted.Generate (asked_by asked.entry) →
-        SomeFiles (H.files shelf.old) (λ files. Replies files words (H.faults shelf.old) (H.faults shelf.new) reply.status reply.text)) }
+    ensures reply { IfOk result (λ reply. SomeInputs (H.files shelf.old) (λ inputs.
+        AnswersOrShelfFails inputs (Wanted.Generate (asked_by asked.entry)) (H.faults shelf.old) (H.faults shelf.new) reply)) }
     ensures counted { CountsOnce (H.faults shelf.old) (H.faults shelf.new) }
     ensures files_kept { H.files shelf.new ≡ H.files shelf.old }
 {
-    match load(alloc, shelf, asked.file) {
-        Ok(program) => compile(alloc, &program, asked.scenario),
-        Err(stop) => stopped(alloc, asked.file, &stop),
+    match load(alloc, shelf, asked.source.file) {
+        Ok(program) => compile(alloc, &program, asked.source),
+        Err(LoadStop::At(refusal)) => refused_source(alloc, asked.source.file, &refusal),
+        Err(LoadStop::Shelf(name)) => failed_shelf(alloc, name.as_str()),
+        Err(LoadStop::Memory) => Err(AllocError),
     }
 }

@@ -1,7 +1,8 @@
-use osc_base::{Row, Text};
-use outside_io::{MemoryShelf, MemorySink, NamedBytes};
+use osc_base::Row;
+use outside_io::{MemoryShelf, MemorySink};
 use scenario_tool::{command, one_answer, some_answer};
 use std::alloc::{AllocError, Global};
+use std::process::Abort;
 use std::test::Fail;
 
 const SOURCE: &str = "scenario top:\n    x: int\n    keep(x in [3..3])\n";
@@ -25,23 +26,7 @@ const SOUND: Outside<'static> = Outside {
     room: 4096,
 };
 
-fn shelf(
-    alloc: Global,
-    files: &[(&str, &[u8])],
-    failing: &[u64],
-) -> Result<MemoryShelf, AllocError> {
-    let mut held = Row::new(alloc);
-    for (name, bytes) in files {
-        held.push(NamedBytes {
-            name: Text::copy(alloc, name)?,
-            bytes: Row::of(Vec::from_slice(alloc, bytes)?),
-        })?;
-    }
-    let failing = Row::of(Vec::from_slice(alloc, failing)?);
-    Ok(MemoryShelf::new(held, 4096, failing))
-}
-
-/// The status with which the words are answered, and what is written, as a text.
+/// The status that `command` returns for the words, and what it writes, as one text.
 fn answer(
     alloc: Global,
     words: &[&str],
@@ -52,7 +37,7 @@ fn answer(
     for word in words {
         owned.push(String::from_str(alloc, word)?)?;
     }
-    let mut shelf = shelf(alloc, files, outside.shelf_failing)?;
+    let mut shelf = MemoryShelf::of(alloc, files, 4096, outside.shelf_failing)?;
     let failing = Row::of(Vec::from_slice(alloc, outside.sink_failing)?);
     let mut sink = MemorySink::new(alloc, outside.room, outside.most.max(1), failing)?;
     let status = command(alloc, &owned, &mut shelf, &mut sink);
@@ -62,9 +47,19 @@ fn answer(
 
 const GENERATE: [&str; 3] = ["generate", "main.osc", "top"];
 
+/// The answers to `generate main.osc top` over these sources.
+fn answers_are(rt: &(impl Abort + AllocGlobal), rows: &[(&str, &str)]) -> Result<(), Fail> {
+    for (source, want) in rows {
+        let main = [("main.osc", source.as_bytes())];
+        let got = answer(rt.alloc(), &GENERATE, &main, SOUND)?;
+        assert_eq!(rt; got.as_str(), *want, "{source}");
+    }
+    Ok(())
+}
+
 #[test]
-fn sources(rt: HostRuntime) -> Result<(), Fail> {
-    let rows: [(&str, &str); 37] = [
+fn sources_with_a_run(rt: HostRuntime) -> Result<(), Fail> {
+    let rows: [(&str, &str); 7] = [
         (
             SOURCE,
             "0 {\"choices\":[],\"end\":0,\"form\":1,\"phases\":[],\"traces\":[],\"values\":[[\"x\",3]]}\n",
@@ -89,6 +84,17 @@ fn sources(rt: HostRuntime) -> Result<(), Fail> {
             "scenario top\n",
             "0 {\"choices\":[],\"end\":0,\"form\":1,\"phases\":[],\"traces\":[],\"values\":[]}\n",
         ),
+        (
+            "scenario other\nscenario top\n",
+            "0 {\"choices\":[],\"end\":0,\"form\":1,\"phases\":[],\"traces\":[],\"values\":[]}\n",
+        ),
+    ];
+    answers_are(&rt, &rows)
+}
+
+#[test]
+fn sources_that_no_tree_spells(rt: HostRuntime) -> Result<(), Fail> {
+    let rows: [(&str, &str); 7] = [
         ("scenario top:\n\tx: int\n", "3 fault 102 main.osc:2:1\n"),
         (
             "scenario top:\n        x: int\n    y: int\n",
@@ -111,6 +117,13 @@ fn sources(rt: HostRuntime) -> Result<(), Fail> {
             "scenario top:\n    y: float\n    cover(y)\n",
             "3 fault 202 main.osc:3:5\n",
         ),
+    ];
+    answers_are(&rt, &rows)
+}
+
+#[test]
+fn sources_that_are_not_built(rt: HostRuntime) -> Result<(), Fail> {
+    let rows: [(&str, &str); 17] = [
         (
             "scenario top:\n    y: float\n",
             "3 fault 298 main.osc:2:5\n",
@@ -164,97 +177,109 @@ fn sources(rt: HostRuntime) -> Result<(), Fail> {
             "scenario top:\n    x: int\n    keep(x in [3..3])\n    x: int\n    keep(x in [3..3])\n",
             "3 fault 298 main.osc:4:5\n",
         ),
+        ("struct s\n", "3 fault 298 main.osc:1:1\n"),
+        ("scenario top inherits base\n", "3 fault 298 main.osc:1:1\n"),
+        (
+            "scenario other:\n    y: float\n",
+            "3 fault 298 main.osc:2:5\n",
+        ),
+    ];
+    answers_are(&rt, &rows)
+}
+
+#[test]
+fn sources_with_faulty_names(rt: HostRuntime) -> Result<(), Fail> {
+    let rows: [(&str, &str); 6] = [
         (
             "import osc.standard\nimport lib\nscenario top:\n    x: int\n    keep(x in [3..3])\n",
             "3 fault 301 main.osc:2:8\n",
         ),
-        ("struct s\n", "3 fault 298 main.osc:1:1\n"),
         ("scenario int\n", "3 fault 311 main.osc:1:10\n"),
-        ("scenario top inherits base\n", "3 fault 298 main.osc:1:1\n"),
-        (
-            "scenario other\nscenario top\n",
-            "0 {\"choices\":[],\"end\":0,\"form\":1,\"phases\":[],\"traces\":[],\"values\":[]}\n",
-        ),
         (
             "scenario top\nscenario top\n",
             "3 fault 311 main.osc:2:10\n",
         ),
         ("import lib.a\nscenario top\n", "3 fault 301 main.osc:1:8\n"),
-        (
-            "scenario other:\n    y: float\n",
-            "3 fault 298 main.osc:2:5\n",
-        ),
         ("", "3 fault 324 main.osc:1:1\n"),
         (
             "scenario other:\n    x: int\n    keep(x in [3..3])\n",
             "3 fault 324 main.osc:4:1\n",
         ),
     ];
-    for (source, want) in rows {
-        let got = answer(
-            rt.alloc(),
-            &GENERATE,
-            &[("main.osc", source.as_bytes())],
-            SOUND,
-        )?;
-        assert_eq!(rt; got.as_str(), want, "{source}");
+    answers_are(&rt, &rows)
+}
+
+#[test]
+fn words_that_are_refused(rt: HostRuntime) -> Result<(), Fail> {
+    let main = [("main.osc", SOURCE.as_bytes())];
+    let rows: [&[&str]; 9] = [
+        &[],
+        &["generate", "main.osc"],
+        &["generate", "-f", "top"],
+        &["generate", "main.osc", "-s"],
+        &["generate", "main.osc", "top", "--cuts", "0"],
+        &["--ticks=005", "generate", "main.osc"],
+        &["check", "main.osc", "top"],
+        &["gen", "main.osc", "top"],
+        &["", "main.osc", "top"],
+    ];
+    for words in rows {
+        assert_eq!(rt;
+            answer(rt.alloc(), words, &main, SOUND)?.as_str(),
+            "4 words\n"
+        );
     }
     Ok(())
 }
 
 #[test]
-fn words_and_files(rt: HostRuntime) -> Result<(), Fail> {
-    let alloc = rt.alloc();
-    let main = [("main.osc", SOURCE.as_bytes())];
-    let words = |words: &[&str]| answer(alloc, words, &main, SOUND);
-    assert_eq!(rt; words(&[])?.as_str(), "4 words\n");
-    assert_eq!(rt; words(&["generate", "main.osc"])?.as_str(), "4 words\n");
-    assert_eq!(rt; words(&["generate", "-f", "top"])?.as_str(), "4 words\n");
-    assert_eq!(rt;
-        words(&["generate", "main.osc", "-s"])?.as_str(),
-        "4 words\n"
-    );
-    assert_eq!(rt; words(&["check", "main.osc", "top"])?.as_str(), "4 words\n");
-    assert_eq!(rt; words(&["gen", "main.osc", "top"])?.as_str(), "4 words\n");
-    assert_eq!(rt; words(&["", "main.osc", "top"])?.as_str(), "4 words\n");
-    assert_eq!(rt;
-        words(&["generate", "none.osc", "top"])?.as_str(),
-        "6 missing none.osc\n"
-    );
-    assert_eq!(rt;
-        words(&["generate", "main.osc", "a.top", "--seed", "7"])?.as_str(),
-        "3 fault 324 main.osc:4:1\n"
-    );
-    assert_eq!(rt;
-        words(&["--ticks=005", "generate", "main.osc"])?.as_str(),
-        "4 words\n"
-    );
-    assert_eq!(rt;
-        words(&["generate", "main.osc", "top", "--cuts", "0"])?.as_str(),
-        "4 words\n"
-    );
-    assert_eq!(rt; words(&["--version", "x"])?.as_str(), "0 osc 0.1.0\n");
-    assert!(rt;
-        words(&["help"])?
-            .as_str()
-            .starts_with("0 osc reads a scenario")
-    );
-    let help = words(&["generate", "main.osc", "-h"])?;
-    assert!(rt; help.as_str().starts_with("0 osc generate reads"));
-    let long = vec![in alloc; b'#'; 1_048_577]?;
-    let got = answer(alloc, &GENERATE, &[("main.osc", long.as_slice())], SOUND)?;
-    assert_eq!(rt; got.as_str(), "6 long main.osc\n");
-    let got = answer(alloc, &GENERATE, &[("main.osc", &long[1..])], SOUND)?;
-    assert_eq!(rt; got.as_str(), "3 fault 324 main.osc:1:1048577\n");
-    let bytes = answer(
-        alloc,
-        &GENERATE,
-        &[("main.osc", b"#\xff".as_slice())],
-        SOUND,
-    )?;
-    assert_eq!(rt; bytes.as_str(), "3 fault 101 main.osc:1:2\n");
+fn words_that_ask_for_help(rt: HostRuntime) -> Result<(), Fail> {
+    let rows: [(&[&str], &str); 3] = [
+        (&["--version", "x"], "0 osc 0.1.0\n"),
+        (&["help"], "0 osc reads a scenario"),
+        (&["generate", "main.osc", "-h"], "0 osc generate reads"),
+    ];
+    for (words, want) in rows {
+        assert!(rt;
+            answer(rt.alloc(), words, &[], SOUND)?
+                .as_str()
+                .starts_with(want)
+        );
+    }
     one_answer();
     some_answer();
+    Ok(())
+}
+
+#[test]
+fn words_of_a_file_and_a_scenario(rt: HostRuntime) -> Result<(), Fail> {
+    let main = [("main.osc", SOURCE.as_bytes())];
+    let rows: [(&[&str], &str); 2] = [
+        (&["generate", "none.osc", "top"], "6 missing none.osc\n"),
+        (
+            &["generate", "main.osc", "a.top", "--seed", "7"],
+            "3 fault 324 main.osc:4:1\n",
+        ),
+    ];
+    for (words, want) in rows {
+        assert_eq!(rt; answer(rt.alloc(), words, &main, SOUND)?.as_str(), want);
+    }
+    Ok(())
+}
+
+#[test]
+fn long_files_and_bytes(rt: HostRuntime) -> Result<(), Fail> {
+    let alloc = rt.alloc();
+    let long = vec![in alloc; b'#'; 1_048_577]?;
+    let rows: [(&[u8], &str); 3] = [
+        (long.as_slice(), "6 long main.osc\n"),
+        (&long[1..], "3 fault 324 main.osc:1:1048577\n"),
+        (b"#\xff".as_slice(), "3 fault 101 main.osc:1:2\n"),
+    ];
+    for (bytes, want) in rows {
+        let got = answer(alloc, &GENERATE, &[("main.osc", bytes)], SOUND)?;
+        assert_eq!(rt; got.as_str(), want);
+    }
     Ok(())
 }
 

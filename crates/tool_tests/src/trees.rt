@@ -1,9 +1,10 @@
 use dsl_lexer::lex;
 use dsl_parser::parse;
-use dsl_tree::{Token, TokenKind, spell};
+use dsl_spell::spell;
+use dsl_tree::{Token, TokenKind};
 use std::test::Fail;
 
-/// A cut-in: two vehicles in two phases, one behind the other.
+/// A cut-in: two vehicles in two phases, one after the other.
 const CUT_IN: &str = "import osc.standard
 scenario top:
     ego: vehicle
@@ -29,7 +30,7 @@ scenario top:
                 position([5m..30m], ahead_of: ego, at: end)
 ";
 
-/// Whether two tokens are of one kind, with the same text or number.
+/// Whether two tokens are of one kind, with equal text or number.
 fn is_alike(one: &TokenKind, other: &TokenKind) -> bool {
     match (one, other) {
         (TokenKind::Newline, TokenKind::Newline)

@@ -35,8 +35,8 @@ literal_value number unit = plus (product (value number) (value unit.factor)) (v
 abbrev pub IsSlotValue : ℤ → Type 0
 IsSlotValue x = (negsuc 999999999 ≤ℤ x) × (x ≤ℤ pos 1000000000)
 
--- a literal is the number times the factor, plus the offset, to the nearest thousandth; there is none exactly where
--- one of these calls has no answer, or where the last leaves the slot's range
+-- a literal is the number times the factor, plus the offset, to the nearest thousandth; there is none exactly when
+-- one of these calls has no result, or when the last leaves the slot's range
 abbrev pub LiteralExactly : Fraction → Unit → Option ℤ → Type 0
 LiteralExactly number unit result =
     (scaled : Option Fraction) × MultipliesExactly number unit.factor scaled × MatchOption scaled (result ≡ None) (λ p.

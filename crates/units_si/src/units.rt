@@ -27,7 +27,7 @@ pub struct Unit {
 }
 
 impl Exponents {
-    /// The exponents of a product. `None` where one leaves -100 to 100.
+    /// The exponents of a product. `None` when one leaves -100 to 100.
     pub fn plus(&self, other: &Exponents) -> Option<Exponents>
         ensures { SomeIff result (AreExponents (each (λ x y. x +ℤ y) self.now other.now)) (each (λ x y. x +ℤ y) self.now other.now) }
     {
@@ -43,7 +43,7 @@ impl Exponents {
         })
     }
 
-    /// The exponents of a quotient. `None` where one leaves -100 to 100.
+    /// The exponents of a quotient. `None` when one leaves -100 to 100.
     pub fn minus(&self, other: &Exponents) -> Option<Exponents>
         ensures { SomeIff result (AreExponents (each (λ x y. x -ℤ y) self.now other.now)) (each (λ x y. x -ℤ y) self.now other.now) }
     {
@@ -72,7 +72,7 @@ fn difference(x: i8, y: i8) -> Option<i8>
     exponent(i16::from(x) - i16::from(y))
 }
 
-/// An exponent, where it is from -100 to 100.
+/// An exponent, if it is from -100 to 100.
 fn exponent(x: i16) -> Option<i8>
     ensures { SomeIff result (IsExponent x) x }
 {
@@ -86,7 +86,7 @@ fn exponent(x: i16) -> Option<i8>
 /// The slot value of a physical literal, a `number` in a `unit`: the nearest thousandth of the base unit, halves
 /// upward.
 ///
-/// `None` where one of `times`, `add` and `nearest_thousandth` answers `None`, or where the value leaves -1000000000 to
+/// `None` when one of `times`, `add` and `nearest_thousandth` returns `None`, or when the value leaves -1000000000 to
 /// 1000000000.
 pub fn literal(number: &Fraction, unit: &Unit) -> Option<i64>
     ensures exact { LiteralExactly number.now unit.now result }
@@ -97,7 +97,7 @@ pub fn literal(number: &Fraction, unit: &Unit) -> Option<i64>
     slot_value(moved.nearest_thousandth()?)
 }
 
-/// A slot value, where it is within its range.
+/// A slot value, if it is within its range.
 fn slot_value(count: i128) -> Option<i64>
     ensures { SomeIff result (IsSlotValue count) count }
 {

@@ -6,7 +6,7 @@ use Rattle.wake_ring.specs.contracts.block.Node.{the_row}
 use Rattle.wake_ring.specs.Addresses.{index_in, IsPlace}
 use Rattle.wake_ring.specs.Links.{Links}
 
--- the number of the node at p, where node 0 lies at a
+-- the number of the node at p, if node 0 is at a
 abbrev pub number_of : Ptr → Ptr → ℕ
 number_of a p = index_in the_row a p
 

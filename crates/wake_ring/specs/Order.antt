@@ -17,7 +17,7 @@ abbrev pub AllBelow : ℕ → List ℕ → Type 0
 AllBelow n [] = Unit {0}
 AllBelow n (x ∷ xs) = (x < n) × AllBelow n xs
 
--- among a, the numbers and z, in this order: what stands after x, or x itself where x is none of them
+-- among a, the numbers and z, in this order: what comes after x, or x itself if x is none of them
 abbrev pub after_in : ℕ → ℕ → List ℕ → ℕ → ℕ
 after_in x a [] z = if x == a then z else x
 after_in x a (b ∷ xs) z = if x == a then b else after_in x b xs z

@@ -12,7 +12,7 @@ use std::alloc::{AllocError, Allocator};
 use std::marker::{Model, PhantomData};
 use std::mem::{align_of, size_of};
 
-/// Where a place lies. It owns nothing.
+/// The address of a place. It owns nothing.
 pub struct Address<T> {
     pub(crate) ptr: *mut T,
 }
@@ -42,7 +42,7 @@ impl<T> Model for Places<T> {
     ghost also_shares = { λ p _ κ. places_lent T.row p.at p.slots κ };
 }
 
-/// The right to hand the block of `len` places at `at` back to `alloc`. It takes no space.
+/// The right to give the block of `len` places at `at` back to `alloc`. It takes no space.
 pub struct FreeRight<T, A: Allocator> {
     mark: PhantomData<*const (T, A)>,
     ghost at: { Ptr },
@@ -56,7 +56,7 @@ impl<T, A: Allocator> Model for FreeRight<T, A> {
     ghost also_shares = { λ _ _ _. ftrue };
 }
 
-/// A block of `len` empty places, or an error where there is no memory for it.
+/// A block of `len` empty places. Out of memory is its only error.
 pub(crate) fn allocate<T, A: Allocator>(
     alloc: &A,
     len: usize,

@@ -8,8 +8,7 @@ use crate::block::Block;
 use std::alloc::{AllocError, Global};
 use std::marker::Model;
 
-/// A queue of distinct numbers below a bound. Each call takes the same time whatever the queue holds, and only `new`
-/// takes memory.
+/// A queue of distinct numbers below a bound. Each call but `new` takes constant time, and only `new` allocates.
 #[derive(Drop)]
 pub struct WakeRing {
     block: Block,
@@ -30,7 +29,7 @@ impl Model for WakeRing {
 }
 
 impl WakeRing {
-    /// An empty queue for the numbers below `n`, or an error where there is no memory for it.
+    /// An empty queue for the numbers below `n`. Out of memory is its only error.
     pub fn new(alloc: Global, n: u32) -> Result<WakeRing, AllocError>
         ensures { IfOk result (λ r. r ≡ record { bound = n; items = [] }) }
     {
@@ -52,7 +51,7 @@ impl WakeRing {
         self.len
     }
 
-    /// Puts `i`, which is below the bound, last. Answers false where `i` is in the queue, which then stays as it is.
+    /// Puts `i`, which is below the bound, last. If `i` is in the queue already, it changes nothing and returns false.
     pub fn push_back(&mut self, i: u32) -> bool
         requires { i < self.old.bound }
         ensures there { result ≡ not (is_in i self.old.items) }
@@ -67,7 +66,7 @@ impl WakeRing {
         true
     }
 
-    /// Takes the first number, or answers `None` where the queue is empty.
+    /// Takes the first number. `None` exactly when the queue is empty.
     pub fn pop_front(&mut self) -> Option<u32>
         ensures first { result ≡ first self.old.items }
         ensures below { IfSome result (λ i. i < self.old.bound) }
@@ -82,8 +81,7 @@ impl WakeRing {
         Some(i)
     }
 
-    /// Takes `i`, which is below the bound, out of the queue. Answers false where it is not there, and the queue then
-    /// stays as it is.
+    /// Takes `i`, which is below the bound, out of the queue. If it isn't there, this changes nothing and returns false.
     pub fn remove(&mut self, i: u32) -> bool
         requires { i < self.old.bound }
         ensures there { result ≡ is_in i self.old.items }

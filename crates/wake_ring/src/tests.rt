@@ -21,7 +21,7 @@ fn keeps_distinct_numbers_in_order(rt: HostRuntime) -> Result<(), Fail> {
     Ok(())
 }
 
-/// What `push_back` is to answer, worked out on a plain list.
+/// What `push_back` has to return, worked out on a plain list.
 fn push_plain(list: &mut VecDeque<u32>, i: u32) -> Result<bool, Fail> {
     if list.contains(&i) {
         return Ok(false);
@@ -30,7 +30,7 @@ fn push_plain(list: &mut VecDeque<u32>, i: u32) -> Result<bool, Fail> {
     Ok(true)
 }
 
-/// What `remove` is to answer.
+/// What `remove` has to return.
 fn remove_plain(list: &mut VecDeque<u32>, i: u32) -> bool {
     match list.iter().position(|x| *x == i) {
         Some(at) => list.remove(at).is_some(),

@@ -56,7 +56,7 @@ fn declaration_place(declaration: &Declaration) -> Place
         Declaration::Unit(declared) => declared.place,
         Declaration::Enum(declared) => declared.place,
         Declaration::Compound(declared) => declared.place,
-        Declaration::MoreMembers(extension) => extension.place,
-        Declaration::MoreEnum(extension) => extension.place,
+        Declaration::MemberExtension(extension) => extension.place,
+        Declaration::EnumExtension(extension) => extension.place,
     }
 }

@@ -9,7 +9,7 @@ use Rattle.dsl_tree.proofs.Build.{along_start}
 use Rattle.dsl_tree.specs.Codes.{mark_code, word_code}
 use Rattle.dsl_tree.specs.Grammar.{Part}
 use Rattle.dsl_tree.specs.Reading.{NotTaken, Parsed, PartFault, Starts}
-use Rattle.dsl_tree.specs.Tables.{first}
+use Rattle.dsl_tree.specs.Lookahead.{first}
 use Rattle.dsl_tree.specs.Written.{operator_kind}
 use Rattle.dsl_tree.specs.declared.expr.Further.{Further}
 use Rattle.dsl_tree.specs.declared.expr.Suffix.{Suffix}
@@ -21,23 +21,23 @@ use Rattle.dsl_parser.proofs.expressions.+expressions.Goals as goal
 
 -- whole
 
-pub whole-returns-in_err-left-clause-fault : goal.whole-returns-in_err-left-clause-fault
-whole-returns-in_err-left-clause-fault t c =
+pub expression-returns-in_err-left-clause-fault : goal.expression-returns-in_err-left-clause-fault
+expression-returns-in_err-left-clause-fault t c =
     exits c.from_residual.result c.in_err-left.field-0.0 (PartFault Part.Or c.args.tokens.now) (PartFault Part.Expr c.args.tokens.now)
     c.in_err-left.ensures.fault c.from_residual.ensures.1 (λ left fault. left_fault Part.Expr Part.Or Part.ImpliesTail Part.Or (first Part.ImpliesTail) c.args.tokens.now left signed_expr fault)
 
-pub whole-returns-in_default-clause-ok : goal.whole-returns-in_default-clause-ok
-whole-returns-in_default-clause-ok t c = read_left c.in_ok-left.left c.args.tokens.now c.in_ok-left.rest.now c.in_ok-left.ensures.ok c.in_default.ensures.none
+pub expression-returns-in_default-clause-ok : goal.expression-returns-in_default-clause-ok
+expression-returns-in_default-clause-ok t c = read_left c.in_ok-left.left c.args.tokens.now c.in_ok-left.rest.now c.in_ok-left.ensures.ok c.in_default.ensures.none
 
-pub whole-returns-in_err-right-clause-fault : goal.whole-returns-in_err-right-clause-fault
-whole-returns-in_err-right-clause-fault t c =
+pub expression-returns-in_err-right-clause-fault : goal.expression-returns-in_err-right-clause-fault
+expression-returns-in_err-right-clause-fault t c =
     exits c.from_residual-in_err-right.result c.in_err-right.field-0.0 (PartFault Part.Or c.in-Some.behind.now) (PartFault Part.Expr c.args.tokens.now)
     c.in_err-right.ensures.fault c.from_residual-in_err-right.ensures.1
     (λ left fault. right_fault Part.Expr Part.Or Part.ImpliesTail Part.Or (first Part.ImpliesTail) (at_level 1 c.in_ok-left.left) c.in-Some.place (TokenKind.Mark MarkKind.Arrow) c.args.tokens.now c.in_ok-left.rest.now c.in-Some.behind.now left signed_expr
     c.in_ok-left.ensures.ok c.in-Some.ensures.some refl fault)
 
-pub whole-returns-clause-ok : goal.whole-returns-clause-ok
-whole-returns-clause-ok t c =
+pub expression-returns-clause-ok : goal.expression-returns-clause-ok
+expression-returns-clause-ok t c =
     read_implies c.in-Some.place c.in_ok-left-2.left c.in_ok-right-2.right c.in_ok-left.left c.in_ok-right.right c.args.tokens.now c.in_ok-left.rest.now c.in-Some.behind.now c.in_ok-right.rest.now
     c.in_ok-left-2.ensures c.in_ok-right-2.ensures c.in_ok-left.ensures.ok c.in-Some.ensures.some c.in_ok-right.ensures.ok
 

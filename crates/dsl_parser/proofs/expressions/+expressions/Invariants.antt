@@ -11,8 +11,8 @@ use Rattle.dsl_parser.proofs.expressions.+expressions.Given as goal
 
 -- Each reader calls only others of a lower rank before it has read a token.
 
-abbrev pub decreases-whole : goal.decreases-whole
-decreases-whole l = 24 * length l.tokens.now + 20
+abbrev pub decreases-expression : goal.decreases-expression
+decreases-expression l = 24 * length l.tokens.now + 20
 
 abbrev pub decreases-item : goal.decreases-item
 decreases-item l = 24 * length l.tokens.now + rank l.level

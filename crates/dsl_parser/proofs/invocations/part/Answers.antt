@@ -1,6 +1,6 @@
 use Rattle.std.proofs.Common.{inl, inr, refl, sym, ◌∙◌}
 use Rattle.dsl_tree.specs.Grammar.{Part}
-use Rattle.dsl_tree.specs.Tables.{first}
+use Rattle.dsl_tree.specs.Lookahead.{first}
 use Rattle.dsl_parser.proofs.Loops.{parsed_part}
 use Rattle.dsl_parser.proofs.Stopping.{raise, stop_part, stop_rest, stop_rule}
 use Rattle.dsl_parser.proofs.invocations.part.Goals as goal

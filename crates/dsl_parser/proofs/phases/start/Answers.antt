@@ -1,7 +1,7 @@
 use Rattle.std.proofs.Common.{[], inl, inr, refl, sym, ◌++◌, ◌∙◌, ◌∷◌}
 use Rattle.dsl_tree.specs.Codes.{word_code}
 use Rattle.dsl_tree.specs.Grammar.{Part}
-use Rattle.dsl_tree.specs.Tables.{first}
+use Rattle.dsl_tree.specs.Lookahead.{first}
 use Rattle.dsl_tree.specs.declared.token.WordKind.{WordKind}
 use Rattle.dsl_parser.proofs.PhaseForms.{plain_actor, plain_opens, plain_waits, started}
 use Rattle.dsl_parser.proofs.Stopping.{later_name, later_seen, raise, stop_part, stop_read, stop_rest, stop_rule, stop_seen, stops_both}

@@ -1,7 +1,7 @@
 use Rattle.std.proofs.Common.{[], inl, inr, refl, sym, ◌++◌, ◌∙◌, ◌∷◌}
 use Rattle.dsl_tree.specs.Codes.{word_code}
 use Rattle.dsl_tree.specs.Grammar.{Part}
-use Rattle.dsl_tree.specs.Tables.{first}
+use Rattle.dsl_tree.specs.Lookahead.{first}
 use Rattle.dsl_tree.specs.declared.token.WordKind.{WordKind}
 use Rattle.dsl_parser.proofs.PhaseForms.{head_fits, label_actor, label_name, label_opens, label_waits, no_head}
 use Rattle.dsl_parser.proofs.Stopping.{later_seen, raise, stop_part, stop_read, stop_rest, stop_rule, stop_seen, stops_both}

@@ -7,7 +7,7 @@ use Rattle.dsl_tree.specs.declared.token.MarkKind.{MarkKind}
 use Rattle.dsl_tree.proofs.Build.{parsed_full}
 use Rattle.dsl_parser.proofs.Stopping.{later_bare, raise, stop_part, stop_read, stop_rest}
 use Rattle.dsl_parser.proofs.Loops.{loop_last, loop_step, loop_stop}
-use Rattle.dsl_parser.proofs.UnitRows.{ends, more_bases, with_ends}
+use Rattle.dsl_parser.proofs.UnitRows.{end_codes, more_bases, with_ends}
 use Rattle.dsl_parser.proofs.units.unit_tail.Goals as goal
 
 pub returns-in_err-found-clause-fault : goal.returns-in_err-found-clause-fault
@@ -20,7 +20,7 @@ returns-in-Some-2-clause-ok c = loop_last _ _ _ _ _ _ _ _ (c.loop-next.invariant
 pub returns-in_err-item-clause-fault : goal.returns-in_err-item-clause-fault
 returns-in_err-item-clause-fault c = raise _ _ _ c.from_residual-in_err-item.ensures (loop_stop _ _ _ _ _ _ _ _ (c.loop-next.invariant.going nil)
     (stop_read Part.UnitTail _ _ _ _ _ _ (inr (inl refl)) refl c.in-Some.ensures.some refl (later_bare _ _ _ _ _ _ _ c.in-Some.ensures.some refl (stop_part _ _ _ _ refl
-    (stop_rest Part.UnitMore _ ends _ _ (inl refl) refl refl refl refl (rw c.in_default-2.is at c.in_ok-found.ensures.none) (stop_part _ _ _ _ refl c.in_err-item.ensures.fault))))))
+    (stop_rest Part.UnitMore _ end_codes _ _ (inl refl) refl refl refl refl (rw c.in_default-2.is at c.in_ok-found.ensures.none) (stop_part _ _ _ _ refl c.in_err-item.ensures.fault))))))
 
 pub loop-next-preserved : goal.loop-next-preserved
 loop-next-preserved c = record {

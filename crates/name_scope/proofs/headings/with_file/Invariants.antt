@@ -1,5 +1,5 @@
 use Rattle.std.proofs.Common.{◌≡◌, ◌++◌, take, drop}
-use Rattle.name_scope.specs.FaultRows.{first_from}
+use Rattle.osc_base.specs.FaultRows.{first_from}
 use Rattle.name_scope.specs.Headings.{declarations, rows_behind}
 use Rattle.name_scope.proofs.headings.with_file.Given as goal
 

@@ -1,5 +1,5 @@
 use Rattle.std.proofs.Common.{◌≡◌, ◌≤◌, drop, take, length}
-use Rattle.name_scope.specs.Loading.{first_import_fault, with_imports}
+use Rattle.name_scope.specs.FileNumbers.{first_import_fault, with_imports}
 use Rattle.name_scope.proofs.names.number_imports.Given as goal
 
 abbrev pub invariant-loop-import : goal.invariant-loop-import

@@ -1,5 +1,5 @@
 use Rattle.std.proofs.Common.{◌≡◌, drop}
-use Rattle.name_scope.specs.Loading.{first_mention}
+use Rattle.name_scope.specs.FileNumbers.{first_mention}
 use Rattle.name_scope.specs.Wanted.{file_name}
 use Rattle.name_scope.proofs.program.place_in.Given as goal
 

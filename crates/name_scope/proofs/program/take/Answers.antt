@@ -1,5 +1,5 @@
 use Rattle.std.proofs.Common.{◌≡◌, ◌∙◌, ◌≤◌, sym, ap₂, subst, length}
-use Rattle.name_scope.specs.Loading.{AddedFile, with_imports, names_before}
+use Rattle.name_scope.specs.FileNumbers.{AddedFile, with_imports, names_before}
 use Rattle.name_scope.specs.Sources.{IsProgram}
 use Rattle.name_scope.proofs.Numbering.{grown}
 use Rattle.name_scope.proofs.program.take.Goals as goal

@@ -1,5 +1,5 @@
 use Rattle.std.proofs.Common.{◌≡◌, ◌-◌, length}
-use Rattle.name_scope.specs.Loading.{wanted_name}
+use Rattle.name_scope.specs.FileNumbers.{wanted_name}
 use Rattle.program_load.specs.Loading.{next_name}
 use Rattle.program_load.proofs.Invariant.{Loads}
 use Rattle.program_load.proofs.loader.load.Given as goal

@@ -1,5 +1,5 @@
-use Rattle.program_load.specs.Reading.{syntactic}
-use Rattle.program_load.proofs.Reading.{ended}
+use Rattle.program_load.specs.SourceReading.{syntactic}
+use Rattle.program_load.proofs.SourceReading.{ended}
 use Rattle.program_load.proofs.read.read.Goals as goal
 
 pub parse-requires : goal.parse-requires

@@ -1,6 +1,6 @@
 use Rattle.std.proofs.Common.{◌∙◌, sym, ap}
 use Rattle.std.specs.Prelude.{option_copied}
-use Rattle.name_scope.specs.Loading.{AddedFile}
+use Rattle.name_scope.specs.FileNumbers.{AddedFile}
 use Rattle.scenario_tool.proofs.Compiled.{asked_of_main}
 use Rattle.scenario_tool.proofs.compile.no_scenario.Goals as goal
 

@@ -1,4 +1,4 @@
-use Rattle.program_load.proofs.Reading.{ended}
+use Rattle.program_load.proofs.SourceReading.{ended}
 use Rattle.tool_tests.proofs.trees.spelled_again.Goals as goal
 
 pub parse-requires : goal.parse-requires

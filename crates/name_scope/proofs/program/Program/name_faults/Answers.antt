@@ -1,7 +1,7 @@
 use Rattle.std.proofs.Common.{◌≡◌, ◌∙◌, sym, ap, subst}
-use Rattle.name_scope.specs.FaultRows.{IsFault, IsFirst, first_fault}
+use Rattle.osc_base.specs.FaultRows.{IsFault, IsFirst, first_fault}
 use Rattle.name_scope.specs.Headings.{heading_rows}
-use Rattle.name_scope.proofs.Firsts.{is_first}
+use Rattle.osc_base.proofs.FaultRows.{is_first}
 use Rattle.name_scope.proofs.program.Program.name_faults.Goals as goal
 
 pub returns-clause-least : goal.returns-clause-least

@@ -1,6 +1,6 @@
 use Rattle.std.proofs.Common.{◌≡◌, ◌∙◌, ap}
 use Rattle.std.specs.Option.{is_some}
-use Rattle.name_scope.specs.Loading.{first_mention, mention_of, wanted_mention}
+use Rattle.name_scope.specs.FileNumbers.{first_mention, mention_of, wanted_mention}
 use Rattle.name_scope.specs.Wanted.{file_name}
 use Rattle.name_scope.proofs.Mentions.{wanted_mentioned}
 use Rattle.name_scope.proofs.program.Program.wanted_place.Goals as goal

@@ -1,0 +1,16 @@
+//! The messages for people that `osc` writes to standard error when it refuses.
+//!
+//! A message explains the line that was written to standard output. No contract speaks of its text: what is proved is
+//! that it is made safely, and that nothing else depends on it.
+#![tactic(auto)]
+
+mod candidates;
+mod excerpt;
+mod expected;
+mod message;
+mod noted_sink;
+mod refusal;
+mod told;
+
+pub use noted_sink::NotedSink;
+pub use refusal::{refusal_message, status_message};

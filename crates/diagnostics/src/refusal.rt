@@ -1,0 +1,187 @@
+//! The message for a call that was refused.
+
+use crate::excerpt::line_start;
+use crate::expected::expected;
+use crate::message::{gutter_of, put_help, put_site};
+use crate::told::{Spot, Told, told_by};
+use command_words::{Request, read_words};
+use fault_texts::{Status, fault_text, status_text};
+use name_scope::library_text;
+use osc_base::{FaultCode, Row};
+use outside_io::{ReadStop, Shelf, read_all};
+use std::alloc::{AllocError, Global};
+
+/// The longest source, in bytes.
+const SOURCE_LIMIT: usize = 1_048_576;
+/// The last status that is an answer to what was asked.
+const LAST_ANSWER: u8 = 2;
+
+/// The message for a call that ended with the status `number`, after it wrote `note` to standard output.
+///
+/// It is empty if nothing was refused. The source of a fault is read again from the shelf; if that fails, the message has no
+/// excerpt.
+pub fn refusal_message<H: Shelf>(
+    alloc: Global,
+    words: &[String],
+    number: u8,
+    note: &[u8],
+    shelf: &mut H,
+) -> Result<String, AllocError> {
+    if number == Status::Sink.number() {
+        return status_message(alloc, Status::Sink);
+    }
+    if number <= LAST_ANSWER {
+        return Ok(String::new(alloc));
+    }
+    match str::from_utf8(note) {
+        Ok(line) => line_message(alloc, words, line, shelf),
+        Err(_) => Ok(String::new(alloc)),
+    }
+}
+
+/// The message for the line with which a call refused.
+fn line_message<H: Shelf>(
+    alloc: Global,
+    words: &[String],
+    line: &str,
+    shelf: &mut H,
+) -> Result<String, AllocError> {
+    match told_by(line) {
+        Told::Fault(spot) => fault_message(alloc, spot, shelf),
+        Told::Missing(name) => file_message(alloc, "there is no file ", name),
+        Told::Long(name) => file_message(
+            alloc,
+            "a source has at most 1048576 bytes, unlike ",
+            name,
+        ),
+        Told::Shelf(name) => file_message(alloc, "the system can't read ", name),
+        Told::Words => words_message(alloc, words),
+        Told::Other => Ok(String::new(alloc)),
+    }
+}
+
+/// The message for a status of which there is nothing more to say than its text.
+pub fn status_message(alloc: Global, status: Status) -> Result<String, AllocError> {
+    let title = status_text(status).title;
+    let mut text = format!(in alloc; "error: {title}\n")?;
+    put_status(&mut text, status)?;
+    Ok(text)
+}
+
+/// The message for a fault of a source.
+fn fault_message<H: Shelf>(
+    alloc: Global,
+    spot: Spot<'_>,
+    shelf: &mut H,
+) -> Result<String, AllocError> {
+    let source = source_of(alloc, spot.file, shelf)?;
+    let source = match &source {
+        Some(source) => Some(source.as_slice()),
+        None => None,
+    };
+    let label = label_of(alloc, spot, source)?;
+    let gutter = gutter_of(spot.line);
+    let mut text = String::new(alloc);
+    put_head(&mut text, spot.code)?;
+    put_site(alloc, &mut text, gutter, &spot, source, label.as_str())?;
+    put_tail(&mut text, gutter, spot.code)?;
+    Ok(text)
+}
+
+fn put_head(text: &mut String, code: FaultCode) -> Result<(), AllocError> {
+    let (number, title) = (code.number(), fault_text(code).title);
+    write!(text, "error[{number}]: {title}\n")
+}
+
+fn put_tail(text: &mut String, gutter: usize, code: FaultCode) -> Result<(), AllocError> {
+    put_help(text, gutter, fault_text(code).mending)?;
+    put_explain(text, gutter, code.number())
+}
+
+fn put_explain(text: &mut String, gutter: usize, number: u16) -> Result<(), AllocError> {
+    for _column in 0..gutter {
+        text.push(' ')?;
+    }
+    write!(text, "  = help: docs/FORMATS.md tells more of {number}\n")
+}
+
+/// The bytes of the file of this name, if they can be read again.
+fn source_of<H: Shelf>(
+    alloc: Global,
+    name: &str,
+    shelf: &mut H,
+) -> Result<Option<Row<u8>>, AllocError> {
+    match shelf.fetch(name) {
+        Ok(true) => {}
+        Ok(false) if name == "osc" => return library(alloc),
+        _ => return Ok(None),
+    }
+    match read_all(alloc, shelf, SOURCE_LIMIT) {
+        Ok(source) => Ok(Some(source)),
+        Err(ReadStop::Memory) => Err(AllocError),
+        Err(_) => Ok(None),
+    }
+}
+
+fn library(alloc: Global) -> Result<Option<Row<u8>>, AllocError> {
+    let source = Vec::from_slice(alloc, library_text().as_bytes())?;
+    Ok(Some(Row::of(source)))
+}
+
+/// What there is to say of the marked part of a source.
+fn label_of(alloc: Global, spot: Spot<'_>, source: Option<&[u8]>) -> Result<String, AllocError> {
+    let label = String::new(alloc);
+    let Some(source) = source else {
+        return Ok(label);
+    };
+    if spot.code != FaultCode::Syntax {
+        return Ok(label);
+    }
+    let Some(start) = line_start(source, spot.line) else {
+        return Ok(label);
+    };
+    let at = start.saturating_add((spot.column as usize).saturating_sub(1));
+    expected(alloc, source, at)
+}
+
+/// The message for a file that can't be had.
+fn file_message(alloc: Global, what: &str, name: &str) -> Result<String, AllocError> {
+    let mut text = format!(in alloc; "error: {what}`{name}`\n")?;
+    put_status(&mut text, Status::Shelf)?;
+    Ok(text)
+}
+
+fn put_status(text: &mut String, status: Status) -> Result<(), AllocError> {
+    put_help(text, 0, status_text(status).mending)?;
+    put_explain(text, 0, u16::from(status.number()))
+}
+
+/// The message for words that are refused.
+fn words_message(alloc: Global, words: &[String]) -> Result<String, AllocError> {
+    let mut text = words_head(alloc, words)?;
+    put_status(&mut text, Status::Words)?;
+    Ok(text)
+}
+
+fn words_head(alloc: Global, words: &[String]) -> Result<String, AllocError> {
+    let Some(first) = words.first() else {
+        return String::from_str(alloc, "error: there is no command\n");
+    };
+    let word = first.as_str();
+    if is_command(alloc, word)? {
+        format!(in alloc; "error: `osc {word}` doesn't take these words\n")
+    } else {
+        format!(in alloc; "error: `{word}` is no command\n")
+    }
+}
+
+/// Whether there is help on a command of this name.
+fn is_command(alloc: Global, word: &str) -> Result<bool, AllocError> {
+    let mut words = Vec::new(alloc);
+    words.push(String::from_str(alloc, word)?)?;
+    words.push(String::from_str(alloc, "--help")?)?;
+    match read_words(alloc, words.as_slice())? {
+        Request::Help(_) => Ok(true),
+        _ => Ok(false),
+    }
+}

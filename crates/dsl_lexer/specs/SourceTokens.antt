@@ -1,0 +1,110 @@
+-- Which tokens a source has, and which faults.
+use Rattle.std.specs.Prelude.{ℕ, ◌+◌, ◌<◌, ◌≤◌, ◌≢◌, ◌≡◌, Bool, true, false, IsTrue, IsSome, List, [], ◌∷◌, ◌++◌, length, drop, Some, None, ◌⊎◌}
+use Rattle.std.specs.Str.{IsUtf8, IsValidUpTo}
+use Rattle.osc_base.specs.declared.fault.FaultCode.{FaultCode}
+use Rattle.osc_base.specs.declared.fault.Fault.{Fault}
+use Rattle.osc_base.specs.FaultRows.{IsNoLater}
+use Rattle.dsl_tree.specs.declared.token.Token.{Token}
+use Rattle.dsl_tree.specs.declared.token.TokenKind.TheVariants.{End}
+use Rattle.osc_base.specs.declared.stop.Stop.{Stop}
+use Rattle.osc_base.specs.declared.stop.Stop.TheVariants.{At, Memory}
+use Rattle.dsl_lexer.specs.Bytes.{is_quote, begins_control, place_at}
+use Rattle.dsl_lexer.specs.Shapes.{NumberShape, StringShape, is_lexeme}
+use Rattle.dsl_lexer.specs.Kinds.{kind_of}
+use Rattle.dsl_lexer.specs.Pieces.{Piece, reach, Stands, Cut, IsStuck, IsContent}
+use Rattle.dsl_lexer.specs.Layout.{line, width, widths, opened, fits, has_lexeme, begins_line, first_tab, depth, tokens, last_tokens, placed}
+
+-- a control character stands at index i of the text
+pub record HasControl (text : List ℕ) (i : ℕ) : Type 0 where
+  pub byte : ℕ
+  pub more : List ℕ
+  pub split : drop i text ≡ byte ∷ more
+  pub control : IsTrue (begins_control byte more)
+
+-- the first token of a line has no tab before it in the line, and the line's width fits
+pub record IsLaidOut (before : List Piece) : Type 0 where
+  pub no_tab : first_tab (line before) ≡ None
+  pub fitting : IsTrue (fits (width (line before)) (opened (widths before)))
+
+-- what the rules ask of a piece behind those before it
+pub record IsSound (p : Piece) (before : List Piece) : Type 0 where
+  pub laid_out : IsTrue (begins_line p before) → IsLaidOut before
+  pub token : IsTrue (is_lexeme p.shape) → IsSome (kind_of p.shape p.text)
+  pub no_control : p.shape ≡ StringShape → (i : ℕ) → HasControl p.text i → ⊥
+  pub shallow : depth (p ∷ before) ≤ 64
+
+abbrev pub AreSound : List Piece → Type 0
+AreSound [] = Unit {0}
+AreSound (p ∷ before) = IsSound p before × AreSound before
+
+-- The token list cuts the bytes: they are UTF-8 and a sequence of sound pieces, and these are its tokens.
+pub record TokensCut (file : ℕ) (bytes : List ℕ) (found : List Token) : Type 0 where
+  pub pieces : List Piece
+  pub utf8 : IsUtf8 bytes
+  pub cut : Cut bytes pieces []
+  pub sound : AreSound pieces
+  pub tokens : found ≡ placed file bytes 0 (tokens pieces ++ last_tokens pieces)
+
+-- rest begins with the content of a logical line: its first byte that is no space, tab, comment, line end or joined line end
+pub record BeginsContent (before : List Piece) (rest : List ℕ) : Type 0 where
+  pub first : has_lexeme (line before) ≡ false
+  pub content : IsContent rest
+
+-- the piece p stands next behind those before it
+pub record IsNext (before : List Piece) (rest : List ℕ) (p : Piece) : Type 0 where
+  pub behind : List ℕ
+  pub split : rest ≡ p.text ++ behind
+  pub stands : Stands before p behind
+
+abbrev pub begins_with : (ℕ → Bool) → List ℕ → Bool
+begins_with test [] = false
+begins_with test (b ∷ more) = test b
+
+-- a fault at offset n: the pieces are those before it, and rest is what stands behind them
+pub data FaultBehind (bytes : List ℕ) (before : List Piece) (rest : List ℕ) (n : ℕ) (code : FaultCode) : Type 0 where
+  -- the first byte that begins no whole character
+  bad_byte : code ≡ FaultCode.Utf8 → IsValidUpTo bytes n → reach before ≤ n
+      → ((p : Piece) → IsNext before rest p → n < reach before + length p.text) → FaultBehind bytes before rest n code
+  -- the first tab in the white space before the content of a logical line
+  early_tab : code ≡ FaultCode.Tab → BeginsContent before rest → first_tab (line before) ≡ Some n → FaultBehind bytes before rest n code
+  -- a width that is neither opened nor greater than all opened ones
+  bad_width : code ≡ FaultCode.Indent → n ≡ reach before → BeginsContent before rest → fits (width (line before)) (opened (widths before)) ≡ false → FaultBehind bytes before rest n code
+  -- a byte at which no piece begins, and no quote
+  no_piece : code ≡ FaultCode.Character → n ≡ reach before → IsStuck rest → begins_with is_quote rest ≡ false → FaultBehind bytes before rest n code
+  -- a control character in a string
+  bad_control : (p : Piece) (i : ℕ) → code ≡ FaultCode.Character → IsNext before rest p → p.shape ≡ StringShape → HasControl p.text i → n ≡ reach before + i → FaultBehind bytes before rest n code
+  -- a quote that no string begins with
+  no_string : code ≡ FaultCode.Text → n ≡ reach before → IsStuck rest → begins_with is_quote rest ≡ true → FaultBehind bytes before rest n code
+  -- a number with too many digits, `0x` without a digit, a word directly behind a decimal number, or another name
+  -- character directly behind a hexadecimal one
+  no_number : (p : Piece) → code ≡ FaultCode.Number → n ≡ reach before → IsNext before rest p → p.shape ≡ NumberShape → kind_of p.shape p.text ≡ None → FaultBehind bytes before rest n code
+  -- an opening bracket or INDENT that makes more than 64 open brackets and opened blocks together
+  too_deep : (p : Piece) → code ≡ FaultCode.Deep → n ≡ reach before → IsNext before rest p → depth before < depth (p ∷ before) → 64 < depth (p ∷ before) → FaultBehind bytes before rest n code
+
+-- A fault at offset n, behind so many tokens: those that the pieces before it bring, without the INDENT, DEDENTs and
+-- NEWLINE of its own line that are still to come. The faults are those up to the first byte at which no piece begins:
+-- what stands behind it isn't cut.
+pub record FaultAt (bytes : List ℕ) (n : ℕ) (code : FaultCode) (count : ℕ) : Type 0 where
+  pub before : List Piece
+  pub rest : List ℕ
+  pub cut : Cut bytes before rest
+  pub fault : FaultBehind bytes before rest n code
+  pub counted : count ≡ length (tokens before)
+
+-- the first fault: no other has a lesser place, or the same place and a lesser code
+pub record IsFirstFault (file : ℕ) (bytes : List ℕ) (fault : Fault) : Type 0 where
+  pub at : ℕ
+  pub count : ℕ
+  pub is_fault : FaultAt bytes at fault.code count
+  pub place : fault.place ≡ place_at file bytes at count
+  pub first : (n : ℕ) (code : FaultCode) (tokens : ℕ) → FaultAt bytes n code tokens → IsNoLater at fault.code n code
+
+-- no token list cuts the bytes
+abbrev pub IsUncut : ℕ → List ℕ → Type 0
+IsUncut file bytes = (found : List Token) → TokensCut file bytes found → ⊥
+
+-- the last token, and no other, is END
+abbrev pub EndsOnce : List Token → Type 0
+EndsOnce [] = ⊥
+EndsOnce (t ∷ []) = t.kind ≡ End
+EndsOnce (t ∷ u ∷ more) = (t.kind ≢ End) × EndsOnce (u ∷ more)

@@ -1,0 +1,6 @@
+mod Rows
+mod WrittenTokens
+mod ExprTokens
+mod PhaseTokens
+mod FileTokens
+mod Spellings

@@ -1,0 +1,18 @@
+use Rattle.std.proofs.Common.{◌-◌, take, drop, length}
+use Rattle.dsl_tree.specs.declared.token.MarkKind.{MarkKind}
+use Rattle.dsl_spell.specs.TreeTokens.{mark, behind_comma, ident}
+use Rattle.dsl_spell.proofs.Rows.{row_more_twice, two_more, comma_all}
+use Rattle.dsl_spell.proofs.spell_file.push_names.Goals as goal
+
+pub others-preserved : goal.others-preserved
+others-preserved c =
+    row_more_twice (behind_comma c.args.at) ident (take (length c.args.names.now - 1) (drop 1 c.args.names.now)) c.others.name-index c.name-item.result
+    c.push_ident.new.tokens c.others.tokens c.push_ident-in-others.new.tokens c.others.invariant
+    (two_more c.others.tokens (mark c.args.at MarkKind.Comma) c.push_mark.new.tokens (ident c.name-item.result) c.push_ident-in-others.new.tokens
+    c.in_ok-push_mark-in-len1-up.ensures c.in_ok-push_ident-in-len1-up-2.ensures)
+    c.others-test.true c.name-item.is
+
+pub returns-after-others : goal.returns-after-others
+returns-after-others c =
+    comma_all c.args.at ident c.args.names.now c.others.name-index c.first-item.result c.args.tokens.now c.push_ident.new.tokens c.others.tokens
+    c.in-len1-up.len_at_least c.first-item.is c.in_ok-push_ident-in-len1-up.ensures c.others-test.false c.others.invariant

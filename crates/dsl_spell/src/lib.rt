@@ -1,0 +1,9 @@
+//! Writes a tree as the tokens that it is spelled by.
+#![tactic(auto)]
+
+mod spell_expr;
+mod spell_file;
+mod spell_phase;
+mod spell_tree;
+
+pub use spell_tree::spell;

@@ -1,6 +1,0 @@
-use Rattle.std.proofs.Common.{◌≡◌, ◌++◌, map, take}
-use Rattle.dsl_tree.specs.Words.{joined, phase_words}
-use Rattle.dsl_tree.proofs.spell_phase.+spelling_phases.Given as goal
-
-abbrev pub invariant-push_phases-phases : goal.invariant-push_phases-phases
-invariant-push_phases-phases l = l.tokens ≡ l.fn.tokens ++ joined (map (phase_words l.at) (take l.phase-index l.phases))

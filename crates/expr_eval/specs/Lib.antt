@@ -1,0 +1,12 @@
+pub mod Kinds
+pub mod Typed
+pub mod Value
+pub mod Scope
+pub mod Sizes
+pub mod Parts
+pub mod Names
+pub mod Operators
+pub mod Fits
+pub mod Typing
+pub mod Sound
+pub mod Means

@@ -1,0 +1,4 @@
+pub mod Said
+pub mod Table
+pub mod Topics
+pub mod Explained

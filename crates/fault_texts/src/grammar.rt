@@ -1,0 +1,64 @@
+//! The texts of the codes from 201 on, the faults of a file's tokens.
+
+use crate::form::{Texts, texts};
+
+pub(crate) const SYNTAX: Texts = texts! {
+    title: "no file goes on with this token",
+    meaning: [
+        "The tokens before this one begin some file of the grammar. With this one they",
+        "begin none, whatever follows. The fault stands at the first such token. So the",
+        "mistake is here or a little earlier, for example a bracket that isn't closed",
+        "or a missing colon.",
+    ],
+    example: [
+        "scenario top:",
+        "    x: int",
+        "    keep(x in [1..2)",
+    ],
+    answer: "fault 201 main.osc:3:20",
+    mending: [
+        "See that each bracket before this place is closed, and that a line that opens",
+        "a block ends with a colon. The grammar is in docs/LANGUAGE.md.",
+    ],
+};
+
+pub(crate) const LEFT_OUT: Texts = texts! {
+    title: "this profile leaves the word out",
+    meaning: [
+        "The word belongs to the full language, but no rule of this profile takes it.",
+        "It can't be a name either. The fault stands at the word if it is the first",
+        "token with which no file goes on. Left out are `namespace`, `export`, `event`,",
+        "`on`, `until`, `emit`, `rise`, `fall`, `every`, `var`, `sample`, `global`,",
+        "`def`, `external`, `call`, `cover`, `record` and `modifier`.",
+    ],
+    example: [
+        "scenario top:",
+        "    x: int",
+        "    cover(x)",
+    ],
+    answer: "fault 202 main.osc:3:5",
+    mending: [
+        "Remove that part of the source. If the word is meant as a name, choose another",
+        "name.",
+    ],
+};
+
+pub(crate) const NOT_YET: Texts = texts! {
+    title: "this isn't built yet",
+    meaning: [
+        "The source may well be right, but `osc` can't go on with it today. It runs",
+        "scenarios whose members go in pairs: a field of type `int`, then a `keep` of",
+        "its range. The fault stands at the first token of another form, by the order",
+        "of the files. Today it comes before all faults of 311 to 327, and of those",
+        "only 311 and 324 are told. This code goes when everything is built.",
+    ],
+    example: [
+        "scenario top:",
+        "    y: float",
+    ],
+    answer: "fault 298 main.osc:2:5",
+    mending: [
+        "Use the form of docs/LANGUAGE.md, \"What is built today\", or wait for a later",
+        "version.",
+    ],
+};

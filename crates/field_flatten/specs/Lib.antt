@@ -1,0 +1,4 @@
+pub mod Ends
+pub mod Shapes
+pub mod Rules
+pub mod Points

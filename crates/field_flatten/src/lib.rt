@@ -1,0 +1,2 @@
+//! The flat form of a scene, and the run of a point.
+#![tactic(auto)]

@@ -1,0 +1,2 @@
+//! Which later constraints override a default.
+#![tactic(auto)]

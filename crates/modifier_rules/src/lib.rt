@@ -1,0 +1,2 @@
+//! When modifiers hold, as rules over the slots of samples.
+#![tactic(auto)]

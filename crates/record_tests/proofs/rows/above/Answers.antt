@@ -1,0 +1,5 @@
+use Rattle.box_eval.proofs.Rows.{row_above}
+use Rattle.record_tests.proofs.rows.above.Goals as goal
+
+pub returns : goal.returns
+returns c = row_above

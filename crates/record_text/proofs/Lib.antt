@@ -1,0 +1,14 @@
+pub mod BadLines
+pub mod Grammar
+pub mod Headers
+pub mod LineSpelling
+pub mod Lines
+pub mod Numerals
+pub mod Progress
+pub mod Reading
+pub mod Refusing
+pub mod Rests
+pub mod Spelling
+pub mod Texts
+pub mod Wanting
+pub mod Writing

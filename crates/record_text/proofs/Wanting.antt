@@ -1,0 +1,110 @@
+-- A text in which no wanted line was found begins with none.
+use Rattle.std.proofs.Common.{◌≡◌, refl, sym, ap, ◌∙◌, subst, ℕ, ◌+◌, true, List, [], ◌∷◌, ◌++◌, Option, Some, None, append_assoc, ◌≢◌, arith, Result, Ok, Err, IfErr}
+use Rattle.std.proofs.lemmas.List.{append-nil}
+use Rattle.std.proofs.lemmas.Bool.{false≢true}
+use Rattle.record_text.specs.declared.line.TextLine.{TextLine}
+use Rattle.record_text.specs.declared.found.Found.{Found}
+use Rattle.record_text.specs.declared.found.Found.TheVariants as F
+use Rattle.record_text.specs.declared.found.Wanted.{Wanted}
+use Rattle.record_text.specs.Lines.{IsShort, spelled, NoFeed}
+use Rattle.record_text.specs.declared.stop.VerifyStop.{VerifyStop}
+use Rattle.record_text.specs.declared.stop.VerifyStop.TheVariants.{BadLine}
+use Rattle.record_text.specs.declared.stop.SourceStop.{SourceStop}
+use Rattle.record_text.specs.declared.stop.SourceStop.TheVariants as S
+use Rattle.outside_io.specs.Files.{NothingLeft}
+use Rattle.record_text.specs.Stops.{told}
+use Rattle.std.specs.Result.{IsErrAnd}
+use Rattle.record_text.specs.Source.{Unread, rest_of, Gives, IsAtEnd, IsTooLong, IsWithin}
+use Rattle.record_text.specs.Reader.{wants, wanted_line, IsFound, Finds, NoneWanted, Reading, GivesLine, Stops}
+use Rattle.record_text.proofs.LineSpelling.{spelled_no_feed, same_line, line_unique}
+use Rattle.record_text.proofs.Spelling.{chosen}
+use Rattle.record_text.proofs.Reading.{left_after, end_rest, within_before, too_long_before}
+
+feed_within : (a xs : List ℕ) → NoFeed (a ++ 10 ∷ xs) → ⊥
+feed_within [] xs h = false≢true h
+feed_within (c ∷ a) xs h = feed_within a xs (let more : NoFeed (a ++ 10 ∷ xs) = grind (arith) in more)
+
+not_wanted : (wanted : Wanted) (line : TextLine) → wanted_line wanted (F.Line line) ≡ None → wants wanted line ≡ true → ⊥
+not_wanted wanted line e is = chosen (wants wanted line) (Some line) None None e (λ _ some_. let never : ⊥ = cc in never) (λ no_ _. false≢true (sym no_ ∙ is))
+
+-- what was found of the text, and what comes after it
+found_none : (wanted : Wanted) (found : Found) (text later rest : List ℕ) → IsFound text found → wanted_line wanted found ≡ None
+    → ((line : TextLine) → found ≡ F.Line line → rest ≡ text ++ 10 ∷ later) → (found ≡ F.Other → rest ≡ text ++ 10 ∷ later) → (found ≡ F.Nothing → rest ≡ text) → NoneWanted wanted rest
+found_none wanted (F.Line line) text later rest is none at_line at_other at_end = λ l after few wants_l e.
+    let whole : spelled l ++ 10 ∷ after ≡ spelled line ++ 10 ∷ later = sym e ∙ (at_line line refl ∙ ap (λ (bs : List ℕ). bs ++ 10 ∷ later) is.1) in
+    let same : l ≡ line = (line_unique l line after later few is.0 whole).0 in
+    not_wanted wanted line none (subst (λ (m : TextLine). wants wanted m ≡ true) same wants_l)
+found_none wanted F.Other text later rest is none at_line at_other at_end = λ l after few wants_l e.
+    let whole : text ++ 10 ∷ later ≡ spelled l ++ 10 ∷ after = sym (at_other refl) ∙ e in
+    is.1 l few (same_line text (spelled l) later after is.0 (spelled_no_feed l few) whole).0
+found_none wanted F.Nothing text later rest is none at_line at_other at_end = λ l after few wants_l e.
+    feed_within (spelled l) after (subst NoFeed (sym (at_end refl) ∙ e) is)
+
+pub none_wanted : (wanted : Wanted) (found : Found) (x y : Unread) (l m : Option (List ℕ)) → Finds found x y l m → wanted_line wanted found ≡ None
+    → (rest : List ℕ) → rest_of x l ≡ Some rest → NoneWanted wanted rest
+none_wanted wanted (F.Line line) x y l m f none rest known =
+    let r = left_after (f.text ++ 10 ∷ []) (rest_of y m) rest (sym f.gives.rest ∙ known) in
+    let split : rest ≡ f.text ++ 10 ∷ r.0 = r.2 ∙ append_assoc f.text (10 ∷ []) r.0 in
+    found_none wanted (F.Line line) f.text r.0 rest f.is none (λ _ _. split) (λ _. split) (λ e. let never : ⊥ = cc in absurd never)
+none_wanted wanted F.Other x y l m f none rest known =
+    let r = left_after (f.text ++ 10 ∷ []) (rest_of y m) rest (sym f.gives.rest ∙ known) in
+    let split : rest ≡ f.text ++ 10 ∷ r.0 = r.2 ∙ append_assoc f.text (10 ∷ []) r.0 in
+    found_none wanted F.Other f.text r.0 rest f.is none (λ _ _. split) (λ _. split) (λ e. let never : ⊥ = cc in absurd never)
+none_wanted wanted F.Nothing x y l m f none rest known =
+    let r = left_after f.text (rest_of y m) rest (sym f.gives.rest ∙ known) in
+    let nothing : r.0 ≡ [] = end_rest y m r.0 f.at_end r.1 in
+    let all : rest ≡ f.text = r.2 ∙ (ap (λ (bs : List ℕ). f.text ++ bs) nothing ∙ append-nil f.text) in
+    found_none wanted F.Nothing f.text [] rest f.is none (λ _ e. let never : ⊥ = cc in absurd never) (λ e. let never : ⊥ = cc in absurd never) (λ _. all)
+
+-- ---- the reader's answers
+
+pub line_given : (wanted : Wanted) (found : Found) (line : TextLine) (before : Reading) (x y : Unread) (n : ℕ) (l m : Option (List ℕ)) → Finds found x y l m
+    → wanted_line wanted found ≡ Some line → before ≡ record { unread = x; lines = n } → GivesLine line wanted before (record { unread = y; lines = n + 1 }) l m
+line_given wanted F.Other line before x y n l m f some_ is = let never : ⊥ = cc in absurd never
+line_given wanted F.Nothing line before x y n l m f some_ is = let never : ⊥ = cc in absurd never
+line_given wanted (F.Line other) line before x y n l m f some_ is = chosen (wants wanted other) (Some other) None (Some line) some_
+    (λ yes_ value.
+    let same : other ≡ line = cc in
+    let spelling : f.text ≡ spelled line = f.is.1 ∙ ap spelled same in
+    subst (λ (b : Reading). GivesLine line wanted b (record { unread = y; lines = n + 1 }) l m) (sym is) record {
+      short = subst IsShort same f.is.0;
+      is_wanted = subst (λ (t : TextLine). wants wanted t ≡ true) same yes_;
+      gives = subst (λ (bs : List ℕ). Gives (bs ++ 10 ∷ []) x y l m) spelling f.gives;
+      counted = refl;
+    })
+    (λ _ none. let never : ⊥ = cc in absurd never)
+
+-- the source stopped
+pub source_stops : {A : Type 0} (r : Result A VerifyStop) (stop : SourceStop) (reason : List ℕ → Type 0) (before : Reading) (l m : Option (List ℕ)) → IsErrAnd r (λ e. e ≡ told stop)
+    → (stop ≡ S.TooLong → IsTooLong before.unread l) → IfErr r (λ e. Stops e reason before l m)
+source_stops (Ok a) stop reason before l m h too = absurd h
+source_stops (Err e) S.Shelf reason before l m h too = subst (λ (s : VerifyStop). Stops s reason before l m) (sym h) tt
+source_stops (Err e) S.TooLong reason before l m h too = subst (λ (s : VerifyStop). Stops s reason before l m) (sym h) (too refl)
+
+refuses : (reason : List ℕ → Type 0) (before : Reading) (l m : Option (List ℕ)) (stop : VerifyStop) → stop ≡ BadLine (before.lines + 1)
+    → ((rest : List ℕ) → rest_of before.unread l ≡ Some rest → reason rest) → IsWithin before.unread l → NothingLeft m → Stops stop reason before l m
+refuses reason before l m stop is because within nothing =
+    subst (λ (s : VerifyStop). Stops s reason before l m) (sym is) (record { number = refl; because = because; within = within }, nothing)
+
+pub refuses_none : (wanted : Wanted) (found : Found) (before : Reading) (x y z : Unread) (n : ℕ) (l m k : Option (List ℕ)) (stop : VerifyStop) → Finds found x y l m
+    → wanted_line wanted found ≡ None → before ≡ record { unread = x; lines = n } → IsWithin y m → IsAtEnd z k → stop ≡ BadLine (n + 1) → Stops stop (NoneWanted wanted) before l k
+refuses_none wanted found before x y z n l m k stop f none is within end_ bad =
+    subst (λ (b : Reading). Stops stop (NoneWanted wanted) b l k) (sym is)
+    (refuses (NoneWanted wanted) (record { unread = x; lines = n }) l k stop bad (none_wanted wanted found x y l m f none)
+    (within_before _ x y l m f.gives within) end_.nothing)
+
+pub refuses_more : (b : ℕ) (before : Reading) (x y z : Unread) (n : ℕ) (l m k : Option (List ℕ)) (stop : VerifyStop) → Gives (b ∷ []) x y l m
+    → before ≡ record { unread = x; lines = n } → IsWithin y m → IsAtEnd z k → stop ≡ BadLine (n + 1) → Stops stop (λ (rest : List ℕ). rest ≢ []) before l k
+refuses_more b before x y z n l m k stop g is within end_ bad =
+    subst (λ (r : Reading). Stops stop (λ (rest : List ℕ). rest ≢ []) r l k) (sym is)
+    (refuses (λ (rest : List ℕ). rest ≢ []) (record { unread = x; lines = n }) l k stop bad
+    (λ rest known empty. let r = left_after (b ∷ []) (rest_of y m) rest (sym g.rest ∙ known) in let never : b ∷ r.0 ≡ [] = sym r.2 ∙ empty in cc)
+    (within_before _ x y l m g within) end_.nothing)
+
+-- too many bytes after some that were read
+pub too_long_at : (a : List ℕ) (before : Reading) (x y : Unread) (n : ℕ) (l m : Option (List ℕ)) → Gives a x y l m → before ≡ record { unread = x; lines = n }
+    → IsTooLong y m → IsTooLong before.unread l
+too_long_at a before x y n l m g is too = subst (λ (r : Reading). IsTooLong r.unread l) (sym is) (too_long_before a x y l m g too)
+
+pub too_long_first : (before : Reading) (x : Unread) (n : ℕ) (l : Option (List ℕ)) → before ≡ record { unread = x; lines = n } → IsTooLong x l → IsTooLong before.unread l
+too_long_first before x n l is too = subst (λ (r : Reading). IsTooLong r.unread l) (sym is) too

@@ -1,0 +1,20 @@
+use Rattle.std.proofs.Common.{sym, ◌∙◌, ap, Err}
+use Rattle.record_text.proofs.Wanting.{line_given, source_stops, refuses_none, too_long_at, too_long_first}
+use Rattle.record_text.proofs.reader.Reader.expect.Goals as goal
+
+pub returns-in_err-found-clause-stop : goal.returns-in_err-found-clause-stop
+returns-in_err-found-clause-stop g c = source_stops c.from_residual.result c.in_err-found.field-0.0 _ c.args.self.now _ _ c.from_residual.ensures.1
+    (λ e. too_long_first c.args.self.now _ _ _ (sym c.self.view_is) (c.in_err-found.ensures.too_long (ap Err e)))
+
+pub returns-in-Some-clause-line : goal.returns-in-Some-clause-line
+returns-in-Some-clause-line g c =
+    line_given c.args.wanted c.in_ok-found.found c.in-Some.line c.args.self.now _ _ _ _ _ c.in_ok-found.ensures.finds (sym c.wanted_line.ensures ∙ c.in-Some.is) (sym c.self.view_is)
+
+pub returns-in_err-read_on-clause-stop : goal.returns-in_err-read_on-clause-stop
+returns-in_err-read_on-clause-stop g c = source_stops c.from_residual-in_err-read_on.result c.in_err-read_on.field-0.0 _ c.args.self.now _ _ c.from_residual-in_err-read_on.ensures.1
+    (λ e. too_long_at _ c.args.self.now _ _ _ _ _ c.in_ok-found.ensures.finds.gives (sym c.self.view_is) (c.in_err-read_on.ensures.too_long (ap Err e)))
+
+pub returns-clause-stop : goal.returns-clause-stop
+returns-clause-stop g c =
+    refuses_none c.args.wanted c.in_ok-found.found c.args.self.now _ _ _ _ _ _ _ c.bad_line.result c.in_ok-found.ensures.finds (sym c.wanted_line.ensures ∙ c.in_default.is) (sym c.self.view_is)
+    c.in_ok-read_on.ensures.within c.in_ok-read_on.ensures.end c.bad_line.ensures

@@ -1,0 +1,14 @@
+-- What the lines of a header say.
+use Rattle.std.specs.Prelude.{ℕ, Bool, false}
+use Rattle.record_text.specs.declared.line.TextLine.{TextLine}
+use Rattle.record_text.specs.declared.line.TextLine.TheVariants as T
+
+abbrev pub undecided_of : TextLine → Bool
+undecided_of (T.Head undecided) = undecided
+undecided_of line = false
+
+abbrev pub number_of : TextLine → ℕ
+number_of (T.Slots number) = number
+number_of (T.Rules number) = number
+number_of (T.Room number) = number
+number_of line = 0

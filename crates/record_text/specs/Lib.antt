@@ -1,0 +1,13 @@
+pub mod Header
+pub mod Lines
+pub mod Nodes
+pub mod Progress
+pub mod Reader
+pub mod ReaderFields
+pub mod Rest
+pub mod Scan
+pub mod Source
+pub mod SourceFields
+pub mod Stops
+pub mod Text
+pub mod Written

@@ -1,0 +1,60 @@
+-- The lines of a record's text, and how each is spelled.
+use Rattle.std.specs.Prelude.{◌≡◌, ℕ, ◌==◌, Bool, true, not, ◌<◌, ◌^◌, if◌then◌else◌, List, [], ◌∷◌, ◌++◌, codes, decimal, unsigned_abs, ℤ, ⊤}
+use Rattle.std.specs.List.{list_all}
+use Rattle.std.specs.Fmt.{signed_decimal}
+use Rattle.box_eval.specs.declared.cut.Side.{Side}
+use Rattle.box_eval.specs.declared.cut.Side.TheVariants.{Low, High}
+use Rattle.record_text.specs.declared.line.TextLine.{TextLine}
+use Rattle.record_text.specs.declared.line.TextLine.TheVariants.{Head, Slots, Rules, Room, Cut, Close, Open, End}
+
+-- a cut's slot and value, with a space between them
+abbrev pub slot_and_value : ℕ → ℤ → List ℕ
+slot_and_value slot v = decimal slot ++ 32 ∷ signed_decimal v
+
+-- the word that a cut's line begins with
+abbrev pub word_of : Side → List ℕ
+word_of Low = codes "low "
+word_of High = codes "high "
+
+-- the bytes of a line, without the line feed at its end
+abbrev pub spelled : TextLine → List ℕ
+spelled (Head undecided) = if undecided then codes "osc-undecided 1" else codes "osc-refutation 1"
+spelled (Slots n) = codes "slots " ++ decimal n
+spelled (Rules n) = codes "rules " ++ decimal n
+spelled (Room n) = codes "room " ++ decimal n
+spelled (Cut side slot v) = word_of side ++ slot_and_value slot v
+spelled (Close rule) = codes "close " ++ decimal rule
+spelled Open = codes "open"
+spelled End = codes "end"
+
+-- a number of at most 18 digits
+abbrev pub IsFewDigits : ℕ → Type 0
+IsFewDigits n = n < 10 ^ 18
+
+-- each number of the line has at most 18 digits
+abbrev pub IsShort : TextLine → Type 0
+IsShort (Head undecided) = ⊤
+IsShort (Slots n) = IsFewDigits n
+IsShort (Rules n) = IsFewDigits n
+IsShort (Room n) = IsFewDigits n
+IsShort (Cut side slot v) = IsFewDigits slot × IsFewDigits (unsigned_abs v)
+IsShort (Close rule) = IsFewDigits rule
+IsShort Open = ⊤
+IsShort End = ⊤
+
+-- a text of lines: each of them and a line feed
+abbrev pub text_of : List TextLine → List ℕ
+text_of [] = []
+text_of (line ∷ lines) = spelled line ++ 10 ∷ text_of lines
+
+-- no byte is a line feed
+abbrev pub is_no_feed : ℕ → Bool
+is_no_feed byte = not (byte == 10)
+
+abbrev pub NoFeed : List ℕ → Type 0
+NoFeed text = list_all is_no_feed text ≡ true
+
+-- each line of a text is short
+abbrev pub AllShort : List TextLine → Type 0
+AllShort [] = ⊤
+AllShort (line ∷ lines) = IsShort line × AllShort lines

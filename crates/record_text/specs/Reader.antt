@@ -1,0 +1,93 @@
+-- What the reader of a record looks for, and what it answers.
+use Rattle.std.specs.Prelude.{◌≡◌, ℕ, ◌+◌, Bool, true, false, if◌then◌else◌, List, [], ◌∷◌, ◌++◌, Option, Some, None, ⊤}
+use Rattle.record_text.specs.declared.line.TextLine.{TextLine}
+use Rattle.record_text.specs.declared.line.TextLine.TheVariants as T
+use Rattle.record_text.specs.declared.found.Found.{Found}
+use Rattle.record_text.specs.declared.found.Found.TheVariants as F
+use Rattle.record_text.specs.declared.found.Wanted.{Wanted}
+use Rattle.record_text.specs.declared.found.Wanted.TheVariants as W
+use Rattle.record_text.specs.declared.stop.VerifyStop.{VerifyStop}
+use Rattle.record_text.specs.declared.stop.VerifyStop.TheVariants as V
+use Rattle.outside_io.specs.Files.{NothingLeft}
+use Rattle.record_text.specs.Lines.{IsShort, spelled, NoFeed}
+use Rattle.record_text.specs.Scan.{line_at}
+use Rattle.record_text.specs.Source.{Unread, rest_of, Gives, IsAtEnd, IsTooLong, IsWithin}
+
+-- the lines that are wanted
+abbrev pub wants : Wanted → TextLine → Bool
+wants W.Head (T.Head undecided) = true
+wants W.Slots (T.Slots n) = true
+wants W.Rules (T.Rules n) = true
+wants W.Room (T.Room n) = true
+wants (W.Node undecided) (T.Cut side slot value) = true
+wants (W.Node undecided) (T.Close rule) = true
+wants (W.Node undecided) T.Open = undecided
+wants W.End T.End = true
+wants wanted line = false
+
+abbrev pub found_line : Option TextLine → Found
+found_line (Some line) = F.Line line
+found_line None = F.Other
+
+abbrev pub found_at : List ℕ → Found
+found_at text = found_line (line_at text)
+
+abbrev pub wanted_line : Wanted → Found → Option TextLine
+wanted_line wanted (F.Line line) = if wants wanted line then Some line else None
+wanted_line wanted F.Other = None
+wanted_line wanted F.Nothing = None
+
+-- what a text has next: a line that a record may have, another line, or no line feed any more
+abbrev pub IsFound : List ℕ → Found → Type 0
+IsFound text (F.Line line) = IsShort line × (text ≡ spelled line)
+IsFound text F.Other = NoFeed text × ((line : TextLine) → IsShort line → text ≡ spelled line → ⊥)
+IsFound text F.Nothing = NoFeed text
+
+-- what was read: the line and its line feed, or what was left
+abbrev pub read_of : List ℕ → Found → List ℕ
+read_of text (F.Line line) = text ++ 10 ∷ []
+read_of text F.Other = text ++ 10 ∷ []
+read_of text F.Nothing = text
+
+abbrev pub AtEndIfNothing : Found → Unread → Option (List ℕ) → Type 0
+AtEndIfNothing (F.Line line) unread left = ⊤
+AtEndIfNothing F.Other unread left = ⊤
+AtEndIfNothing F.Nothing unread left = IsAtEnd unread left
+
+-- the next line was read and found to be this
+pub record Finds (found : Found) (before after : Unread) (left left_after : Option (List ℕ)) : Type 0 where
+  pub text : List ℕ
+  pub is : IsFound text found
+  pub gives : Gives (read_of text found) before after left left_after
+  pub at_end : AtEndIfNothing found after left_after
+
+-- no wanted line stands first
+abbrev pub NoneWanted : Wanted → List ℕ → Type 0
+NoneWanted wanted rest = (line : TextLine) → (later : List ℕ) → IsShort line → wants wanted line ≡ true → rest ≡ spelled line ++ 10 ∷ later → ⊥
+
+-- ---- the reader
+
+-- what a reader has not read yet, and the number of lines that it read
+pub record Reading : Type 0 where
+  pub unread : Unread
+  pub lines : ℕ
+
+-- a wanted line was read
+pub record GivesLine (line : TextLine) (wanted : Wanted) (before after : Reading) (left left_after : Option (List ℕ)) : Type 0 where
+  pub short : IsShort line
+  pub is_wanted : wants wanted line ≡ true
+  pub gives : Gives (spelled line ++ 10 ∷ []) before.unread after.unread left left_after
+  pub counted : after.lines ≡ before.lines + 1
+
+-- the line after those that were read is bad, for this reason, and the text has no more bytes than it may
+pub record Refuses (line : ℕ) (reason : List ℕ → Type 0) (reading : Reading) (left : Option (List ℕ)) : Type 0 where
+  pub number : line ≡ reading.lines + 1
+  pub because : (rest : List ℕ) → rest_of reading.unread left ≡ Some rest → reason rest
+  pub within : IsWithin reading.unread left
+
+-- why no line was read: the shelf failed, there are too many bytes, or the line is bad and the text was read to its end
+abbrev pub Stops : VerifyStop → (List ℕ → Type 0) → Reading → Option (List ℕ) → Option (List ℕ) → Type 0
+Stops V.Shelf reason reading left left_after = ⊤
+Stops V.TooLong reason reading left left_after = IsTooLong reading.unread left
+Stops (V.BadLine line) reason reading left left_after = Refuses line reason reading left × NothingLeft left_after
+Stops V.Memory reason reading left left_after = ⊥

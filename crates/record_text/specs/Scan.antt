@@ -1,0 +1,68 @@
+-- How the functions read a line. This is no part of the meaning of a text: proofs/ tie it to `spelled`.
+use Rattle.std.specs.Prelude.{ℕ, ◌+◌, Bool, true, false, not, ◌&&◌, ◌||◌, ◌==◌, nat_le, nat_lt, nat_eq, if◌then◌else◌, List, length, take, drop, codes, Option, Some, None, ℤ, pos, ◌-ℤ◌}
+use Rattle.std.specs.List.{starts_with, list_all, prefix_len}
+use Rattle.std.specs.Option.{option_map, option_and_then}
+use Rattle.std.specs.Str.{bytes_eq}
+use Rattle.std.specs.Str.Parse.{digits_value}
+use Rattle.box_eval.specs.declared.cut.Side.{Side}
+use Rattle.record_text.specs.declared.line.TextLine.{TextLine}
+use Rattle.record_text.specs.declared.line.TextLine.TheVariants.{Head, Slots, Rules, Room, Cut, Close, Open, End}
+
+abbrev pub is_digit : ℕ → Bool
+is_digit byte = nat_le 48 byte && nat_le byte 57
+
+abbrev pub is_short : List ℕ → Bool
+is_short text = nat_le 1 (length text) && nat_le (length text) 18
+
+abbrev pub has_no_leading_zero : List ℕ → Bool
+has_no_leading_zero text = not (starts_with nat_eq text (codes "0")) || length text == 1
+
+-- 1 to 18 digits, of which the first is no zero, or a zero alone
+abbrev pub is_numeral : List ℕ → Bool
+is_numeral text = list_all is_digit text && (is_short text && has_no_leading_zero text)
+
+abbrev pub natural_at : List ℕ → Option ℕ
+natural_at text = if is_numeral text then Some (digits_value 10 text) else None
+
+-- the number below 0 of a magnitude
+abbrev pub below_zero : ℕ → Option ℤ
+below_zero magnitude = if magnitude == 0 then None else Some (pos 0 -ℤ pos magnitude)
+
+abbrev pub integer_at : List ℕ → Option ℤ
+integer_at text = if starts_with nat_eq text (codes "-") then option_and_then below_zero (natural_at (drop 1 text)) else option_map pos (natural_at text)
+
+abbrev pub is_no_space : ℕ → Bool
+is_no_space byte = not (byte == 32)
+
+abbrev pub cut_of : Side → Option ℕ → Option ℤ → Option TextLine
+cut_of side (Some slot) (Some v) = Some (Cut side slot v)
+cut_of side (Some slot) None = None
+cut_of side None value = None
+
+-- a slot and a value, divided at this place
+abbrev pub divided_at : Side → List ℕ → ℕ → Option TextLine
+divided_at side text space = if nat_lt space (length text) then cut_of side (natural_at (take space text)) (integer_at (drop (space + 1) text)) else None
+
+abbrev pub cut_at : Side → List ℕ → Option TextLine
+cut_at side text = divided_at side text (prefix_len is_no_space text)
+
+abbrev pub word_at : List ℕ → Option TextLine
+word_at text =
+    if bytes_eq text (codes "open") then Some Open
+    else if bytes_eq text (codes "end") then Some End
+    else if bytes_eq text (codes "osc-refutation 1") then Some (Head false)
+    else if bytes_eq text (codes "osc-undecided 1") then Some (Head true) else None
+
+abbrev pub heading_at : List ℕ → Option TextLine
+heading_at text =
+    if starts_with nat_eq text (codes "slots ") then option_map Slots (natural_at (drop 6 text))
+    else if starts_with nat_eq text (codes "rules ") then option_map Rules (natural_at (drop 6 text))
+    else if starts_with nat_eq text (codes "room ") then option_map Room (natural_at (drop 5 text)) else None
+
+abbrev pub line_at : List ℕ → Option TextLine
+line_at text =
+    if starts_with nat_eq text (codes "low ") then cut_at Side.Low (drop 4 text)
+    else if starts_with nat_eq text (codes "high ") then cut_at Side.High (drop 5 text)
+    else if starts_with nat_eq text (codes "close ") then option_map Close (natural_at (drop 6 text))
+    else if starts_with nat_eq text (codes "o") || starts_with nat_eq text (codes "e") then word_at text
+    else heading_at text

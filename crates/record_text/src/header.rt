@@ -1,0 +1,58 @@
+ghost use Rattle.std.specs.Prelude.{◌≡◌, [], IfOk, IfErr};
+ghost use Rattle.record_text.specs.Header.{undecided_of, number_of};
+ghost use Rattle.record_text.specs.Nodes.{lines_so_far};
+ghost use Rattle.record_text.specs.Progress.{fresh, HasRead, Stopped};
+ghost use Rattle.record_text.specs.Source.{ReadsOn};
+ghost use Rattle.record_text.specs.Stops.{shelf_failed};
+
+use crate::{Reader, TextLine, VerifyStop, Wanted};
+use outside_io::Shelf;
+
+/// What a record says before its first cut.
+#[derive(Clone, Copy)]
+pub struct Header {
+    pub undecided: bool,
+    /// The number of slots of the flat form.
+    pub slots: u64,
+    /// The number of its rules.
+    pub rules: u64,
+    /// A number that the cuts above a line never exceed.
+    pub room: u64,
+}
+
+/// Reads the first four lines of a text.
+pub fn read_header<H: Shelf>(reader: &mut Reader, shelf: &mut H) -> Result<Header, VerifyStop>
+    requires { reader.old ≡ fresh }
+    ensures header { IfOk result (λ h. HasRead (lines_so_far h []) reader.old reader.new (H.left shelf.old) (H.left shelf.new)) }
+    ensures stop { IfErr result (λ stop. Stopped stop (H.left shelf.old) (H.left shelf.new)) }
+    ensures shelf { ReadsOn (H.files shelf.old) (H.files shelf.new) (H.left shelf.old) (H.left shelf.new) (H.faults shelf.old) (H.faults shelf.new) (shelf_failed result) }
+{
+    let head = reader.expect(shelf, Wanted::Head)?;
+    let slots = reader.expect(shelf, Wanted::Slots)?;
+    let rules = reader.expect(shelf, Wanted::Rules)?;
+    let room = reader.expect(shelf, Wanted::Room)?;
+    Ok(Header {
+        undecided: undecided_of(head),
+        slots: number_of(slots),
+        rules: number_of(rules),
+        room: number_of(room),
+    })
+}
+
+fn undecided_of(line: TextLine) -> bool
+    ensures { result ≡ undecided_of line }
+{
+    match line {
+        TextLine::Head { undecided } => undecided,
+        _ => false,
+    }
+}
+
+fn number_of(line: TextLine) -> u64
+    ensures { result ≡ number_of line }
+{
+    match line {
+        TextLine::Slots(number) | TextLine::Rules(number) | TextLine::Room(number) => number,
+        _ => 0,
+    }
+}

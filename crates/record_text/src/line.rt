@@ -1,0 +1,129 @@
+ghost use Rattle.std.specs.Prelude.{◌≡◌};
+ghost use Rattle.std.specs.List.{prefix_len};
+ghost use Rattle.std.specs.Option.{option_map};
+ghost use Rattle.record_text.specs.declared.line.TextLine.TheVariants.{Slots, Rules, Room, Close};
+ghost use Rattle.record_text.specs.Scan.{is_no_space, word_at, cut_of, cut_at, heading_at, line_at};
+
+use crate::number::{integer, natural};
+use box_eval::Side;
+
+/// A line of a record's text.
+#[derive(Debug, Clone, Copy, PartialEq, Eq)]
+pub enum TextLine {
+    /// The heading of a record of form 1.
+    Head { undecided: bool },
+    /// The number of slots of the flat form.
+    Slots(u64),
+    /// The number of its rules.
+    Rules(u64),
+    /// A number that the cuts above a line never exceed.
+    Room(u64),
+    /// A cut, which the lines of its first part and then those of its second follow.
+    Cut { side: Side, slot: u64, value: i64 },
+    /// The present box has no point at which the rule is true.
+    Close { rule: u64 },
+    /// Nothing is said of the present box.
+    Open,
+    /// The end of the record.
+    End,
+}
+
+/// The line that has this spelling, its line feed left out.
+pub(crate) fn line_of(text: &[u8]) -> Option<TextLine>
+    ensures { result ≡ line_at text.now }
+{
+    if text.starts_with(b"low ") {
+        cut(Side::Low, &text[4..])
+    } else if text.starts_with(b"high ") {
+        cut(Side::High, &text[5..])
+    } else if text.starts_with(b"close ") {
+        close(natural(&text[6..]))
+    } else if text.starts_with(b"o") || text.starts_with(b"e") {
+        word(text)
+    } else {
+        heading(text)
+    }
+}
+
+/// The line of this spelling, of those without a number.
+fn word(text: &[u8]) -> Option<TextLine>
+    ensures { result ≡ word_at text.now }
+{
+    if text == b"open".as_slice() {
+        Some(TextLine::Open)
+    } else if text == b"end".as_slice() {
+        Some(TextLine::End)
+    } else if text == b"osc-refutation 1".as_slice() {
+        Some(TextLine::Head { undecided: false })
+    } else if text == b"osc-undecided 1".as_slice() {
+        Some(TextLine::Head { undecided: true })
+    } else {
+        None
+    }
+}
+
+/// The line of this spelling, of those with a number before the first cut.
+fn heading(text: &[u8]) -> Option<TextLine>
+    ensures { result ≡ heading_at text.now }
+{
+    if text.starts_with(b"slots ") {
+        slots(natural(&text[6..]))
+    } else if text.starts_with(b"rules ") {
+        rules(natural(&text[6..]))
+    } else if text.starts_with(b"room ") {
+        room(natural(&text[5..]))
+    } else {
+        None
+    }
+}
+
+fn slots(number: Option<u64>) -> Option<TextLine>
+    ensures { result ≡ option_map Slots number }
+{
+    number.map(TextLine::Slots)
+}
+
+fn rules(number: Option<u64>) -> Option<TextLine>
+    ensures { result ≡ option_map Rules number }
+{
+    number.map(TextLine::Rules)
+}
+
+fn room(number: Option<u64>) -> Option<TextLine>
+    ensures { result ≡ option_map Room number }
+{
+    number.map(TextLine::Room)
+}
+
+fn close(number: Option<u64>) -> Option<TextLine>
+    ensures { result ≡ option_map Close number }
+{
+    number.map(|rule| TextLine::Close { rule })
+}
+
+/// The cut with this slot and value, between which a space stands.
+fn cut(side: Side, text: &[u8]) -> Option<TextLine>
+    ensures { result ≡ cut_at side text.now }
+{
+    let slot = length_before_space(text);
+    if slot < text.len() {
+        cut_of(side, natural(&text[..slot]), integer(&text[slot + 1..]))
+    } else {
+        None
+    }
+}
+
+fn length_before_space(text: &[u8]) -> usize
+    ensures { result ≡ prefix_len is_no_space text.now }
+{
+    text.iter().take_while(|byte| **byte != b' ').count()
+}
+
+fn cut_of(side: Side, slot: Option<u64>, value: Option<i64>) -> Option<TextLine>
+    ensures { result ≡ cut_of side slot value }
+{
+    match (slot, value) {
+        (Some(slot), Some(value)) => Some(TextLine::Cut { side, slot, value }),
+        _ => None,
+    }
+}

@@ -1,0 +1,5 @@
+pub mod Closes
+pub mod Laws
+pub mod Verdicts
+pub mod Walking
+pub mod Walks

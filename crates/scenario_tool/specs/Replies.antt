@@ -1,0 +1,50 @@
+-- What `command` replies: a status, and the text that comes with it.
+use Rattle.std.specs.Prelude.{ℕ, List, ◌++◌, codes}
+use Rattle.std.specs.Fmt.{decimal}
+use Rattle.osc_base.specs.declared.fault.Fault.{Fault}
+use Rattle.osc_base.specs.FaultCodes.{number_of}
+use Rattle.program_load.specs.declared.stop.Refusal.{Refusal}
+use Rattle.scenario_tool.specs.declared.status.Status.{Status}
+use Rattle.scenario_tool.specs.declared.replies.Reply.{Reply}
+
+-- the number with which the program ends
+abbrev pub status_number : Status → ℕ
+status_number Status.Done = 0
+status_number Status.SourceRefused = 3
+status_number Status.WordsRefused = 4
+status_number Status.FileUnusable = 6
+status_number Status.SinkFailed = 7
+status_number Status.OutOfMemory = 8
+
+-- what was asked for
+abbrev pub done : List ℕ → Reply
+done text = record { status = Status.Done; text = text }
+
+-- `words`
+abbrev pub words_refused : Reply
+words_refused = record { status = Status.WordsRefused; text = codes "words\n" }
+
+-- `fault CODE FILE:LINE:COLUMN`
+abbrev pub fault_of : List ℕ → Fault → Reply
+fault_of file fault = record {
+  status = Status.SourceRefused;
+  text = codes "fault " ++ decimal (number_of fault.code) ++ codes " " ++ file ++ codes ":" ++ decimal fault.place.line ++ codes ":" ++ decimal fault.place.column ++ codes "\n";
+}
+
+-- `missing NAME`
+abbrev pub missing_file : List ℕ → Reply
+missing_file name = record { status = Status.FileUnusable; text = codes "missing " ++ name ++ codes "\n" }
+
+-- `long NAME`
+abbrev pub long_file : List ℕ → Reply
+long_file name = record { status = Status.FileUnusable; text = codes "long " ++ name ++ codes "\n" }
+
+-- `shelf NAME`
+abbrev pub failed_shelf : List ℕ → Reply
+failed_shelf name = record { status = Status.FileUnusable; text = codes "shelf " ++ name ++ codes "\n" }
+
+-- the source files of this main file are refused
+abbrev pub refused_source : List ℕ → Refusal → Reply
+refused_source main Refusal.Missing = missing_file main
+refused_source main (Refusal.Long name) = long_file name
+refused_source main (Refusal.Faulty file fault) = fault_of file fault

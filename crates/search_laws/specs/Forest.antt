@@ -1,0 +1,84 @@
+-- Places that are still to be given a tree, and lists of trees, one for each of them.
+use Rattle.std.specs.Prelude.{◌≡◌, ◌⊎◌, ℕ, ◌+◌, ◌≤◌, max, Bool, true, false, ◌||◌, if◌then◌else◌, List, [], ◌∷◌, ◌++◌, length, ⊤}
+use Rattle.box_eval.specs.declared.rule.Rule.{Rule}
+use Rattle.box_eval.specs.declared.bounds.Pair.{Pair}
+use Rattle.box_eval.specs.declared.record.Line.{Line}
+use Rattle.box_eval.specs.Record.{Tree, leaf, unknown, lines_of, has_open, cuts_of, depth_of, Accepted}
+use Rattle.box_eval.specs.Guided.{decisions, Guided, EndsAt, way_down}
+
+-- a box that a tree is to stand on, and the boxes above it, the flat form's first
+pub record Place : Type 0 where
+  pub above : List (List Pair)
+  pub box : List Pair
+
+abbrev pub place : List (List Pair) → List Pair → Place
+place above box = record { above = above; box = box }
+
+-- ---- what is counted of a list of trees
+
+abbrev pub lines_all : List Tree → List Line
+lines_all [] = []
+lines_all (t ∷ ts) = lines_of t ++ lines_all ts
+
+abbrev pub cuts_all : List Tree → ℕ
+cuts_all [] = 0
+cuts_all (t ∷ ts) = cuts_of t + cuts_all ts
+
+abbrev pub any_open : List Tree → Bool
+any_open [] = false
+any_open (t ∷ ts) = has_open t || any_open ts
+
+-- ---- the same of trees over their places
+
+-- the greatest number of cuts above a leaf
+abbrev pub depth_all : List Place → List Tree → ℕ
+depth_all (p ∷ ps) (t ∷ ts) = max (length p.above + depth_of t) (depth_all ps ts)
+depth_all ps ts = 0
+
+-- the boxes on the way down to the first leaf that is open
+abbrev pub way_all : List Place → List Tree → List (List Pair)
+way_all (p ∷ ps) (t ∷ ts) = if has_open t then p.above ++ way_down p.box t else way_all ps ts
+way_all ps ts = []
+
+-- there is a tree for each place, and each is accepted there
+abbrev pub AcceptedAll : List Rule → ℕ → List Place → List Tree → Type 0
+AcceptedAll rules room [] [] = ⊤
+AcceptedAll rules room [] (t ∷ ts) = ⊥
+AcceptedAll rules room (p ∷ ps) [] = ⊥
+AcceptedAll rules room (p ∷ ps) (t ∷ ts) = Accepted rules room p.box (length p.above) t × AcceptedAll rules room ps ts
+
+-- every decision of the trees is drawn, and the numbers run on from tree to tree
+abbrev pub GuidedAll : (ℕ → ℕ) → List Rule → ℕ → List Place → List Tree → Type 0
+GuidedAll draws rules k (p ∷ ps) (t ∷ ts) = Guided draws rules p.box k t × GuidedAll draws rules (k + decisions rules p.box t) ps ts
+GuidedAll draws rules k ps ts = ⊤
+
+-- each tree is a leaf that is unknown
+abbrev pub AllUnknown : List Tree → Type 0
+AllUnknown [] = ⊤
+AllUnknown (t ∷ ts) = (t ≡ leaf unknown) × AllUnknown ts
+
+-- the first leaf that is open stands on this box, and every leaf after it is unknown
+abbrev pub EndsAll : List Pair → List Place → List Tree → Type 0
+EndsAll box (p ∷ ps) (t ∷ ts) = ((has_open t ≡ false) × EndsAll box ps ts) ⊎ (EndsAt box p.box t × AllUnknown ts)
+EndsAll box ps ts = ⊥
+
+-- ---- what has been written so far
+
+-- the tree that the lines so far become with these trees at their end
+pub record Whole (rules : List Rule) (draws : ℕ → ℕ) (root : List Pair) (out : List Line) (made drawn deepest room : ℕ) (places : List Place) (ts : List Tree) : Type 0 where
+  pub tree : Tree
+  pub lines : lines_of tree ≡ out ++ lines_all ts
+  pub cuts : cuts_of tree ≡ made + cuts_all ts
+  pub opens : has_open tree ≡ any_open ts
+  pub depth : depth_of tree ≡ max deepest (depth_all places ts)
+  pub way : any_open ts ≡ true → way_down root tree ≡ way_all places ts
+  pub accepted : Accepted rules room root 0 tree
+  pub guided : Guided draws rules root 0 tree
+  pub ends : (box : List Pair) → EndsAll box places ts → EndsAt box root tree
+
+-- the lines so far, of so many cuts and decisions and with at most `deepest` cuts above one another,
+-- become an accepted and guided tree with whatever such trees the places are given
+abbrev pub Grown : List Rule → (ℕ → ℕ) → List Pair → List Line → ℕ → ℕ → ℕ → List Place → Type 0
+Grown rules draws root out made drawn deepest places =
+    (room : ℕ) (ts : List Tree) → deepest ≤ room → AcceptedAll rules room places ts → GuidedAll draws rules drawn places ts
+    → Whole rules draws root out made drawn deepest room places ts

@@ -1,0 +1,4 @@
+pub mod Answers
+pub mod Forest
+pub mod Halves
+pub mod State

@@ -1,0 +1,13 @@
+//! Tests of the search on flat forms that are made by hand.
+#![tactic(auto)]
+
+mod flatness;
+
+pub use flatness::is_flat;
+
+#[cfg(test)]
+mod answers;
+#[cfg(test)]
+mod forms;
+#[cfg(test)]
+mod records;

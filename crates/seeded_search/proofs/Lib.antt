@@ -1,0 +1,13 @@
+pub mod Decidings
+pub mod MarkLists
+pub mod Narrowings
+pub mod Presents
+pub mod Probes
+pub mod Pushes
+pub mod Searches
+pub mod SlotLists
+pub mod Turnings
+pub mod UnknownLines
+pub mod Wakings
+pub mod Words
+pub mod Working

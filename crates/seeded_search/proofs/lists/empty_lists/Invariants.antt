@@ -1,0 +1,5 @@
+use Rattle.std.proofs.Common.{◌≡◌, ℕ, List, [], length, get_or}
+use Rattle.seeded_search.proofs.lists.empty_lists.Given as goal
+
+abbrev pub invariant-loop : goal.invariant-loop
+invariant-loop l = (length l.lists.items ≡ l.counter) × ((k : ℕ) → get_or l.lists.items k [] ≡ [])

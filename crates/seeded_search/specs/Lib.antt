@@ -1,0 +1,12 @@
+pub mod Desks
+pub mod Draws
+pub mod Joined
+pub mod Listed
+pub mod Lows
+pub mod MarkList
+pub mod Outcomes
+pub mod Probe
+pub mod Rooms
+pub mod Runs
+pub mod SlotLists
+pub mod Waking

@@ -1,0 +1,12 @@
+use crate::lists::Lists;
+use box_eval::Flat;
+
+/// What a call of the search was given to find and how, which stays as it is.
+#[derive(Drop)]
+pub struct Task<'a> {
+    pub flat: &'a Flat,
+    pub lists: &'a Lists,
+    pub seed: u64,
+    /// The greatest number of cuts.
+    pub cuts: u32,
+}

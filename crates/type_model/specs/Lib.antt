@@ -1,0 +1,13 @@
+pub mod Form
+pub mod Table
+pub mod Types
+pub mod Bounds
+pub mod Members
+pub mod Conditions
+pub mod Told
+pub mod Texts
+pub mod Units
+pub mod Declared
+pub mod Cycles
+pub mod HeadingFaults
+pub mod MemberFaults

@@ -1,0 +1,2 @@
+//! Types of a program: what it declares, the members of each type, and the faults of headings and members.
+#![tactic(auto)]

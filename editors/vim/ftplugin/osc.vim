@@ -1,0 +1,8 @@
+" Blocks are indented with spaces alone: a tab there is a fault.
+if exists("b:did_ftplugin")
+  finish
+endif
+let b:did_ftplugin = 1
+
+setlocal expandtab shiftwidth=4 softtabstop=4 commentstring=#\ %s
+let b:undo_ftplugin = "setlocal expandtab< shiftwidth< softtabstop< commentstring<"
