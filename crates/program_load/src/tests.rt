@@ -169,12 +169,12 @@ fn a_shelf_that_fails(rt: HostRuntime) -> Result<(), Fail> {
 /// What is answered when `main.osc` imports `a`, and the comment `b` of so many bytes.
 fn with_long(alloc: Global, a: &str, len: usize) -> Result<String, AllocError> {
     let long = vec![in alloc; b'#'; len]?;
-    let files: [(&str, &[u8]); 3] = [
-        ("main.osc", b"import \"a\"\nimport \"b\"\n"),
-        ("a", a.as_bytes()),
-        ("b", long.as_slice()),
-    ];
-    answer(alloc, shelf(alloc, &files, &[])?)
+    let main = b"import \"a\"\nimport \"b\"\n";
+    let mut row = Row::new(alloc);
+    row.push(NamedBytes::copy(alloc, "main.osc", main)?)?;
+    row.push(NamedBytes::copy(alloc, "a", a.as_bytes())?)?;
+    row.push(NamedBytes::copy(alloc, "b", long.as_slice())?)?;
+    answer(alloc, MemoryShelf::new(row, 4096, Row::new(alloc)))
 }
 
 /// What is answered when `main.osc` imports the files f1, f2 and so on, and has one more line.
