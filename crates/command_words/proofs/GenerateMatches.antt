@@ -22,7 +22,7 @@ pub generate_leaf : is_leaf generate ≡ true
 unfolding generate
 generate_leaf = refl
 
--- where a parse takes the words, each option holds a number in its range
+-- if a parse takes the words, each option holds a number in its range
 pub holds_numbers : (c : Command) (m : ArgMatches) → app_of c ≡ generate → IsParsedFrom c m → HoldsGenerate (found_of m)
 unfolding generate
 holds_numbers c m same p = record {

@@ -145,7 +145,7 @@ module _ (c : List Rule) (again : Bool) where
   positional_one : (a : Rule) (h : Held) → AtMostOne (positional_fault c again a h)
   positional_one a h = either (is_pending a h.pending && takes_several a) _ _ none (settle_one h)
 
--- no word names a subcommand where there is none
+-- no word names a subcommand if there is none
 none_met : (waiting : Waiting) (word : Text) → subcommand_met [] waiting word ≡ None
 none_met idle word = refl
 none_met (option id) word = refl

@@ -225,7 +225,7 @@ some_text : (xs : List (Bor Text)) → 0 < length (texts xs) → 0 < length xs
 some_text [] h = h
 some_text (x ∷ xs) h = omega arith
 
--- where a parse takes the words, an argument with a default has a value that passed its parser
+-- if a parse takes the words, an argument with a default has a value that passed its parser
 pub default_found : (c : Command) (command : App) (m : ArgMatches) (r : Rule) (q : ValueParser) → app_of c ≡ command → IsParsedFrom c m
     → is_plain_command command ≡ true → is_named_once command r.id ≡ true → arg_by_id command.top.rules r.id ≡ Some r → HasDefault r q
     → (t : Text) × (one_text (found_of m) r.id ≡ Some (read_as (reading_of q) t)) × Accepts r.ignore_case q t

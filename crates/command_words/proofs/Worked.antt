@@ -24,7 +24,7 @@ by_default file scenario = Generate (record {
   cuts = 200000;
 })
 
--- what `generate a.osc top` with these words behind it asks for
+-- what `generate a.osc top` with these words after it asks for
 abbrev of_top : List Text → Wanted
 of_top words = request (codes "generate" ∷ codes "a.osc" ∷ codes "top" ∷ words)
 
@@ -94,7 +94,7 @@ third_word : of_top (codes "other" ∷ []) ≡ Refused
 unfolding request generate_wanted generate clap_on_literals
 third_word = refl
 
--- behind `--` a word may begin with a dash
+-- after `--` a word may begin with a dash
 behind_dashes : request (codes "generate" ∷ codes "--" ∷ codes "-f" ∷ codes "--ticks" ∷ []) ≡ by_default (codes "-f") (codes "--ticks")
 unfolding request generate_wanted generate_asked text_in number_in generate clap_on_literals
 behind_dashes = refl
@@ -108,7 +108,7 @@ empty_file : request (codes "generate" ∷ [] ∷ [] ∷ []) ≡ by_default [] [
 unfolding request generate_wanted generate_asked text_in number_in generate clap_on_literals
 empty_file = refl
 
--- help of the command, also behind what would be too few words, and not behind a fault
+-- help of the command, also after what would be too few words, and not after a fault
 help_of_generate : request (codes "generate" ∷ codes "--help" ∷ []) ≡ Help generate_help
 unfolding request generate_wanted generate clap_on_literals
 help_of_generate = refl

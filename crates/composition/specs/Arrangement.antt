@@ -21,7 +21,7 @@ abbrev pub follow : Times → ℤ → ℤ → List Path → Bool
 follow times from to [] = same_number from to
 follow times from to (m ∷ ms) = same_number from (times.start m) && follow times (times.end m) to ms
 
--- a tick is the least of a list, and the greatest of a list
+-- a tick is the least of a list
 abbrev pub is_least : ℤ → List ℤ → Bool
 is_least tick ticks = list_all (int_le tick) ticks && list_any (λ t. same_number t tick) ticks
 

@@ -69,7 +69,7 @@ end_claim scene run =
 
 -- ---- bounds: everything is in its type or range
 
--- the greatest position on the road, in micrometres, and the greatest speed, in millimetres a second
+-- the greatest position on the road, in micrometres
 abbrev pub road_end : Setting → ℤ
 road_end setting = pos (setting.road * 1000000)
 
@@ -90,7 +90,7 @@ choice_in_range scene c = option_map_or (λ spot. nat_lt c.member spot.members) 
 abbrev pub value_in_range : Scene → Value → Bool
 value_in_range scene v = option_map_or (λ spot. in_range scene.texts spot.range v.held) (find (λ spot. same_path spot.path v.path) (values scene)) false
 
--- a phase starts before it ends, and ends within the ticks
+-- a phase doesn't end before it starts, and ends within the ticks
 abbrev pub span_in_range : Setting → Span → Bool
 span_in_range setting s = nat_le s.start s.end && nat_le s.end setting.ticks
 
@@ -119,7 +119,7 @@ item_claims scene run these = flat_map (λ i. item_claim i (item_holds scene run
 
 -- ---- all claims
 
--- hard constraints come before defaults; phases, modifiers and vehicles stand behind both
+-- the lists, the end and the bounds come first, then the hard constraints, then all other items
 abbrev pub claims : Scene → TimedRun → List Claim
 claims scene run =
     listed_claims scene run

@@ -43,7 +43,7 @@ value_tokens (ConditionValue.Truth place value) = 1
 value_tokens (ConditionValue.Name name) = 1
 value_tokens (ConditionValue.EnumName of member) = 3
 
--- an argument: its name and the colon behind it, if it has one, and its expression
+-- an argument: its name and the colon after it, if it has one, and its expression
 abbrev pub argument_tokens : ArgumentTree → ℕ
 argument_tokens a = option_map_or (λ name. 2) a.name 0 + tokens a.value
 

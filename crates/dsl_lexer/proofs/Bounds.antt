@@ -87,7 +87,7 @@ brought_le false ends at w ws kind pieces =
     let a = own_le at kind in let b = ending_le ends pieces in
     omega (arith, length-append (own_token at kind) (cond ends (newline pieces) []))
 
--- the bounds of what stands in front
+-- the bounds of the pieces before
 pub record Bounded (before : List Piece) : Type 0 where
   pub width : width (line before) ≤ reach before
   pub brackets : brackets before ≤ reach before

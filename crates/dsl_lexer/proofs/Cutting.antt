@@ -1,4 +1,4 @@
--- The pieces in front of a rest are unique.
+-- The pieces before a rest are unique.
 use Rattle.std.proofs.Common.{◌≡◌, ℕ, suc, ◌+◌, ◌<◌, ◌≤◌, inl, inr, List, [], ◌∷◌, ◌++◌, length, take, drop, refl, ap, sym, ◌∙◌, arith}
 use Rattle.std.proofs.lemmas.List.{append_assoc, length-append, take_at, drop_at}
 use Rattle.std.proofs.lemmas.Bool.{cases_eq}
@@ -40,7 +40,7 @@ next_same before earlier p q rest behind r a b e =
 pub is_next_same : (before : List Piece) (rest : List ℕ) (p q : Piece) → IsNext before rest p → IsNext before rest q → p ≡ q
 is_next_same before rest p q a b = (next_same before before p q a.behind b.behind refl a.stands b.stands (sym a.split ∙ b.split)).0
 
--- as many pieces are the same pieces
+-- two cuts into equally many pieces have equal pieces and equal rests
 pub same_cut : (bytes : List ℕ) (xs ys : List Piece) (rest behind : List ℕ) → length xs ≡ length ys → Cut bytes xs rest → Cut bytes ys behind → (xs ≡ ys) × (rest ≡ behind)
 same_cut bytes [] [] rest behind n a b = (refl, sym a ∙ b)
 same_cut bytes [] (y ∷ ys) rest behind n a b = absurd (omega arith)
@@ -87,7 +87,7 @@ pub reach_there : (more before : List Piece) (p : Piece) → reach before + leng
 reach_there [] before p = omega arith
 reach_there (q ∷ more) before p = let h = reach_there more before p in omega arith
 
--- what stands in front
+-- the pieces before
 pub record Spelled (bytes : List ℕ) (before : List Piece) (rest : List ℕ) : Type 0 where
   pub front : List ℕ
   pub split : bytes ≡ front ++ rest

@@ -33,7 +33,7 @@ end_go file bytes valid l found r v [] e h same =
 pub reached_end : (file : ℕ) (bytes : List ℕ) (valid : ℕ) (l : Layout) (found : List Token) → Reached file bytes valid l → Valid bytes valid → length bytes ≤ l.spot.at → found ≡ all_tokens file l → TokensCut file bytes found
 reached_end file bytes valid l found r v h same = end_go file bytes valid l found r v r.rest refl h same
 
--- where there is a first fault no list cuts the bytes
+-- if there is a first fault, no list cuts the bytes
 pub fault_uncut : (file : ℕ) (bytes : List ℕ) (fault : Fault) → IsFirstFault file bytes fault → IsUncut file bytes
 fault_uncut file bytes fault first found cut = cut_or_fault file bytes found first.at fault.code first.count cut first.is_fault
 

@@ -31,7 +31,7 @@ some_not_none o h e = false≢true (sym (ap is_some e) ∙ h)
 pub first_content : (before : List Piece) (rest : List ℕ) (p : Piece) → IsNext before rest p → BeginsContent before rest → IsSound p before → IsLaidOut before
 first_content before rest p next c sound = sound.laid_out (begins_first p before (c.content.lexeme p.shape p.text next.behind next.stands.shape next.split) c.first)
 
--- nothing stands behind the whole
+-- nothing stands after the whole
 pub nothing_next : (before : List Piece) (p : Piece) → IsNext before [] p → ⊥
 nothing_next before p n = let some = some_text p.shape p.text n.stands.shape in let e = ap length n.split in absurd (omega (arith, e, length-append p.text n.behind))
 
@@ -39,7 +39,7 @@ module _ (bytes : List ℕ) (before : List Piece) (rest : List ℕ) (n : ℕ) (c
   more_behind : (p : Piece) → IsNext before rest p → rest ≢ []
   more_behind p next e = nothing_next before p (subst (λ (r : List ℕ). IsNext before r p) e next)
 
-  -- a fault directly behind the pieces
+  -- a fault directly after the pieces
   at_next : (code ≡ FaultCode.Tab → ⊥) → rest ≢ [] → n ≡ reach before → ((p : Piece) → IsNext before rest p → IsSound p before → ⊥) → FaultClass bytes before rest n code
   at_next apart more at unsound = in_piece apart more (omega arith) (λ p next. let some = some_text p.shape p.text next.stands.shape in omega arith) unsound
 

@@ -24,7 +24,7 @@ use Rattle.dsl_lexer.proofs.Matching.{lexeme_is}
 use Rattle.dsl_lexer.proofs.FaultClasses.{some_not_none, first_content, FaultClass, at_byte, at_tab, in_piece, class_of}
 use Rattle.dsl_lexer.proofs.Cutting.{is_next_same, same_cut, extends, sound_there, reach_there}
 
--- behind sound pieces there is no fault but a byte that begins no character
+-- after sound pieces there is no fault but a byte that begins no character
 
 pub record IsBad (bytes : List ℕ) (reached n : ℕ) : Type 0 where
   pub bad : IsValidUpTo bytes n
@@ -40,7 +40,7 @@ clean bytes before rest p n code next sound x = by_class (class_of bytes before 
         absurd (some_not_none (first_tab (line before)) (ap is_some there) laid.no_tab)
     by_class (in_piece c more reached inside unsound) = absurd (unsound p next sound)
 
--- lines behind a piece
+-- lines after a piece
 
 abbrev AllFrom : ℕ → List Piece → Type 0
 AllFrom k [] = Unit {0}
@@ -70,7 +70,7 @@ claim_step k q pieces h c = go (ends_line q pieces) refl c
     go false e (inl lex) = inl (rw e (or_right (is_lexeme q.shape) (has_lexeme (line pieces)) lex))
     go false e (inr all) = inr (rw e (h, all))
 
--- behind a token
+-- after a token
 
 claim_lexeme : (bytes : List ℕ) (more : List Piece) (p : Piece) (before : List Piece) (rest : List ℕ) → Cut bytes (more ++ p ∷ before) rest → is_lexeme p.shape ≡ true → is_line_end p.shape ≡ false
     → Claim (reach before + length p.text) (more ++ p ∷ before)
@@ -79,7 +79,7 @@ claim_lexeme bytes (q ∷ more) p before rest cut lex flat =
     let far = reach_there more before p in let at = cut.0.at in
     claim_step (reach before + length p.text) q (more ++ p ∷ before) (omega arith) (claim_lexeme bytes more p before (q.text ++ rest) cut.1 lex flat)
 
--- behind a comment
+-- after a comment
 
 lexeme_line_end : (s : Shape) → is_lexeme s ≡ false → (text : List ℕ) → kind_of s text ≡ None
 lexeme_line_end Space h text = refl
@@ -136,7 +136,7 @@ comment_content text (b ∷ more) shape longest c =
 cons_head : (b c : ℕ) (xs ys : List ℕ) → b ∷ xs ≡ c ∷ ys → b ≡ c
 cons_head b c xs ys e = cc
 
--- the piece behind a comment is a line end
+-- the piece after a comment is a line end
 comment_line_end : (text rest : List ℕ) (q : Piece) → IsShape Comment text → IsShape q.shape q.text → IsLongest text (q.text ++ rest) → q.shape ≡ LineEnd
 comment_line_end text rest q shape next longest =
     let x = begins q.shape q.text next in
@@ -160,7 +160,7 @@ claim_comment bytes q (r ∷ more) p before rest cut c =
     let far = reach_there (r ∷ more) before p in let at = cut.0.at in
     claim_step (reach before + length p.text) q (r ∷ more ++ p ∷ before) (omega arith) (claim_comment bytes r more p before (q.text ++ rest) cut.1 c)
 
--- a tab that is a fault further on stands behind the piece
+-- a tab that is a fault further on stands after the piece
 tab_claim : (k n : ℕ) (pieces : List Piece) → Claim k pieces → has_lexeme (line pieces) ≡ false → first_tab (line pieces) ≡ Some n → k ≤ n
 tab_claim k n pieces (inl lex) first e = absurd (false≢true (sym first ∙ lex))
 tab_claim k n pieces (inr all) first e = tab_from k (line pieces) n all e

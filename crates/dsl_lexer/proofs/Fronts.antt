@@ -1,4 +1,4 @@
--- The piece that is found stands at the front and has its shape; it is the longest, and where none is found none fits.
+-- The piece that is found stands at the start and has its shape. It is the longest. If none is found, none fits.
 use Rattle.std.proofs.Common.{◌≡◌, ℕ, suc, ◌+◌, ◌≤◌, Bool, true, false, cond, ◌&&◌, ◌||◌, not, inl, inr, Option, Some, None, List, [], ◌∷◌, ◌++◌, length, take, drop, refl, ap, sym, ◌∙◌, arith}
 use Rattle.std.specs.Prelude.{is_some, ◌==◌}
 use Rattle.std.specs.List.{list_all, prefix_len}
@@ -40,7 +40,7 @@ first_is b = let P : Shape → Type 0 = λ s. FirstOf s b in
     cond_both (b == 9) Tab _ P (λ t. eqb-true b 9 t) (λ _.
     cond_both (is_backslash b) Joint MarkShape P (λ t. eqb-true b 92 t) (λ _. tt))))))))
 
--- a text of the shape and of length n stands at the front
+-- a text of the shape and of length n stands at the start
 
 pub record Front (s : Shape) (rest : List ℕ) (n : ℕ) : Type 0 where
   pub text : List ℕ
@@ -49,7 +49,7 @@ pub record Front (s : Shape) (rest : List ℕ) (n : ℕ) : Type 0 where
   pub size : length text ≡ n
   pub shape : IsShape s text
 
--- the bytes from the front on that pass
+-- the bytes from the start on that pass
 pub record Run (p : ℕ → Bool) (rest : List ℕ) : Type 0 where
   pub text : List ℕ
   pub behind : List ℕ
@@ -269,7 +269,7 @@ found NameShape b more n f h = name_found b more n f (some_same (name_run (b ∷
 found NumberShape b more n f h = number_found b more n f (some_same (number_len (b ∷ more)) n h)
 found StringShape b more n f h = string_found b more n f h
 
--- what fits at the front has the shape of the first byte, and is no longer than what is found
+-- what fits at the start has the shape of the first byte, and is no longer than what is found
 pub fits_at : (s : Shape) (text behind : List ℕ) (b : ℕ) (more : List ℕ) → IsShape s text → b ∷ more ≡ text ++ behind → (first_shape b ≡ s) × AtMost (length text) (piece_len (first_shape b) (b ∷ more))
 fits_at s text behind b more shape split =
     let start = begins s text shape in
@@ -279,7 +279,7 @@ fits_at s text behind b more shape split =
     let size : AtMost (length text) (piece_len s (b ∷ more)) = rw split (fit s text behind shape) in
     (first, rw first size)
 
--- the piece that stands at the front
+-- the piece that stands at the start
 pub record Next (s : Shape) (rest : List ℕ) (n : ℕ) : Type 0 where
   pub text : List ℕ
   pub behind : List ℕ

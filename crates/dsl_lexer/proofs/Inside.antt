@@ -33,7 +33,7 @@ inside_unescaped quote inside (c ∷ chars) (rest, inl (e, plain), more) =
     rw (e, parts.1) (ap (λ t. c ∷ t) (inside_unescaped quote rest chars more))
 inside_unescaped quote inside (c ∷ chars) (rest, inr (e, escapable), more) = rw e (ap (λ t. c ∷ t) (inside_unescaped quote rest chars more))
 
--- behind a backslash stands an escapable byte
+-- after a backslash stands an escapable byte
 abbrev Tested : ℕ → Bool → List ℕ → Type 0
 Tested quote false inside = IsInside quote inside (unescaped false inside)
 Tested quote true inside = (c : ℕ) × (rest : List ℕ) × (inside ≡ c ∷ rest) × IsTrue (is_escapable c) × IsInside quote rest (unescaped false rest)

@@ -34,7 +34,7 @@ use Rattle.dsl_lexer.proofs.FaultClasses.{FaultClass, at_byte, at_tab, in_piece,
 use Rattle.dsl_lexer.proofs.Firsts.{clean, later_tab}
 use Rattle.dsl_lexer.proofs.Stepping.{tab_before}
 
--- nothing stands behind the whole
+-- nothing stands after the whole
 
 whole_utf8 : (bytes : List ℕ) (n : ℕ) → IsUtf8 bytes → IsValidUpTo bytes n → ⊥
 whole_utf8 bytes n u bad = bad.longest (length bytes) bad.short (rw (take_all (length bytes) bytes (omega arith)) u)
@@ -92,7 +92,7 @@ tab_lexeme bytes before rest p n code next c x = by_class (class_of bytes before
     by_class (at_tab e begun there) = begun.content.lexeme p.shape p.text next.behind next.stands.shape next.split
     by_class (in_piece apart more reached inside unsound) = absurd (apart c)
 
--- a fault of the same code at later pieces stands further on
+-- of two faults with equal codes, the one at later pieces stands further on
 fault_later : (bytes : List ℕ) (before more : List Piece) (rest end : List ℕ) (p : Piece) (n m : ℕ) (code : FaultCode) → Cut bytes (more ++ p ∷ before) end → IsNext before rest p → FaultBehind bytes before rest n code → FaultBehind bytes (more ++ p ∷ before) end m code
     → reach before + length p.text ≤ m
 fault_later bytes before more rest end p n m code cut next first x = by_class (class_of bytes (more ++ p ∷ before) end m code x)

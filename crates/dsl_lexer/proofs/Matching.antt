@@ -43,7 +43,7 @@ stamped_placed file bytes at s n (kind ∷ more) is =
     ap (λ p. record { place = p; kind = kind } ∷ stamped file s (n + 1) more) (place_same file bytes at s n is)
     ∙ ap (λ t. record { place = place_at file bytes at n; kind = kind } ∷ t) (stamped_placed file bytes at s (n + 1) more is)
 
--- tokens at one spot behind those so far
+-- tokens at one spot after those so far
 pub stamp_on : (file : ℕ) (bytes : List ℕ) (now : List Token) (so_far : List OffsetToken) (at : ℕ) (s : Spot) (kinds : List TokenKind) → now ≡ placed file bytes 0 so_far → IsSpot bytes at s
     → now ++ stamped file s (length now) kinds ≡ placed file bytes 0 (so_far ++ map (λ k. (at, k)) kinds)
 stamp_on file bytes now so_far at s kinds e is =

@@ -42,7 +42,7 @@ added w since more (u ∷ earlier) h =
     ∙ ap (λ r. put (nat_lt 0 u && (nat_lt u w && list_all (λ v. nat_lt u v) since)) u r) rest
     ∙ put_filter (λ v. nat_lt v w) (nat_lt 0 u) (list_all (λ v. nat_lt u v) since) u (opened_since (u ∷ since) earlier)
 
--- behind a line the opened widths are its own, and the narrower ones
+-- after a line the opened widths are its own, and the narrower ones
 pub opened-cons : (w : ℕ) (earlier : List ℕ) → opened (w ∷ earlier) ≡ opened_behind w (opened earlier)
 opened-cons w earlier =
     ap (λ r. put (nat_lt 0 w && true) w r) (added w [] (w ∷ []) earlier (λ v. refl)) ∙ go w (filter (λ v. nat_lt v w) (opened earlier))

@@ -50,7 +50,7 @@ run_says (suc k) file valid bytes l r v = more_says file valid bytes l k (nat_lt
 start : (file valid : ℕ) (bytes : List ℕ) → Reached file bytes valid at_start
 start file valid bytes = record { before = []; rest = bytes; cut = refl; sound = tt; matches = start_matches file bytes; within = omega arith }
 
--- a run over bytes with a valid front of this length
+-- a run over bytes with a valid prefix of this length
 pub ran : (file valid : ℕ) (bytes : List ℕ) (r : Ran) → Valid bytes valid → run (suc (length bytes)) file valid bytes at_start ≡ r → Says file bytes r
 ran file valid bytes r v e = subst (Says file bytes) e (run_says (suc (length bytes)) file valid bytes at_start (start file valid bytes) v)
 

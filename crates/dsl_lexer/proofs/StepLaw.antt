@@ -1,4 +1,4 @@
--- A step of the lexer goes on behind one sound piece more, or stops at the first fault: the law.
+-- A step of the lexer goes on after one sound piece more, or stops at the first fault: the law.
 use Rattle.std.proofs.Common.{◌≡◌, ℕ, suc, ◌+◌, ◌-◌, ◌<◌, ◌≤◌, Bool, true, false, cond, not, ◌⊎◌, inl, inr, Option, Some, None, List, ◌∷◌, ◌++◌, length, zero, take, refl, ap, sym, ◌∙◌, subst, arith}
 use Rattle.std.specs.Prelude.{nat_lt, ◌==◌, IsSome, is_some}
 use Rattle.std.specs.List.{list_all}
@@ -33,7 +33,7 @@ use Rattle.osc_base.specs.FaultCodes.{number_of}
 use Rattle.osc_base.specs.FaultRows.{IsNoLater}
 use Rattle.dsl_lexer.proofs.Stepping.{least_of, depth_ok, separator_depth, tab_before, inner_spot, separator_matches, reached_more, bad_comment, stop_here}
 
--- what is known of a place behind its white space
+-- what is known of a place after its white space
 pub record Clear (valid : ℕ) (before : List Piece) : Type 0 where
   pub early : reach before < valid
   pub laid : has_lexeme (line before) ≡ false → IsLaidOut before

@@ -1,4 +1,4 @@
--- A step of the lexer goes on behind one sound piece more, or stops at the first fault.
+-- A step of the lexer goes on after one sound piece more, or stops at the first fault.
 use Rattle.std.proofs.Common.{◌≡◌, ℕ, ◌+◌, ◌<◌, ◌≤◌, Bool, true, false, cond, ◌⊎◌, inl, inr, Option, Some, None, List, [], ◌∷◌, ◌++◌, length, take, drop, refl, ap, sym, ◌∙◌, subst, arith}
 use Rattle.std.specs.List.{list_all}
 use Rattle.std.specs.Str.{IsValidUpTo}
@@ -97,7 +97,7 @@ module _ (file : ℕ) (bytes : List ℕ) (valid : ℕ) (l : Layout) (v : Valid b
         };
   }
 
--- spots inside and behind a piece
+-- spots inside and after a piece
 
 take_flat : (k : ℕ) (xs : List ℕ) → list_all no_feed xs ≡ true → list_all no_feed (take k xs) ≡ true
 take_flat k xs all = (and_parts (list_all no_feed (take k xs)) (list_all no_feed (drop k xs)) (sym (list_all-append no_feed (take k xs) (drop k xs)) ∙ ap (list_all no_feed) (take-append-drop k xs) ∙ all)).0

@@ -21,7 +21,7 @@ use Rattle.dsl_lexer.proofs.Fitting.{name_passes, run_passes, digits_pass, digit
 use Rattle.dsl_lexer.proofs.Cutting.{spelled}
 use Rattle.dsl_lexer.proofs.Ascii.{one_ascii}
 
--- the longest front that is UTF-8
+-- the longest prefix that is UTF-8
 
 pub valid_all : (bytes : List ℕ) → IsUtf8 bytes → Valid bytes (length bytes)
 valid_all bytes u = record {

@@ -16,7 +16,7 @@ use Rattle.dsl_lexer.proofs.Texts.{valid_all, valid_part}
 use Rattle.dsl_lexer.proofs.Taking.{law_at, reached_within}
 use Rattle.dsl_lexer.proofs.Ending.{reached_end}
 
--- The longest front that is UTF-8
+-- The longest prefix that is UTF-8
 
 abbrev NoneLonger : List ℕ → ℕ → Type 0
 NoneLonger bytes n = (k : ℕ) → n < k → k ≤ length bytes → IsUtf8 (take k bytes) → ⊥

@@ -268,7 +268,7 @@ unclosed_is_text : IsFirstFault 7 unclosed_is_text_source (fault FaultCode.Text 
 unfolding number_len closing mark_len line_end_len control_at
 unclosed_is_text = ran_ascii 7 unclosed_is_text_source _ refl refl
 
--- a word behind a number
+-- a word after a number
 abbrev word_is_number_source : List ℕ
 word_is_number_source = codes "keep(3in [3..3])"
 

@@ -26,12 +26,12 @@ is_backslash b = b == 92
 abbrev pub is_quote : ℕ → Bool
 is_quote b = b == 34 || b == 39
 
--- what may stand behind a backslash in a string: a quote or a backslash
+-- what may stand after a backslash in a string: a quote or a backslash
 abbrev pub is_escapable : ℕ → Bool
 is_escapable b = is_quote b || is_backslash b
 
--- whether a control character begins at b, where more stands behind it: U+0000 to U+001F and U+007F are one byte,
--- and U+0080 to U+009F are C2 and the number itself
+-- Whether a control character begins at b, when this list stands after it. U+0000 to U+001F and U+007F are one byte.
+-- U+0080 to U+009F are C2 and the number itself.
 abbrev pub begins_control : ℕ → List ℕ → Bool
 begins_control b [] = nat_lt b 32 || b == 127
 begins_control b (c ∷ more) = nat_lt b 32 || b == 127 || (b == 0xC2 && nat_le 0x80 c && nat_le c 0x9F)
@@ -44,6 +44,6 @@ line_at bytes n = 1 + length (filter is_line_feed (take n bytes))
 abbrev pub column_at : List ℕ → ℕ → ℕ
 column_at bytes n = 1 + length (after_last is_line_feed (take n bytes))
 
--- the place of the byte at offset n of the file of this number, where so many tokens stand before it
+-- the place of the byte at offset n of the file of this number, when so many tokens stand before it
 abbrev pub place_at : ℕ → List ℕ → ℕ → ℕ → Place
 place_at file bytes n tokens = record { file = file; line = line_at bytes n; column = column_at bytes n; token = tokens }

@@ -48,12 +48,12 @@ is_word text = is_some (entry text reserved_words) || is_some (entry text left_o
 abbrev pub value : ℕ → List ℕ → ℕ
 value base digits = fold (λ n d. n * base + digit_value d) 0 digits
 
--- `0x` and 1 to 14 hexadecimal digits, with no name character behind them
+-- `0x` and 1 to 14 hexadecimal digits, with no name character after them
 abbrev pub hexadecimal_kind : List ℕ → Option TokenKind
 hexadecimal_kind digits =
     if list_all is_hexadecimal_digit digits && nat_le 1 (length digits) && nat_le (length digits) 14 then Some (Number (value 16 digits) 0) else None
 
--- what stands behind the first digits: the digits behind a point, and the unit's name
+-- what stands after the first digits: the digits after a point, and the unit's name
 abbrev pub fraction : List ℕ → List ℕ
 fraction [] = []
 fraction (b ∷ more) = if b == 46 then take_while is_digit more else []
@@ -62,7 +62,7 @@ abbrev pub unit_name : List ℕ → List ℕ
 unit_name [] = []
 unit_name (b ∷ more) = if b == 46 then drop (prefix_len is_digit more) more else b ∷ more
 
--- a number of these digits before and behind the point, and the name of its unit, where it has one:
+-- a number of these digits before and after the point, and the name of its unit, if it has one:
 -- at most 18 digits, and the unit is no word
 abbrev pub decimal_kind : List ℕ → List ℕ → List ℕ → Option TokenKind
 decimal_kind whole part [] = if nat_le (length whole + length part) 18 then Some (Number (value 10 (whole ++ part)) (length part)) else None
@@ -74,7 +74,7 @@ abbrev pub number_kind : List ℕ → Option TokenKind
 number_kind text = if bytes_eq (take 2 text) (codes "0x") then hexadecimal_kind (drop 2 text)
     else (let behind = drop (prefix_len is_digit text) text in decimal_kind (take_while is_digit text) (fraction behind) (unit_name behind))
 
--- The text between quotes with its escapes read: a backslash falls away, and the byte behind it stands for itself.
+-- The text between quotes with its escapes read: a backslash falls away, and the byte after it stands for itself.
 -- `CharsLaw` says that this is the text of `IsInside`.
 abbrev pub unescaped : Bool → List ℕ → List ℕ
 unescaped escaped [] = []

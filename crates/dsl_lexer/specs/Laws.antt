@@ -13,7 +13,7 @@ use Rattle.dsl_lexer.specs.SourceTokens.{TokensCut, FaultAt, IsFirstFault, EndsO
 abbrev pub OneList : Type 0
 OneList = (file : ℕ) (bytes : List ℕ) (xs ys : List Token) → TokensCut file bytes xs → TokensCut file bytes ys → xs ≡ ys
 
--- where a token list cuts the bytes there is no fault
+-- if a token list cuts the bytes, there is no fault
 abbrev pub CutOrFault : Type 0
 CutOrFault = (file : ℕ) (bytes : List ℕ) (xs : List Token) (n : ℕ) (code : FaultCode) (count : ℕ) → TokensCut file bytes xs → FaultAt bytes n code count → ⊥
 

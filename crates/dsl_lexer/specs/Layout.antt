@@ -11,7 +11,7 @@ use Rattle.dsl_lexer.specs.Shapes.{Space, Tab, LineEnd, is_lexeme}
 use Rattle.dsl_lexer.specs.Kinds.{kind_of}
 use Rattle.dsl_lexer.specs.Pieces.{Piece, reach}
 
--- the number of open brackets behind a token: an opening one raises it, a closing one lowers it where it isn't 0
+-- the number of open brackets after a token: an opening one raises it, a closing one lowers it unless it is 0
 abbrev pub brackets_behind : Option TokenKind → ℕ → ℕ
 brackets_behind (Some (Mark OpenRound)) n = n + 1
 brackets_behind (Some (Mark OpenSquare)) n = n + 1
@@ -19,7 +19,7 @@ brackets_behind (Some (Mark CloseRound)) n = n - 1
 brackets_behind (Some (Mark CloseSquare)) n = n - 1
 brackets_behind _ n = n
 
--- the number of brackets that are open behind these pieces
+-- the number of brackets that are open after these pieces
 abbrev pub brackets : List Piece → ℕ
 brackets [] = 0
 brackets (p ∷ before) = brackets_behind (kind_of p.shape p.text) (brackets before)
@@ -28,11 +28,11 @@ abbrev pub is_line_end : Shape → Bool
 is_line_end LineEnd = true
 is_line_end _ = false
 
--- a line end ends the logical line where no bracket is open
+-- a line end ends the logical line if no bracket is open
 abbrev pub ends_line : Piece → List Piece → Bool
 ends_line p before = is_line_end p.shape && brackets before == 0
 
--- the pieces of the logical line that goes on behind these pieces
+-- the pieces of the logical line that goes on after these pieces
 abbrev pub line : List Piece → List Piece
 line [] = []
 line (p ∷ before) = if ends_line p before then [] else p ∷ line before
@@ -71,13 +71,13 @@ abbrev pub widths : List Piece → List ℕ
 widths [] = []
 widths (p ∷ before) = if begins_line p before then width (line before) ∷ widths before else widths before
 
--- The opened widths behind lines of these widths (the latest first): 0, and the width of each line such that
+-- The opened widths after lines of these widths (the latest first): 0, and the width of each line such that
 -- no line since is narrower.
 abbrev pub IsOpened : List ℕ → ℕ → Type 0
 IsOpened widths w = (w ≡ 0) ⊎ ((since earlier : List ℕ) × (widths ≡ since ++ w ∷ earlier) × AllByRecursion (λ v. w ≤ v) since)
 
--- Those above 0 as a list, each once, where since are the widths of later lines: the width of each line such that all
--- lines since are wider. The law `OpenedLaw` says that the list falls and has exactly the opened widths above 0.
+-- The opened widths above 0 as a list, each once: the width of each line such that all lines since are wider. The argument
+-- `since` holds the widths of later lines. The law `OpenedLaw` says that the list falls and has exactly the opened widths above 0.
 abbrev pub opened_since : List ℕ → List ℕ → List ℕ
 opened_since since [] = []
 opened_since since (w ∷ earlier) = if nat_lt 0 w && list_all (λ v. nat_lt w v) since then w ∷ opened_since (w ∷ since) earlier else opened_since (w ∷ since) earlier
@@ -99,7 +99,7 @@ fits w ws = is_widest w ws || w == 0 || list_any (λ v. v == w) ws
 abbrev pub blocks : ℕ → List ℕ → List TokenKind
 blocks w ws = if is_widest w ws then Indent ∷ [] else map (λ v. Dedent) (filter (λ v. nat_lt w v) ws)
 
--- open brackets and opened blocks behind these pieces
+-- open brackets and opened blocks after these pieces
 abbrev pub depth : List Piece → ℕ
 depth pieces = brackets pieces + length (opened (widths pieces))
 
@@ -107,12 +107,12 @@ depth pieces = brackets pieces + length (opened (widths pieces))
 abbrev pub OffsetToken : Type 0
 OffsetToken = ℕ × TokenKind
 
--- the offset behind the last token
+-- the offset after the last token
 abbrev pub behind_last : List Piece → ℕ
 behind_last [] = 0
 behind_last (p ∷ before) = if is_lexeme p.shape then p.at + length p.text else behind_last before
 
--- the NEWLINE behind a logical line with a token
+-- the NEWLINE after a logical line with a token
 abbrev pub newline : List Piece → List OffsetToken
 newline pieces = if has_lexeme (line pieces) then (behind_last pieces, Newline) ∷ [] else []
 
@@ -120,8 +120,8 @@ abbrev pub own_token : ℕ → Option TokenKind → List OffsetToken
 own_token at None = []
 own_token at (Some kind) = (at, kind) ∷ []
 
--- the tokens that p brings behind the pieces before it: where it is the first token of its line those of the blocks,
--- then itself; where it ends a logical line the NEWLINE of that line
+-- The tokens that p brings after the pieces before it. If p is the first token of its line, those of the blocks come first.
+-- Then comes the token that p itself is. If p ends a logical line, the NEWLINE of that line comes last.
 abbrev pub brought : Piece → List Piece → List OffsetToken
 brought p before =
     (if begins_line p before then map (λ kind. (p.at, kind)) (blocks (width (line before)) (opened (widths before))) else [])

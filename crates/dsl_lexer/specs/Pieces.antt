@@ -10,12 +10,12 @@ pub record Piece : Type 0 where
   pub shape : Shape
   pub text : List ℕ
 
--- the offset behind the pieces
+-- the offset after the pieces
 abbrev pub reach : List Piece → ℕ
 reach [] = 0
 reach (p ∷ before) = reach before + length p.text
 
--- no piece that fits at a text's place, where rest stands behind it, is longer
+-- no piece that fits at a text's place is longer, when rest stands after the text
 abbrev pub IsLongest : List ℕ → List ℕ → Type 0
 IsLongest text rest = (shape : Shape) (other behind : List ℕ) → IsShape shape other → text ++ rest ≡ other ++ behind → length other ≤ length text
 

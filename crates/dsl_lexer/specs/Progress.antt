@@ -42,7 +42,7 @@ pub record Matches (file : ℕ) (bytes : List ℕ) (before : List Piece) (l : La
   pub behind : IsSpot bytes (behind_last before) l.behind
   pub tokens : l.tokens ≡ placed file bytes 0 (tokens before)
 
--- the length of the longest front that is UTF-8
+-- the length of the longest prefix that is UTF-8
 pub record Valid (bytes : List ℕ) (valid : ℕ) : Type 0 where
   pub within : valid ≤ length bytes
   pub bad : valid < length bytes → IsValidUpTo bytes valid
@@ -84,6 +84,6 @@ pub record CanTake (l : Layout) (valid : ℕ) (shape : Shape) (rest : List ℕ) 
   pub is_shape : IsShape shape (take n rest)
   pub utf8 : shape ≡ StringShape → l.spot.at + n ≤ valid → IsUtf8 (string_chars (take n rest))
 
--- whatever piece is found at the front can be taken
+-- whatever piece is found at the start can be taken
 abbrev pub CanTakeFront : Layout → ℕ → List ℕ → Type 0
 CanTakeFront l valid rest = (n : ℕ) → piece_len (front_shape rest) rest ≡ Some n → CanTake l valid (front_shape rest) rest n

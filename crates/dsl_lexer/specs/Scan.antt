@@ -1,5 +1,5 @@
--- How long the piece at the front of a source is, as the functions of `scan` compute it. This is no part of the
--- meaning: the lemmas of proofs/Fitting.antt and proofs/Fronts.antt tie it to `IsShape`: the piece has its shape, and no longer front has any.
+-- How long the piece at the start of a source is, as the functions of `scan` compute it. This is no part of the
+-- meaning. The lemmas of proofs/Fitting.antt and proofs/Fronts.antt tie it to `IsShape`: the piece has its shape, and no longer prefix has any.
 use Rattle.std.specs.Prelude.{ℕ, suc, ◌+◌, ◌==◌, Bool, true, false, ◌||◌, ◌&&◌, not, if◌then◌else◌, is_some, List, [], ◌∷◌, length, take, drop, Option, Some, None}
 use Rattle.std.specs.List.{prefix_len}
 use Rattle.std.specs.Option.{option_map}
@@ -34,7 +34,7 @@ unfoldable pub number_len : List ℕ → ℕ
 number_len rest = if prefix_len is_digit rest == name_run rest && begins_fraction (drop (name_run rest) rest)
     then name_run rest + 1 + name_run (drop (name_run rest + 1) rest) else name_run rest
 
--- whether a string may go on so behind its opening quote, up to the closing one: `escaped` says whether a backslash
+-- whether a string may go on so after its opening quote, up to the closing one: `escaped` says whether a backslash
 -- stands directly before
 abbrev pub is_inside : ℕ → Bool → List ℕ → Bool
 is_inside quote escaped [] = not escaped
@@ -60,7 +60,7 @@ abbrev pub string_len : List ℕ → Option ℕ
 string_len [] = None
 string_len (quote ∷ more) = option_map suc (closing quote false more)
 
--- the length of the piece of this shape at the front of rest, whose first byte is of the shape
+-- the length of the piece of this shape at the start of rest, whose first byte is of the shape
 abbrev pub piece_len : Shape → List ℕ → Option ℕ
 piece_len Space rest = Some 1
 piece_len Tab rest = Some 1

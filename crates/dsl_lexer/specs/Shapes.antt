@@ -38,7 +38,7 @@ abbrev pub IsName : List ℕ → Type 0
 IsName [] = ⊥
 IsName (b ∷ more) = IsTrue (is_name_start b) × IsTrue (list_all is_name_byte more)
 
--- a digit and the name characters directly behind it, of which digits are some
+-- a digit and the name characters directly after it; a digit is a name character too
 abbrev pub IsDigitRun : List ℕ → Type 0
 IsDigitRun [] = ⊥
 IsDigitRun (b ∷ more) = IsTrue (is_digit b) × IsTrue (list_all is_name_byte more)
@@ -47,7 +47,7 @@ abbrev pub IsDigits : List ℕ → Type 0
 IsDigits [] = ⊥
 IsDigits (b ∷ more) = IsTrue (is_digit b) × IsTrue (list_all is_digit more)
 
--- a number with what stands directly behind it, with a point (46) between digits or without one. Not each such text is
+-- a number with what stands directly after it, with a point (46) between digits or without one. Not each such text is
 -- a number or a physical literal: `number_kind` says which
 abbrev pub IsNumber : List ℕ → Type 0
 IsNumber text = IsDigitRun text ⊎ ((whole more : List ℕ) × (text ≡ whole ++ 46 ∷ more) × IsDigits whole × IsDigitRun more)
@@ -57,7 +57,7 @@ abbrev pub is_plain : ℕ → ℕ → Bool
 is_plain quote b = not (b == quote) && not (is_backslash b) && not (is_line_feed b)
 
 -- What stands between two such quotes, and the text that it stands for: a plain byte for itself, and a backslash with an
--- escapable byte behind it for that byte.
+-- escapable byte after it for that byte.
 abbrev pub IsInside : ℕ → List ℕ → List ℕ → Type 0
 IsInside quote inside [] = inside ≡ []
 IsInside quote inside (c ∷ chars) = (rest : List ℕ)

@@ -26,7 +26,7 @@ pub record IsLaidOut (before : List Piece) : Type 0 where
   pub no_tab : first_tab (line before) ≡ None
   pub fitting : IsTrue (fits (width (line before)) (opened (widths before)))
 
--- what the rules ask of a piece behind those before it
+-- what the rules ask of a piece that stands after those in `before`
 pub record IsSound (p : Piece) (before : List Piece) : Type 0 where
   pub laid_out : IsTrue (begins_line p before) → IsLaidOut before
   pub token : IsTrue (is_lexeme p.shape) → IsSome (kind_of p.shape p.text)
@@ -50,7 +50,7 @@ pub record BeginsContent (before : List Piece) (rest : List ℕ) : Type 0 where
   pub first : has_lexeme (line before) ≡ false
   pub content : IsContent rest
 
--- the piece p stands next behind those before it
+-- the piece p stands next after those in `before`
 pub record IsNext (before : List Piece) (rest : List ℕ) (p : Piece) : Type 0 where
   pub behind : List ℕ
   pub split : rest ≡ p.text ++ behind
@@ -60,7 +60,7 @@ abbrev pub begins_with : (ℕ → Bool) → List ℕ → Bool
 begins_with test [] = false
 begins_with test (b ∷ more) = test b
 
--- a fault at offset n: the pieces are those before it, and rest is what stands behind them
+-- a fault at offset n: the pieces are those before it, and rest is what stands after them
 pub data FaultBehind (bytes : List ℕ) (before : List Piece) (rest : List ℕ) (n : ℕ) (code : FaultCode) : Type 0 where
   -- the first byte that begins no whole character
   bad_byte : code ≡ FaultCode.Utf8 → IsValidUpTo bytes n → reach before ≤ n
@@ -75,15 +75,15 @@ pub data FaultBehind (bytes : List ℕ) (before : List Piece) (rest : List ℕ) 
   bad_control : (p : Piece) (i : ℕ) → code ≡ FaultCode.Character → IsNext before rest p → p.shape ≡ StringShape → HasControl p.text i → n ≡ reach before + i → FaultBehind bytes before rest n code
   -- a quote that no string begins with
   no_string : code ≡ FaultCode.Text → n ≡ reach before → IsStuck rest → begins_with is_quote rest ≡ true → FaultBehind bytes before rest n code
-  -- a number with too many digits, `0x` without a digit, a word directly behind a decimal number, or another name
-  -- character directly behind a hexadecimal one
+  -- A number with too many digits, or `0x` without a digit. Or a word directly after a decimal number.
+  -- Or another name character directly after a hexadecimal one.
   no_number : (p : Piece) → code ≡ FaultCode.Number → n ≡ reach before → IsNext before rest p → p.shape ≡ NumberShape → kind_of p.shape p.text ≡ None → FaultBehind bytes before rest n code
   -- an opening bracket or INDENT that makes more than 64 open brackets and opened blocks together
   too_deep : (p : Piece) → code ≡ FaultCode.Deep → n ≡ reach before → IsNext before rest p → depth before < depth (p ∷ before) → 64 < depth (p ∷ before) → FaultBehind bytes before rest n code
 
--- A fault at offset n, behind so many tokens: those that the pieces before it bring, without the INDENT, DEDENTs and
+-- A fault at offset n, after so many tokens: those that the pieces before it bring, without the INDENT, DEDENTs and
 -- NEWLINE of its own line that are still to come. The faults are those up to the first byte at which no piece begins:
--- what stands behind it isn't cut.
+-- what stands after it isn't cut.
 pub record FaultAt (bytes : List ℕ) (n : ℕ) (code : FaultCode) (count : ℕ) : Type 0 where
   pub before : List Piece
   pub rest : List ℕ
@@ -91,7 +91,7 @@ pub record FaultAt (bytes : List ℕ) (n : ℕ) (code : FaultCode) (count : ℕ)
   pub fault : FaultBehind bytes before rest n code
   pub counted : count ≡ length (tokens before)
 
--- the first fault: no other has a lesser place, or the same place and a lesser code
+-- the first fault: no other has a lesser place, or an equal place and a lesser code
 pub record IsFirstFault (file : ℕ) (bytes : List ℕ) (fault : Fault) : Type 0 where
   pub at : ℕ
   pub count : ℕ

@@ -16,7 +16,7 @@ use Rattle.dsl_lexer.specs.SourceTokens.{begins_with}
 use Rattle.dsl_lexer.specs.Layout.{brackets_behind, fits, blocks}
 use Rattle.dsl_lexer.specs.Scan.{first_shape, piece_len, control_at}
 
--- the opened widths above 0 behind a line of width w
+-- the opened widths above 0 after a line of width w
 abbrev pub with_width : ℕ → List ℕ → List ℕ
 with_width w narrower = if w == 0 then narrower else w ∷ narrower
 
@@ -32,7 +32,7 @@ on_next_line s len = record { at = s.at + len; line = s.line + 1; column = 1 }
 abbrev pub place_of : ℕ → Spot → ℕ → Place
 place_of file s count = record { file = file; line = s.line; column = s.column; token = count }
 
--- tokens at one spot, behind so many
+-- tokens at one spot, after so many others
 abbrev pub stamped : ℕ → Spot → ℕ → List TokenKind → List Token
 stamped file s count [] = []
 stamped file s count (kind ∷ more) = record { place = place_of file s count; kind = kind } ∷ stamped file s (count + 1) more
@@ -72,7 +72,7 @@ abbrev pub after_line_end : ℕ → Layout → ℕ → Layout
 after_line_end file l len =
     if l.brackets == 0 then record l { spot = on_next_line l.spot len; started = false; spaces = 0; tab = None; tokens = with_newline file l } else after_joint l len
 
--- the opened widths behind a token
+-- the opened widths after a token
 abbrev pub widths_behind : Layout → List ℕ
 widths_behind l = if l.started then l.widths else opened_behind l.spaces l.widths
 
@@ -169,7 +169,7 @@ abbrev pub piece_of : ℕ → ℕ → Layout → Shape → List ℕ → Bool →
 piece_of file valid l shape rest false (Some len) = separator_of file valid l shape len
 piece_of file valid l shape rest lexeme len = or_stop (white_fault l valid) (content_of file valid l shape rest len)
 
--- the shape of the piece at the front
+-- the shape of the piece at the start
 abbrev pub front_shape : List ℕ → Shape
 front_shape rest = first_shape (slice_index rest 0)
 

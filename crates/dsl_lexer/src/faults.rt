@@ -41,7 +41,7 @@ pub fn end_fault(layout: &Layout, valid: usize, len: usize) -> Option<(Spot, Fau
     None
 }
 
-/// How deep the nesting is behind a token, behind which so many brackets are open.
+/// How deep the nesting is after a token, when `brackets` brackets are open after it.
 fn depth_behind(layout: &Layout, brackets: u32) -> usize
     requires room { HasRoom layout.now 1 }
     requires brackets { brackets < 2 ^ 31 }

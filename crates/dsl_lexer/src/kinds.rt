@@ -55,7 +55,7 @@ fn digit_value(b: u8) -> u64
     }
 }
 
-/// The number that `digits` stand for behind those of `start`.
+/// The number that `digits` stand for after those of `start`.
 fn value(base: u64, start: u64, digits: &[u8]) -> u64
     requires { Fits base start digits.now }
     ensures { result ≡ value_from base start digits.now }
@@ -79,7 +79,7 @@ fn are_hexadecimal_digits(digits: &[u8]) -> bool
     digits.iter().all(|b| is_hexadecimal_digit(*b))
 }
 
-/// The number of these digits behind `0x`.
+/// The number of these digits after `0x`.
 fn hexadecimal_kind(digits: &[u8]) -> Option<TokenKind>
     ensures { result ≡ kinds.hexadecimal_kind digits.now }
 {
@@ -92,7 +92,7 @@ fn hexadecimal_kind(digits: &[u8]) -> Option<TokenKind>
     })
 }
 
-/// The number of these digits before and behind the point, with its unit.
+/// The number of these digits before and after the point, with its unit.
 fn decimal_kind(
     alloc: Global,
     whole: &[u8],
@@ -123,7 +123,7 @@ fn decimal_kind(
     }))
 }
 
-/// The digits behind a point, and what stands behind them.
+/// The digits after a point, and what stands after them.
 fn fraction_and_unit(behind: &[u8]) -> (&[u8], &[u8])
     ensures part { result.0.now ≡ kinds.fraction behind.now }
     ensures unit { result.1.now ≡ kinds.unit_name behind.now }
@@ -134,7 +134,7 @@ fn fraction_and_unit(behind: &[u8]) -> (&[u8], &[u8])
     }
 }
 
-/// What stands behind `0x`, where a text begins so.
+/// What stands after `0x`, if a text begins with it.
 fn hexadecimal_digits(text: &[u8]) -> Option<&[u8]>
     ensures none { IfNone result (bytes_eq (take 2 text.now) (codes "0x") ≡ false) }
     ensures zero { OnSome result (bytes_eq (take 2 text.now) (codes "0x") ≡ true) }

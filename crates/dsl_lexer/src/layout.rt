@@ -12,7 +12,7 @@ use dsl_tree::{MarkKind, Token, TokenKind};
 use osc_base::Row;
 use std::alloc::{AllocError, Global};
 
-/// What is known behind the pieces so far.
+/// What is known after the pieces so far.
 #[derive(Drop)]
 pub struct Layout {
     /// Where the next piece stands.
@@ -27,13 +27,13 @@ pub struct Layout {
     pub brackets: u32,
     /// The opened widths.
     pub widths: Widths,
-    /// The spot behind the last token.
+    /// The spot after the last token.
     pub behind: Spot,
     /// The tokens so far.
     pub tokens: Row<Token>,
 }
 
-/// The number of open brackets behind a token.
+/// The number of open brackets after a token.
 pub fn brackets_behind_token(kind: &TokenKind, brackets: u32) -> u32
     requires { brackets + 1 < 2 ^ 32 }
     ensures { result ≡ brackets_behind (Some kind.now) brackets }
@@ -159,7 +159,7 @@ impl Layout {
         Ok(())
     }
 
-    /// Opens or closes blocks where the next token is the first of its line.
+    /// Opens or closes blocks if the next token is the first of its line.
     fn begin_line(&mut self, file: u32) -> Result<(), AllocError>
         requires { HasRoom self.old 1 }
         ensures begun { OnOk result (self.new ≡ steps.after_blocks file self.old) }

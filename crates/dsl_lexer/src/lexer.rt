@@ -19,7 +19,7 @@ use dsl_tree::{TokenKind, Tokens};
 use osc_base::{Fault, FaultCode};
 use std::alloc::{AllocError, Global};
 
-/// The length of the longest front that is UTF-8.
+/// The length of the longest prefix that is UTF-8.
 fn valid_len(bytes: &[u8]) -> usize
     ensures { Valid bytes.now result }
 {
@@ -155,7 +155,7 @@ fn take_token(
     }
 }
 
-/// Takes the content at the front: a token of `len` bytes, or nothing that fits.
+/// Takes the content at the start: a token of `len` bytes, or nothing that fits.
 fn take_content(
     alloc: Global,
     file: u32,
@@ -186,7 +186,7 @@ fn take_content(
     take_token(alloc, file, layout, valid, shape, &rest[..len])
 }
 
-/// Takes the piece at the front of what is left.
+/// Takes the piece at the start of what is left.
 fn take_front(
     alloc: Global,
     file: u32,
@@ -230,9 +230,9 @@ fn step(
     take_front(alloc, file, layout, valid, &bytes[layout.spot.at..])
 }
 
-/// The tokens of the bytes, which are those of file number `file`, or the first fault.
+/// Returns the tokens of the bytes, which are those of file number `file`, or the first fault.
 ///
-/// `At` comes exactly where no token list cuts the bytes. Lines and columns count from 1, and a place's token number is
+/// `At` comes exactly if no token list cuts the bytes. Lines and columns count from 1, and a place's token number is
 /// the number of tokens before it. The bytes are any: they need not be UTF-8.
 pub fn lex(alloc: Global, file: u32, bytes: &[u8]) -> Result<Tokens, LexStop>
     requires { length bytes.now ≤ 1048576 }
@@ -249,9 +249,8 @@ pub fn lex(alloc: Global, file: u32, bytes: &[u8]) -> Result<Tokens, LexStop>
     Ok(layout.finish(file)?)
 }
 
-/// At most one token list cuts some bytes, and where one does there is no fault; where none does there is a first fault,
-/// and at most one; END
-/// is the last token; and the list of the opened widths and the text of a string are what they are said to be.
+/// At most one token list cuts some bytes. If one does, there is no fault. If none does, there is a first fault, and at
+/// most one. END is the last token. The list of the opened widths and the text of a string are what they are said to be.
 pub fn laws()
     ensures one_list { OneList }
     ensures cut_or_fault { CutOrFault }

@@ -43,7 +43,7 @@ fn mark_of_two(b: u8, c: u8) -> Option<MarkKind>
     }
 }
 
-/// The longest mark at the front, and its length.
+/// The longest mark at the start, and its length.
 #[tactic(auto, unfolding(crate::specs::Scan::mark_len))]
 pub fn mark(rest: &[u8]) -> Option<(MarkKind, usize)>
     ensures none { IfNone result (scan.mark_len rest.now ≡ None) }

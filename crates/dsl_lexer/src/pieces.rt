@@ -1,4 +1,4 @@
-//! The piece at the front of a slice, and the token that it is.
+//! The piece at the start of a slice, and the token that it is.
 
 ghost use Rattle.std.specs.Prelude.{◌≢◌, option_map, IsSome, ◌≡◌, ◌<◌, ◌≤◌, Option, Some, None, length, IfOk, IfSome, IsTrue, true, false};
 ghost use Rattle.std.specs.Str.{IsAscii};
@@ -49,7 +49,7 @@ fn string_len(rest: &[u8]) -> Option<usize>
     }
 }
 
-/// The length of the piece at the front, whose first byte is of this shape.
+/// The length of the piece at the start, whose first byte is of this shape.
 pub fn piece_len(shape: Shape, rest: &[u8]) -> Option<usize>
     requires { 0 < length rest.now }
     ensures { result ≡ scan_of.piece_len shape rest.now }

@@ -1,4 +1,4 @@
-//! How long the piece at the front of a slice is. What is computed is a definition of `specs/Scan.antt`.
+//! How long the piece at the start of a slice is. The functions compute definitions of `specs/Scan.antt`.
 
 ghost use Rattle.std.specs.Prelude.{◌≡◌, ◌+◌, ◌≤◌, ◌||◌, ◌<◌, length, not, false, ℕ, Option, IsTrue, IfSome};
 ghost use Rattle.std.specs.List.{prefix_len};
@@ -56,7 +56,7 @@ pub fn first_shape(b: u8) -> Shape
     }
 }
 
-/// How many name characters stand at the front.
+/// How many name characters stand at the start.
 pub fn name_run(rest: &[u8]) -> usize
     ensures run { result ≡ scan.name_run rest.now }
     ensures within { result ≤ length rest.now }
@@ -68,7 +68,7 @@ pub fn name_run(rest: &[u8]) -> usize
     n
 }
 
-/// How many digits stand at the front.
+/// How many digits stand at the start.
 pub fn digit_run(rest: &[u8]) -> usize
     ensures run { result ≡ prefix_len bytes.is_digit rest.now }
     ensures within { result ≤ length rest.now }
@@ -80,7 +80,7 @@ pub fn digit_run(rest: &[u8]) -> usize
     n
 }
 
-/// How long the comment at the front is.
+/// How long the comment at the start is.
 pub fn comment_len(rest: &[u8]) -> usize
     ensures run { result ≡ prefix_len (λ b. not (bytes.is_line_feed b)) rest.now }
     ensures within { result ≤ length rest.now }
@@ -114,7 +114,7 @@ fn begins_fraction(rest: &[u8]) -> bool
     }
 }
 
-/// How long the number at the front is, with the name characters directly behind it.
+/// How long the number at the start is, with the name characters directly after it.
 #[tactic(auto, unfolding(crate::specs::Scan::number_len))]
 pub fn number_len(rest: &[u8]) -> usize
     ensures value { result ≡ scan.number_len rest.now }
@@ -128,7 +128,7 @@ pub fn number_len(rest: &[u8]) -> usize
     }
 }
 
-/// How long the string at the front is behind its opening quote, with the closing one.
+/// How long the string at the start is after its opening quote, with the closing one.
 pub fn closing(quote: u8, rest: &[u8]) -> Option<usize>
     ensures value { result ≡ scan.closing quote false rest.now }
     ensures within { IfSome result (λ n. n ≤ length rest.now) }

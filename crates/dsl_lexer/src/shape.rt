@@ -9,13 +9,13 @@ pub enum Shape {
     Comment,
     /// A line end.
     LineEnd,
-    /// A backslash and the line end directly behind it.
+    /// A backslash and the line end directly after it.
     Joint,
     /// A mark, as `<=`.
     MarkShape,
     /// A name or a word.
     NameShape,
-    /// A number, with the name characters directly behind it.
+    /// A number, with the name characters directly after it.
     NumberShape,
     /// A string with its quotes.
     StringShape,

@@ -22,7 +22,7 @@ impl Spot {
         }
     }
 
-    /// The spot behind `len` bytes, none of them a line feed.
+    /// The spot after `len` bytes, none of them a line feed.
     pub fn past(self, len: usize) -> Spot
         requires at { self.at + len < 2 ^ 32 }
         requires column { self.column + len < 2 ^ 32 }
@@ -35,7 +35,7 @@ impl Spot {
         }
     }
 
-    /// The spot behind `len` bytes, the last of them, and no other, a line feed.
+    /// The spot after `len` bytes, the last of them, and no other, a line feed.
     pub fn past_line_feed(self, len: usize) -> Spot
         requires at { self.at + len < 2 ^ 32 }
         requires line { self.line + 1 < 2 ^ 32 }
@@ -48,7 +48,7 @@ impl Spot {
         }
     }
 
-    /// The place of the spot, behind so many tokens.
+    /// The place of the spot, when `tokens` tokens stand before it.
     pub fn place(self, file: u32, tokens: usize) -> Place
         requires { tokens < 2 ^ 32 }
         ensures { result ≡ record { file = file; line = self.line; column = self.column; token = tokens } }

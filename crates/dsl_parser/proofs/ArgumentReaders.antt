@@ -158,7 +158,7 @@ no_arguments : arguments_of [] ≡ wrong
 unfolding arguments_of
 no_arguments = refl
 
--- arguments of which the first has a name, behind some
+-- arguments of which the first has a name, after some
 pub read_named : (start : List Token) (items : List Argument) (rest : List Token) (name : Ident) (new : List Argument) (us z : List Token) → Plain start items rest → IsLabel name rest us → IsNamedRest name items new us z → Parsed Part.Arguments (arguments_of new) start z
 read_named start items rest name new us z along label named =
     subst (λ (v : List Argument). Parsed Part.Arguments (arguments_of v) start z) (sym named.is)

@@ -14,7 +14,7 @@ pub exits : {T : Type 0} (r : Result T (Stop ℕ)) (e : Stop ℕ) (P Q : ℕ →
 exits (Ok x) e P Q h same go = tt
 exits (Err x) e P Q h same go = stop_of x P Q (subst (λ (y : Stop ℕ). OnStop y P) (sym same) h) go
 
--- where the result of a call is handed on
+-- when the code hands on the result of a call
 pub ok_as : {T : Type 0} (r : Result T (Stop ℕ)) (P Q : T → Type 0) → IfOk r P → ((x : T) → P x → Q x) → IfOk r Q
 ok_as (Ok x) P Q h go = go x h
 ok_as (Err e) P Q h go = tt

@@ -25,7 +25,7 @@ use Rattle.dsl_parser.specs.Levels.{at_level, row_level, item_level, tail_of, su
 
 -- Levels
 
--- an expression of a higher level: nothing stands behind it
+-- an expression of a higher level: nothing stands after it
 pub level_lower : (n : ℕ) (e : Expr) → suc n ≤ level (expr_tree e) → at_level n e ≡ lifted n (at_level (suc n) e)
 unfolding at_level
 level_lower n e h = at_lower n (expr_tree e) (written (expr_tree e)) h
@@ -41,7 +41,7 @@ no_wrong ([] ∷ rs) z (inl does) = absurd does
 no_wrong ((s ∷ r) ∷ rs) z (inl does) = absurd does
 no_wrong (r ∷ rs) z (inr any) = no_wrong rs z any
 
--- an expression that was read where one of a level stands is of this level or a higher one
+-- an expression that was read in a place for one of a level is of this level or a higher one
 pub level_of_part : (p : Part) (n : ℕ) (e : Expr) (ts z : List Token) → Parsed p (at_level n e) ts z → n ≤ level (expr_tree e)
 unfolding at_level
 level_of_part p n e ts z parsed = go (nat_lt (level (expr_tree e)) n) refl parsed.whole

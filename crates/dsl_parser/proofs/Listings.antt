@@ -1,4 +1,4 @@
--- The items of a list behind the first one.
+-- The items of a list after the first one.
 use Rattle.std.proofs.Common.{◌≡◌, List, ◌∷◌}
 use Rattle.dsl_tree.specs.declared.token.Token.{Token}
 use Rattle.dsl_tree.specs.declared.expr.Expr.{Expr}

@@ -41,7 +41,7 @@ loop_start X p forest_of before start ended = record {
   within = omega arith;
 }
 
--- The rest of the row, where it has one item more
+-- The rest of the row, if it has one item more
 pub record OneMore (X : Type 0) (p : Part) (forest_of : List X → Forest) (item : X) (rest more : List Token) : Type 0 where
   pub reads : (others : List X) (end : List Token) → Parsed p (forest_of others) more end → Parsed p (forest_of (item ∷ others)) rest end
   pub faults : (left : ℕ) → PartFault p more left → PartFault p rest left
@@ -70,7 +70,7 @@ pub loop_last : (X : Type 0) (p : Part) (forest_of : List X → Forest) (before 
     → Continuing X p forest_of before now start rest → Parsed p (forest_of []) rest end → Continued X p forest_of before now start end
 loop_last X p forest_of before now start rest end loop last = record { others = loop.done; split = loop.split; read = along_end X p forest_of start loop.done rest end loop.along last }
 
--- a row of its first item and those that were read behind it
+-- a row of its first item and those that were read after it
 pub one_row : (X : Type 0) (p : Part) (forest_of : List X → Forest) (first : X) (before after : List X) (ts rest : List Token) (Q : List X → Type 0)
     → before ≡ first ∷ [] → (c : Continued X p forest_of before after ts rest) → Q (first ∷ c.others) → Q after
 one_row X p forest_of first before after ts rest Q e c q = subst Q (sym (c.split ∙ ap (λ (v : List X). v ++ c.others) e)) q
@@ -98,7 +98,7 @@ parsed_part p m f ts rest rule full h = parsed_full p (Of m ∷ []) (sub f nil) 
     not_void : (void f && true) ≡ false
     not_void = ⊎_elim (λ v. both_ways (empty m) (void_part m f (part_follows m f rest h.whole) v) full) (λ v. ap (λ (w : Bool). w && true) v) (two_ways (void f))
 
--- a part behind a mark
+-- a part after a mark
 pub more_parts : (X : Type 0) (p m : Part) (codes : List ℕ) (forest_of : List X → Forest) (x : X) (item : Forest) (place : Place) (kind : TokenKind) (rest next more : List Token)
     → RuleOf p (Bare codes ∷ Of m ∷ Of p ∷ []) → all_apart (rules p) ≡ true → ready (Of m ∷ Of p ∷ []) ≡ true → ready (Of p ∷ []) ≡ true
     → ((xs : List X) → forest_of (x ∷ xs) ≡ bare kind (sub item (sub (forest_of xs) nil)))
@@ -112,7 +112,7 @@ more_parts X p m codes forest_of x item place kind rest next more rule apart sou
       (behind_bare codes (Of m ∷ Of p ∷ []) place kind rest next left read fits (past_part m (Of p ∷ []) item next more left sound parsed (in_part p [] more left sound' fault)));
 }
 
--- a name behind a mark
+-- a name after a mark
 pub more_names : (X : Type 0) (p : Part) (codes : List ℕ) (forest_of : List X → Forest) (x : X) (place place' : Place) (kind : TokenKind) (text : List ℕ) (rest next more : List Token)
     → RuleOf p (Bare codes ∷ Seen names ∷ Of p ∷ []) → all_apart (rules p) ≡ true → ready (Of p ∷ []) ≡ true
     → ((xs : List X) → forest_of (x ∷ xs) ≡ bare kind (seen place' (TokenKind.Name text) (sub (forest_of xs) nil)))

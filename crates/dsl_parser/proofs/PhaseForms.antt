@@ -38,7 +38,7 @@ heads = 5 ∷ 6 ∷ 7 ∷ 8 ∷ word_code WordKind.ActorWord ∷ []
 pub head_fits : (text : List ℕ) → has heads (name_code text) ≡ true
 head_fits text = has-subset names heads (name_code text) refl (name_fits text)
 
--- Behind a label
+-- After a label
 
 pub label_opens : (label : Ident) (ts : List Token) → Starts (first Part.Composition) ts → Opens Part.LabelledPhase (behind_label label) (Some label) ts ts
 label_opens label ts start = record {
@@ -69,7 +69,7 @@ label_name label name tree found arguments parts ts us end read h e shorter = re
   shorter = omega (arith, read.shorter, shorter);
 }
 
--- Behind the name at the beginning: a colon and more, or an invocation
+-- After the name at the beginning: a colon and more, or an invocation
 
 behind_colon : (f : Forest) (place : Place) (ts us end : List Token) → IsRead place (TokenKind.Mark MarkKind.Colon) ts us → Parsed Part.LabelledPhase f us end
     → Parsed Part.PhaseAfterName (bare (TokenKind.Mark MarkKind.Colon) (sub f nil)) ts end
@@ -136,7 +136,7 @@ start_opens name of ts us inner read h = record {
   faults = λ n fault. by_rule Part.Phase _ ts n (inl refl) refl (read_starts names name.place _ ts us read (name_fits name.text)) (behind_seen names _ name.place _ ts us n read (name_fits name.text) (in_part Part.PhaseAfterName [] us n refl (h.faults n fault)));
 }
 
--- one that begins behind the name and its colon, or behind the name
+-- one that begins after the name and its colon, or after the name
 pub name_started : (label : Ident) (s : PhaseStart) (place : Place) (ts us end : List Token) → IsRead place (TokenKind.Mark MarkKind.Colon) ts us
     → Started Part.LabelledPhase (behind_label label) s us end → Started Part.PhaseAfterName (behind_name label) s ts end
 name_started label (Whole found) place ts us end read h = name_labels label place (phase_tree found) ts us end read h

@@ -80,7 +80,7 @@ pair_first p a b ts left only h fault = by_only p (Of a ∷ Of b ∷ []) ts left
 pub pair_second : (p a b : Part) (f : Forest) (ts m : List Token) (left : ℕ) → rules p ≡ (Of a ∷ Of b ∷ []) ∷ [] → ready (Of a ∷ Of b ∷ []) ≡ true → ready (Of b ∷ []) ≡ true → Parsed a f ts m → PartFault b m left → PartFault p ts left
 pair_second p a b f ts m left only h h' parsed fault = by_only p (Of a ∷ Of b ∷ []) ts left only (past_part a (Of b ∷ []) f ts m left h parsed (in_part b [] m left h' fault))
 
--- A sign, and a part behind it
+-- A sign, and a part after it
 
 pub read_sign : (p q : Part) (codes : List ℕ) (place : Place) (kind : TokenKind) (f : Forest) (ts us z : List Token)
     → RuleOf p (Seen codes ∷ Of q ∷ []) → IsRead place kind ts us → has codes (code kind) ≡ true → Parsed q f us z → Parsed p (seen place kind (sub f nil)) ts z
@@ -100,7 +100,7 @@ read_row p q codes place kind f g ts us m z rule read h one two =
     parsed_full p (Seen codes ∷ Of q ∷ Of p ∷ []) (seen place kind (sub f (sub g nil))) ts z rule refl
     (read_seen codes (Of q ∷ Of p ∷ []) (sub f (sub g nil)) place kind ts us z read h (built_part q (Of p ∷ []) f (sub g nil) us m z one (built_part p [] g nil m z z two (built_none z))))
 
--- a fault in the part, and in what stands behind it
+-- a fault in the part, and in what stands after it
 pub row_fault : (p q : Part) (codes : List ℕ) (place : Place) (kind : TokenKind) (ts us : List Token) (left : ℕ)
     → RuleOf p (Seen codes ∷ Of q ∷ Of p ∷ []) → all_apart (rules p) ≡ true → ready (Of q ∷ Of p ∷ []) ≡ true → IsRead place kind ts us → has codes (code kind) ≡ true
     → PartFault q us left → PartFault p ts left
@@ -135,7 +135,7 @@ repeat_behind p q f ts m left rule tells h h' blank parsed fault =
     (subst (λ (b : Bool). Starts (cond b (first q ++ firsts (Of p ∷ [])) (first q)) ts) (sym blank) (begins_first q f ts m blank parsed))
     (past_part q (Of p ∷ []) f ts m left h parsed (in_part p [] m left h' fault))
 
--- A part, and a mark behind it
+-- A part, and a mark after it
 
 pub built_closed : (p : Part) (codes : List ℕ) (f : Forest) (place : Place) (kind : TokenKind) (ts m z : List Token)
     → Parsed p f ts m → IsRead place kind m z → has codes (code kind) ≡ true → Built (Of p ∷ Bare codes ∷ []) (sub f (bare kind nil)) ts z

@@ -49,13 +49,13 @@ is_row ProductRow = record { only = refl; rule = inl refl; blank = refl; sound =
 
 -- Rows
 
--- one item, with no operator behind it
+-- one item, with no operator after it
 pub read_item : (l : RowLevel) (e : Expr) (ts m : List Token) → Parsed (item_part l) (at_level (item_level l) e) ts m → Stops (operators l) m → Parsed (row_part l) (at_level (row_level l) e) ts m
 read_item l e ts m parsed stop =
     subst (λ (f : Forest). Parsed (row_part l) f ts m) (sym (row_alone l e (level_of_part (item_part l) (item_level l) e ts m parsed)))
     (read_pair (row_part l) (item_part l) (tail_part l) (at_level (item_level l) e) nil ts m m (is_row l).rule (is_row l).blank parsed (parsed_none (tail_part l) m (is_row l).none stop))
 
--- an item with operators behind it
+-- an item with operators after it
 pub read_items : (l : RowLevel) (e item : Expr) (rest : List Further) (ts m z : List Token) → Parsed (item_part l) (at_level (item_level l) item) ts m → Starts (operators l) m
     → Parsed (tail_part l) (tail_of (item_level l) rest) m z
     → ((next : Further) (others : List Further) → rest ≡ next ∷ others → at_level (row_level l) e ≡ row_forest l item rest)
@@ -71,7 +71,7 @@ item_fault l ts left fault = pair_first (row_part l) (item_part l) (tail_part l)
 pub tail_fault : (l : RowLevel) (item : Expr) (ts m : List Token) (left : ℕ) → Parsed (item_part l) (at_level (item_level l) item) ts m → PartFault (tail_part l) m left → PartFault (row_part l) ts left
 tail_fault l item ts m left parsed fault = pair_second (row_part l) (item_part l) (tail_part l) (at_level (item_level l) item) ts m left (is_row l).only (is_row l).sound (is_row l).last parsed fault
 
--- Operators and the items behind them
+-- Operators and the items after them
 
 abbrev pub TailAlong : RowLevel → List Token → List Further → List Token → Type 0
 TailAlong l start items rest = Along Further (tail_part l) (tail_of (item_level l)) start items rest

@@ -35,7 +35,7 @@ pub pass : {X : Type 0} (r : Result X (Stop ℕ)) (P Q : ℕ → Type 0) → ((e
 pass (Ok x) P Q go h = tt
 pass (Err e) P Q go h = go e h
 
--- In a row: the wrong token is its first one, or stands in its first part, or behind what was read
+-- In a row: the wrong token is its first one, or stands in its first part, or after what was read
 
 pub stop_seen : (codes : List ℕ) (ss : List Symbol) (ts : List Token) (e : Stop ℕ) → ready (Seen codes ∷ ss) ≡ true → OnStop e (NotTaken codes ts) → OnStop e (RowFault (Seen codes ∷ ss) ts)
 stop_seen codes ss ts e h = on_stop e (NotTaken codes ts) (RowFault (Seen codes ∷ ss) ts) (λ left n. wrong_seen codes ss ts left h n)

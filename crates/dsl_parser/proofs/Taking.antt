@@ -23,7 +23,7 @@ taken codes place kind ts rest read h = record { split = read.split; fits = h }
 pub read_starts : (codes : List ℕ) (place : Place) (kind : TokenKind) (ts rest : List Token) → IsRead place kind ts rest → has codes (code kind) ≡ true → Starts codes ts
 read_starts codes place kind ts rest read h = taken_starts codes ts (token place kind) rest (taken codes place kind ts rest read h)
 
--- what was built behind the token
+-- what was built after the token
 pub read_seen : (codes : List ℕ) (ss : List Symbol) (f : Forest) (place : Place) (kind : TokenKind) (ts us rest : List Token)
     → IsRead place kind ts us → has codes (code kind) ≡ true → Built ss f us rest → Built (Seen codes ∷ ss) (seen place kind f) ts rest
 read_seen codes ss f place kind ts us rest read h built = built_seen codes ss f ts (token place kind) us rest (taken codes place kind ts us read h) built
@@ -32,7 +32,7 @@ pub read_bare : (codes : List ℕ) (ss : List Symbol) (f : Forest) (place : Plac
     → IsRead place kind ts us → has codes (code kind) ≡ true → Built ss f us rest → Built (Bare codes ∷ ss) (bare kind f) ts rest
 read_bare codes ss f place kind ts us rest read h built = built_bare codes ss f ts (token place kind) us rest (taken codes place kind ts us read h) built
 
--- a fault behind the token
+-- a fault after the token
 pub behind_seen : (codes : List ℕ) (ss : List Symbol) (place : Place) (kind : TokenKind) (ts us : List Token) (left : ℕ)
     → IsRead place kind ts us → has codes (code kind) ≡ true → RowFault ss us left → RowFault (Seen codes ∷ ss) ts left
 behind_seen codes ss place kind ts us left read h fault = past_seen codes ss ts (token place kind) us left (taken codes place kind ts us read h) fault
@@ -41,7 +41,7 @@ pub behind_bare : (codes : List ℕ) (ss : List Symbol) (place : Place) (kind : 
     → IsRead place kind ts us → has codes (code kind) ≡ true → RowFault ss us left → RowFault (Bare codes ∷ ss) ts left
 behind_bare codes ss place kind ts us left read h fault = past_bare codes ss ts (token place kind) us left (taken codes place kind ts us read h) fault
 
--- the fault of a part, of which the rule that begins with the token fails behind it
+-- the fault of a part, of which the rule that begins with the token fails after it
 pub fault_seen : (p : Part) (codes : List ℕ) (ss : List Symbol) (place : Place) (kind : TokenKind) (ts us : List Token) (left : ℕ)
     → RuleOf p (Seen codes ∷ ss) → all_apart (rules p) ≡ true → IsRead place kind ts us → has codes (code kind) ≡ true → RowFault ss us left → PartFault p ts left
 fault_seen p codes ss place kind ts us left rule tells read h fault =

@@ -1,4 +1,4 @@
--- The tail of a unit: bases, and what stands behind them.
+-- The tail of a unit: bases, and what stands after them.
 use Rattle.std.proofs.Common.{ℕ, List, [], ◌∷◌, refl, inl, inr, Option, Some, None}
 use Rattle.osc_base.specs.declared.fault.Place.{Place}
 use Rattle.dsl_tree.specs.declared.token.Token.{Token}
@@ -32,7 +32,7 @@ more_rule = mark MarkKind.Comma ∷ Of Part.UnitMore ∷ []
 abbrev base_rule : List Symbol
 base_rule = Of Part.Base ∷ Of Part.UnitTail ∷ []
 
--- what was read behind a comma, as the tail
+-- what was read after a comma, as the tail
 behind_comma : (f : Forest) (place : Place) (rest next end : List Token) → IsRead place (TokenKind.Mark MarkKind.Comma) rest next → Parsed Part.UnitMore f next end
     → Parsed Part.UnitTail (bare (TokenKind.Mark MarkKind.Comma) (sub f nil)) rest end
 behind_comma f place rest next end read parsed =

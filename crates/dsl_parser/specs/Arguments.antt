@@ -24,7 +24,7 @@ use Rattle.dsl_parser.specs.Levels.{at_level}
 abbrev pub head_codes : List ℕ
 head_codes = names ++ (word_code ItWord ∷ word_code ActorWord ∷ [])
 
--- the head of a path was read: one token, which stands before whatever is behind it
+-- the head of a path was read: one token, whatever stands after it
 pub record IsHeadRead (head : PathHead) (tokens rest : List Token) : Type 0 where
   pub place : Place
   pub kind : TokenKind
@@ -53,7 +53,7 @@ pub record IsLabel (name : Ident) (tokens rest : List Token) : Type 0 where
   pub first : IsRead name.place (TokenKind.Name name.text) tokens behind
   pub second : IsRead place (TokenKind.Mark MarkKind.Colon) behind rest
 
--- the tokens begin with a name that has no colon behind it
+-- the tokens begin with a name that has no colon after it
 pub record IsBareName (tokens : List Token) : Type 0 where
   pub token : Token
   pub behind : List Token
@@ -63,18 +63,18 @@ pub record IsBareName (tokens : List Token) : Type 0 where
 abbrev pub NoLabel : List Token → Type 0
 NoLabel tokens = Stops names tokens ⊎ IsBareName tokens
 
--- one more item of a row was read, of which the rest is a part of the same kind
+-- one more item of a row was read, and the rest of the row is again the part p
 pub record IsNext (X : Type 0) (p : Part) (forest_of : List X → Forest) (item : X) (tokens rest : List Token) : Type 0 where
   pub reads : (others : List X) (end : List Token) → Parsed p (forest_of others) rest end → Parsed p (forest_of (item ∷ others)) tokens end
   pub faults : (left : ℕ) → PartFault p rest left → PartFault p tokens left
 
--- the rest of named arguments was read, behind those of `old`
+-- the rest of named arguments was read, after those of `old`
 pub record IsNamedTail (old new : List Argument) (tokens rest : List Token) : Type 0 where
   pub added : List Argument
   pub is : new ≡ old ++ added
   pub parsed : Parsed Part.NamedTail (named_of added) tokens rest
 
--- what stands behind the name and the colon of the first named argument
+-- what stands after the name and the colon of the first named argument
 abbrev pub named_rest : List Symbol
 named_rest = Of Part.Expr ∷ Of Part.NamedTail ∷ []
 

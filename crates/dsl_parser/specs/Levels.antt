@@ -19,12 +19,12 @@ use Rattle.dsl_tree.specs.Written.{at, written, operator_kind, mark, mark_at, id
 use Rattle.dsl_parser.specs.declared.levels.RowLevel.{RowLevel}
 use Rattle.dsl_parser.specs.declared.levels.RowLevel.TheVariants.{OrRow, AndRow, SumRow, ProductRow}
 
--- what an expression is written as where one of a level stands
+-- what an expression is written as in a place for one of a level
 unfoldable pub at_level : ℕ → Expr → Forest
 at_level n e = at n (expr_tree e) (written (expr_tree e))
 
--- The rows of operators: the part that is such a row, its level, the part and the level of its items,
--- and the part that is what stands behind the first item
+-- The rows of operators. A row has its own part and level, and the part and level of its items.
+-- A further part is what stands after the first item.
 
 abbrev pub row_part : RowLevel → Part
 row_part OrRow = Part.Or
@@ -60,7 +60,7 @@ tail_part ProductRow = Part.ProductTail
 abbrev pub operators : RowLevel → List ℕ
 operators row = first (tail_part row)
 
--- operators, each with the item behind it
+-- operators, each with the item after it
 abbrev pub tail_of : ℕ → List Further → Forest
 tail_of n [] = nil
 tail_of n (next ∷ rest) = seen next.place (operator_kind next.operator) (sub (at_level n next.part) (sub (tail_of n rest) nil))
@@ -87,12 +87,12 @@ ends_named [] = false
 ends_named (x ∷ []) = is_named x
 ends_named (x ∷ y ∷ rest) = ends_named (y ∷ rest)
 
--- items of a list, each behind a comma
+-- items of a list, each after a comma
 abbrev pub items_of : List Expr → Forest
 items_of [] = nil
 items_of (item ∷ rest) = mark MarkKind.Comma (sub (at_level 0 item) (sub (items_of rest) nil))
 
--- the member behind the name of an enum
+-- the member after the name of an enum
 abbrev pub enum_member : Option Ident → Forest
 enum_member None = nil
 enum_member (Some name) = mark MarkKind.Bang (ident name nil)
@@ -107,13 +107,13 @@ simple_codes = small_number ∷ large_number ∷ point_number ∷ physical_code 
 abbrev pub leaf_codes : List ℕ
 leaf_codes = si_name ∷ factor_name ∷ offset_name ∷ other_name ∷ simple_codes
 
--- a range or list was read behind its first expression
+-- a range or list was read after its first expression
 pub record IsBracketed (place : Place) (first expr : Expr) (tokens rest : List Token) : Type 0 where
   pub behind : Forest
   pub is : at_level 9 expr ≡ mark_at place MarkKind.OpenSquare (sub (at_level 0 first) (sub behind nil))
   pub parsed : Parsed Part.BracketRest behind tokens rest
 
--- items were read behind the first one
+-- items were read after the first one
 pub record IsListing (first : Expr) (items : List Expr) (tokens rest : List Token) : Type 0 where
   pub others : List Expr
   pub is : items ≡ first ∷ others

@@ -21,7 +21,7 @@ use Rattle.dsl_parser.specs.declared.phases.CompositionHead.{CompositionHead}
 use Rattle.dsl_parser.specs.declared.phases.PhaseStart.{PhaseStart}
 use Rattle.dsl_parser.specs.declared.phases.PhaseStart.TheVariants.{Whole, Composition}
 
--- a wait behind its word
+-- a wait after its word
 abbrev pub wait_rest : List Symbol
 wait_rest = word ElapsedWord ∷ mark OpenRound ∷ Of Part.Expr ∷ closing
 
@@ -29,7 +29,7 @@ abbrev pub written_wait_rest : ExprTree → Forest
 written_wait_rest elapsed =
     written.word WordKind.ElapsedWord (written.mark MarkKind.OpenRound (sub (written.expr elapsed) (written.mark MarkKind.CloseRound (phases.newline nil))))
 
--- a composition; what stands behind its colon; and the phases of its block
+-- a composition; what stands after its colon; and the phases of its block
 abbrev pub composition_codes : List ℕ
 composition_codes = word_code SerialWord ∷ word_code ParallelWord ∷ word_code OneOfWord ∷ []
 
@@ -47,7 +47,7 @@ headed head block =
     written.word_at head.place (phases.comp_word head.kind)
     (sub (phases.composition_arguments (map argument_tree head.arguments)) (written.mark MarkKind.Colon block))
 
--- The front of a rule was read: what is read of the rest makes the whole, and so does a fault.
+-- A prefix of the rule was read: what is read of the rest makes the whole, and so does a fault.
 pub record Front (rule rest : List Symbol) (whole : Forest → Forest) (tokens left : List Token) : Type 0 where
   pub reads : (f : Forest) (end : List Token) → Built rest f left end → Built rule (whole f) tokens end
   pub faults : (n : ℕ) → RowFault rest left n → RowFault rule tokens n
@@ -58,7 +58,7 @@ pub record CorePhase (p : Part) (label : Option Ident) (tree : PhaseTree) (token
   pub read : Parsed p core tokens rest
   pub same : phases.phase tree ≡ phases.with_label label (sub core nil)
 
--- what stands behind a label, and behind the name at the beginning, as the whole phase
+-- what stands after a label, and after the name at the beginning, as the whole phase
 abbrev pub behind_label : Ident → Forest → Forest
 behind_label label f = written.ident label (sub (written.mark MarkKind.Colon (sub f nil)) nil)
 

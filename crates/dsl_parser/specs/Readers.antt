@@ -8,7 +8,7 @@ use Rattle.dsl_tree.specs.Language.{Ended}
 use Rattle.dsl_parser.specs.declared.names.KnownName.{KnownName}
 use Rattle.dsl_parser.specs.declared.names.KnownName.TheVariants.{Si, Factor, Offset}
 
--- the first token is this one, and the rest are the tokens behind it
+-- the first token is this one, and the rest are the tokens after it
 pub record IsRead (place : Place) (kind : TokenKind) (tokens rest : List Token) : Type 0 where
   pub split : tokens ≡ record { place = place; kind = kind } ∷ rest
   pub ended : Ended rest

@@ -1,4 +1,4 @@
--- What is left of rules behind their beginning, and what this is written as.
+-- What is left of rules after their beginning, and what this is written as.
 use Rattle.std.specs.Prelude.{List, [], ◌∷◌, map, Option, Some, None, option_map}
 use Rattle.osc_base.specs.declared.fault.Place.{Place}
 use Rattle.dsl_tree.specs.declared.token.MarkKind.{MarkKind}
@@ -76,7 +76,7 @@ written_unit_of of u = written.word WordKind.OfWord (written.ident of (written_u
 abbrev pub unit_rule : List Symbol
 unit_rule = placed_word UnitWord ∷ name ∷ unit_of
 
--- behind `factor` and `offset`
+-- after `factor` and `offset`
 abbrev pub factor_rest : List Symbol
 factor_rest = mark Colon ∷ Of Part.Signed ∷ Of Part.FactorTail ∷ []
 
@@ -93,7 +93,7 @@ written_factor_rest e = by_factor e.factor
     by_factor None = wrong
     by_factor (Some factor) = written.mark MarkKind.Colon (sub (signed factor) (sub (factor_tail e.offset) nil))
 
--- what may stand behind the last comma of a unit
+-- what may stand after the last comma of a unit
 abbrev pub unit_more : Option Signed → Option Signed → Forest
 unit_more None None = wrong
 unit_more None (Some offset) = offset_end offset

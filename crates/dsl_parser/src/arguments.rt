@@ -21,7 +21,7 @@ use dsl_tree::{Argument, Ident, MarkKind, Token, TokenKind};
 use osc_base::{Row, Text};
 use std::alloc::Global;
 
-/// A name with the colon behind it, if the tokens begin with these two.
+/// A name with the colon after it, if the tokens begin with these two.
 fn take_label(alloc: Global, tokens: &[Token]) -> Result<Option<(Ident, &[Token])>, Stop>
     requires { Ended tokens.now }
     ensures some { IfOk result (λ o. IfSome o (λ x. IsLabel x.0 tokens.now x.1.now)) }
@@ -66,7 +66,7 @@ fn next_named(alloc: Global, tokens: &[Token]) -> Result<Option<(Argument, &[Tok
     Ok(Some((argument, rest)))
 }
 
-/// Arguments with names behind one, which are put to those that were read, and the closing bracket.
+/// Reads further named arguments and the closing bracket, and appends the arguments to those that were read.
 fn named_tail(
     alloc: Global,
     items: Row<Argument>,
@@ -88,7 +88,7 @@ fn named_tail(
     Ok((items, rest))
 }
 
-/// The argument with this name, of which name and colon were read, and all behind it.
+/// The argument with this name, and all arguments after it. Its name and colon were read before.
 fn named(
     alloc: Global,
     items: Row<Argument>,
@@ -110,7 +110,7 @@ fn named(
     named_tail(alloc, items, rest)
 }
 
-/// Arguments, one or more, and the closing bracket behind them.
+/// Arguments, one or more, and the closing bracket after them.
 #[tactic(auto, unfolding(crate::specs::Arguments::arguments_of))]
 pub fn arguments(alloc: Global, tokens: &[Token]) -> Result<(Row<Argument>, &[Token]), Stop>
     requires { Ended tokens.now }

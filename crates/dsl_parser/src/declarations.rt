@@ -49,7 +49,7 @@ fn has_plain_name(kind: CompoundKind) -> bool
     }
 }
 
-/// What stands behind the name of a type with members.
+/// What stands after the name of a type with members.
 #[derive(Drop)]
 struct HeadingRest {
     heir: Option<Heir>,

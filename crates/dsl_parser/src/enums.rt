@@ -48,7 +48,7 @@ fn enum_item(alloc: Global, tokens: &[Token]) -> Result<(EnumItem, &[Token]), St
     Ok((EnumItem { name, number }, rest))
 }
 
-/// Puts further items, each behind a comma, behind `items`.
+/// Appends further items, each after a comma, to `items`.
 fn items_tail(
     alloc: Global,
     items: Row<EnumItem>,

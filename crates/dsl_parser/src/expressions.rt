@@ -92,7 +92,7 @@ fn row(alloc: Global, tokens: &[Token], level: RowLevel) -> Result<(Expr, &[Toke
     Ok((row_of(level, first, others), rest))
 }
 
-/// The operators of a row, each with the item behind it.
+/// The operators of a row, each with the item after it.
 #[cycle(expressions)]
 fn tail(alloc: Global, tokens: &[Token], level: RowLevel) -> Result<(Row<Further>, &[Token]), Stop>
     requires { Ended tokens.now }

@@ -1,4 +1,4 @@
-//! What stands behind the first word of a type with members: its name, and what it inherits.
+//! What stands after the first word of a type with members: its name, and what it inherits.
 
 ghost use Rattle.std.specs.Prelude.{◌<◌, ◌≤◌, length, IfOk, IfErr};
 ghost use Rattle.dsl_tree.specs.Grammar.{Part};

@@ -23,7 +23,7 @@ use dsl_tree::{Ident, Import, MarkKind, Token, WordKind};
 use osc_base::Row;
 use std::alloc::Global;
 
-/// Puts further names, each behind a point, behind `names`.
+/// Appends further names, each after a point, to `names`.
 pub fn dotted_names(
     alloc: Global,
     names: Row<Ident>,

@@ -1,4 +1,4 @@
-//! Invocations behind their head: arguments, and the block of rules and modifiers.
+//! Invocations after their head: arguments, and the block of rules and modifiers.
 
 ghost use Rattle.std.specs.Prelude.{◌≡◌, ◌<◌, ◌≤◌, length, map, IfOk, IfErr};
 ghost use Rattle.dsl_tree.specs.Grammar.{Part};
@@ -53,7 +53,7 @@ fn part(alloc: Global, tokens: &[Token]) -> Result<(InvokePart, &[Token]), Stop>
     Ok((modifier, end))
 }
 
-/// Puts further parts behind `parts`.
+/// Appends further parts to `parts`.
 fn parts_tail(
     alloc: Global,
     parts: Row<InvokePart>,
@@ -156,7 +156,7 @@ pub fn composition_arguments(
     }
 }
 
-/// An invocation behind its head.
+/// An invocation after its head.
 #[derive(Drop)]
 pub struct InvocationRest {
     pub names: Row<Ident>,
@@ -164,7 +164,7 @@ pub struct InvocationRest {
     pub parts: Row<InvokePart>,
 }
 
-/// An invocation behind its head.
+/// An invocation after its head.
 pub fn invocation_rest(alloc: Global, tokens: &[Token]) -> Result<(InvocationRest, &[Token]), Stop>
     requires { Ended tokens.now }
     ensures ok { IfOk result (λ x. Parsed Part.InvocationRest (written.invocation_rest x.0.names (map argument_tree x.0.arguments) (map part_tree x.0.parts)) tokens.now x.1.now) }

@@ -101,7 +101,7 @@ pub fn take_sign(tokens: &[Token]) -> Option<(Place, RelationSign, &[Token])>
     Some((first.place, sign, rest))
 }
 
-/// A row of its first item and those behind it, of which there is one at least.
+/// A row of its first item and one or more items after it.
 pub fn row_of(row: RowLevel, first: Boxed<Expr>, rest: Row<Further>) -> Expr
     ensures { (next : Further) (others : List Further) → rest ≡ next ∷ others → at_level (row_level row) result ≡ sub (at_level (item_level row) first) (sub (tail_of (item_level row) rest) nil) }
 {

@@ -25,7 +25,7 @@ use dsl_tree::{Expr, FieldDecl, Ident, MarkKind, Member, RuleDecl, Token, WordKi
 use osc_base::{Place, Row};
 use std::alloc::Global;
 
-/// Puts further names, each behind a comma, behind `names`.
+/// Appends further names, each after a comma, to `names`.
 fn names_tail(
     alloc: Global,
     names: Row<Ident>,
@@ -75,7 +75,7 @@ fn field_type(alloc: Global, tokens: &[Token]) -> Result<(FieldType, &[Token]), 
     }
 }
 
-/// A field behind its names.
+/// A field after its names.
 #[derive(Drop)]
 struct FieldRest {
     of: FieldType,
@@ -150,7 +150,7 @@ fn member(alloc: Global, tokens: &[Token]) -> Result<(Member, &[Token]), Stop>
     Ok((Member::Field(field), end))
 }
 
-/// Puts further members behind `members`.
+/// Appends further members to `members`.
 fn members_tail(
     alloc: Global,
     members: Row<Member>,
@@ -185,7 +185,7 @@ fn members_in_block(alloc: Global, tokens: &[Token]) -> Result<(Row<Member>, &[T
     Ok((members, end))
 }
 
-/// A block of members, one or more, behind its colon.
+/// A block of members, one or more, after its colon.
 pub fn block(alloc: Global, tokens: &[Token]) -> Result<(Row<Member>, &[Token]), Stop>
     requires { Ended tokens.now }
     ensures ok { IfOk result (λ x. Parsed Part.Block (written.block (map member_tree x.0)) tokens.now x.1.now) }

@@ -44,7 +44,7 @@ pub fn with_suffixes(head: Boxed<Expr>, suffixes: Row<Suffix>) -> Expr
     }
 }
 
-/// The expression, behind which the mark has to stand.
+/// The expression, after which the mark has to stand.
 pub fn before_mark(expr: Expr, tokens: &[Token], mark: MarkKind) -> Result<(Expr, &[Token]), Stop>
     requires { Ended tokens.now }
     ensures same { IfOk result (λ x. x.0 ≡ expr) }

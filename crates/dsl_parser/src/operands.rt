@@ -19,7 +19,7 @@ use dsl_tree::{Digits, Expr, Ident, MarkKind, Token, TokenKind, WordKind};
 use osc_base::{Place, Text};
 use std::alloc::Global;
 
-/// The member behind the name of an enum, if there is one.
+/// The member after the name of an enum, if there is one.
 pub fn enum_member(alloc: Global, tokens: &[Token]) -> Result<(Option<Ident>, &[Token]), Stop>
     requires { Ended tokens.now }
     ensures ok { IfOk result (λ x. Parsed Part.EnumMember (enum_member x.0) tokens.now x.1.now) }
@@ -100,7 +100,7 @@ fn name_node(name: Ident, member: Option<Ident>) -> Expr
     }
 }
 
-/// A name with the member behind it, if the first token is a name.
+/// A name with the member after it, if the first token is a name.
 fn name_operand(alloc: Global, tokens: &[Token]) -> Result<Option<(Expr, &[Token])>, Stop>
     requires { Ended tokens.now }
     ensures some { IfOk result (λ o. IfSome o (λ x. Parsed Part.Primary (at_level 9 x.0) tokens.now x.1.now)) }

@@ -13,10 +13,10 @@ use dsl_tree::{File, Token, TokenKind, Tokens};
 use osc_base::{Fault, FaultCode};
 use std::alloc::Global;
 
-/// The tree that the tokens spell.
+/// Returns the tree that the tokens spell.
 ///
-/// They are as the lexer gives them: `End` is the last token, and no other one. Where they spell no
-/// tree, the fault is at the first token with which no tree goes on; its code is `LeftOut` when this
+/// The tokens are as `lex` returns them: `End` is the last token, and no other one. If they spell no
+/// tree, the fault is at the first token with which no tree goes on. Its code is `LeftOut` when this
 /// is a word that the profile leaves out, else `Syntax`. The other error is out of memory.
 pub fn parse(alloc: Global, tokens: &Tokens) -> Result<File, ParseStop>
     requires ended { Ended tokens.now }

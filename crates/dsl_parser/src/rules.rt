@@ -84,7 +84,7 @@ pub fn rule(alloc: Global, tokens: &[Token]) -> Result<(RuleDecl, &[Token]), Sto
     Ok((removed, end))
 }
 
-/// Puts further rules behind `rules`.
+/// Appends further rules to `rules`.
 fn rules_tail(
     alloc: Global,
     rules: Row<RuleDecl>,
@@ -152,7 +152,7 @@ pub fn rules_of_field(alloc: Global, tokens: &[Token]) -> Result<(Row<RuleDecl>,
     }
 }
 
-/// The value that a field is given where it is declared, if it is given one.
+/// The value that a field's declaration gives it, if there is one.
 pub fn initial_value(alloc: Global, tokens: &[Token]) -> Result<(Option<Expr>, &[Token]), Stop>
     requires { Ended tokens.now }
     ensures ok { IfOk result (λ x. Parsed Part.Initial (initial (option_map expr_tree x.0)) tokens.now x.1.now) }

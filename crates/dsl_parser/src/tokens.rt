@@ -1,6 +1,6 @@
 //! The first token of what is left to read.
 //!
-//! `take_..` answers none where the first token is another one, and `expect_..` a stop.
+//! If the first token is another one, `take_..` returns none, and `expect_..` a stop.
 
 ghost use Rattle.std.specs.Prelude.{◌≡◌, [], ◌∷◌, true, IfOk, IfErr, IfSome, IfNone};
 ghost use Rattle.dsl_tree.specs.declared.token.TokenKind.{TokenKind};

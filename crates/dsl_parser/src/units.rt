@@ -105,7 +105,7 @@ pub fn bracket_and_line_end(tokens: &[Token]) -> Result<&[Token], Stop>
     Ok(end)
 }
 
-/// Puts further bases, each behind a comma, behind `bases`.
+/// Appends further bases, each after a comma, to `bases`.
 fn bases_tail(
     alloc: Global,
     bases: Row<BasePart>,
@@ -167,7 +167,7 @@ pub fn type_declaration(alloc: Global, tokens: &[Token]) -> Result<(PhysicalDecl
     Ok((PhysicalDecl { place, name, bases }, end))
 }
 
-/// What stands behind the bases of a unit.
+/// What stands after the bases of a unit.
 #[derive(Drop)]
 struct UnitEnd {
     factor: Option<Signed>,
@@ -221,7 +221,7 @@ fn factor_behind(tokens: &[Token]) -> Result<(UnitEnd, &[Token]), Stop>
     Ok((UnitEnd { factor, offset }, end))
 }
 
-/// The factor or the offset behind a comma, if one of them stands there.
+/// The factor or the offset after a comma, if one of them stands there.
 fn end_of_unit(tokens: &[Token]) -> Result<Option<(UnitEnd, &[Token])>, Stop>
     requires { Ended tokens.now }
     ensures some { IfOk result (λ o. IfSome o (λ x. Parsed Part.UnitMore (rest.unit_more x.0.factor x.0.offset) tokens.now x.1.now)) }
@@ -247,7 +247,7 @@ fn end_of_unit(tokens: &[Token]) -> Result<Option<(UnitEnd, &[Token])>, Stop>
     }
 }
 
-/// Puts further bases, each behind a comma, behind `bases`, and reads on to the line end.
+/// Appends further bases, each after a comma, to `bases`, and reads on to the line end.
 fn unit_tail(
     alloc: Global,
     bases: Row<BasePart>,

@@ -102,7 +102,7 @@ three_parts a t b z = append_assoc (a ++ t ∷ []) b z ∙ append_assoc a (t ∷
 five_parts : (a : List Token) (t : Token) (b : List Token) (u : Token) (z : List Token) → ((((a ++ t ∷ []) ++ b) ++ u ∷ []) ++ z) ≡ a ++ (t ∷ (b ++ (u ∷ z)))
 five_parts a t b u z = append_assoc ((a ++ t ∷ []) ++ b) (u ∷ []) z ∙ three_parts a t b (u ∷ z)
 
--- Each node, where its parts' tokens are right
+-- Each node, if its parts' tokens are right
 
 abbrev mapped_expr : (p : Place) → Expr-F (SuchExpr p) (SuchSuffix p) (SuchFurther p) → Expr-F Expr Suffix Further
 mapped_expr p y = map-Expr (SuchExpr p) (SuchSuffix p) (SuchFurther p) Expr Suffix Further (λ e. e.0) (λ s. s.0) (λ f. f.0) y

@@ -56,7 +56,7 @@ comma p = mark_tok p MarkKind.Comma
 abbrev newline : Place → Token
 newline p = tok p TokenKind.Newline
 
--- rows with commas, behind their first item
+-- rows with commas, after their first item
 abbrev others_of : {X : Type 0} → Place → (X → List Token) → List X → List Token
 others_of p f xs = joined (map (behind_comma p) (map f xs))
 
@@ -90,7 +90,7 @@ signed_leaves p s z = go s.minus (same_place s.place s.number.place)
 base_leaves : (p : Place) (b : BasePart) (z : List Token) → is_whole (base b) ≡ true → leaves p (base b) z ≡ base_tokens p b ++ z
 base_leaves p b z h = ap (λ (v : List Token). name_tok b.name ∷ (mark_tok p MarkKind.Colon ∷ v)) (signed_leaves p b.exponent z h)
 
--- one more item behind a comma
+-- one more item after a comma
 behind : {X : Type 0} (p : Place) (f : X → List Token) (x : X) (xs : List X) (z : List Token) → comma p ∷ (f x ++ (others_of p f xs ++ z)) ≡ others_of p f (x ∷ xs) ++ z
 behind p f x xs z = ap (λ (v : List Token). comma p ∷ v) (sym (append_assoc (f x) (others_of p f xs) z))
 

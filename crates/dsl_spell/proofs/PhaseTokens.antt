@@ -126,7 +126,7 @@ leaves_rules p (r ∷ rs) z h =
 abbrev others_of : Place → List Argument → List Token
 others_of p args = joined (map (behind_comma p) (map (argument_tokens p) args))
 
--- one more argument behind a comma
+-- one more argument after a comma
 behind : (p : Place) (a : Argument) (others : List Argument) (z : List Token) → tok p (TokenKind.Mark MarkKind.Comma) ∷ (argument_tokens p a ++ (others_of p others ++ z)) ≡ others_of p (a ∷ others) ++ z
 behind p a others z = ap (λ (v : List Token). tok p (TokenKind.Mark MarkKind.Comma) ∷ v) (sym (append_assoc (argument_tokens p a) (others_of p others) z))
 
@@ -204,7 +204,7 @@ leaves_end p (x ∷ xs) z h =
     (leaves_part p x (leaves p (parts_tail (map part_tree xs)) (tok p TokenKind.Dedent ∷ z)) (left_of _ _ h)
     ∙ (ap (λ (v : List Token). part_tokens p x ++ v) (leaves_parts p xs (tok p TokenKind.Dedent ∷ z) (left_of _ _ (right_of _ _ h))) ∙ simp append_assoc))
 
--- an invocation behind its head
+-- an invocation after its head
 abbrev rest_tokens : Place → InvokeNode → List Token
 rest_tokens p i = joined (map (dotted_tokens p) i.names) ++ (tok p (TokenKind.Mark MarkKind.OpenRound) ∷ (argument_list_tokens p i.arguments ++ with_tokens p (map (part_tokens p) i.parts)))
 
@@ -325,7 +325,7 @@ phase_case p (Phase-F.Comp c) z h = c.1 z h
 phase_case p (Phase-F.Invoke i) z h = leaves_invocation p i z h
 phase_case p (Phase-F.Wait w) z h = leaves_wait p w z h
 
--- the same by equations
+-- what holds of a tree and its tokens holds of an equal tree and equal tokens
 carried : (p : Place) (t t' : PhaseTree) (w w' : List Token) → t ≡ t' → w ≡ w' → ((z : List Token) → is_whole (phase t') ≡ true → leaves p (phase t') z ≡ w' ++ z)
     → (z : List Token) → is_whole (phase t) ≡ true → leaves p (phase t) z ≡ w ++ z
 carried p t t' w w' e e' known z h =

@@ -68,7 +68,7 @@ leaves_raised : (p : Place) (d l : ℕ) (f : Forest) (z : List Token) → leaves
 leaves_raised p zero l f z = refl
 leaves_raised p (suc d) l f z = leaves_lifted p l (raised d (suc l) f) z ∙ leaves_raised p d (suc l) f z
 
--- a tree where it stands at some level
+-- a tree in a place for some level
 pub at_tokens : (p : Place) (l : ℕ) (t : ExprTree) (f : Forest) (z y : List Token) → (is_whole f ≡ true → leaves p f z ≡ y) → is_whole (at l t f) ≡ true → leaves p (at l t f) z ≡ y
 at_tokens p l t f z y back = go (nat_lt (level t) l)
   where

@@ -1,5 +1,5 @@
 -- The tokens that `spell` gives for each value of the program's own types: those that its tree is
--- written as, where a token whose place the tree doesn't hold stands at the place `at`.
+-- written as. A token whose place the tree doesn't hold stands at the place `at`.
 use Rattle.std.specs.Prelude.{ℕ, List, [], ◌∷◌, ◌++◌, Option, Some, None, map, Bool, true, false}
 use Rattle.osc_base.specs.declared.fault.Place.{Place}
 use Rattle.dsl_tree.specs.declared.parts.Ident.{Ident}
@@ -143,7 +143,7 @@ rule_tokens at (RuleDecl.Keep place kind expr) =
 rule_tokens at (RuleDecl.Remove place path) =
     word place WordKind.RemoveDefaultWord ++ mark at MarkKind.OpenRound ++ path_tokens at path ++ mark at MarkKind.CloseRound ++ newline at
 
--- a name with a colon behind it, where there is one
+-- a name with a colon after it, if there is one
 abbrev pub label_tokens : Place → Option Ident → List Token
 label_tokens at None = []
 label_tokens at (Some name) = ident name ++ mark at MarkKind.Colon
@@ -151,7 +151,7 @@ label_tokens at (Some name) = ident name ++ mark at MarkKind.Colon
 abbrev pub argument_tokens : Place → Argument → List Token
 argument_tokens at a = label_tokens at a.name ++ expr_tokens at a.value
 
--- arguments and the bracket behind them
+-- arguments and the bracket after them
 abbrev pub argument_list_tokens : Place → List Argument → List Token
 argument_list_tokens at args = comma_joined at (map (argument_tokens at) args) ++ mark at MarkKind.CloseRound
 
@@ -159,7 +159,7 @@ argument_list_tokens at args = comma_joined at (map (argument_tokens at) args) +
 abbrev pub block_tokens : Place → List (List Token) → List Token
 block_tokens at lines = newline at ++ one at TokenKind.Indent ++ joined lines ++ one at TokenKind.Dedent
 
--- a block behind `with:`, or a line end where there are no lines
+-- a block after `with:`, or a line end if there are no lines
 abbrev pub with_tokens : Place → List (List Token) → List Token
 with_tokens at [] = newline at
 with_tokens at (line ∷ others) = word at WordKind.WithWord ++ mark at MarkKind.Colon ++ block_tokens at (line ∷ others)
@@ -188,7 +188,7 @@ wait_tokens at w =
     label_tokens at w.label ++ word w.place WordKind.WaitWord ++ word at WordKind.ElapsedWord ++ mark at MarkKind.OpenRound
     ++ expr_tokens at w.elapsed ++ mark at MarkKind.CloseRound ++ newline at
 
--- brackets, where there are arguments
+-- brackets, if there are arguments
 abbrev pub bracket_tokens : Place → List Argument → List Token
 bracket_tokens at [] = []
 bracket_tokens at (a ∷ others) = mark at MarkKind.OpenRound ++ argument_list_tokens at (a ∷ others)
@@ -296,7 +296,7 @@ bases_tokens at bases = word at WordKind.IsWord ++ one at (TokenKind.Name si_tex
 abbrev pub type_tokens : Place → PhysicalDecl → List Token
 type_tokens at d = word d.place WordKind.TypeWord ++ ident d.name ++ bases_tokens at d.bases ++ mark at MarkKind.CloseRound ++ newline at
 
--- a factor or an offset, where it is there
+-- a factor or an offset, if it is there
 abbrev pub further_part_tokens : Place → List ℕ → Option Signed → List Token
 further_part_tokens at name None = []
 further_part_tokens at name (Some number) = mark at MarkKind.Comma ++ one at (TokenKind.Name name) ++ mark at MarkKind.Colon ++ signed_tokens number

@@ -37,7 +37,7 @@ mod tests {
     use osc_base::{Place, Text};
     use std::test::*;
 
-    // `import "a"` and the line end behind it
+    // `import "a"` and the line end after it
     #[test]
     fn spells_an_import(rt: HostRuntime) -> Result<(), Fail> {
         let place = Place {

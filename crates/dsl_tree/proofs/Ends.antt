@@ -95,7 +95,7 @@ spelled_ended tree tokens s = go s.follows s.spells
         (ended_before (declarations tree.decls) m m' (part_endless Part.Declarations (declarations tree.decls) refl is') s' (end_token tree.end m' last))
     go (inr none) _ = absurd none
 
--- nothing stands behind an ended list that is ended as well
+-- nothing stands after an ended list that is ended as well
 nothing_behind : (ts back : List Token) → Ended ts → Ended (ts ++ back) → back ≡ []
 nothing_behind [] back h h' = absurd h
 nothing_behind (t ∷ []) [] h h' = refl
@@ -146,7 +146,7 @@ tree_or_first_fault tokens h no_tree no_fault = go [] tokens refl nothing_viable
 
 -- One first fault
 
--- of two ways to split a list at a token, one front begins with the other and its token, or they are the same
+-- of two ways to split a list at a token, one prefix begins with the other and its token, or the two are equal
 data Splits (front front' : List Token) (t t' : Token) : Type 0 where
   same : front ≡ front' → t ≡ t' → Splits front front' t t'
   before : (more : List Token) → front' ≡ (front ++ t ∷ []) ++ more → Splits front front' t t'

@@ -81,12 +81,12 @@ parsed_alike p a ts us z y e parsed s = record {
   spells = s;
 }
 
--- two lists that begin with the same tokens and then the same token begin alike
+-- two lists that begin with one prefix and then one token begin alike
 begin_alike : (front : List Token) (t : Token) (back others : List Token) (cs : List ℕ) → starts cs (front ++ t ∷ back) ≡ starts cs (front ++ t ∷ others)
 begin_alike [] t back others cs = starts-cons cs t back ∙ sym (starts-cons cs t others)
 begin_alike (u ∷ front) t back others cs = starts-cons cs u (front ++ t ∷ back) ∙ sym (starts-cons cs u (front ++ t ∷ others))
 
--- what stands behind the first part of a row doesn't go on with it
+-- what stands after the first part of a row doesn't go on with it
 stops_middle : (p : Part) (ss : List Symbol) (g : Forest) (m z : List Token) → sound (Of p ∷ ss) ≡ true → Follows g ss → Spells g m z → Stops (stops (Of p ∷ ss)) z → Stops (goes_on p) m
 stops_middle p ss g m z s h sg stop = go (void g) refl
   where
@@ -127,7 +127,7 @@ wrong_bare codes ss ts left h n = record {
     dead (bare kind f) others rest (has_code, does) stop (k, s) = both_ways (has codes (code n.token.kind)) (ap (λ (v : TokenKind). has codes (code v)) k ∙ has_code) n.misfits
     dead _ others rest does stop s = absurd does
 
--- the fault stands behind a token that was taken
+-- the fault stands after a token that was taken
 pub past_seen : (codes : List ℕ) (ss : List Symbol) (ts : List Token) (t : Token) (rest : List Token) (left : ℕ) → Taken codes ts t rest → RowFault ss rest left → RowFault (Seen codes ∷ ss) ts left
 past_seen codes ss ts t rest left taken fault = record {
   front = t ∷ fault.front;
@@ -184,7 +184,7 @@ in_part p ss ts left h fault = record {
     dead (sub a g) others z (any, does) stop (m, s, s') = fault.dead a others m any (stops_middle p ss g m z (left_of (sound (Of p ∷ ss)) (filled (Of p ∷ ss)) h) does s' stop) s
     dead _ others z does stop s = absurd does
 
--- the fault stands behind the first part
+-- the fault stands after the first part
 pub past_part : (p : Part) (ss : List Symbol) (a : Forest) (ts m : List Token) (left : ℕ) → ready (Of p ∷ ss) ≡ true → Parsed p a ts m → RowFault ss m left → RowFault (Of p ∷ ss) ts left
 past_part p ss a ts m left h parsed fault = record {
   front = c.used ++ fault.front;

@@ -120,7 +120,7 @@ abbrev pub read_factor_tail : Forest → Option Signed
 read_factor_tail (bare comma (bare offset (bare colon (sub s r)))) = Some (read_signed s)
 read_factor_tail _ = None
 
--- behind the bases that have been read: another one, a factor, an offset, or the end
+-- after the bases that have been read: another one, a factor, an offset, or the end
 abbrev pub read_unit_tail : Forest → UnitParts
 read_unit_tail (bare comma (sub (sub b (sub rest r)) s)) = with_base (read_base b) (read_unit_tail rest)
 read_unit_tail (bare comma (sub (bare factor (bare colon (sub s (sub tail r)))) r')) = parts_of [] (Some (read_signed s)) (read_factor_tail tail)
@@ -275,7 +275,7 @@ field_end_back (r ∷ rs) h = ap₂ (λ (x : RuleTree) (xs : List RuleTree). x �
 abbrev pub field_of : List Ident → Option Place → Ident → Option ExprTree → List RuleTree → FieldTree
 field_of names list of initial rules = record { names = names; list = list; of = of; initial = initial; rules = rules }
 
--- a field behind its first name
+-- a field after its first name
 abbrev pub read_field : Ident → Forest → FieldTree
 read_field name (sub names (bare colon (sub type (sub init (sub end r))))) = field_of (name ∷ read_names_tail names) (read_list type) (read_of type) (read_initial init) (read_field_end end)
 read_field name _ = field_of [] None no_name None []
@@ -339,7 +339,7 @@ body_back (m ∷ ms) h = block_back (m ∷ ms) (left_of _ _ h)
 abbrev pub compound_of : Place → CompoundKind → QName → Option Heir → List MemberTree → DeclarationTree
 compound_of place kind name heir members = CompoundDeclaration (record { place = place; kind = kind; name = name; heir = heir; members = members })
 
--- behind the name
+-- after the name
 abbrev pub read_compound : Place → CompoundKind → QName → Forest → DeclarationTree
 read_compound place kind name (sub heir (sub body r)) = compound_of place kind name (read_heir heir) (read_body body)
 read_compound place kind name _ = compound_of place kind name None []

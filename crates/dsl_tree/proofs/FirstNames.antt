@@ -17,7 +17,7 @@ names = si_name ∷ factor_name ∷ offset_name ∷ other_name ∷ []
 abbrev pub colon : List ℕ
 colon = mark_code MarkKind.Colon ∷ []
 
--- the two rules of arguments, and what is left of the second behind its first two tokens
+-- the two rules of arguments, and what is left of the second after its first two tokens
 abbrev pub plain_rule : List Symbol
 plain_rule = Of Part.Expr ∷ Of Part.ArgumentsTail ∷ []
 

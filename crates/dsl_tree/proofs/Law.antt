@@ -26,7 +26,7 @@ whole_follows (sub a g) (Of p ∷ ss) z (any, stop, w) =
     (any_map (rules p) (λ r. Whole a r (cond (void g) z [])) (Follows a) (λ r does. whole_follows a r (cond (void g) z []) does) any, whole_follows g ss z w)
 whole_follows _ _ z w = absurd w
 
--- what stands behind a part doesn't go on with it
+-- what stands after a part doesn't go on with it
 stops_behind : (p : Part) (g : Forest) (ss : List Symbol) (z : List Token) → Follows g ss → Stops (stops (Of p ∷ ss)) z → Stops (goes_on p) (cond (void g) z [])
 stops_behind p g ss z h stop = go (void g) refl
   where
@@ -41,7 +41,7 @@ stops_rest p ss z = go (empties ss)
     go true stop = Stops-right (goes_on p) (stops ss) z stop
     go false stop = stop
 
--- a part that was left empty could not take what stands behind it
+-- a part that was left empty could not take what stands after it
 stops_void : (p : Part) (a : Forest) (z : List Token) → AnyRule (rules p) (Follows a) → Stops (goes_on p) z → Stops (cond (void a) (first p) []) z
 stops_void p a z any stop = go (void a) refl
   where
@@ -84,7 +84,7 @@ opened p ss a g ts m z s (any, stop, w) sa sg = go (void g) refl any stop
         part_whole p a ts m (part_follows p a [] any')
         (⊎_elim (λ v. both_ways (void g) v e) (λ (v, b). Stops-apart (firsts ss) (goes_on p) m (left_of (apart (firsts ss) (goes_on p)) (sound ss) s) b) (begins g ss m z (whole_follows g ss z w) sg)) sa
 
--- Two forests of one part, of rules that are are_told_apart apart, aren't spelled by the same tokens
+-- Two forests of one part, of rules that are told apart, aren't spelled by equal tokens
 
 -- the second token of a rule that begins with two
 pub record TwoTokens (r : List Symbol) (ts : List Token) : Type 0 where

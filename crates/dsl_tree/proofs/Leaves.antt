@@ -6,7 +6,7 @@ use Rattle.dsl_tree.specs.declared.token.Token.{Token}
 use Rattle.dsl_tree.specs.Forest.{Forest, nil, seen, bare, sub, wrong, Spells}
 use Rattle.dsl_tree.proofs.Tests.{is_whole, left_of, right_of}
 
--- the tokens of a forest, before others, where those whose places it doesn't hold stand at one place
+-- the tokens of a forest, before others, when those whose places it doesn't hold stand at one place
 abbrev pub leaves : Place → Forest → List Token → List Token
 leaves p nil z = z
 leaves p (seen place kind f) z = record { place = place; kind = kind } ∷ leaves p f z

@@ -39,12 +39,12 @@ pub record Level (l : ℕ) : Type 0 where
   pub tree : ExprTree
   pub high : l ≤ level tree
 
--- what stands behind the first expression in square brackets
+-- what stands after the first expression in square brackets
 pub data Bracket : Type 0 where
   High : (high : ExprTree) → Bracket
   Items : (items : ExprRow) → Bracket
 
--- an invocation behind its head, a composition, and a wait
+-- an invocation after its head, a composition, and a wait
 pub record Invocation : Type 0 where
   pub names : List Ident
   pub args : List ArgumentTree
@@ -60,7 +60,7 @@ pub record Waited : Type 0 where
   pub place : Place
   pub elapsed : ExprTree
 
--- a phase behind its label, and behind a name
+-- a phase after its label, and after a name
 pub data Core : Type 0 where
   Invoked : (head : InvokeHead) (rest : Invocation) → Core
   InOrder : (composed : Composed) → Core
@@ -70,7 +70,7 @@ pub data AfterName : Type 0 where
   Labelled : (core : Core) → AfterName
   Unlabelled : (rest : Invocation) → AfterName
 
--- what stands behind a comma in a unit
+-- what stands after a comma in a unit
 pub data MoreUnit : Type 0 where
   Another : (base : BasePart) (rest : UnitParts) → MoreUnit
   Factor : (factor : Signed) (offset : Option Signed) → MoreUnit

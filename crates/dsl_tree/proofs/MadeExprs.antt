@@ -15,7 +15,7 @@ use Rattle.dsl_tree.proofs.Made.{Level, High, Items, Makes}
 own : (l : ℕ) (t : ExprTree) → level t ≡ l → (x : Level l) × (at l x.tree (written x.tree) ≡ written t)
 own l t e = (record { tree = t; high = let h : l ≤ level t = omega (arith, e) in h }, at_own l t (written t) e)
 
--- a tree of a higher level, where nothing stands behind it
+-- a tree of a higher level, when nothing stands after it
 lower : (l : ℕ) (x : Level (suc l)) → (y : Level l) × (at l y.tree (written y.tree) ≡ lifted l (at (suc l) x.tree (written x.tree)))
 lower l x = (record { tree = x.tree; high = let h : l ≤ level x.tree = omega (arith, x.high) in h }, at_lower l x.tree (written x.tree) x.high)
 

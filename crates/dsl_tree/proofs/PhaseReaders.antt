@@ -181,7 +181,7 @@ abbrev mutual
   read_phase (sub work r) = read_work None work
   read_phase _ = Wait None no_place nothing
 
-  -- behind a label
+  -- after a label
   pub read_core : Ident → Forest → PhaseTree
   read_core label (seen place (TokenKind.Name text) (sub rest r)) = read_invocation (Some label) (InvokeHead.Name (record { place = place; text = text })) rest
   read_core label (seen place kind (sub rest r)) = read_invocation (Some label) (InvokeHead.Actor place) rest

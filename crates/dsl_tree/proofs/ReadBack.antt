@@ -71,7 +71,7 @@ whole_raised : (d l : ℕ) (f : Forest) → is_whole (raised d l f) ≡ true →
 whole_raised zero l f h = h
 whole_raised (suc d) l f h = whole_raised d (suc l) f (whole_lifted l (raised d (suc l) f) h)
 
--- a tree that is read back at its own level is read back where it stands at another
+-- a tree that is read back at its own level is read back in a place for another level
 pub read_part : (l : ℕ) (t : ExprTree) (f : Forest) → (is_whole f ≡ true → read_at (level t) f ≡ t) → is_whole (at l t f) ≡ true → read_at l (at l t f) ≡ t
 read_part l t f back = go (nat_lt (level t) l) refl
   where
@@ -115,7 +115,7 @@ post_whole (Index place head index) rest h =
     left_of (is_whole rest) true (right_of (is_whole (at 0 index (written index)) && true) (is_whole (sub rest nil)) (post_whole head (next_index place (at 0 index (written index)) rest) h))
 post_whole _ rest h = absurd (false≢true h)
 
--- The first operator of a row stands behind `Start`.
+-- The first operator of a row stands after `Start`.
 abbrev Opens : (ExprTree → Forest → ExprTree) → (ExprTree → Forest → ExprTree) → Forest → Type 0
 Opens first more rest = (x : ExprTree) → first x (sub rest nil) ≡ more (Start x) (sub rest nil)
 

@@ -48,7 +48,7 @@ sign_of (TokenKind.Mark MarkKind.Above) = RelationSign.Above
 sign_of (TokenKind.Mark MarkKind.AtLeast) = RelationSign.AtLeast
 sign_of _ = RelationSign.Within
 
--- what is read where a forest is of no part
+-- what is read if a forest is of no part
 abbrev pub nothing : ExprTree
 nothing = ExprTree.Name (record { place = record { file = 0; line = 0; column = 0; token = 0 }; text = [] })
 
@@ -145,7 +145,7 @@ abbrev mutual
   read_prim (seen place kind rest) = prim_of place kind rest
   read_prim _ = nothing
 
-  -- an operand, behind its first token
+  -- an operand, after its first token
   pub prim_of : Place → TokenKind → Forest → ExprTree
   prim_of place (TokenKind.Number digits places) rest = ExprTree.Number (record { place = place; digits = digits; places = places })
   prim_of place (TokenKind.Physical digits places unit) rest = ExprTree.Physical (record { place = place; digits = digits; places = places }) unit

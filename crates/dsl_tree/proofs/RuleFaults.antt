@@ -50,7 +50,7 @@ choose (x ∷ rs) r P G h (inr rule) (inl does) same other =
     by_apart x rs (λ s. s ≡ r) G (left_of (apart_from x rs) (all_apart rs) h) rule (λ s tell e. other x (inr (subst (λ (v : List Symbol). apart (firsts x) (firsts v) ≡ true) e tell)) does)
 choose (x ∷ rs) r P G h (inr rule) (inr any) same other = choose rs r P G (right_of (apart_from x rs) (all_apart rs) h) rule any same other
 
--- tokens that begin a part don't stand behind a void forest of it
+-- tokens that begin a part don't stand after a void forest of it
 not_void : (p : Part) (f : Forest) (ts z : List Token) → IsOf p f → Spells f ts z → Stops (goes_on p) z → Starts (first p) ts → void f ≡ true → ⊥
 not_void p f ts z is s stop start v =
     both_ways (starts (first p) z) (subst (Starts (first p)) (void_spells f ts z v s) start) (Stops-subset (first p) (goes_on p) z (first_goes_on p (void_part p f is v)) stop)
@@ -59,7 +59,7 @@ first_of_fault : (front : List Token) (t : Token) (back others : List Token) (cs
 first_of_fault [] t back others cs h = starts-cons cs t others ∙ (sym (starts-cons cs t back) ∙ h)
 first_of_fault (u ∷ front) t back others cs h = starts-cons cs u (front ++ t ∷ others) ∙ (sym (starts-cons cs u (front ++ t ∷ back)) ∙ h)
 
--- the rule that begins as the tokens do, where one token tells the rules apart
+-- the rule that begins as the tokens do, if one token tells the rules apart
 pub by_rule : (p : Part) (r : List Symbol) (ts : List Token) (left : ℕ) → RuleOf p r → all_apart (rules p) ≡ true → Starts (firsts r) ts → RowFault r ts left → PartFault p ts left
 by_rule p r ts left rule tells start fault = record {
   front = fault.front;
@@ -124,7 +124,7 @@ no_rule p ts left blank n = record {
       (λ (v, b). both_ways (starts (first p) (n.token ∷ others)) b (starts-cons (first p) n.token others ∙ n.misfits)) (begins_part p f (n.token ∷ others) z is s);
 }
 
--- Where two tokens tell two rules apart: the one that begins with them, and the other one
+-- Two tokens tell two rules apart: the one that begins with them, and the other one
 
 two_rule : (p : Part) (s r : List Symbol) → rules p ≡ s ∷ r ∷ [] → RuleOf p r
 two_rule p s r both = subst (λ (rs : List (List Symbol)). AnyRule rs (λ x. x ≡ r)) (sym both) (inr (inl refl))

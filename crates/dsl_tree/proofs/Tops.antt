@@ -31,7 +31,7 @@ only_tree t tokens parsed other spelled = spelled_once other t tokens spelled (w
 pub only_file : (f : File) (tokens : List Token) → Parsed Part.File (file (file_tree f)) tokens [] → (other : File) → Spelled (file_tree other) tokens → other ≡ f
 only_file f tokens parsed other spelled = one_file_spelled other f tokens spelled (whole_file (file_tree f) tokens parsed)
 
--- a front that some forest begins with is one that some tree does
+-- a prefix that some forest begins with is one that some tree begins with
 pub viable_front : (front : List Token) → CanBegin (IsOf Part.File) front → IsViable front
 viable_front front begun =
     let (t, e) = tree_of begun.forest begun.does in
@@ -74,7 +74,7 @@ abbrev head_or : Token → List Token → Token
 head_or t [] = t
 head_or t (u ∷ us) = u
 
--- the first fault, where its token is looked up by that number
+-- the first fault, when its token is looked up by that number
 pub first_fault_at : (tokens : List Token) (left : ℕ) → PartFault Part.File tokens left → (fault : Fault) (t : Token) (others : List Token) → drop (length tokens - left) tokens ≡ t ∷ others
     → fault.place ≡ t.place → fault.code ≡ fault_code t.kind → FirstFault tokens fault
 first_fault_at tokens left part fault t others e place code =

@@ -19,7 +19,7 @@ use Rattle.dsl_tree.proofs.Tests.{is_whole, left_of, right_of}
 use Rattle.dsl_tree.proofs.WholeForests.{whole_at}
 use Rattle.dsl_tree.proofs.WrittenRows.{further_tail, suffix_tail, or_own, and_own, sum_own, product_own, post_own}
 
--- what is read where a tree has no value
+-- what is read if a tree has no value
 abbrev pub no_value : Expr
 no_value = Expr.It (record { file = 0; line = 0; column = 0; token = 0 })
 

@@ -23,7 +23,7 @@ use Rattle.dsl_tree.proofs.Faults.{wrong_seen, past_seen, past_bare, in_part, pa
 use Rattle.dsl_tree.proofs.RuleFaults.{by_rule, by_only, no_rule}
 use Rattle.dsl_tree.proofs.Tops.{first_fault_at}
 
--- Where nothing stands before the declarations
+-- When nothing stands before the declarations
 
 abbrev behind_imports : List Symbol
 behind_imports = Of Part.Declarations ∷ Seen (code TokenKind.End ∷ []) ∷ []
@@ -55,7 +55,7 @@ scenario_words = map word_code (WordKind.ActionWord ∷ WordKind.ScenarioWord �
 abbrev behind_word : List Symbol
 behind_word = Of Part.QualifiedName ∷ Of Part.OptionalHeir ∷ Of Part.Body ∷ []
 
--- a fault behind the first word of a file, which is `scenario`
+-- a fault after the first word of a file, which is `scenario`
 in_scenario : (ts : List Token) (left : ℕ) → RowFault behind_word ts left → PartFault Part.File (record { place = at 0; kind = TokenKind.Word WordKind.ScenarioWord } ∷ ts) left
 in_scenario ts left fault = no_imports all left refl (in_part Part.Declarations (Seen (code TokenKind.End ∷ []) ∷ []) all left refl declarations)
   where
@@ -89,7 +89,7 @@ nameless fault place number =
     (in_part Part.QualifiedName (Of Part.OptionalHeir ∷ Of Part.Body ∷ []) (tokens_from 1 (TokenKind.Mark MarkKind.Colon ∷ TokenKind.End ∷ [])) 2 refl nameless_name))
     fault (record { place = at 1; kind = TokenKind.Mark MarkKind.Colon }) (tokens_from 2 (TokenKind.End ∷ [])) refl place number
 
--- an expression that ends behind `==`: the fault is at the line end
+-- an expression that ends after `==`: the fault is at the line end
 
 abbrev broken : ℕ → List Token
 broken n = drop n (tokens_from 0 broken_tokens)

@@ -24,7 +24,7 @@ pub at_own : (l : ℕ) (t : ExprTree) (f : Forest) → level t ≡ l → at l t 
 at_own l t f e =
     at_raised l t f (let h : l ≤ level t = omega arith in h) ∙ ap (λ (n : ℕ). raised n l f) (let z : level t - l ≡ zero = omega arith in z)
 
--- a tree of a higher level: nothing stands behind it
+-- a tree of a higher level: nothing stands after it
 pub at_lower : (l : ℕ) (t : ExprTree) (f : Forest) → suc l ≤ level t → at l t f ≡ lifted l (at (suc l) t f)
 at_lower l t f h =
     at_raised l t f (omega arith)
@@ -129,22 +129,22 @@ post_written head s rest =
     at_own 8 (with_suffixes (ExprTree.Start head) (s ∷ rest)) (written (with_suffixes (ExprTree.Start head) (s ∷ rest))) (post_of_row (ExprTree.Start head) s rest).1
     ∙ ((post_of_row (ExprTree.Start head) s rest).0 ∙ post_grouped (ExprTree.Start head) (s ∷ rest))
 
--- the same at its own level
+-- a row of one `or` or more, as written at its own level
 pub or_own : (first : ExprTree) (next : FurtherTree) (rest : List FurtherTree)
     → written (grouped ExprTree.Or (ExprTree.Start first) (next ∷ rest)) ≡ sub (at 2 first (written first)) (sub (further_tail 2 (next ∷ rest)) nil)
 or_own first next rest = (or_of_row (ExprTree.Start first) next rest).0 ∙ or_grouped (ExprTree.Start first) (next ∷ rest)
 
--- the same at its own level
+-- a row of one `and` or more, as written at its own level
 pub and_own : (first : ExprTree) (next : FurtherTree) (rest : List FurtherTree)
     → written (grouped ExprTree.And (ExprTree.Start first) (next ∷ rest)) ≡ sub (at 3 first (written first)) (sub (further_tail 3 (next ∷ rest)) nil)
 and_own first next rest = (and_of_row (ExprTree.Start first) next rest).0 ∙ and_grouped (ExprTree.Start first) (next ∷ rest)
 
--- the same at its own level
+-- a row of one sign of a sum or more, as written at its own level
 pub sum_own : (first : ExprTree) (next : FurtherTree) (rest : List FurtherTree)
     → written (grouped ExprTree.Sum (ExprTree.Start first) (next ∷ rest)) ≡ sub (at 6 first (written first)) (sub (further_tail 6 (next ∷ rest)) nil)
 sum_own first next rest = (sum_of_row (ExprTree.Start first) next rest).0 ∙ sum_grouped (ExprTree.Start first) (next ∷ rest)
 
--- the same at its own level
+-- a row of one sign of a product or more, as written at its own level
 pub product_own : (first : ExprTree) (next : FurtherTree) (rest : List FurtherTree)
     → written (grouped ExprTree.Product (ExprTree.Start first) (next ∷ rest)) ≡ sub (at 7 first (written first)) (sub (further_tail 7 (next ∷ rest)) nil)
 product_own first next rest = (product_of_row (ExprTree.Start first) next rest).0 ∙ product_grouped (ExprTree.Start first) (next ∷ rest)

@@ -160,8 +160,8 @@ phase_tree =
     (PartTree.ModifierPart (record { name = ident_at 22 (codes "m"); arguments = record { name = None; value = number_at 24 3 } ∷ [] }) ∷ []))
     PhaseRow.End)
 
--- Trees that break the grammar: a sum with nothing behind its first part, a sum as a part of a
--- product, an exponent of 10, and a number without a minus that stands at two places
+-- Trees that break the grammar. They are a sum with nothing after its first part, and a sum as a part of a
+-- product. They are also an exponent of 10, and a number without a minus that stands at two places.
 abbrev pub empty_sum : ExprTree
 empty_sum = ExprTree.Start (number_at 0 1)
 
@@ -175,7 +175,7 @@ abbrev pub two_places : Signed
 two_places = record { place = at 0; minus = false; number = record { place = at 1; digits = 1; places = 0 } }
 
 -- Lists of tokens that spell no tree: a left-out word at the beginning, a scenario without a name, and
--- an expression that ends behind its sign
+-- an expression that ends after its sign
 abbrev pub left_out_tokens : List TokenKind
 left_out_tokens = TokenKind.LeftOut ExcludedWord.CoverWord ∷ TokenKind.End ∷ []
 

@@ -7,10 +7,10 @@ use Rattle.dsl_tree.specs.declared.parts.Digits.{Digits}
 use Rattle.dsl_tree.specs.declared.expr.Operator.{Operator}
 use Rattle.dsl_tree.specs.declared.expr.RelationSign.{RelationSign}
 
--- Rows are grouped from the left: `a + b - c` is `Sum (Sum (Start a) + b) - c`, where the place and
--- the operator of each node are those of the sign before its right part, and `a.b[0]` is
--- `Index (Dot (Start a) b) 0`. `Start` is the first part of a row. Anywhere but at the left end of a
--- row it is a tree that breaks the grammar, such as a sum with nothing behind its first part.
+-- Rows are grouped from the left: `a + b - c` is `Sum (Sum (Start a) + b) - c`. The place and
+-- the operator of each node are those of the sign before its right part. `a.b[0]` is
+-- `Index (Dot (Start a) b) 0`. `Start` is the first part of a row. Anywhere else it is a tree
+-- that breaks the grammar, such as a sum with nothing after its first part.
 mutual
   pub data ExprTree : Type 0 where
     Implies : (place : Place) (left right : ExprTree) → ExprTree

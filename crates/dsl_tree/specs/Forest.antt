@@ -7,7 +7,7 @@ use Rattle.dsl_tree.specs.Codes.{code, has}
 use Rattle.dsl_tree.specs.Grammar.{Part, Symbol, rules, Seen, Bare, Of}
 
 -- A row of tokens and parts: `seen` is a token whose place the tree holds, `bare` one whose place it
--- doesn't hold, and `sub` a part, each with what stands behind it. `wrong` stands where a tree breaks
+-- doesn't hold, and `sub` a part. Each comes with what stands after it. `wrong` stands where a tree breaks
 -- the grammar in a way that its tokens wouldn't show, such as an empty row.
 pub data Forest : Type 0 where
   nil : Forest
@@ -16,7 +16,7 @@ pub data Forest : Type 0 where
   sub : (part rest : Forest) → Forest
   wrong : Forest
 
--- the tokens begin with those of the forest, and `rest` is left behind them
+-- the tokens begin with those of the forest, and `rest` is left after them
 abbrev pub Spells : Forest → List Token → List Token → Type 0
 Spells nil tokens rest = tokens ≡ rest
 Spells (seen place kind f) [] rest = ⊥

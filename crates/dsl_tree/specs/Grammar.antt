@@ -1,9 +1,9 @@
 -- The grammar, as a table of parts and their rules.
 --
--- Each rule is the row of symbols that a part is written as; a part with several rules is written by
--- any one of them, and `[]` is the rule that writes nothing. A repetition is a part that ends in
--- itself, or in a part that does. Rules of one part that would begin alike share their beginning, so that one token tells
--- which rule goes on, but for arguments, where two do.
+-- Each rule is the row of symbols that a part is written as. If a part has many rules, any one of them
+-- writes it. `[]` is the rule that writes nothing. A repetition is a part that ends in
+-- itself, or in a part that does. Rules of one part that would begin alike share their beginning. So one token tells
+-- which rule goes on; in arguments two tokens do.
 use Rattle.std.specs.Prelude.{ℕ, List, [], ◌∷◌, map}
 use Rattle.dsl_tree.specs.declared.token.TokenKind.{TokenKind}
 use Rattle.dsl_tree.specs.declared.token.MarkKind.{MarkKind}
@@ -103,7 +103,7 @@ word w = Bare (word_code w ∷ [])
 abbrev pub any_word : List WordKind → Symbol
 any_word ws = Bare (map word_code ws)
 
--- the same with a place
+-- a mark whose place the tree holds
 abbrev pub placed_mark : MarkKind → Symbol
 placed_mark m = Seen (mark_code m ∷ [])
 
@@ -177,12 +177,12 @@ rules Imports =
 rules Import =
     (word ImportWord ∷ Of ImportRest ∷ [])
     ∷ []
--- an import behind its word
+-- an import after its word
 rules ImportRest =
     (text ∷ newline ∷ [])
     ∷ (name ∷ Of DottedNames ∷ newline ∷ [])
     ∷ []
--- further names, each behind a point
+-- further names, each after a point
 rules DottedNames =
     []
     ∷ (mark Dot ∷ name ∷ Of DottedNames ∷ [])
@@ -199,23 +199,23 @@ rules Declaration =
     ∷ (placed_words (ActionWord ∷ ScenarioWord ∷ []) ∷ Of QualifiedName ∷ Of OptionalHeir ∷ Of Body ∷ [])
     ∷ (placed_word ExtendWord ∷ Of QualifiedName ∷ mark Colon ∷ Of ExtensionRest ∷ [])
     ∷ []
--- further bases of a type, each behind a comma
+-- further bases of a type, each after a comma
 rules BasesTail =
     []
     ∷ (mark Comma ∷ Of Base ∷ Of BasesTail ∷ [])
     ∷ []
--- behind a base of a unit: the closing bracket and the line end, or more
+-- after a base of a unit: the closing bracket and the line end, or more
 rules UnitTail =
     (mark CloseRound ∷ newline ∷ [])
     ∷ (mark Comma ∷ Of UnitMore ∷ [])
     ∷ []
--- behind a comma in a unit: another base, or the factor, or the offset, to the line end
+-- after a comma in a unit: another base, or the factor, or the offset, to the line end
 rules UnitMore =
     (Of Base ∷ Of UnitTail ∷ [])
     ∷ (factor ∷ mark Colon ∷ Of Signed ∷ Of FactorTail ∷ [])
     ∷ (offset ∷ mark Colon ∷ Of Signed ∷ mark CloseRound ∷ newline ∷ [])
     ∷ []
--- behind the factor of a unit: the offset, if there is one, to the line end
+-- after the factor of a unit: the offset, if there is one, to the line end
 rules FactorTail =
     (mark CloseRound ∷ newline ∷ [])
     ∷ (mark Comma ∷ offset ∷ mark Colon ∷ Of Signed ∷ mark CloseRound ∷ newline ∷ [])
@@ -241,7 +241,7 @@ rules ItemNumber =
     []
     ∷ (mark Assign ∷ whole ∷ [])
     ∷ []
--- further items, each behind a comma
+-- further items, each after a comma
 rules ItemsTail =
     []
     ∷ (mark Comma ∷ Of EnumItem ∷ Of ItemsTail ∷ [])
@@ -249,7 +249,7 @@ rules ItemsTail =
 rules QualifiedName =
     (name ∷ Of SecondName ∷ [])
     ∷ []
--- the name behind an owner, if there is one
+-- the name after an owner, if there is one
 rules SecondName =
     []
     ∷ (mark Dot ∷ name ∷ [])
@@ -266,21 +266,21 @@ rules ConditionValue =
     (placed_words (TrueWord ∷ FalseWord ∷ []) ∷ [])
     ∷ (name ∷ Of EnumMember ∷ [])
     ∷ []
--- the member behind the name of an enum, if there is one
+-- the member after the name of an enum, if there is one
 rules EnumMember =
     []
     ∷ (mark Bang ∷ name ∷ [])
     ∷ []
--- a line end, or a block behind its colon
+-- a line end, or a block after its colon
 rules Body =
     (newline ∷ [])
     ∷ (mark Colon ∷ Of Block ∷ [])
     ∷ []
--- a block, behind its colon
+-- a block, after its colon
 rules Block =
     (newline ∷ indent ∷ Of Member ∷ Of MembersTail ∷ dedent ∷ [])
     ∷ []
--- what `extend` adds, behind the colon
+-- what `extend` adds, after the colon
 rules ExtensionRest =
     (Of EnumItems ∷ newline ∷ [])
     ∷ (Of Block ∷ [])
@@ -294,7 +294,7 @@ rules Member =
     ∷ (Of Rule ∷ [])
     ∷ (placed_word DoWord ∷ Of Phase ∷ [])
     ∷ []
--- further names of a field, each behind a comma
+-- further names of a field, each after a comma
 rules NamesTail =
     []
     ∷ (mark Comma ∷ name ∷ Of NamesTail ∷ [])
@@ -341,12 +341,12 @@ rules Phase =
     ∷ (placed_word ActorWord ∷ Of InvocationRest ∷ [])
     ∷ (Of Wait ∷ [])
     ∷ []
--- a phase behind a name, which is its label or the head of an invocation
+-- a phase after a name, which is its label or the head of an invocation
 rules PhaseAfterName =
     (mark Colon ∷ Of LabelledPhase ∷ [])
     ∷ (Of InvocationRest ∷ [])
     ∷ []
--- a phase behind its label
+-- a phase after its label
 rules LabelledPhase =
     (name_or (ActorWord ∷ []) ∷ Of InvocationRest ∷ [])
     ∷ (Of Composition ∷ [])
@@ -368,7 +368,7 @@ rules PhasesTail =
 rules Wait =
     (placed_word WaitWord ∷ word ElapsedWord ∷ mark OpenRound ∷ Of Expr ∷ mark CloseRound ∷ newline ∷ [])
     ∷ []
--- an invocation behind its head
+-- an invocation after its head
 rules InvocationRest =
     (Of DottedNames ∷ mark OpenRound ∷ Of InvocationArguments ∷ Of InvocationEnd ∷ [])
     ∷ []
@@ -395,12 +395,12 @@ rules Arguments =
     (Of Expr ∷ Of ArgumentsTail ∷ [])
     ∷ (name ∷ mark Colon ∷ Of Expr ∷ Of NamedTail ∷ [])
     ∷ []
--- behind an argument without a name: the closing bracket, or more arguments
+-- after an argument without a name: the closing bracket, or more arguments
 rules ArgumentsTail =
     (mark CloseRound ∷ [])
     ∷ (mark Comma ∷ Of Arguments ∷ [])
     ∷ []
--- behind an argument with a name: the closing bracket, or more such arguments
+-- after an argument with a name: the closing bracket, or more such arguments
 rules NamedTail =
     (mark CloseRound ∷ [])
     ∷ (mark Comma ∷ name ∷ mark Colon ∷ Of Expr ∷ Of NamedTail ∷ [])
@@ -408,7 +408,7 @@ rules NamedTail =
 rules Expr =
     (Of Or ∷ Of ImpliesTail ∷ [])
     ∷ []
--- behind the left side of an implication: its right side, if there is one
+-- after the left side of an implication: its right side, if there is one
 rules ImpliesTail =
     []
     ∷ (placed_mark Arrow ∷ Of Or ∷ [])
@@ -479,12 +479,12 @@ rules Primary =
     ∷ (placed_mark OpenSquare ∷ Of Expr ∷ Of BracketRest ∷ [])
     ∷ (placed_word RangeWord ∷ mark OpenRound ∷ Of Expr ∷ mark Comma ∷ Of Expr ∷ mark CloseRound ∷ [])
     ∷ []
--- behind the first expression in square brackets: the other end of a range, or further items, and the bracket
+-- after the first expression in square brackets: the other end of a range, or further items, and the bracket
 rules BracketRest =
     (mark TwoDots ∷ Of Expr ∷ mark CloseSquare ∷ [])
     ∷ (Of ListedTail ∷ mark CloseSquare ∷ [])
     ∷ []
--- further items of a list, each behind a comma
+-- further items of a list, each after a comma
 rules ListedTail =
     []
     ∷ (mark Comma ∷ Of Expr ∷ Of ListedTail ∷ [])

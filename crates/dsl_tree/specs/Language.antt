@@ -31,8 +31,8 @@ Ended (token ∷ []) = is_end token.kind ≡ true
 Ended (token ∷ next ∷ others) = (is_end token.kind ≡ false) × Ended (next ∷ others)
 
 -- The spelling of some tree begins with these tokens. Numbers and texts have no ranges here. That
--- changes nothing: those of the front are the tokens' own, and of those behind it the grammar asks
--- no more than that a number is whole, or at most 9, or that a name is one of three.
+-- changes nothing: those of the prefix are the tokens' own. Of those after it the grammar asks
+-- no more than a whole number, a number of at most 9, or one of three names.
 pub record IsViable (front : List Token) : Type 0 where
   pub tree : FileTree
   pub back : List Token

@@ -19,7 +19,7 @@ empties (Seen codes ∷ ss) = false
 empties (Bare codes ∷ ss) = false
 empties (Of p ∷ ss) = empty p && empties ss
 
--- the codes that may not stand behind a whole row, since a longer one would go on with them
+-- the codes that may not stand after a whole row, since a longer one would go on with them
 abbrev pub stops : List Symbol → List ℕ
 stops [] = []
 stops (Seen codes ∷ ss) = stops ss
@@ -49,7 +49,7 @@ abbrev pub apart : List ℕ → List ℕ → Bool
 apart [] ys = true
 apart (x ∷ xs) ys = not (has ys x) && apart xs ys
 
--- no part of the row goes on with what may stand behind it there
+-- no part of the row goes on with what may stand after it there
 abbrev pub sound : List Symbol → Bool
 sound [] = true
 sound (Seen codes ∷ ss) = sound ss

@@ -7,7 +7,7 @@ use Rattle.dsl_tree.specs.declared.phases.CompKind.{CompKind}
 use Rattle.dsl_tree.specs.declared.phases.InvokeHead.{InvokeHead}
 use Rattle.dsl_tree.specs.ExprTree.{ExprTree}
 
--- a path is the expression that is written in the same way
+-- a path is the expression that has the path's spelling
 pub data RuleTree : Type 0 where
   Keep : (place : Place) (kind : KeepKind) (expr : ExprTree) → RuleTree
   Remove : (place : Place) (path : ExprTree) → RuleTree

@@ -27,7 +27,7 @@ void (sub part f) = void part && void f
 void wrong = false
 
 -- the forest follows the rule, and goes on as far as it can before `rest`: no part that is left empty
--- could take the first token of what is left behind it
+-- could take the first token of what is left after it
 abbrev pub Whole : Forest → List Symbol → List Token → Type 0
 Whole nil [] rest = Unit {0}
 Whole (seen place kind f) (Seen codes ∷ rule) rest = (has codes (code kind) ≡ true) × Whole f rule rest
@@ -77,7 +77,8 @@ pub record PartFault (p : Part) (tokens : List Token) (left : ℕ) : Type 0 wher
   pub viable : CanBegin (IsOf p) front
   pub dead : (f : Forest) (others rest : List Token) → IsOf p f → Stops (goes_on p) rest → Spells f (front ++ token ∷ others) rest → ⊥
 
--- the same of what is left of a rule
+-- No forest of what is left of a rule goes on at the token that has `left` tokens from it to the end.
+-- Some such forest goes as far as that.
 pub record RowFault (rule : List Symbol) (tokens : List Token) (left : ℕ) : Type 0 where
   pub front : List Token
   pub token : Token

@@ -36,7 +36,7 @@ use Rattle.dsl_tree.specs.FileTree.{FieldTree, MemberTree, CompoundTree, MoreTre
 
 -- Expressions
 
--- an operator with the part behind it, and a suffix
+-- an operator with the part after it, and a suffix
 pub record FurtherTree : Type 0 where
   pub place : Place
   pub operator : Operator
@@ -51,13 +51,13 @@ abbrev pub grouped : (Place → Operator → ExprTree → ExprTree → ExprTree)
 grouped join left [] = left
 grouped join left (next ∷ rest) = grouped join (join next.place next.operator left next.part) rest
 
--- a tree with suffixes behind it
+-- a tree with suffixes after it
 abbrev pub with_suffixes : ExprTree → List SuffixTree → ExprTree
 with_suffixes head [] = head
 with_suffixes head (Named name ∷ rest) = with_suffixes (ExprTree.Dot head name) rest
 with_suffixes head (At place index ∷ rest) = with_suffixes (ExprTree.Index place head index) rest
 
--- the tree of a row of suffixes, which breaks the grammar where its node isn't named for the last one
+-- the tree of a row of suffixes, which breaks the grammar if its node isn't named for the last one
 abbrev pub named_row : ExprTree → List SuffixTree → ExprTree
 named_row tree [] = ExprTree.Start tree
 named_row tree (Named name ∷ []) = tree

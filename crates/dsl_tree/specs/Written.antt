@@ -12,7 +12,7 @@ use Rattle.dsl_tree.specs.declared.token.WordKind.{WordKind}
 use Rattle.dsl_tree.specs.ExprTree.{ExprTree, Implies, Or, And, Not, Relation, Sum, Product, Minus, Dot, Index, Number, Physical, Chars, Truth, It, Actor, Name, EnumName, Group, Span, Listed, RangeCall, Start, ExprRow, End, Item}
 use Rattle.dsl_tree.specs.Forest.{Forest, nil, seen, bare, sub, wrong}
 
--- Tokens, each with what stands behind it
+-- Tokens, each with what stands after it
 
 abbrev pub mark : MarkKind → Forest → Forest
 mark m f = bare (TokenKind.Mark m) f
@@ -69,7 +69,7 @@ level (Dot head name) = 8
 level (Index place head index) = 8
 level _ = 9
 
--- A part of the next level, as one of this level: it has an empty tail behind it, but in a `Not` (3)
+-- A part of the next level, as one of this level: it has an empty tail after it, but in a `Not` (3)
 -- and a `Minus` (7), which have none.
 abbrev pub lifted : ℕ → Forest → Forest
 lifted own f = cond ((own == 3) || (own == 7)) (sub f nil) (sub f (sub nil nil))
@@ -79,11 +79,11 @@ abbrev pub raised : ℕ → ℕ → Forest → Forest
 raised zero wanted f = f
 raised (suc steps) wanted f = lifted wanted (raised steps (suc wanted) f)
 
--- a tree that is written as f, where one of the level `wanted` stands
+-- a tree that is written as f, in a place for one of the level `wanted`
 abbrev pub at : ℕ → ExprTree → Forest → Forest
 at wanted tree f = cond (nat_lt (level tree) wanted) wrong (raised (level tree - wanted) wanted f)
 
--- an operator, the part behind it, and the rest of the row
+-- an operator, the part after it, and the rest of the row
 abbrev pub next_part : Place → Operator → Forest → Forest → Forest
 next_part place operator part rest = seen place (operator_kind operator) (sub part (sub rest nil))
 
@@ -149,14 +149,14 @@ abbrev mutual
   product_row (Product place operator left right) rest = product_row left (next_part place operator (at 7 right (written right)) rest)
   product_row _ rest = wrong
 
-  -- what suffixes stand behind, with the rest of them
+  -- the expression before the suffixes, then the suffixes, then `rest`
   pub post_row : ExprTree → Forest → Forest
   post_row (Start head) rest = sub (at 9 head (written head)) (sub rest nil)
   post_row (Dot head name) rest = post_row head (next_name name rest)
   post_row (Index place head index) rest = post_row head (next_index place (at 0 index (written index)) rest)
   post_row _ rest = wrong
 
-  -- the items of a list behind its opening bracket, one at least; and those behind the first
+  -- the items of a list after its opening bracket, one at least; and those after the first
   pub listed : ExprRow → Forest
   listed End = wrong
   listed (Item item others) = sub (at 0 item (written item)) (sub (sub (listed_tail others) (mark MarkKind.CloseSquare nil)) nil)

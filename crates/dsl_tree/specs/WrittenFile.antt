@@ -62,7 +62,7 @@ abbrev pub bases_tail : List BasePart → Forest
 bases_tail [] = nil
 bases_tail (b ∷ bs) = mark MarkKind.Comma (sub (base b) (sub (bases_tail bs) nil))
 
--- the bracket and the line end behind bases
+-- the bracket and the line end after bases
 abbrev pub bases_end : Forest
 bases_end = mark MarkKind.CloseRound (newline nil)
 
@@ -81,7 +81,7 @@ abbrev pub factor_tail : Option Signed → Forest
 factor_tail None = bases_end
 factor_tail (Some offset) = mark MarkKind.Comma (offset_end offset)
 
--- what stands behind the bases of a unit
+-- what stands after the bases of a unit
 abbrev pub unit_end : Option Signed → Option Signed → Forest
 unit_end None None = bases_end
 unit_end None (Some offset) = mark MarkKind.Comma (sub (offset_end offset) nil)
@@ -160,7 +160,7 @@ abbrev pub field_end : List RuleTree → Forest
 field_end [] = newline nil
 field_end (r ∷ rs) = with_block (sub (rule r) (sub (rules_tail rs) block_end))
 
--- a field behind its first name
+-- a field after its first name
 abbrev pub field_rest : List Ident → FieldTree → Forest
 field_rest names f = sub (names_tail names) (mark MarkKind.Colon (sub (field_type f.list f.of) (sub (initial f.initial) (sub (field_end f.rules) nil))))
 

@@ -44,7 +44,7 @@ abbrev pub rules_tail : List RuleTree → Forest
 rules_tail [] = nil
 rules_tail (r ∷ rs) = sub (rule r) (sub (rules_tail rs) nil)
 
--- what is written where something is missing, and where it is there
+-- what is written if something is missing, and what if it is there
 abbrev pub by_option : {A : Type 0} → Option A → Forest → (A → Forest) → Forest
 by_option None missing there = missing
 by_option (Some x) missing there = there x
@@ -58,7 +58,7 @@ abbrev pub named_tail : List ArgumentTree → Forest
 named_tail [] = mark MarkKind.CloseRound nil
 named_tail (a ∷ others) = by_option a.name wrong (λ name. mark MarkKind.Comma (named_argument name a.value (named_tail others)))
 
--- what stands behind an argument without a name, where `more` is what the other arguments are written as
+-- what stands after an argument without a name, when `more` is what the other arguments are written as
 abbrev pub arguments_tail : List ArgumentTree → Forest → Forest
 arguments_tail [] more = mark MarkKind.CloseRound nil
 arguments_tail (a ∷ others) more = mark MarkKind.Comma (sub more nil)
@@ -95,12 +95,12 @@ abbrev pub invocation_end : List PartTree → Forest
 invocation_end [] = newline nil
 invocation_end (p ∷ ps) = with_block (sub (invocation_part p) (sub (parts_tail ps) block_end))
 
--- an invocation behind its head
+-- an invocation after its head
 abbrev pub invocation_rest : List Ident → List ArgumentTree → List PartTree → Forest
 invocation_rest names args parts =
     sub (dotted_names names) (mark MarkKind.OpenRound (sub (invocation_arguments args) (sub (invocation_end parts) nil)))
 
--- an invocation without a label, and behind its label
+-- an invocation without a label, and after its label
 abbrev pub invocation : InvokeHead → Forest → Forest
 invocation (InvokeHead.Name name) rest = ident name (sub (sub rest nil) nil)
 invocation (InvokeHead.Actor place) rest = word_at place WordKind.ActorWord (sub rest nil)
@@ -120,7 +120,7 @@ abbrev pub composition_arguments : List ArgumentTree → Forest
 composition_arguments [] = nil
 composition_arguments (a ∷ others) = mark MarkKind.OpenRound (sub (arguments (a ∷ others)) nil)
 
--- a composition, with the phases of its block, and a wait, both behind their label
+-- a composition, with the phases of its block, and a wait, both after their label
 abbrev pub composition : Place → CompKind → List ArgumentTree → Forest → Forest
 composition place kind args phases =
     sub (word_at place (comp_word kind) (sub (composition_arguments args) (mark MarkKind.Colon (opened phases)))) nil
@@ -130,7 +130,7 @@ wait place elapsed =
     sub (word_at place WordKind.WaitWord (word WordKind.ElapsedWord (mark MarkKind.OpenRound
     (sub (expr elapsed) (mark MarkKind.CloseRound (newline nil)))))) nil
 
--- a phase, where `plain` is written without a label and `core` behind one
+-- a phase: `plain` is written without a label, and `core` after one
 abbrev pub labelled : Option Ident → Forest → Forest → Forest
 labelled label plain core = by_option label plain (λ name. ident name (sub (mark MarkKind.Colon (sub core nil)) nil))
 
@@ -144,7 +144,7 @@ abbrev mutual
       labelled label (invocation head (invocation_rest names args parts)) (labelled_invocation head (invocation_rest names args parts))
   phase (Wait label place elapsed) = with_label label (wait place elapsed)
 
-  -- the phases of a block, one at least, and its end; and those behind the first
+  -- the phases of a block, one at least, and its end; and those after the first
   pub block_phases : PhaseRow → Forest
   block_phases End = wrong
   block_phases (Phase first others) = sub (phase first) (sub (phases_tail others) block_end)

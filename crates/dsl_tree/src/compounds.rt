@@ -10,14 +10,14 @@ pub enum ConditionValue {
     EnumName { of: Ident, member: Ident },
 }
 
-/// `(FIELD == VALUE)` behind the base of a conditional subtype.
+/// `(FIELD == VALUE)` after the base of a conditional subtype.
 #[derive(Drop)]
 pub struct HeirCondition {
     pub field: Ident,
     pub value: ConditionValue,
 }
 
-/// `inherits BASE`, and the condition behind it.
+/// `inherits BASE`, and the condition after it.
 #[derive(Drop)]
 pub struct Heir {
     pub base: QName,
@@ -64,7 +64,7 @@ pub enum Member {
 
 /// `NAMES: list of OF = INITIAL with:` and a block of rules.
 ///
-/// There is one name or more. `list` is the place of the word `list`, where it stands. Empty `rules`
+/// There is one name or more. `list` is the place of the word `list`, if it is there. Empty `rules`
 /// stand for a line without a block.
 #[derive(Drop)]
 pub struct FieldDecl {

@@ -1,7 +1,7 @@
 use crate::{Digits, Ident, QName};
 use osc_base::{Place, Row};
 
-/// A member of an enum, and the whole number that is written behind it.
+/// A member of an enum, and the whole number that is written after it.
 #[derive(Drop)]
 pub struct EnumItem {
     pub name: Ident,

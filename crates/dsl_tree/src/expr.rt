@@ -24,7 +24,7 @@ pub enum Operator {
     Slash,
 }
 
-/// An operator and the part behind it. The place is that of the operator.
+/// An operator and the part after it. The place is that of the operator.
 #[derive(Drop)]
 #[cycle(expr_types)]
 pub struct Further {

@@ -5,12 +5,12 @@ pub fn one_tree()
     ensures { OneTree }
 {}
 
-/// The same of files as the program holds them: two that are spelled by one list are equal.
+/// The law that two files, as the program holds them, are equal if one list of tokens spells both.
 pub fn one_file()
     ensures { OneFile }
 {}
 
-/// The law that each tree of the grammar is spelled, and always by tokens of the same kinds.
+/// The law that each tree of the grammar is spelled by some tokens, and always by tokens of equal kinds.
 pub fn one_spelling()
     ensures { OneSpelling }
 {}

@@ -22,7 +22,7 @@ pub struct Digits {
     pub places: u8,
 }
 
-/// A number with or without a minus before it. The place is the minus's, or the number's where there
+/// A number with or without a minus before it. The place is the minus's, or the number's if there
 /// is none.
 #[derive(Clone, Copy, PartialEq, Eq)]
 pub struct Signed {

@@ -1,7 +1,7 @@
 use crate::{Expr, Ident, RuleDecl};
 use osc_base::{Place, Row};
 
-/// An argument, with its name where one is written. No argument without a name stands behind one
+/// An argument, with its name if one is written. No argument without a name stands after one
 /// with a name.
 #[derive(Drop)]
 pub struct Argument {
@@ -26,7 +26,7 @@ pub enum CompKind {
     OneOf,
 }
 
-/// `LABEL: serial(ARGUMENTS):` and a block of one phase or more. The place is that of the word behind
+/// `LABEL: serial(ARGUMENTS):` and a block of one phase or more. The place is that of the word after
 /// the label. Empty `arguments` stand for no brackets.
 #[derive(Drop)]
 #[cycle(phase_types)]

@@ -1,7 +1,7 @@
 use crate::{Expr, Ident, Suffix};
 use osc_base::{Place, Row};
 
-/// The word behind `keep(`, or none.
+/// The word after `keep(`, or none.
 #[derive(Clone, Copy, PartialEq, Eq)]
 pub enum KeepKind {
     Plain,
@@ -31,7 +31,7 @@ pub enum PathHead {
     Actor(Place),
 }
 
-/// A path: its head, and any names and indexes behind it.
+/// A path: its head, and any names and indexes after it.
 #[derive(Drop)]
 pub struct PathNode {
     pub head: PathHead,

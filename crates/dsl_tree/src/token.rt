@@ -13,11 +13,11 @@ pub type Tokens = Row<Token>;
 /// What a token is.
 ///
 /// A number is `digits` divided by 10 to the power `places`: `1.50` has digits 150 and places 2, and a
-/// whole number has places 0. `Physical` is a number with the name of a unit directly behind it, and
+/// whole number has places 0. `Physical` is a number with the name of a unit directly after it.
 /// `Chars` is a string, with the text between its quotes once its escapes are read.
 #[derive(Drop)]
 pub enum TokenKind {
-    /// The end of a logical line, behind its last token.
+    /// The end of a logical line, after its last token.
     Newline,
     /// A line that is wider than all that is opened, before its first token.
     Indent,
@@ -60,7 +60,7 @@ pub enum MarkKind {
     Bang,
 }
 
-/// The reserved words, each with `Word` behind it.
+/// The reserved words, each with `Word` after it.
 #[derive(Clone, Copy, PartialEq, Eq)]
 pub enum WordKind {
     ImportWord,

@@ -17,7 +17,7 @@ pub struct PhysicalDecl {
     pub bases: Row<BasePart>,
 }
 
-/// `unit NAME of OF is SI(BASES, factor: F, offset: O)`, with one base or more, where either of factor
+/// `unit NAME of OF is SI(BASES, factor: F, offset: O)`, with one base or more. Either of factor
 /// and offset may be missing. The place is that of `unit`.
 #[derive(Drop)]
 pub struct UnitDecl {

@@ -61,7 +61,7 @@ pub mentioned_in : (is : List Import) (k : ℕ) (n : FileName) (names : List Fil
 mentioned_in [] k n names le h = let l = below names k n h in absurd (omega arith)
 mentioned_in (i ∷ is) k n names le h = step i is k n (mentioned_in is k n) names le (meant_name i) refl h
 
--- the place stays where more files follow, and where it is new in one, it is there in that
+-- The place stays if more files follow. If it is new in one of them, it is there in that one.
 within : (xs : List FileName) (k : ℕ) → k < length xs → (x : FileName) × (slice_get xs k ≡ Some x)
 within [] k l = absurd (omega arith)
 within (x ∷ xs) zero l = (x, refl)

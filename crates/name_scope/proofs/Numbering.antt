@@ -5,7 +5,7 @@ use Rattle.name_scope.specs.declared.names.FileName.{FileName}
 use Rattle.name_scope.specs.FileNumbers.{AddedFile, name_text, meant_name, is_numbered, with_name, with_imports, with_files, numbered_names, names_before, wanted_name}
 use Rattle.name_scope.specs.Sources.{IsProgram}
 
--- a place of a list stays where the list grows
+-- a place of a list stays when the list grows
 stays : {X : Type 0} (xs ys : List X) (k : ℕ) (x : X) → slice_get xs k ≡ Some x → slice_get (xs ++ ys) k ≡ Some x
 stays [] ys k x h = absurd (cc)
 stays (y ∷ xs) ys zero x h = h

@@ -10,7 +10,7 @@ use Rattle.name_scope.specs.FileNumbers.{AddedFile}
 use Rattle.name_scope.specs.Declaring.{declares, first_place}
 use Rattle.name_scope.specs.Headings.{declarations, takes}
 
--- there is a first place exactly where one passes
+-- there is a first place exactly if one passes
 pub any_of_place : {X : Type 0} (test : X → Bool) (n : ℕ) (xs : List X) → is_some (first_place test n xs) ≡ list_any test xs
 any_of_place test n [] = refl
 any_of_place test n (x ∷ xs) = by (test x) (any_of_place test (n + 1) xs)
@@ -19,7 +19,7 @@ any_of_place test n (x ∷ xs) = by (test x) (any_of_place test (n + 1) xs)
     by true h = refl
     by false h = h
 
--- it is below a number exactly where one of so many passes
+-- it is below a number exactly if one of so many passes
 abbrev pub is_below : Option ℕ → ℕ → Bool
 is_below None k = false
 is_below (Some i) k = nat_lt i k
@@ -45,7 +45,7 @@ front_from test n (x ∷ xs) (suc k) = by (test x) (front_from test (n + 1) xs k
 pub front_of_place : {X : Type 0} (test : X → Bool) (xs : List X) (k : ℕ) → is_below (first_place test 0 xs) k ≡ list_any test (take k xs)
 front_of_place test xs k = let e : k ≡ 0 + k = omega arith in ap (is_below (first_place test 0 xs)) e ∙ front_from test 0 xs k
 
--- one of all declarations passes exactly where one of some file does
+-- one of all declarations passes exactly if one of some file does
 pub any_of_files : (test : Declaration → Bool) (fs : List AddedFile) → list_any test (declarations fs) ≡ list_any (λ f. list_any test f.file.decls) fs
 any_of_files test [] = refl
 any_of_files test (f ∷ fs) = list_any-append test f.file.decls (declarations fs) ∙ ap (λ b. list_any test f.file.decls || b) (any_of_files test fs)

@@ -68,7 +68,7 @@ other_found = refl
 other_owned : found NameKind.BehaviourName (Some (codes "top")) (codes "other") (first ∷ second ∷ []) ≡ None
 other_owned = refl
 
--- the same scenario in both
+-- a second file that declares the scenario `top` again
 abbrev again : AddedFile
 again = file_of (codes "b.osc") (Import.Named (at 1 1) (codes "a.osc") ∷ []) (compound CompoundKind.Scenario (alone (name 1 4 (codes "top"))) None ∷ [])
 

@@ -56,7 +56,7 @@ first_from_is P first (r ∷ rs) h =
 pub is_first : (rs : List FaultRow) → IsFirst (IsFault rs) (first_fault rs)
 is_first rs = same_set (λ f. ⊥ ⊎ IsFault rs f) (IsFault rs) (λ f s. elim s [ inl x ↦ absurd x | inr y ↦ y ]) (λ f y. inr y) (first_fault rs) (first_from_is (λ f. ⊥) None rs (λ f h. h))
 
--- of two faults of one file, neither of which is later, the places and codes are the same
+-- two faults of one file, neither of which is later, have equal places and equal codes
 pub both_no_later : (n m : ℕ) (code other : FaultCode) → IsNoLater n code m other → IsNoLater m other n code → (n ≡ m) × (code ≡ other)
 both_no_later n m code other (inl h) (inl k) = absurd (omega arith)
 both_no_later n m code other (inl h) (inr (e, k)) = absurd (omega arith)

@@ -1,4 +1,4 @@
--- Numbers as fractions: the same number in other terms.
+-- Numbers as fractions: one number in other terms.
 use Rattle.std.proofs.Common.{◌≡◌, ◌/◌, refl, sym, ap, ◌∙◌, arith}
 use Rattle.std.specs.Prelude.{ℤ, pos, negsuc, ◌+ℤ◌, ◌*ℤ◌, ◌≤ℤ◌, ◌<ℤ◌, int_lt}
 use Rattle.std.specs.Int.{int_div_euclid}

@@ -2,11 +2,11 @@
 use Rattle.std.specs.Prelude.{ℕ, ◌^◌, ◌&&◌, Bool, not, ℤ, ◌*ℤ◌, int_lt, int_le, unsigned_abs, nat_lt}
 use Rattle.osc_base.specs.Number.{Number}
 
--- two whole numbers are the same
+-- two whole numbers are equal
 abbrev pub same_number : ℤ → ℤ → Bool
 same_number a b = int_le a b && int_le b a
 
--- one number, in the same or in other terms
+-- two fractions stand for one number
 abbrev pub is_same : Number → Number → Bool
 is_same x y = same_number (x.numerator *ℤ y.denominator) (y.numerator *ℤ x.denominator)
 

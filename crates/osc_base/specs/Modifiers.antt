@@ -7,7 +7,7 @@ use Rattle.osc_base.specs.declared.modifier.Moment.{Moment}
 use Rattle.osc_base.specs.Number.{Number}
 use Rattle.osc_base.specs.Comparisons.{same_number, is_between}
 
--- a speed in metres a second, and a position in metres
+-- a speed in metres a second
 abbrev pub metres_a_second : ℤ → Number
 metres_a_second speed = record { numerator = speed; denominator = pos 1000 }
 
@@ -33,7 +33,7 @@ holds_of Kind.Position low high own other = is_between low high (metres own.posi
 holds_of Kind.AheadOf low high own other = is_between low high (metres (own.position -ℤ other.position))
 holds_of Kind.Behind low high own other = is_between low high (metres (other.position -ℤ own.position))
 
--- a tick is a moment of a modifier, where its phase goes from `start` to `end`
+-- a tick is a moment of a modifier, when its phase goes from `start` to `end`
 abbrev pub is_moment : Moment → ℤ → ℤ → ℤ → Bool
 is_moment Moment.Start start end tick = same_number start tick
 is_moment Moment.End start end tick = same_number end tick

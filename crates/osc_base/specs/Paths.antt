@@ -12,14 +12,14 @@ path_of steps = record { steps = steps }
 abbrev pub root : Path
 root = path_of []
 
--- one step: the same name, or the same number in the same role
+-- two steps are equal: they have an equal name, or an equal role and number
 abbrev pub same_step : Step → Step → Bool
 same_step (Name a) (Name b) = bytes_eq a b
 same_step (Index a) (Index b) = nat_eq a b
 same_step (Member a) (Member b) = nat_eq a b
 same_step _ _ = false
 
--- the same steps in the same order
+-- two lists of steps are equal, step by step
 abbrev pub same_steps : List Step → List Step → Bool
 same_steps [] [] = true
 same_steps (a ∷ more) (b ∷ others) = same_step a b && same_steps more others

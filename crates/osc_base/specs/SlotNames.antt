@@ -1,9 +1,9 @@
--- Which names of slots are the same.
+-- Which names of slots are equal.
 use Rattle.std.specs.Prelude.{◌&&◌, Bool, false, nat_eq}
 use Rattle.osc_base.specs.declared.listing.SlotName.{SlotName}
 use Rattle.osc_base.specs.Paths.{same_path}
 
--- the same sort of slot at the same path, and at the same tick
+-- two names of slots are equal: in their sort, their path, and their tick if they have one
 abbrev pub same_slot : SlotName → SlotName → Bool
 same_slot (SlotName.Choice p) (SlotName.Choice q) = same_path p q
 same_slot (SlotName.Start p) (SlotName.Start q) = same_path p q

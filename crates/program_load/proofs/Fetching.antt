@@ -1,4 +1,4 @@
--- What a fetch and the reading behind it say of a name.
+-- What a fetch and the reading after it say of a name.
 use Rattle.std.proofs.Common.{◌≡◌, refl, subst, ℕ, ◌+◌, ◌<◌, List, [], length, Option, Some, None, IfSome, IfErr, Result, Ok, Err, true, arith}
 use Rattle.std.specs.Option.{is_some, unwrap_or}
 use Rattle.std.specs.Prelude.{replicate}

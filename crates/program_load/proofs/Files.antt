@@ -1,4 +1,4 @@
--- What was taken stays so where files are appended.
+-- What was taken stays so when files are appended.
 use Rattle.std.proofs.Common.{◌≡◌, ◌∙◌, refl, sym, ap, subst, ℕ, Bool, true, false, cond, List, [], ◌∷◌, ◌++◌, Option, Some, None, append_assoc}
 use Rattle.std.specs.Option.{option_map, option_or}
 use Rattle.std.specs.List.{find}
@@ -63,7 +63,7 @@ one_more files main start (first ∷ later) name added t next is = (
 abbrev pub called : List ℕ → List ℕ → NamedBytes
 called name source = record { name = name; bytes = source }
 
--- a file behind others is found where none of them has its name
+-- a file after others is found if none of them has its name
 found_last : (b : Bool) (o : Option NamedBytes) (f : NamedBytes) → b ≡ true → option_map (λ (g : NamedBytes). g.bytes) o ≡ None → option_map (λ (g : NamedBytes). g.bytes) (option_or o (cond b (Some f) None)) ≡ Some f.bytes
 found_last true None f is none = refl
 found_last false None f is none = absurd cc

@@ -44,7 +44,7 @@ data Turn (before : List AddedFile) (name : FileName) (text : List ℕ) : Type 0
   had : HasTurn before text → Turn before name text
   has : name ≡ FileName.Named text → Turn before name text
 
--- files in which the same is found of the name whose turn it is
+-- files in which the name whose turn it is has the source that was found
 record Reaches (told : Option (List NamedBytes)) (main : List ℕ) (before : List AddedFile) (name : FileName) (found : Option (List ℕ)) : Type 0 where
   files : List NamedBytes
   all : IfSome told (λ all. all ≡ files)
@@ -137,7 +137,7 @@ more told main before name after l next t =
     let r = reaches told main before name t.taken.0 l next t.taken.1 in
     subst (Loads told main) (sym t.grown) (more_by told main before name t.added t.taken.0 next r (t.taken.2 r.files r.there))
 
--- behind the main file the next file is the one that is wanted
+-- after the main file the next file is the one that is wanted
 begun_by : (main : List ℕ) (before : List AddedFile) (added : AddedFile) → next_name main (before ++ added ∷ []) ≡ wanted_name (before ++ added ∷ [])
 begun_by main [] added = refl
 begun_by main (first ∷ others) added = refl

@@ -138,7 +138,7 @@ record HasNext (files : List NamedBytes) (main : List ℕ) (taken : List AddedFi
   added : AddedFile
   is_taken : IsTaken files taken name added
 
--- one goes on behind the other, or they are one
+-- one goes on after the other, or they are one
 data Compared (files : List NamedBytes) (main : List ℕ) (one two : List AddedFile) : Type 0 where
   same : one ≡ two → Compared files main one two
   first_goes_on : HasNext files main two → Compared files main one two

@@ -23,14 +23,14 @@ abbrev pub source_of : List NamedBytes → FileName → Option (List ℕ)
 source_of files FileName.Library = Some library_source
 source_of files (FileName.Named name) = file_named files name
 
--- the file whose turn it is behind those that were taken: the main file first
+-- the file whose turn it is after those that were taken: the main file first
 abbrev pub next_name : List ℕ → List AddedFile → Option FileName
 next_name main [] = Some (FileName.Named main)
 next_name main (first ∷ others) = wanted_name (first ∷ others)
 
 -- ---- Files that are taken
 
--- a file is taken behind others: its source is there and not too long, its tokens spell its tree, and no import of it is refused
+-- a file is taken after others: its source is there and not too long, its tokens spell its tree, and no import of it is refused
 pub record IsTaken (files : List NamedBytes) (before : List AddedFile) (name : FileName) (added : AddedFile) : Type 0 where
   pub source : List ℕ
   pub there : source_of files name ≡ Some source
@@ -60,7 +60,7 @@ pub record IsLoaded (files : List NamedBytes) (main : List ℕ) (program : List 
 abbrev pub name_at : List AddedFile → ℕ → List ℕ
 name_at taken number = unwrap_or (option_map (λ (added : AddedFile). added.name) (slice_get taken number)) []
 
--- the load stops at the file of this name, behind those that were taken
+-- the load stops at the file of this name, after those that were taken
 pub data StopsAt (files : List NamedBytes) (taken : List AddedFile) (name : FileName) (stop : Refusal) : Type 0 where
   -- the main file isn't there
   no_main : taken ≡ [] → source_of files name ≡ None → stop ≡ Refusal.Missing → StopsAt files taken name stop

@@ -13,7 +13,7 @@ Allows files main (Err (LoadStop.At refusal)) = IsStopped files main refusal
 Allows files main (Err (LoadStop.Shelf name)) = IsTurn files main name
 Allows files main (Err LoadStop.Memory) = Unit {0}
 
--- the shelf's count of faults rose, by one, exactly where the shelf is blamed
+-- the shelf's count of faults rose, by one, exactly if the shelf is blamed
 abbrev pub Counts : {A : Type 0} → Result A LoadStop → ℕ → ℕ → Type 0
 Counts (Err (LoadStop.Shelf name)) before after = Rises before after
 Counts _ before after = after ≡ before

@@ -80,18 +80,18 @@ abbrev pub HasNoFile : Option (List NamedBytes) → FileName → ℕ → FileSto
 HasNoFile told name number (FileStop.At fault) = HasFault told name number fault
 HasNoFile told name number stop = HasNoSource told name stop
 
--- the shelf's count of faults rose exactly where the shelf is blamed
+-- the shelf's count of faults rose exactly if the shelf is blamed
 abbrev pub CountsFile : {A : Type 0} → Result A FileStop → ℕ → ℕ → Type 0
 CountsFile (Err FileStop.Shelf) before after = Rises before after
 CountsFile _ before after = after ≡ before
 
 -- ---- One turn
 
--- a fact of all files in which the same is found of the name
+-- a fact of all files in which the name has the source that was found
 abbrev pub Given : Option (List NamedBytes) → FileName → (List NamedBytes → Type 0) → Type 0
 Given told name Fact = (found : Option (List ℕ)) × IsFound told name found × ((files : List NamedBytes) → source_of files name ≡ found → Fact files)
 
--- the file of this name is taken behind others
+-- the file of this name is taken after others
 pub record Takes (told : Option (List NamedBytes)) (before : List AddedFile) (name : FileName) (after : List AddedFile) : Type 0 where
   pub added : AddedFile
   pub grown : after ≡ before ++ added ∷ []

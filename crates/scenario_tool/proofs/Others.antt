@@ -117,7 +117,7 @@ pub no_name : (range : ExprTree) (e : Expr) → ((name : Ident) → e ≡ Expr.N
 no_name range = by_kind (λ e. ((name : Ident) → e ≡ Expr.Name name → ⊥) → of_name range (expr_tree e) ≡ None)
     (λ x other. ap (of_name range) (seen_step x) ∙ name_case range x other)
 
--- ---- Ranges behind a name
+-- ---- Ranges after a name
 
 abbrev behind_name : Ident → ExprTree → Option RangedField
 behind_name name tree = range_between (ExprTree.Name name) tree

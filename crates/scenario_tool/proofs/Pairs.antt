@@ -25,7 +25,7 @@ two_front (x ∷ y ∷ xs) a b few first second =
     let later : length (x ∷ y ∷ xs) - 2 ≡ length xs = omega arith in
     rw (first, second, later) (ap (λ v. x ∷ y ∷ v) (sym (whole_take xs)))
 
--- the pair at the front of what is left
+-- the pair at the start of what is left
 abbrev front_pair : List Member → Member → Member → List MemberTree
 front_pair rest field keep = member_tree field ∷ member_tree keep ∷ map member_tree (take (length rest - 2) (drop 2 rest))
 

@@ -80,6 +80,6 @@ declared c = DeclarationTree.CompoundDeclaration c
 two_scenarios : unbuilt_among (declared (scenario_at 1 (codes "top")) ∷ declared (scenario_at 5 (codes "other")) ∷ []) ≡ None
 two_scenarios = refl
 
--- an action behind a scenario
+-- an action after a scenario
 action_second : unbuilt_among (declared (scenario_at 1 (codes "top")) ∷ declared (record (scenario_at 5 (codes "other")) { kind = CompoundKind.Action }) ∷ []) ≡ Some (at 5)
 action_second = refl

@@ -126,7 +126,7 @@ pub record IsAnswered (call : Call) : Type 0 where
 
 -- ---- Laws
 
--- answers of which there may be several: the runs of `generate`
+-- the answers that the words leave open: the runs of `generate`
 abbrev pub IsLeftOpen : Wanted → Reply → Type 0
 IsLeftOpen (Wanted.Help text) reply = ⊥
 IsLeftOpen (Wanted.Generate asked) reply = reply.status ≡ Status.Done

@@ -26,7 +26,7 @@ abbrev pub unbuilt_file : Bool → AddedFile → Option Place
 unbuilt_file true added = None
 unbuilt_file false added = unbuilt_among (declarations_of added)
 
--- the same among the files from this number on
+-- the first place at which a file from this number on isn't built yet
 abbrev pub unbuilt_from : List AddedFile → ℕ → List AddedFile → Option Place
 unbuilt_from program number [] = None
 unbuilt_from program number (added ∷ later) = option_or (unbuilt_file (is_library_at program number) added) (unbuilt_from program (number + 1) later)

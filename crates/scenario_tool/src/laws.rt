@@ -1,6 +1,6 @@
 ghost use Rattle.scenario_tool.specs.Answers.{OneAnswer, SomeAnswer};
 
-/// The law that words and files have one right answer, or several of which each is a run.
+/// The law that words and files have one right answer, or many right answers of which each is a run.
 pub fn one_answer()
     ensures { OneAnswer }
 {}

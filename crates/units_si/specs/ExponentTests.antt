@@ -8,7 +8,7 @@ abbrev pub all_eight : (ℤ → ℤ → Bool) → Exponents → Exponents → Bo
 all_eight test x y =
     test x.kg y.kg && (test x.m y.m && (test x.s y.s && (test x.a y.a && (test x.k y.k && (test x.mol y.mol && (test x.cd y.cd && test x.rad y.rad))))))
 
--- the same exponents
+-- two rows of exponents are equal
 abbrev pub same_exponents : Exponents → Exponents → Bool
 same_exponents x y = all_eight same_number x y
 

@@ -28,7 +28,7 @@ pub fn unpaired(alloc: Global, members: &[Member]) -> Result<Option<Place>, Allo
     Ok(leftover(rest))
 }
 
-/// The place of the field that is left behind the pairs.
+/// The place of the field that is left after the pairs.
 fn leftover(members: &[Member]) -> Option<Place>
     requires { length members.now < 2 }
     ensures { (names : List (List ℕ)) → result ≡ unpaired names (map member_tree members.now) }

@@ -37,7 +37,7 @@ impl<'a> Names<'a> {
         self.names.contains(name)
     }
 
-    /// Puts a name that isn't there yet behind the others.
+    /// Appends a name that isn't there yet.
     pub fn declare(&mut self, name: &'a str) -> Result<(), AllocError>
         requires { list_any (bytes_eq name.now) self.old ≡ false }
         ensures { OnOk result (self.new ≡ self.old ++ name.now ∷ []) }

@@ -21,7 +21,7 @@ pub fn least_values(alloc: Global, members: &[Member]) -> Result<Row<Value>, All
     Ok(values)
 }
 
-/// Pushes the value of the field that the member holds in a range, where it holds one.
+/// Pushes the value of the field that the member holds in a range, if it holds one.
 fn push_value(alloc: Global, values: &mut Row<Value>, member: &Member) -> Result<(), AllocError>
     ensures { OnOk result ((done : List RangedField) → HoldFields done values.old →
         HoldFields (done ++ ranged_fields (member_tree member.now ∷ [])) values.new) }

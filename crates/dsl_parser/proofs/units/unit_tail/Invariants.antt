@@ -7,7 +7,7 @@ use Rattle.dsl_tree.specs.WrittenFile.{unit_tail}
 use Rattle.dsl_parser.proofs.Loops.{Continuing}
 use Rattle.dsl_parser.proofs.units.unit_tail.Given as goal
 
--- whatever stands behind the bases
+-- whatever stands after the bases
 abbrev pub invariant-loop-next : goal.invariant-loop-next
 invariant-loop-next l = record {
   going : (end : Forest) → Continuing BasePart Part.UnitTail (λ more. unit_tail more end) l.initial.bases l.bases l.initial.rest l.rest;
