@@ -1,4 +1,4 @@
--- Two folds over rules are related at every rule where their steps are related at every layer.
+-- Two folds over rules are related at every rule if their steps are related at every layer.
 use Rattle.std.proofs.Common.{◌≡◌, refl, sym, subst, ◌∙◌, ap}
 use Rattle.box_eval.specs.declared.rule.Rule.{Rule}
 use Rattle.box_eval.specs.declared.rule.Term.{Term}

@@ -1,4 +1,4 @@
--- A cut narrows exactly where its first part is a close by a rule that is false on no longer first part that leaves the second a value.
+-- A cut narrows exactly when its first part is a close by a rule that is false on no longer first part that leaves the second a value.
 use Rattle.std.proofs.Common.{◌≡◌, refl, subst, ◌∙◌, ap, ℕ, ◌<◌, Bool, true, false, not, ◌||◌, List, length, Option, Some, None, ℤ, pos, ◌+ℤ◌, ◌-ℤ◌, ◌≤ℤ◌, ◌<ℤ◌, int_le, arith}
 use Rattle.std.proofs.lemmas.Int.{ints, by_lt_z}
 use Rattle.std.proofs.lemmas.Bool.{false≢true}

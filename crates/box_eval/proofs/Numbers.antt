@@ -33,15 +33,15 @@ times_fit a b = four_fit (a.least *ℤ b.least) (a.least *ℤ b.greatest) (a.gre
 
 -- ---- products
 
--- a product grows with its first factor where the second isn't negative
+-- a product grows with its first factor if the second isn't negative
 times_up : (a b : ℤ) (n : ℕ) → a ≤ℤ b → (a *ℤ pos n) ≤ℤ (b *ℤ pos n)
 times_up a b n h = omega (arith, ints, mul-le-mul_left n (le_out a b h))
 
--- and falls where it is negative
+-- and falls if it is negative
 times_down : (a b : ℤ) (n : ℕ) → a ≤ℤ b → (b *ℤ negsuc n) ≤ℤ (a *ℤ negsuc n)
 times_down a b n h = omega (arith, ints, mul-le-mul_left (suc n) (le_out a b h))
 
--- where x lies between l and h, x * y lies between l * y and h * y, in one order or the other
+-- if x lies between l and h, x * y lies between l * y and h * y, in one order or the other
 record IsBetween (x l h : ℤ) : Type 0 where
   least : int_min l h ≤ℤ x
   greatest : x ≤ℤ int_max l h

@@ -132,7 +132,7 @@ module _ (ends : List Pair) (slot : ℕ) (v : ℤ) (there : slot < length ends) 
   pub fixed_inside : low_at ends slot ≤ℤ v → v ≤ℤ high_at ends slot → IsInside (fixed ends slot v) ends
   fixed_inside h k = inside_set ends slot _ there h k
 
-  -- where the slot is fixed at a value, that part lies in each part that keeps the value
+  -- if the slot is fixed at a value, that part lies in each part that keeps the value
   pub fixed_in_up_to : (w : ℤ) → low_at ends slot ≤ℤ v → v ≤ℤ w → IsInside (fixed ends slot v) (up_to ends slot w)
   fixed_in_up_to w h k = inside_both ends ends slot _ _ there (inside_self ends) h k
 
@@ -175,7 +175,7 @@ module _ (ends : List Pair) (slot : ℕ) (v : ℤ) (there : slot < length ends) 
   cut_at_point Low point p = cut_point ends slot v there point p
   cut_at_point High point p = ⊎_elim inr inl (cut_point ends slot v there point p)
 
-  -- where a slot is fixed at the end of a side, that part lies in the first part of a cut of this side
+  -- if a slot is fixed at the end of a side, that part lies in the first part of a cut of this side
   fixed_in_first_at : (side : Side) → IsInside (fixed ends slot (end_at side ends slot)) (first_at side ends slot v)
   fixed_in_first_at Low = fixed_in_up_to ends slot (low_at ends slot) there v (omega (arith, ints)) low
   fixed_in_first_at High = fixed_in_from ends slot (high_at ends slot) there (v +ℤ pos 1) (omega (arith, ints)) (omega (arith, ints))

@@ -131,12 +131,12 @@ told_false : (b : Bool) → told b ≡ False → b ≡ false
 told_false true e = cc
 told_false false e = refl
 
--- where a box says True of a rule, it is true at every point of the box
+-- if a box says True of a rule, it is true at every point of the box
 pub true_everywhere : (ends : List Pair) (rule : Rule) → verdict_of ends rule ≡ True → (point : List ℤ) → IsPointOf ends point → true_at point rule ≡ true
 true_everywhere ends rule says point p =
     told_true (true_at point rule) (sym (point_told point rule) ∙ (smaller_keeps (box_of point) ends (box_of-box point) (point_inside ends point p) rule).yes says)
 
--- where it says False, the rule is false at every point
+-- if it says False, the rule is false at every point
 pub false_everywhere : (ends : List Pair) (rule : Rule) → verdict_of ends rule ≡ False → (point : List ℤ) → IsPointOf ends point → true_at point rule ≡ false
 false_everywhere ends rule says point p =
     told_false (true_at point rule) (sym (point_told point rule) ∙ (smaller_keeps (box_of point) ends (box_of-box point) (point_inside ends point p) rule).no says)

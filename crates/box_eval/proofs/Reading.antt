@@ -45,7 +45,7 @@ module _ (ends : List Pair) (a b : Term) where
 abbrev pub IsOfTwo : Term → Term → Term → Type 0
 IsOfTwo term a b = (term ≡ V.Sum a b) ⊎ ((term ≡ V.Less a b) ⊎ (term ≡ V.Times a b))
 
--- which of the three it is, where one of them is known
+-- which of the three it is, if one of them is known
 module _ (A : Type 0) (term a b x y : Term) (is : IsOfTwo term a b) where
   pub if_sum : term ≡ V.Sum x y → (term ≡ V.Sum a b → A) → A
   if_sum e then = ⊎_elim then (⊎_elim (λ other. let never : ⊥ = cc in absurd never) (λ other. let never : ⊥ = cc in absurd never)) is

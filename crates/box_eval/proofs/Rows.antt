@@ -134,7 +134,7 @@ row_refutation = record {
   closed = refl;
 }
 
--- the fifth of five lines or more is the first that isn't accepted, where four are before it
+-- the fifth of five lines or more is the first that isn't accepted, if four are before it
 fifth : (bs cs : List Bool) → bs ≡ true ∷ true ∷ true ∷ true ∷ false ∷ cs → IsFirstFalse bs 4
 fifth bs cs is = rw is (record { there = refl; before = earlier })
   where

@@ -1,4 +1,4 @@
--- A bound on the numbers within a rule, where the magnitudes of all ends are bounded.
+-- A bound on the numbers within a rule, if the magnitudes of all ends are bounded.
 use Rattle.std.specs.Prelude.{ℕ, ◌+◌, ◌*◌, max, unsigned_abs}
 use Rattle.box_eval.specs.declared.rule.Rule.{Rule}
 use Rattle.box_eval.specs.declared.rule.Term.{Term}
@@ -15,7 +15,7 @@ bound_in_term most (Less a b) = a + b
 bound_in_term most (Times a b) = a * b
 bound_in_term most (Truth rule) = max 1 rule
 
--- the greatest bound of the terms within a rule, where no end is greater than `most` in magnitude
+-- the greatest bound of the terms within a rule, if no end is greater than `most` in magnitude
 abbrev pub rule_bound : ℕ → Rule → ℕ
 rule_bound most = fold-Rule ℕ ℕ greatest_in_rule (bound_in_term most)
 

@@ -10,7 +10,7 @@ use Rattle.box_eval.specs.Box.{value_of}
 use Rattle.box_eval.specs.Truth.{is_same, as_number}
 
 mutual
-  -- a number that depends on a point: a whole number, a slot, a sum, a difference, a product, or 1 where a rule is true
+  -- a number that depends on a point: a whole number, a slot, a sum, a difference, a product, or 1 if a rule is true
   pub data FlatTerm : Type 0 where
     Whole : (number : ℤ) → FlatTerm
     Slot : (slot : ℕ) → FlatTerm

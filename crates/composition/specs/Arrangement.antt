@@ -16,7 +16,7 @@ pub record Times : Type 0 where
 abbrev pub same_span : Times → Path → Path → Bool
 same_span times a b = same_number (times.start a) (times.start b) && same_number (times.end a) (times.end b)
 
--- the first starts at a tick, each next where the one before ends, and the last ends at another tick
+-- the first starts at a tick, each next when the one before ends, and the last ends at another tick
 abbrev pub follow : Times → ℤ → ℤ → List Path → Bool
 follow times from to [] = same_number from to
 follow times from to (m ∷ ms) = same_number from (times.start m) && follow times (times.end m) to ms
@@ -50,7 +50,7 @@ ends_of times members = map times.end members
 abbrev pub covers : Times → Path → List Path → Bool
 covers times whole members = is_least (times.start whole) (starts_of times members) && is_greatest (times.end whole) (ends_of times members)
 
--- the chosen member has the span of the whole, where the members are counted from k
+-- the chosen member has the span of the whole; the members are counted from k
 abbrev pub chosen_spans : Times → Path → ℕ → List Path → Bool
 chosen_spans times whole k [] = true
 chosen_spans times whole k (m ∷ ms) = (not (same_number (times.member whole) (pos k)) || same_span times m whole) && chosen_spans times whole (k + 1) ms

@@ -34,7 +34,7 @@ claim_at clause path place holds = record { clause = clause; path = path; place 
 
 -- ---- listed: the run lists exactly what is there, in the order of expansion, and each trace has a sample for each tick up to the end
 
--- A claim for each place of two lists, where the first is what is to be listed. It is at what is to stand there, or at what the run has past
+-- A claim for each place of two lists, of which the first is what is to be listed. It is at what is to stand there, or at what the run has past
 -- the end.
 abbrev pub listed : List Path → List Path → List Claim
 listed [] [] = []
@@ -57,7 +57,7 @@ listed_claims scene run =
 
 -- ---- end: the run has the setting's tick, ends within its ticks and together with `do`, or at once without one
 
--- the run ends where the `do` of the named scenario does, or at tick 0 without one
+-- the run ends when the `do` of the named scenario does, or at tick 0 without one
 abbrev pub ends_with_root_do : Scene → TimedRun → Bool
 ends_with_root_do scene run = cond (has_root_do scene) (option_map_or (λ s. nat_eq run.end s.end) (span_in run root_do) false) (nat_eq run.end 0)
 
@@ -128,7 +128,7 @@ claims scene run =
     ++ item_claims scene run (filter is_hard (items scene))
     ++ item_claims scene run (filter (λ i. not (is_hard i)) (items scene))
 
--- a run is an instance of a scene where every claim holds
+-- a run is an instance of a scene if every claim holds
 abbrev pub is_instance : Scene → TimedRun → Bool
 is_instance scene run = list_all (λ c. c.holds) (claims scene run)
 

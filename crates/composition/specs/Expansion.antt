@@ -105,7 +105,7 @@ here_in ts call it = record { object = call.object; it = call.path; scope = scop
 abbrev pub argument_named : List ℕ → List ArgumentTree → Option ExprTree
 argument_named name arguments = option_map (λ (a : ArgumentTree). a.value) (find (λ (a : ArgumentTree). option_map_or (λ (i : Ident). bytes_eq i.text name) a.name false) arguments)
 
--- the word behind `overlap:`
+-- the word after `overlap:`
 abbrev pub overlap_kind : Option ExprTree → PhaseKind
 overlap_kind (Some (ExprTree.Name i)) =
     cond (bytes_eq i.text (codes "end")) PhaseKind.End

@@ -117,7 +117,7 @@ given_rule ts here holder under (RuleTree.Remove place path) =
 
 -- ---- fields
 
--- `left == value`, at the place where the value begins
+-- `left == value`, at the place at which the value begins
 abbrev pub equals : ExprTree → ExprTree → ExprTree
 equals left value = ExprTree.Relation (first value) RelationSign.Equal left value
 

@@ -50,7 +50,7 @@ abbrev pub is_guard : Scene → Guard → Bool
 is_guard scene (Guard.Choice phase member) = list_any (λ (c : ChoiceSpot). same_path c.path phase) (choices scene)
 is_guard scene (Guard.Value path value) = option_map_or (λ (v : ValueSpot). is_numeric v.range) (value_at scene path) false
 
--- each condition stands behind those of the choice or value that it asks
+-- each condition stands after those of the choice or value that it asks
 abbrev pub are_grounded : Scene → List Guard → List Guard → Bool
 are_grounded scene before [] = true
 are_grounded scene before (g ∷ gs) =
@@ -63,11 +63,11 @@ abbrev pub are_distinct : List Path → Bool
 are_distinct [] = true
 are_distinct (p ∷ ps) = not (list_any (same_path p) ps) && are_distinct ps
 
--- a member is a phase that is there where the whole is
+-- a member is a phase that is there if the whole is
 abbrev pub is_member : Scene → List Guard → Path → Bool
 is_member scene conditions m = has_phase scene m && same_guards (guards scene m) conditions
 
--- member k of a `one_of` is there where the whole is and that member was chosen
+-- member k of a `one_of` is there if the whole is and that member was chosen
 abbrev pub are_choices : Scene → Path → List Guard → ℕ → List Path → Bool
 are_choices scene whole conditions k [] = true
 are_choices scene whole conditions k (m ∷ ms) = is_member scene (conditions ++ Guard.Choice whole k ∷ []) m && are_choices scene whole conditions (k + 1) ms
@@ -88,7 +88,7 @@ are_nested before (p ∷ ps) = (same_path p.path root_do || list_any (λ (q : Ph
 abbrev pub has_whole : Scene → Bool
 has_whole scene = nat_eq (length (phases scene)) 0 || (has_root_do scene && nat_eq (length (guards scene root_do)) 0)
 
--- a limit of a vehicle is a number with a value of its own, there where the vehicle is
+-- a limit of a vehicle is a number with a value of its own, there if the vehicle is
 abbrev pub is_limit : Scene → Path → Path → Bool
 is_limit scene vehicle limit =
     is_value (source scene limit) && (option_map_or (λ (v : ValueSpot). is_numeric v.range) (value_at scene limit) false && same_guards (guards scene limit) (guards scene vehicle))
@@ -182,7 +182,7 @@ is_modifier scene m =
 
 -- what holds of a scene
 pub record IsScene (scene : Scene) : Type 0 where
-  -- the conditions of each spot, constraint and modifier ask choices and numbers, each behind the conditions of what it asks
+  -- the conditions of each spot, constraint and modifier ask choices and numbers, each after the conditions of what it asks
   pub spots_grounded : list_all (λ (s : Spot). are_grounded scene [] s.guards) scene.spots ≡ true
   pub occurrences_grounded : list_all (λ (o : Occurrence). are_grounded scene [] (presence scene o)) scene.occurrences ≡ true
   pub modifiers_grounded : list_all (λ (m : ModifierSpot). are_grounded scene [] (modifier_presence scene m)) scene.modifiers ≡ true

@@ -68,7 +68,7 @@ arranged_holds scene run phase = not (is_there scene run phase.path) || arranged
 
 -- ---- modifiers
 
--- the sample that counts where a run lists none
+-- the sample that counts if a run lists none
 abbrev pub still : Sample
 still = record { lane = pos 0; position = pos 0; speed = pos 0 }
 
@@ -93,7 +93,7 @@ modifier_holds scene run m tick =
 
 -- ---- motion
 
--- the number of a field, 0 where a run lists none
+-- the number of a field, 0 if a run lists none
 abbrev pub field_number : Scene → TimedRun → Path → ℤ
 field_number scene run path = unwrap_or (number_at scene run path) (pos 0)
 
@@ -134,7 +134,7 @@ abbrev pub occurrence_items : Scene → ℕ → List Occurrence → List Item
 occurrence_items scene i [] = []
 occurrence_items scene i (o ∷ os) = occurrence_item scene i o.mark.strength o ++ occurrence_items scene (i + 1) os
 
--- an enum has an item where it leaves out a number
+-- an enum has an item if it leaves out a number
 abbrev pub typed_item : Path → ValueRange → List Item
 typed_item path (ValueRange.Between low high) = []
 typed_item path (ValueRange.Among numbers) = cond (has_gap numbers) (OfTyped path numbers ∷ []) []

@@ -59,7 +59,7 @@ unnamed_value a = option_map_or (λ (i : Ident). None) a.name (Some a.value)
 abbrev pub is_at : NamedValue → Bool
 is_at v = bytes_eq v.name (codes "at")
 
--- the word behind `at:`
+-- the word after `at:`
 abbrev pub moment_word : ExprTree → Option Moment
 moment_word (ExprTree.Name i) =
     cond (bytes_eq i.text (codes "start")) (Some Moment.Start)
@@ -67,7 +67,7 @@ moment_word (ExprTree.Name i) =
     (cond (bytes_eq i.text (codes "all")) (Some Moment.All) None))
 moment_word _ = None
 
--- `at: all` is meant where no `at:` is written
+-- `at: all` is meant if no `at:` is written
 abbrev pub moment_of : List NamedValue → Option Moment
 moment_of [] = Some Moment.All
 moment_of (v ∷ []) = moment_word v.value

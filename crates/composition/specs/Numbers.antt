@@ -17,7 +17,7 @@ abbrev pub number_of : List (List ℕ) → Held → Option ℤ
 number_of texts (Held.Number n) = Some n
 number_of texts (Held.Chars text) = option_map pos (text_number texts text)
 
--- how long it is from one tick to another, in thousandths of a second, where a tick has so many milliseconds
+-- how long it is from one tick to another, in thousandths of a second, if a tick has so many milliseconds
 abbrev pub thousandths : ℕ → ℤ → ℤ → ℤ
 thousandths tick start end = pos tick *ℤ (end -ℤ start)
 

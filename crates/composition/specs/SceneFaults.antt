@@ -63,6 +63,6 @@ abbrev pub rows_of : Types → Place → Setting → Option ℕ → List FaultRo
 rows_of ts end setting None = row end FaultCode.NoScenario true ∷ []
 rows_of ts end setting (Some t) = row (body ts.bodies t).place FaultCode.TooMany (is_too_large ts t setting) ∷ []
 
--- the faults of the scenario that is named, where `end` is the place behind the main file
+-- the faults of the scenario that is named; `end` is the place after the main file
 abbrev pub scene_rows : Types → Place → Option (List ℕ) → List ℕ → Setting → List FaultRow
 scene_rows ts end owner name setting = rows_of ts end setting (named_scenario ts owner name)

@@ -18,7 +18,7 @@ declaration_fault p ts =
     let in_members = option_or (first_fault (member_fault_rows ts)) in_uses in
     option_or (first_fault (heading_rows p ts)) in_members
 
--- of these, else of the scenario that is named, where `end` is the place after the main file
+-- of these, else of the scenario that is named; `end` is the place after the main file
 abbrev pub static_fault : Program → Types → Place → Option (List ℕ) → List ℕ → Setting → Option Fault
 static_fault p ts end owner name setting =
     let in_scene = first_fault (scene_rows ts end owner name setting) in

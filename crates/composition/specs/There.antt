@@ -20,7 +20,7 @@ abbrev pub is_number : ℤ → Held → Bool
 is_number n (Held.Number m) = same_number m n
 is_number n (Held.Chars text) = false
 
--- a condition is met where the run's entry for its path says so; without an entry it isn't met
+-- a condition is met if the run's entry for its path says so; without an entry it isn't met
 abbrev pub is_met : TimedRun → Guard → Bool
 is_met run (Guard.Choice phase member) = option_map_or (nat_eq member) (choice_in run phase) false
 is_met run (Guard.Value path value) = option_map_or (is_number value) (held_in run path) false

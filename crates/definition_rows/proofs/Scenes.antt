@@ -31,12 +31,12 @@ under_b field = path_of (name (codes "b") ∷ name field ∷ [])
 
 -- ---- conditions
 
--- the load of a cargo is there where its kind is `truck`
+-- the load of a cargo is there if its kind is `truck`
 load_is_conditional : of_top cargo_truck (within 100) (λ sc. guards sc (under_b (codes "load"))) ≡ Some (Guard.Value (under_b (codes "k")) (pos 1) ∷ [])
 unfolding types_of gcd lcm
 load_is_conditional = refl
 
--- a member of a `one_of` is there where it was chosen
+-- a member of a `one_of` is there if it was chosen
 member_is_chosen : of_top not_chosen (within 10) (λ sc. guards sc (part 1)) ≡ Some (Guard.Choice whole 1 ∷ [])
 unfolding types_of gcd lcm
 member_is_chosen = refl
@@ -144,7 +144,7 @@ run_of_point = refl
 
 -- ---- what holds of every scene
 
--- the scenario is type 5, behind the basic types
+-- the scenario is type 5, after the basic types
 not_chosen_is_scene : IsScene (scene (types_of not_chosen) 5 (within 10))
 unfolding types_of gcd lcm
 not_chosen_is_scene = record {

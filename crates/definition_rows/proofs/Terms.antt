@@ -25,7 +25,7 @@ p line column token = record { file = 0; line = line; column = column; token = t
 abbrev pub name : ℕ → ℕ → ℕ → List ℕ → Ident
 name line column token text = record { place = p line column token; text = text }
 
--- a whole number, a decimal with digits behind the point, and a whole number with a sign
+-- a whole number, a decimal with digits after the point, and a whole number with a sign
 abbrev pub digits : ℕ → ℕ → ℕ → ℕ → Digits
 digits line column token n = record { place = p line column token; digits = n; places = 0 }
 

@@ -40,7 +40,7 @@ is_scalar (Listed i is_field items) = false
 is_scalar (Span i low high) = false
 is_scalar _ = true
 
--- something else than one value stands where one is asked for
+-- something else than one value stands at a place that asks for one
 abbrev pub is_whole : Option Typed → Bool
 is_whole t = of_one t (λ x. not (is_scalar x))
 

@@ -28,7 +28,7 @@ compares Compare.AtMost x y = is_at_most x y
 compares Compare.Above x y = is_less y x
 compares Compare.AtLeast x y = is_at_most y x
 
--- the value where `held` tells the number that each path holds; a whole object or phase has none that counts
+-- the value if `held` tells the number that each path holds; a whole object or phase has none that counts
 abbrev mutual
   pub worth : (Path → ℤ) → Typed → Number
   worth held (Constant i number) = number
@@ -56,6 +56,6 @@ abbrev mutual
   is_item held x End = false
   is_item held x (Item item others) = is_same x (worth held item) || is_item held x others
 
--- the value where some paths hold a number; none exactly where a path that the expression reads holds none
+-- the value if some paths hold a number; none exactly when a path that the expression reads holds none
 abbrev pub value : (Path → Option ℤ) → Typed → Option Number
 value held t = cond (list_all (λ p. is_some (held p)) (reads t)) (Some (worth (λ p. unwrap_or (held p) (pos 0)) t)) None

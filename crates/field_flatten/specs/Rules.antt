@@ -72,7 +72,7 @@ enum_rule scene at path numbers = under (presence_rules at (guards scene path)) 
 
 -- ---- phases
 
--- the first starts where the whole does, each next where the one before ends, and the last ends where the whole does
+-- the first starts when the whole does, each next when the one before ends, and the last ends when the whole does
 abbrev pub follow_rules : Layout → FlatTerm → FlatTerm → List Path → List FlatRule
 follow_rules at from to [] = Equal from to ∷ []
 follow_rules at from to (m ∷ ms) = Equal from (phase_start at m) ∷ follow_rules at (phase_end at m) to ms

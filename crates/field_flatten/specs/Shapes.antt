@@ -35,7 +35,7 @@ in_nothing d term = Flat.Not Flat.Always
 abbrev pub of_rule : FlatRule → Shape
 of_rule rule = record { scale = 1; term = λ e. times e (Flat.Truth rule); rule = rule; holding = in_nothing }
 
--- a number: as a truth value it is true where it is 1
+-- a number: as a truth value it is true if it is 1
 abbrev pub of_term : ℕ → (ℕ → FlatTerm) → Shape
 of_term d term = record { scale = d; term = term; rule = Flat.Equal (term 1) (Flat.Whole (pos 1)); holding = in_nothing }
 

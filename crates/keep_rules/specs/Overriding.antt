@@ -16,7 +16,7 @@ abbrev pub same_target : Option Path → Option Path → Bool
 same_target (Some a) (Some b) = same_path a b
 same_target _ _ = false
 
--- the numbers of the marks with that target, where the first mark has the number n
+-- the numbers of the marks with that target; the first mark has the number n
 abbrev pub with_target : Option Path → ℕ → List Mark → List ℕ
 with_target target n [] = []
 with_target target n (m ∷ ms) = cond (same_target target m.target) (n ∷ with_target target (n + 1) ms) (with_target target (n + 1) ms)

@@ -30,7 +30,7 @@ between unit quantity low high scale =
 abbrev pub apart : ℕ → ℕ → FlatTerm
 apart a b = Less (Slot a) (Slot b)
 
--- the modifier holds of the samples in these slots, where its range is from `low` to `high`, terms at a scale
+-- the modifier holds of the samples in these slots, if its range is from `low` to `high`, terms at a scale
 abbrev pub relation_at : Kind → SampleSlots → SampleSlots → FlatTerm → FlatTerm → ℕ → FlatRule
 relation_at Kind.Speed own other low high scale = between speed_scale (Slot own.speed) low high scale
 relation_at Kind.FasterThan own other low high scale = between speed_scale (apart own.speed other.speed) low high scale
@@ -44,7 +44,7 @@ relation_at Kind.Position own other low high scale = between position_scale (Slo
 relation_at Kind.AheadOf own other low high scale = between position_scale (apart own.position other.position) low high scale
 relation_at Kind.Behind own other low high scale = between position_scale (apart other.position own.position) low high scale
 
--- a tick is a moment of a modifier, where its phase goes from the value of one term to that of another
+-- a tick is a moment of a modifier, if its phase goes from the value of one term to that of another
 abbrev pub moment_at : Moment → FlatTerm → FlatTerm → ℕ → List FlatRule
 moment_at Moment.Start start end tick = Equal start (Whole (pos tick)) ∷ []
 moment_at Moment.End start end tick = Equal end (Whole (pos tick)) ∷ []

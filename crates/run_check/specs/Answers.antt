@@ -9,6 +9,6 @@ use Rattle.run_check.specs.declared.wrong.Wrong.{Wrong}
 abbrev pub wrong_of : Claim → Wrong
 wrong_of c = record { clause = c.clause; path = c.path; place = c.place }
 
--- the first claim that fails; none exactly where the run is an instance
+-- the first claim that fails; none exactly when the run is an instance
 abbrev pub first_wrong : Scene → TimedRun → Option Wrong
 first_wrong scene run = option_map wrong_of (find (λ (c : Claim). not c.holds) (claims scene run))

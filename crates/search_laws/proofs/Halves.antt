@@ -93,7 +93,7 @@ module _ (ends : List Pair) (rule : Rule) (slot : ℕ) (side : Side) where
       past true b e = refl
       past false b e = ap not e
 
-  -- where both meet, the part is the longest
+  -- if both meet, the part is the longest
   pub half_done : (rules : List Rule) (number least : ℕ) → IsBox ends → slot < length ends → slice_get rules number ≡ Some rule → IsHalved ends rule slot side least least
       → IsLongest rules ends number (cut_at side slot (value_at side (low_at ends slot) (high_at ends slot) least))
   half_done rules number least box there is h =

@@ -14,7 +14,7 @@ module _ {A : Type 0} where
   pub front_push : (xs : List A) (x : A) → take (length (xs ++ x ∷ []) - 1) (xs ++ x ∷ []) ≡ xs
   front_push xs x = ap (λ k. take k (xs ++ x ∷ [])) {x = length (xs ++ x ∷ []) - 1} {y = length xs} (omega (arith, length_push xs x)) ∙ take-append_seam xs (x ∷ [])
 
-  -- a list that isn't empty is its front with its last
+  -- a list that isn't empty is its prefix with its last
   pub front_last : (xs : List A) (d : A) → 0 < length xs → take (length xs - 1) xs ++ get_or xs (length xs - 1) d ∷ [] ≡ xs
   front_last [] d h = absurd (omega arith)
   front_last (x ∷ []) d h = refl
@@ -25,7 +25,7 @@ module _ {A : Type 0} where
   pub length_front : (xs : List A) → length (take (length xs - 1) xs) ≡ length xs - 1
   length_front xs = length-take-le (length xs - 1) xs (omega arith)
 
-  -- the front up to an element, with it, ends at it
+  -- the prefix up to an element, with it, ends at it
   pub last_front : (xs : List A) (m : ℕ) (d : A) → m < length xs → get_or (take (m + 1) xs) (length (take (m + 1) xs) - 1) d ≡ get_or xs m d
   last_front xs m d h =
       ap (λ k. get_or (take (m + 1) xs) k d) {x = length (take (m + 1) xs) - 1} {y = m} (omega (arith, length-take-le (m + 1) xs (omega arith)))

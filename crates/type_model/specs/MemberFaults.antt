@@ -1,4 +1,4 @@
--- The faults of members: names that a member list has twice, `do` where it can't stand, initial values of a wrong form, and conditions.
+-- The faults of members: names that a member list has twice, `do` at a place that can't have one, initial values of a wrong form, and conditions.
 use Rattle.std.specs.Prelude.{ℕ, ◌&&◌, ◌||◌, Bool, true, false, not, cond, List, [], ◌∷◌, ◌++◌, Option, Some, None, length, nat_eq, nat_lt, bytes_eq, codes, is_none, is_some, flat_map, filter, option_and_then, option_to_list}
 use Rattle.std.specs.Option.{option_map_or}
 use Rattle.std.specs.List.{list_any}
