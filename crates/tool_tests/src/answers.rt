@@ -122,8 +122,8 @@ fn sources_that_no_tree_spells(rt: HostRuntime) -> Result<(), Fail> {
 }
 
 #[test]
-fn sources_that_are_not_built(rt: HostRuntime) -> Result<(), Fail> {
-    let rows: [(&str, &str); 17] = [
+fn members_that_are_not_built(rt: HostRuntime) -> Result<(), Fail> {
+    let rows: [(&str, &str); 6] = [
         (
             "scenario top:\n    y: float\n",
             "3 fault 298 main.osc:2:5\n",
@@ -141,6 +141,17 @@ fn sources_that_are_not_built(rt: HostRuntime) -> Result<(), Fail> {
             "3 fault 298 main.osc:2:5\n",
         ),
         ("scenario top:\n    x: int\n", "3 fault 298 main.osc:2:5\n"),
+        (
+            "scenario top:\n    x: int\n    remove_default(x)\n",
+            "3 fault 298 main.osc:3:5\n",
+        ),
+    ];
+    answers_are(&rt, &rows)
+}
+
+#[test]
+fn constraints_that_are_not_built(rt: HostRuntime) -> Result<(), Fail> {
+    let rows: [(&str, &str); 8] = [
         (
             "scenario top:\n    x: int\n    keep(y in [3..3])\n",
             "3 fault 298 main.osc:3:5\n",
@@ -166,10 +177,6 @@ fn sources_that_are_not_built(rt: HostRuntime) -> Result<(), Fail> {
             "3 fault 298 main.osc:3:5\n",
         ),
         (
-            "scenario top:\n    x: int\n    remove_default(x)\n",
-            "3 fault 298 main.osc:3:5\n",
-        ),
-        (
             "scenario top:\n    x: int\n    keep(x in [3..3])\n    keep(x in [3..3])\n",
             "3 fault 298 main.osc:4:5\n",
         ),
@@ -177,6 +184,13 @@ fn sources_that_are_not_built(rt: HostRuntime) -> Result<(), Fail> {
             "scenario top:\n    x: int\n    keep(x in [3..3])\n    x: int\n    keep(x in [3..3])\n",
             "3 fault 298 main.osc:4:5\n",
         ),
+    ];
+    answers_are(&rt, &rows)
+}
+
+#[test]
+fn declarations_that_are_not_built(rt: HostRuntime) -> Result<(), Fail> {
+    let rows: [(&str, &str); 3] = [
         ("struct s\n", "3 fault 298 main.osc:1:1\n"),
         ("scenario top inherits base\n", "3 fault 298 main.osc:1:1\n"),
         (
