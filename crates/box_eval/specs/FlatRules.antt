@@ -105,7 +105,7 @@ first_or none (x ∷ xs) = x
 abbrev pub joined : {X : Type 0} → (X → X → X) → X → List X → X
 joined join none row = first_or none (joined_rounds (length row) join row)
 
--- every rule of a row, and some rule of it
+-- every rule of a row holds
 abbrev pub all_of : List FlatRule → FlatRule
 all_of row = joined Both Always row
 

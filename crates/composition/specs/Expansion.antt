@@ -167,7 +167,7 @@ of_arguments ts of make n (a ∷ others) = make a.value (assigned ts of n a.name
 
 -- ---- modifiers
 
--- the ends of a range; a value is the range from it to itself
+-- the least value of a range; a value is the range from it to itself
 abbrev pub low_end : Typed → Typed
 low_end (Span i low high) = low
 low_end value = value

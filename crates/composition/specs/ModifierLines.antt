@@ -82,13 +82,13 @@ pub record ModifierForm : Type 0 where
   pub range : Option ExprTree
   pub other : Option ExprTree
 
--- the line is that of the name, with a value or range or without one, and with this argument for another vehicle or without one
+-- the same name of an argument for another vehicle, or none in both
 abbrev pub same_name : Option (List ℕ) → Option (List ℕ) → Bool
 same_name None None = true
 same_name (Some a) (Some b) = bytes_eq a b
 same_name _ _ = false
 
--- the line has that name, and just these arguments
+-- the line has that name, a value or range or none as asked, and this argument for another vehicle or none
 abbrev pub is_line : List ℕ → Bool → Option (List ℕ) → ModifierLine → Bool
 is_line name has_range other l = bytes_eq l.name name && ((has_range && l.has_range || not has_range && not l.has_range) && same_name l.other other)
 

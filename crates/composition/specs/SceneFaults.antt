@@ -13,7 +13,7 @@ use Rattle.composition.specs.Items.{items}
 use Rattle.composition.specs.Expansion.{Expansion, expansion}
 use Rattle.composition.specs.Expanded.{givens_of, modifiers_of, scene_from}
 
--- the most objects and slots, the most rules, and the most copied tokens
+-- the most objects, and the most slots
 abbrev pub most_slots : ℕ
 most_slots = 65536
 

@@ -121,7 +121,7 @@ marks scene = map (λ o. o.mark) scene.occurrences
 abbrev pub has_phase : Scene → Path → Bool
 has_phase scene path = list_any (λ p. same_path p.path path) (phases scene)
 
--- where the `do` of the named scenario stands, and whether there is one
+-- where the `do` of the named scenario stands
 abbrev pub root_do : Path
 root_do = then_do root
 
@@ -129,7 +129,7 @@ root_do = then_do root
 abbrev pub has_root_do : Scene → Bool
 has_root_do scene = has_phase scene root_do
 
--- where the limits of a vehicle are read
+-- where the greatest speed of a vehicle is read
 abbrev pub max_speed : Path → Path
 max_speed vehicle = then_name vehicle (codes "max_speed")
 

@@ -30,7 +30,7 @@ use Rattle.composition.specs.Expanded.{is_vehicle}
 
 -- ---- rules
 
--- a path whose kind passes the test; a path with a fault isn't judged
+-- no path, or a path whose kind fails the test; a path with a fault isn't judged
 abbrev pub isnt_path_to : Table → Scope → (Typed → Bool) → ExprTree → Bool
 isnt_path_to table sc test e = not (is_path e) || of_one (typed table sc e) (λ t. not (test t))
 
@@ -38,7 +38,7 @@ isnt_path_to table sc test e = not (is_path e) || of_one (typed table sc e) (λ 
 abbrev pub is_read_truth : Typed → Bool
 is_read_truth t = is_read t && is_truth (kind t)
 
--- a default is a relation with one value's path on its left, or the path of a truth value
+-- neither a relation with one value's path on its left, nor the path of a truth value
 abbrev pub has_no_target : Table → Scope → ExprTree → Bool
 has_no_target table sc (ExprTree.Relation place sign left right) = isnt_path_to table sc is_read left
 has_no_target table sc e = isnt_path_to table sc is_read_truth e
@@ -92,7 +92,7 @@ argument_place a = option_map_or (λ (i : Ident). i.place) a.name (first a.value
 abbrev pub among : List ℕ → List (List ℕ) → Bool
 among name names = list_any (bytes_eq name) names
 
--- the path that begins with a label
+-- the path begins with a label
 abbrev pub begins_with_label : Table → Scope → ExprTree → Bool
 begins_with_label table sc (ExprTree.Name i) = is_label table sc i.text
 begins_with_label table sc (ExprTree.Dot head i) = begins_with_label table sc head
@@ -139,12 +139,12 @@ arguments_rows ts sc t earlier n (a ∷ others) =
 
 -- ---- compositions
 
--- `overlap:` is there for `parallel` alone, and one of four words is written after it
+-- one of the four words after `overlap:`
 abbrev pub is_overlap : ExprTree → Bool
 is_overlap (ExprTree.Name i) = among i.text (codes "start" ∷ codes "end" ∷ codes "equal" ∷ codes "any" ∷ [])
 is_overlap _ = false
 
--- a `parallel`
+-- a `parallel`, which alone takes `overlap:`
 abbrev pub takes_overlap : CompKind → Bool
 takes_overlap CompKind.Parallel = true
 takes_overlap _ = false

@@ -2,6 +2,7 @@ mod Terms
 mod Headings
 mod Members
 mod Uses
+mod Limits
 mod Makers
 mod Sources
 mod VehicleSources

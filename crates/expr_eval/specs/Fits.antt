@@ -60,7 +60,7 @@ initial_fit_rows k s p t = fit_rows false k s sizes_of p t
 abbrev pub duration_fit_rows : Place → Option Typed → List FaultRow
 duration_fit_rows p t = fit_rows true seconds duration_size sizes_of p t
 
--- what a modifier compares with samples: the ends of a range are first taken at one scale
+-- the scale and reach of the samples with which a modifier compares, for each of its kinds
 abbrev pub sample_size : Size
 sample_size = record { scale = 1000000; reach = 2000000000000 }
 

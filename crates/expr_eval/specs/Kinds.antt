@@ -19,7 +19,7 @@ pub data ValueKind : Type 0 where
   Object : (of : ℕ) → ValueKind
   Phase : (made : Made) → ValueKind
 
--- the exponents of a number without a unit, and those of a time
+-- the exponents of a number without a unit
 abbrev pub no_exponents : Exponents
 no_exponents = record { kg = pos 0; m = pos 0; s = pos 0; a = pos 0; k = pos 0; mol = pos 0; cd = pos 0; rad = pos 0 }
 

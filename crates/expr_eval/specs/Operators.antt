@@ -1,5 +1,6 @@
 -- The faults and the typed form of each operator, given its parts. An operator is at fault if its operands clash, if it asks for a value of
--- another kind, or if its scale or reach passes the limit.
+-- another kind, or if its scale or reach passes the limit. Sums and relations ask for equal exponents too. A divisor is a constant other
+-- than 0, and an index is the number of an element.
 use Rattle.std.specs.Prelude.{ℕ, ℤ, pos, negsuc, neg_ℤ, ◌+ℤ◌, ◌-ℤ◌, ◌&&◌, ◌||◌, Bool, true, false, not, cond, List, [], ◌∷◌, ◌++◌, Option, Some, None, is_none, unsigned_abs, slice_get, bytes_eq, option_map, option_and_then, unwrap_or, nat_eq, length}
 use Rattle.std.specs.Option.{option_map_or}
 use Rattle.std.specs.List.{list_any}

@@ -107,8 +107,3 @@ is_path (Dot head i) = is_path head
 is_path (Index p head index) = is_path head
 is_path (Start a) = is_path a
 is_path _ = false
-
--- the path that a default or `remove_default` is about: what stands on the left of its relation, else the whole of it
-abbrev pub target_of : ExprTree → ExprTree
-target_of (Relation p sign a b) = a
-target_of e = e

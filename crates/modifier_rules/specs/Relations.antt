@@ -6,11 +6,11 @@ use Rattle.osc_base.specs.declared.modifier.Moment.{Moment}
 use Rattle.osc_base.specs.LowestTerms.{lcm}
 use Rattle.box_eval.specs.FlatRules.{FlatTerm, FlatRule, Whole, Slot, Sum, Less, Below, AtMost, Equal, Both, times}
 
--- so many times a slot's value make a whole metre a second, lane or metre
+-- so many units of a speed's slot make a metre a second
 abbrev pub speed_scale : ℕ
 speed_scale = 1000
 
--- a lane is whole
+-- a lane's slot counts lanes
 abbrev pub lane_scale : ℕ
 lane_scale = 1
 

@@ -40,12 +40,12 @@ member_names (MemberTree.Do place phase) = labels_in phase
 abbrev pub names_among : List Member → List Ident
 names_among members = flat_map (λ (m : Member). member_names m.written.member) members
 
--- a name that is there before; `duration` is there before all in an action or scenario
+-- a name that is there before
 abbrev pub repeated_rows : List (List ℕ) → List Ident → List FaultRow
 repeated_rows earlier [] = []
 repeated_rows earlier (i ∷ is) = row i.place FaultCode.Twice (list_any (bytes_eq i.text) earlier) ∷ repeated_rows (i.text ∷ earlier) is
 
--- the names that a type of this form has before all members
+-- the names that a type of this form has before all members: `duration` in an action or scenario
 abbrev pub names_given : Form → List (List ℕ)
 names_given form = cond (is_behaviour form) (codes "duration" ∷ []) []
 

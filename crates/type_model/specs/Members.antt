@@ -52,8 +52,8 @@ line_of t w = record { written = w; holder = t; through = [] }
 abbrev pub through : ℕ → Line → Line
 through c l = record l { through = c ∷ l.through }
 
--- Down from a type: its own members, then those down from each of its conditional subtypes, then those of its extensions. No type is its own
--- subtype, so there are at most as many steps as types.
+-- Down from a type: its own members, then those down from each of its conditional subtypes, then those of its extensions. Without cycles
+-- there are at most as many steps as types.
 abbrev pub down_within : ℕ → List TypeHead → List TypeBody → ℕ → List Line
 down_within zero heads bodies t = []
 down_within (suc steps) heads bodies t =

@@ -55,7 +55,7 @@ form heads t = (head heads t).form
 abbrev pub base : List TypeHead → ℕ → Option ℕ
 base heads t = (head heads t).base
 
--- the type of that name; only a behaviour that is asked for with its owner has one
+-- The type of that name. Without an owner it is a type, or a behaviour that nobody owns. With one it is a behaviour of that owner.
 abbrev pub named : List TypeHead → Option (List ℕ) → List ℕ → Option ℕ
 named heads owner name = first_place (λ h. same_owner h.owner owner && bytes_eq h.name name) 0 heads
 
@@ -63,7 +63,7 @@ named heads owner name = first_place (λ h. same_owner h.owner owner && bytes_eq
 abbrev pub owner : List TypeHead → ℕ → Option ℕ
 owner heads t = option_and_then (named heads None) (head heads t).owner
 
--- a type and those that it inherits from, nearest first. No type inherits from itself, so there are at most as many steps as types.
+-- a type and those that it inherits from, nearest first. Without cycles there are at most as many steps as types.
 abbrev pub line_within : ℕ → List TypeHead → Option ℕ → List ℕ
 line_within zero heads t = []
 line_within (suc steps) heads None = []

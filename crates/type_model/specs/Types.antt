@@ -48,7 +48,7 @@ pub record Do : Type 0 where
   pub phase : PhaseTree
   pub under : List ℕ
 
--- heads and bodies of all types, the members of each, and the table of all that expressions look up
+-- the bodies of all types, the number of the library's file, the members of each type, and the table of all that expressions look up
 pub record Types : Type 0 where
   pub bodies : List TypeBody
   pub library : Option ℕ
