@@ -1,5 +1,6 @@
 -- The leaves of a tree stand on boxes that have no common point, and none of which is empty.
 use Rattle.std.proofs.Common.{◌≡◌, ℕ, List, [], ◌∷◌, ◌++◌, ℤ, pos, ◌+ℤ◌, ◌≤ℤ◌, ◌<◌, ◌<ℤ◌, length, arith}
+use Rattle.std.specs.Prelude.{⊤}
 use Rattle.std.proofs.lemmas.Int.{ints}
 use Rattle.box_eval.specs.declared.bounds.Pair.{Pair}
 use Rattle.box_eval.specs.declared.cut.Cut.{Cut}

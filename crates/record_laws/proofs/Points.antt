@@ -14,10 +14,10 @@ use Rattle.record_laws.specs.Points.{values_of, points_of, points_all, leaf_boxe
 -- ---- one cut
 
 times_sum : (a b c d : ℕ) → b + c ≡ d → a * b + a * c ≡ a * d
-times_sum a b c d is = rw sym is (grind arith)
+times_sum a b c d is = rw (sym is) (grind arith)
 
 sum_times : (a b c k : ℕ) → a + b ≡ c → a * k + b * k ≡ c * k
-sum_times a b c k is = rw sym is (grind arith)
+sum_times a b c k is = rw (sym is) (grind arith)
 
 -- where a slot is given two parts of its values, each in its own box
 parts_of : (ends : List Pair) (slot : ℕ) (p q : Pair) → slot < length ends → values_of p + values_of q ≡ values_of (pair (low_at ends slot) (high_at ends slot))
@@ -30,11 +30,15 @@ parts_of (e ∷ es) (suc slot) p q there is =
 two_parts : (low v high : ℤ) → low ≤ℤ v → v <ℤ high → values_of (pair low v) + values_of (pair (v +ℤ pos 1) high) ≡ values_of (pair low high)
 two_parts low v high h k = omega (arith, ints)
 
+low_first : (ends : List Pair) (slot : ℕ) (v : ℤ) → slot < length ends → low_at ends slot ≤ℤ v → v <ℤ high_at ends slot
+    → points_of (up_to ends slot v) + points_of (from ends slot (v +ℤ pos 1)) ≡ points_of ends
+low_first ends slot v there h k =
+    parts_of ends slot (pair (low_at ends slot) v) (pair (v +ℤ pos 1) (high_at ends slot)) there (two_parts (low_at ends slot) v (high_at ends slot) h k)
+
 both_parts : (side : Side) (ends : List Pair) (slot : ℕ) (v : ℤ) → slot < length ends → low_at ends slot ≤ℤ v → v <ℤ high_at ends slot
     → points_of (first_at side ends slot v) + points_of (second_at side ends slot v) ≡ points_of ends
-both_parts Low ends slot v there h k =
-    parts_of ends slot (pair (low_at ends slot) v) (pair (v +ℤ pos 1) (high_at ends slot)) there (two_parts (low_at ends slot) v (high_at ends slot) h k)
-both_parts High ends slot v there h k = omega (arith, both_parts Low ends slot v there h k)
+both_parts Low ends slot v there h k = low_first ends slot v there h k
+both_parts High ends slot v there h k = omega (arith, low_first ends slot v there h k)
 
 -- both parts of a cut have as many points as the box
 pub cut_points : (ends : List Pair) (cut : Cut) → IsCutOf ends cut → points_of (first_part cut ends) + points_of (second_part cut ends) ≡ points_of ends
@@ -49,7 +53,7 @@ leaves_count ends (branch cut first second) =
 leaves_count ends (leaf l) = refl
 
 points_both : (xs ys : List (List Pair)) → points_all (xs ++ ys) ≡ points_all xs + points_all ys
-points_both [] ys = refl
+points_both [] ys = omega arith
 points_both (x ∷ xs) ys = omega (arith, points_both xs ys)
 
 -- the leaves together have as many points as the box

@@ -71,5 +71,5 @@ accepted_short flat claim tree is short a =
     let rules : claim.rules ≡ length flat.rules = same_number claim.rules (length flat.rules) a.accepted.1.1.0 in
     let room : claim.room ≤ 1000000 = at_most claim.room 1000000 a.accepted.1.1.1.0 in
     let lines : AllShort (map text_line (lines_of tree)) = short_lines flat.rules flat.bounds.pairs is.few_slots is.few_rules short claim.room flat.bounds.pairs 0 tree (inside_self flat.bounds.pairs) a.accepted.1.1.1.1 in
-    (tt, omega (arith, slots, is.few_slots), omega (arith, rules, is.few_rules), omega (arith, room),
-    short_both (map text_line claim.lines) (T.End ∷ []) (subst (λ (ls : List Line). AllShort (map text_line ls)) (sym a.record_of.lines) lines) (tt, tt))
+    (tt, (omega (arith, slots, is.few_slots), (omega (arith, rules, is.few_rules), (omega (arith, room),
+    short_both (map text_line claim.lines) (T.End ∷ []) (subst (λ (ls : List Line). AllShort (map text_line ls)) (sym a.record_of.lines) lines) (tt, tt)))))

@@ -77,7 +77,7 @@ abbrev claim : Record
 claim = record { undecided = true; slots = 1; rules = 1; room = 2; lines = lines_of tree }
 
 row_guided : Guided sixes flat.rules wide 0 tree
-row_guided = simp folds (row_drawn, tt, tt)
+row_guided = (row_drawn, tt, tt)
 
 row_record : IsAcceptedAs flat claim tree
 row_record = record { record_of = record { lines = refl; undecided = refl }; accepted = simp folds (refl, (refl, (refl, (refl, (refl, (refl, (refl, (refl, (refl, tt))))))))) }
