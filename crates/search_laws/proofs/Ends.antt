@@ -25,7 +25,8 @@ use Rattle.box_eval.proofs.Points.{lows, value_lows, length_lows, true_everywher
 use Rattle.box_eval.proofs.Parts.{point_around}
 use Rattle.search_laws.specs.declared.decision.Decision.{Decision}
 use Rattle.search_laws.specs.Answers.{IsPointAnswer, IsRefutedAnswer, IsUndecidedAnswer, unknown_lines, claim_of}
-use Rattle.search_laws.specs.Forest.{Place, place, lines_all, cuts_all, any_open, depth_all, way_all, AllUnknown, EndsAll, Whole, Grown}
+use Rattle.box_eval.specs.Trees.{lines_all, cuts_all, any_open}
+use Rattle.search_laws.specs.Forest.{Place, place, depth_all, way_all, AllUnknown, EndsAll, Whole, Grown}
 use Rattle.search_laws.specs.State.{State, last_of, last_place, IsLively, DeadEndsWait, AllStanding, untried, IsSearching, IsClosed}
 use Rattle.search_laws.proofs.Forests.{unknowns_accepted, unknowns_guided}
 use Rattle.search_laws.proofs.Lists.{front_last, length_front}

@@ -14,7 +14,8 @@ use Rattle.box_eval.specs.Record.{Leaf, close, unknown, Tree, branch, leaf, cut_
 use Rattle.box_eval.specs.Guided.{is_longest, narrows, decisions, IsDrawn, Guided, EndsAt, way_down}
 use Rattle.box_eval.proofs.Empty.{cut_from_facts}
 use Rattle.box_eval.proofs.Settled.{settled_cut}
-use Rattle.search_laws.specs.Forest.{Place, place, lines_all, cuts_all, any_open, depth_all, way_all, AcceptedAll, GuidedAll, AllUnknown, EndsAll, Whole, Grown}
+use Rattle.box_eval.specs.Trees.{lines_all, cuts_all, any_open}
+use Rattle.search_laws.specs.Forest.{Place, place, depth_all, way_all, AcceptedAll, GuidedAll, AllUnknown, EndsAll, Whole, Grown}
 
 AllTrue-append : (bs cs : List Bool) → AllTrue bs → AllTrue cs → AllTrue (bs ++ cs)
 AllTrue-append [] cs h k = k

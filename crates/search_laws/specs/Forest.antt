@@ -1,9 +1,10 @@
 -- Places that are still to be given a tree, and lists of trees, one for each of them.
-use Rattle.std.specs.Prelude.{◌≡◌, ◌⊎◌, ℕ, ◌+◌, ◌≤◌, max, Bool, true, false, ◌||◌, if◌then◌else◌, List, [], ◌∷◌, ◌++◌, length, ⊤}
+use Rattle.std.specs.Prelude.{◌≡◌, ◌⊎◌, ℕ, ◌+◌, ◌≤◌, max, true, false, if◌then◌else◌, List, [], ◌∷◌, ◌++◌, length, ⊤}
 use Rattle.box_eval.specs.declared.rule.Rule.{Rule}
 use Rattle.box_eval.specs.declared.bounds.Pair.{Pair}
 use Rattle.box_eval.specs.declared.record.Line.{Line}
 use Rattle.box_eval.specs.Record.{Tree, leaf, unknown, lines_of, has_open, cuts_of, depth_of, Accepted}
+use Rattle.box_eval.specs.Trees.{lines_all, cuts_all, any_open}
 use Rattle.box_eval.specs.Guided.{decisions, Guided, EndsAt, way_down}
 
 -- a box that a tree is to stand on, and the boxes above it, the flat form's first
@@ -14,21 +15,7 @@ pub record Place : Type 0 where
 abbrev pub place : List (List Pair) → List Pair → Place
 place above box = record { above = above; box = box }
 
--- ---- what is counted of a list of trees
-
-abbrev pub lines_all : List Tree → List Line
-lines_all [] = []
-lines_all (t ∷ ts) = lines_of t ++ lines_all ts
-
-abbrev pub cuts_all : List Tree → ℕ
-cuts_all [] = 0
-cuts_all (t ∷ ts) = cuts_of t + cuts_all ts
-
-abbrev pub any_open : List Tree → Bool
-any_open [] = false
-any_open (t ∷ ts) = has_open t || any_open ts
-
--- ---- the same of trees over their places
+-- ---- trees over their places
 
 -- the greatest number of cuts above a leaf
 abbrev pub depth_all : List Place → List Tree → ℕ

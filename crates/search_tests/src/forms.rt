@@ -1,4 +1,4 @@
-//! The flat forms of the tests.
+//! The flat forms of the tests. Each may be searched, as [`is_flat`](crate::is_flat) sees.
 use box_eval::{Bounds, Flat, Pair, Rule, Term};
 use osc_base::{Boxed, Row};
 use std::alloc::{AllocError, Global};
@@ -9,27 +9,27 @@ const LEAST: i64 = -1_000_000_000;
 const GREATEST: i64 = 1_000_000_000;
 
 /// A slot as a term.
-pub(crate) fn slot(number: u32) -> Term {
+fn slot(number: u32) -> Term {
     Term::Slot(number)
 }
 
 /// A number as a term.
-pub(crate) fn whole(number: i128) -> Term {
+fn whole(number: i128) -> Term {
     Term::Whole(number)
 }
 
 /// The product of two terms.
-pub(crate) fn product(alloc: Global, a: Term, b: Term) -> Result<Term, AllocError> {
+fn product(alloc: Global, a: Term, b: Term) -> Result<Term, AllocError> {
     Ok(Term::Times(Boxed::new(alloc, a)?, Boxed::new(alloc, b)?))
 }
 
 /// The sum of two terms.
-pub(crate) fn sum(alloc: Global, a: Term, b: Term) -> Result<Term, AllocError> {
+fn sum(alloc: Global, a: Term, b: Term) -> Result<Term, AllocError> {
     Ok(Term::Sum(Boxed::new(alloc, a)?, Boxed::new(alloc, b)?))
 }
 
 /// A slot that is at least a number and at most another.
-pub(crate) fn within(
+fn within(
     alloc: Global,
     number: u32,
     low: i128,
@@ -41,7 +41,7 @@ pub(crate) fn within(
 }
 
 /// So many slots with the same ends, and no rules.
-pub(crate) fn slots(alloc: Global, count: u32, low: i64, high: i64) -> Result<Flat, AllocError> {
+fn slots(alloc: Global, count: u32, low: i64, high: i64) -> Result<Flat, AllocError> {
     let mut pairs = Row::new(alloc);
     for _ in 0..count {
         pairs.push(Pair { low, high })?;
@@ -53,12 +53,12 @@ pub(crate) fn slots(alloc: Global, count: u32, low: i64, high: i64) -> Result<Fl
 }
 
 /// So many whole numbers, and no rules.
-pub(crate) fn whole_numbers(alloc: Global, count: u32) -> Result<Flat, AllocError> {
+fn whole_numbers(alloc: Global, count: u32) -> Result<Flat, AllocError> {
     slots(alloc, count, LEAST, GREATEST)
 }
 
 /// One whole number that is from 0 to 5, above 3 and below 3.
-pub(crate) fn apart(alloc: Global) -> Result<Flat, AllocError> {
+pub fn apart(alloc: Global) -> Result<Flat, AllocError> {
     let mut flat = whole_numbers(alloc, 1)?;
     flat.rules.push(within(alloc, 0, 0, 5)?)?;
     flat.rules.push(Rule::Below(whole(3), slot(0)))?;
@@ -67,7 +67,7 @@ pub(crate) fn apart(alloc: Global) -> Result<Flat, AllocError> {
 }
 
 /// One whole number that is from 4 to 9, equal to 9 unless that is overridden, and 5 with 0 added.
-pub(crate) fn overridden(alloc: Global, last: bool) -> Result<Flat, AllocError> {
+pub fn overridden(alloc: Global, last: bool) -> Result<Flat, AllocError> {
     let mut flat = whole_numbers(alloc, 1)?;
     flat.rules.push(within(alloc, 0, 4, 9)?)?;
     if last {
@@ -79,7 +79,7 @@ pub(crate) fn overridden(alloc: Global, last: bool) -> Result<Flat, AllocError> 
 }
 
 /// Two whole numbers, each of which is below the other.
-pub(crate) fn both_below(alloc: Global) -> Result<Flat, AllocError> {
+pub fn both_below(alloc: Global) -> Result<Flat, AllocError> {
     let mut flat = whole_numbers(alloc, 2)?;
     flat.rules.push(Rule::Below(slot(0), slot(1)))?;
     flat.rules.push(Rule::Below(slot(1), slot(0)))?;
@@ -87,7 +87,7 @@ pub(crate) fn both_below(alloc: Global) -> Result<Flat, AllocError> {
 }
 
 /// One whole number that is at least the greatest, or above it.
-pub(crate) fn at_end(alloc: Global, above: bool) -> Result<Flat, AllocError> {
+pub fn at_end(alloc: Global, above: bool) -> Result<Flat, AllocError> {
     let mut flat = whole_numbers(alloc, 1)?;
     let greatest = whole(i128::from(GREATEST));
     flat.rules.push(if above {
@@ -99,7 +99,7 @@ pub(crate) fn at_end(alloc: Global, above: bool) -> Result<Flat, AllocError> {
 }
 
 /// Two whole numbers, of which the square of the first and no part of the second are to be 2.
-pub(crate) fn no_root(alloc: Global) -> Result<Flat, AllocError> {
+pub fn no_root(alloc: Global) -> Result<Flat, AllocError> {
     let mut flat = whole_numbers(alloc, 2)?;
     let square = product(alloc, slot(0), slot(0))?;
     let nothing = product(alloc, whole(0), slot(1))?;

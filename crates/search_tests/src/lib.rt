@@ -2,12 +2,11 @@
 #![tactic(auto)]
 
 mod flatness;
+pub mod forms;
 
 pub use flatness::is_flat;
 
 #[cfg(test)]
 mod answers;
-#[cfg(test)]
-mod forms;
 #[cfg(test)]
 mod records;

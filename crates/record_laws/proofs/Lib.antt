@@ -1,0 +1,5 @@
+mod Accepting
+mod Apart
+mod Points
+mod Short
+mod Worked
