@@ -98,7 +98,8 @@ fn put_name<'a>(
     space: Space<'a>,
     name: &'a Ident,
 ) -> Result<(), AllocError> {
-    names.push(Declared { space, name })
+    names.push(Declared { space, name })?;
+    Ok(())
 }
 
 fn put_compound<'a>(
@@ -196,6 +197,7 @@ fn first_of<'a>(names: &[Declared<'a>], later: Declared<'a>) -> Option<Declared<
 }
 
 /// Of the names that are a few edits away from a word, the first of the nearest.
+#[derive(Clone, Copy)]
 pub struct Nearest<'a> {
     word: &'a str,
     /// The edits to the name that is found, else one more than may be.
