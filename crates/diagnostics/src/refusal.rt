@@ -6,7 +6,7 @@ use crate::message::{gutter_of, put_help, put_site};
 use crate::declared::{declared_names, earlier, nearest};
 use crate::told::{Spot, Told, told_by};
 use crate::words::words_message;
-use command_words::{Request, read_words};
+use command_words::{Request, Source, read_words};
 use fault_texts::{Status, fault_text, status_text};
 use name_scope::{Program, library_text};
 use osc_base::{FaultCode, Row};
@@ -90,7 +90,14 @@ fn fault_message<H: Shelf>(
     put_site(alloc, &mut text, gutter, &spot, source, label.as_str())?;
     match spot.code {
         FaultCode::Twice => put_earlier(alloc, &mut text, words, &spot, shelf)?,
-        FaultCode::Unknown => put_nearest(alloc, &mut text, words, &spot, source, shelf)?,
+        FaultCode::Unknown => {
+            let word = source.and_then(|s| word_at(s, spot.line, spot.column));
+            put_nearest(alloc, &mut text, words, gutter, word, shelf)?;
+        }
+        FaultCode::NoScenario => {
+            let word = source_in(alloc, words)?.map(|asked| asked.scenario);
+            put_nearest(alloc, &mut text, words, gutter, word, shelf)?;
+        }
         _ => {}
     }
     put_tail(&mut text, gutter, spot.code)?;
@@ -125,16 +132,16 @@ fn put_earlier<H: Shelf>(
     put_site(alloc, text, gutter, &first, source, "the earlier declaration")
 }
 
-/// Puts the declared name that is nearest to the one at the spot, if one is near.
+/// Puts the declared name that is nearest to a word, if one is near.
 fn put_nearest<H: Shelf>(
     alloc: Global,
     text: &mut String,
     words: &[String],
-    spot: &Spot<'_>,
-    source: Option<&[u8]>,
+    gutter: usize,
+    word: Option<&str>,
     shelf: &mut H,
 ) -> Result<(), AllocError> {
-    let Some(word) = source.and_then(|s| word_at(s, spot.line, spot.column)) else {
+    let Some(word) = word else {
         return Ok(());
     };
     let Some(program) = program_of(alloc, words, shelf)? else {
@@ -144,7 +151,7 @@ fn put_nearest<H: Shelf>(
     match nearest(alloc, names.as_slice(), word)? {
         Some(name) => {
             let help = format!(in alloc; "a name near `{word}` is `{name}`")?;
-            put_help(text, gutter_of(spot.line), help.as_str())
+            put_help(text, gutter, help.as_str())
         }
         None => Ok(()),
     }
@@ -156,10 +163,10 @@ fn program_of<H: Shelf>(
     words: &[String],
     shelf: &mut H,
 ) -> Result<Option<Program>, AllocError> {
-    let Request::Generate(asked) = read_words(alloc, words)? else {
+    let Some(source) = source_in(alloc, words)? else {
         return Ok(None);
     };
-    match load(alloc, shelf, asked.source.file) {
+    match load(alloc, shelf, source.file) {
         Ok(program) => Ok(Some(program)),
         Err(LoadStop::Memory) => Err(AllocError),
         Err(_) => Ok(None),
@@ -181,6 +188,14 @@ fn put_explain(text: &mut String, gutter: usize, number: u16) -> Result<(), Allo
         text.push(' ')?;
     }
     write!(text, "  = help: `osc explain {number}` tells more\n")
+}
+
+/// The source that the words name.
+fn source_in(alloc: Global, words: &[String]) -> Result<Option<Source<'_>>, AllocError> {
+    match read_words(alloc, words)? {
+        Request::Generate(asked) => Ok(Some(asked.source)),
+        _ => Ok(None),
+    }
 }
 
 /// The bytes of the file of this name, if they can be read again.

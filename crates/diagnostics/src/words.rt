@@ -102,11 +102,14 @@ fn taken(alloc: Global, words: &[&str]) -> Result<usize, AllocError> {
     Ok(taken)
 }
 
-/// Puts which words are missing.
+/// Puts which words are missing, if more of them would be taken.
 fn put_missing(alloc: Global, text: &mut String, words: &[&str]) -> Result<(), AllocError> {
-    match read_with(alloc, words, &["x"])? {
-        Asked::Other => text.push_str("SCENARIO is missing after FILE\n"),
-        Asked::Help | Asked::Nothing => text.push_str("FILE and SCENARIO are missing\n"),
+    if is_taken(read_with(alloc, words, &["x"])?) {
+        text.push_str("SCENARIO is missing after FILE\n")
+    } else if is_taken(read_with(alloc, words, &["x", "x"])?) {
+        text.push_str("FILE and SCENARIO are missing\n")
+    } else {
+        text.push_str("these words can't stand together\n")
     }
 }
 
@@ -134,6 +137,10 @@ enum Asked {
 
 fn is_help(asked: Asked) -> bool {
     matches!(asked, Asked::Help)
+}
+
+fn is_taken(asked: Asked) -> bool {
+    matches!(asked, Asked::Other)
 }
 
 fn read_with(alloc: Global, words: &[&str], more: &[&str]) -> Result<Asked, AllocError> {
