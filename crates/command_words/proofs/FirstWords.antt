@@ -4,9 +4,9 @@ use Rattle.std.specs.Str.{bytes_eq}
 use Rattle.std.proofs.lemmas.Slice.Eq.{bytes_eq-Decides}
 use Rattle.clap.specs.Walk.{Text}
 use Rattle.command_words.specs.Texts.{general_help, version_text}
-use Rattle.command_words.specs.Words.{Help, Refused, generate_wanted, request}
+use Rattle.command_words.specs.Words.{Help, Refused, explain_wanted, generate_wanted, request}
 
-other_word : (a b : Text) → (a ≡ b → ⊥) → bytes_eq a b ≡ false
+pub other_word : (a b : Text) → (a ≡ b → ⊥) → bytes_eq a b ≡ false
 other_word a b differ = go (bytes_eq a b) refl
   where
     go : (t : Bool) → bytes_eq a b ≡ t → bytes_eq a b ≡ false
@@ -32,8 +32,12 @@ pub generate_word : (first : Text) (rest : List Text) → first ≡ codes "gener
 unfolding request
 generate_word first rest e = rw e refl
 
-pub unknown_word : (first : Text) (rest : List Text) → (first ≡ codes "help" → ⊥) → (first ≡ codes "--help" → ⊥) → (first ≡ codes "-h" → ⊥)
-    → (first ≡ codes "--version" → ⊥) → (first ≡ codes "-V" → ⊥) → (first ≡ codes "generate" → ⊥) → request (first ∷ rest) ≡ Refused
+pub explain_word : (first : Text) (rest : List Text) → first ≡ codes "explain" → request (first ∷ rest) ≡ explain_wanted rest
 unfolding request
-unknown_word first rest a b c d e f =
-    rw (other_word _ _ a, other_word _ _ b, other_word _ _ c, other_word _ _ d, other_word _ _ e, other_word _ _ f) refl
+explain_word first rest e = rw e refl
+
+pub unknown_word : (first : Text) (rest : List Text) → (first ≡ codes "help" → ⊥) → (first ≡ codes "--help" → ⊥) → (first ≡ codes "-h" → ⊥)
+    → (first ≡ codes "--version" → ⊥) → (first ≡ codes "-V" → ⊥) → (first ≡ codes "generate" → ⊥) → (first ≡ codes "explain" → ⊥) → request (first ∷ rest) ≡ Refused
+unfolding request
+unknown_word first rest a b c d e f g =
+    rw (other_word _ _ a, other_word _ _ b, other_word _ _ c, other_word _ _ d, other_word _ _ e, other_word _ _ f, other_word _ _ g) refl

@@ -3,4 +3,5 @@ mod FaultAnswers
 pub mod ValueReads
 mod GenerateMatches
 mod FirstWords
+mod TopicWords
 mod Worked

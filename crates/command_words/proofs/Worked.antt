@@ -2,9 +2,13 @@
 use Rattle.std.proofs.Common.{◌≡◌, ◌+◌, ◌==◌, ◌&&◌, if◌then◌else◌, nat_le, ℕ, Bool, List, [], ◌∷◌, codes, refl, true}
 use Rattle.clap.specs.Words.{Text}
 use Rattle.clap.proofs.OnLiterals.{clap_on_literals}
+use Rattle.osc_base.specs.declared.fault.FaultCode.{FaultCode}
+use Rattle.fault_texts.specs.Explained.{explanation, topic_list}
+use Rattle.fault_texts.specs.declared.topics.Status.{Status}
+use Rattle.fault_texts.specs.declared.topics.Topic.{Topic}
 use Rattle.command_words.specs.Match.{number_in, text_in}
 use Rattle.command_words.specs.Texts.{general_help, generate_help, version_text}
-use Rattle.command_words.specs.Words.{Wanted, Help, Generate, Refused, generate, generate_asked, generate_wanted, request}
+use Rattle.command_words.specs.Words.{Wanted, Help, Generate, Refused, explain_wanted, generate, generate_asked, generate_wanted, request, topic_wanted}
 
 -- a run of `top` of `a.osc`, with these numbers
 abbrev run : ℕ → ℕ → ℕ → ℕ → ℕ → Wanted
@@ -141,6 +145,31 @@ version = refl
 version_letter : request (codes "-V" ∷ []) ≡ Help version_text
 unfolding request
 version_letter = refl
+
+-- one word after `explain`: the number of a code or of a status, or a word of help
+codes_listed : request (codes "explain" ∷ []) ≡ Help topic_list
+unfolding request explain_wanted
+codes_listed = refl
+
+explain_help : request (codes "explain" ∷ codes "--help" ∷ []) ≡ Help topic_list
+unfolding request explain_wanted topic_wanted
+explain_help = refl
+
+explain_syntax : request (codes "explain" ∷ codes "201" ∷ []) ≡ Help (explanation (Topic.Fault FaultCode.Syntax))
+unfolding request explain_wanted topic_wanted
+explain_syntax = refl
+
+explain_sink : request (codes "explain" ∷ codes "7" ∷ []) ≡ Help (explanation (Topic.Status Status.Sink))
+unfolding request explain_wanted topic_wanted
+explain_sink = refl
+
+no_code : request (codes "explain" ∷ codes "200" ∷ []) ≡ Refused
+unfolding request explain_wanted topic_wanted
+no_code = refl
+
+second_code : request (codes "explain" ∷ codes "201" ∷ codes "202" ∷ []) ≡ Refused
+unfolding request explain_wanted
+second_code = refl
 
 -- no word, an empty one, and one that is no command
 no_words : request [] ≡ Refused

@@ -1,4 +1,5 @@
 -- What a contract sees of the requests of the code.
+use Rattle.fault_texts.specs.Explained.{explanation, topic_list}
 use Rattle.command_words.specs.Shared.{Source}
 use Rattle.command_words.specs.Words.{GenerateAsked, Wanted, Help, Generate, Refused}
 use Rattle.command_words.specs.declared.requests.GenerateWords.{GenerateWords}
@@ -19,5 +20,7 @@ asked_by words = record {
 
 abbrev pub seen : Request → Wanted
 seen (request.Help text) = Help text.now
+seen request.Topics = Help topic_list
+seen (request.Explain topic) = Help (explanation topic)
 seen (request.Generate words) = Generate (asked_by words)
 seen request.Refused = Refused

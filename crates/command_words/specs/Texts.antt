@@ -14,16 +14,18 @@ general_help = lined (
     ∷ []
     ∷ codes "Usage:"
     ∷ codes "  osc generate FILE SCENARIO [OPTIONS]"
+    ∷ codes "  osc explain [CODE]"
     ∷ codes "  osc help"
     ∷ codes "  osc --version"
     ∷ []
     ∷ codes "Commands:"
     ∷ codes "  generate   writes a run of a scenario; for its options: osc generate --help"
+    ∷ codes "  explain    writes what a code means, for example 201, or lists all codes"
     ∷ codes "  help       writes this text; so do --help and -h"
     ∷ codes "  --version  writes the version; so does -V"
     ∷ []
     ∷ codes "Statuses, and what osc writes to standard output:"
-    ∷ codes "  0  success: the run, the help text or the version"
+    ∷ codes "  0  success: what was asked for"
     ∷ codes "  3  the source is refused: fault CODE FILE:LINE:COLUMN"
     ∷ codes "     (an imported file that isn't there is fault 301)"
     ∷ codes "  4  the words are refused: words"

@@ -1,7 +1,9 @@
 -- What the words after the program's name ask for.
-use Rattle.std.specs.Prelude.{ℕ, ◌≤◌, Bool, ◌||◌, if◌then◌else◌, List, [], ◌∷◌, ◌++◌, codes, ⊤}
+use Rattle.std.specs.Prelude.{ℕ, ◌≤◌, Bool, ◌||◌, if◌then◌else◌, List, [], ◌∷◌, ◌++◌, Some, None, codes, ⊤}
 use Rattle.std.specs.Str.{bytes_eq}
 use Rattle.clap.specs.Words.{App, Kinds, Text, fault_of}
+use Rattle.fault_texts.specs.Explained.{explanation, topic_list}
+use Rattle.fault_texts.specs.Topics.{topic_named}
 use Rattle.clap.specs.declared.error.kind.ErrorKind.TheVariants.{DisplayHelp}
 use Rattle.command_words.specs.Match.{command_of, number_in, number_rule}
 use Rattle.command_words.specs.Shared.{IsSettingInRanges, Source, setting_in, setting_rules, source_in, source_rules}
@@ -15,7 +17,7 @@ pub record GenerateAsked : Type 0 where
   pub seed : ℕ
   pub cuts : ℕ
 
--- a text of help, what a command is asked for, or nothing that is known
+-- a text that needs no file (of help, of the version, of a code), what a command is asked for, or nothing that is known
 pub data Wanted : Type 0 where
   Help : Text → Wanted
   Generate : GenerateAsked → Wanted
@@ -45,8 +47,6 @@ pub record IsGenerateInRanges (asked : GenerateAsked) : Type 0 where
   pub seed_range : asked.seed ≤ 18446744073709551615
   pub cuts_range : (1 ≤ asked.cuts) × (asked.cuts ≤ 1000000)
 
--- ---- all words
-
 -- what a command's words ask for, by what its match definition finds wrong in them: if that is
 -- nothing, what they were taken for; if it is that they ask for help, the command's help
 abbrev pub by_fault : Kinds → Text → Wanted → Wanted
@@ -65,12 +65,31 @@ is_help_word word =
 abbrev pub is_version_word : Text → Bool
 is_version_word word = bytes_eq word (codes "--version") || bytes_eq word (codes "-V")
 
+-- ---- `explain`
+
+-- what the one word after `explain` asks for: what there is to say of the code or status of that number
+unfoldable pub topic_wanted : Text → Wanted
+topic_wanted word = if is_help_word word then Help topic_list
+    else elim (topic_named word) [
+      | Some topic ↦ Help (explanation topic)
+      | None ↦ Refused
+    ]
+
+-- without a word all codes and statuses are listed
+unfoldable pub explain_wanted : List Text → Wanted
+explain_wanted [] = Help topic_list
+explain_wanted (word ∷ []) = topic_wanted word
+explain_wanted _ = Refused
+
+-- ---- all words
+
 -- the first word picks; after one that asks for the general help or the version nothing is read
 unfoldable pub request : List Text → Wanted
 request [] = Refused
 request (first ∷ rest) = if is_help_word first then Help general_help
     else if is_version_word first then Help version_text
     else if bytes_eq first (codes "generate") then generate_wanted rest
+    else if bytes_eq first (codes "explain") then explain_wanted rest
     else Refused
 
 -- the numbers of what is wanted are within their ranges

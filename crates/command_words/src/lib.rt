@@ -1,6 +1,7 @@
 //! What the words after the program's name ask for, and the texts that help with them.
 #![tactic(auto)]
 
+mod explain;
 mod generate;
 mod parse;
 mod requests;

@@ -2,8 +2,10 @@ ghost use Rattle.std.specs.Prelude.{◌≡◌, IfOk, map, string_bytes};
 ghost use Rattle.command_words.specs.Seen.{seen};
 ghost use Rattle.command_words.specs.Words.{HasRanges, request};
 
+use crate::explain::read_explain;
 use crate::generate::read_generate;
 use crate::texts::{general_help, version_text};
+use fault_texts::Topic;
 use std::alloc::{AllocError, Global};
 
 /// What the words after the program's name ask for.
@@ -11,6 +13,10 @@ use std::alloc::{AllocError, Global};
 pub enum Request<'a> {
     /// This text is to be written: a help text or the version.
     Help(&'static str),
+    /// All topics are to be listed.
+    Topics,
+    /// What there is to say of a topic is to be written.
+    Explain(Topic),
     /// A run is to be written.
     Generate(GenerateWords<'a>),
     /// The words ask for nothing that is known.
@@ -62,6 +68,7 @@ pub fn read_words(alloc: Global, words: &[String]) -> Result<Request<'_>, AllocE
         "help" | "--help" | "-h" => Ok(Request::Help(general_help())),
         "--version" | "-V" => Ok(Request::Help(version_text())),
         "generate" => read_generate(alloc, rest),
+        "explain" => Ok(read_explain(rest)),
         _ => Ok(Request::Refused),
     }
 }

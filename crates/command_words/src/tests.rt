@@ -20,6 +20,8 @@ fn shown(rt: &HostRuntime, line: &str) -> io::Result<String> {
             let last = text.lines().last().unwrap_or("");
             format!(in alloc; "help: {last}")?
         }
+        Request::Topics => String::from_str(alloc, "all topics")?,
+        Request::Explain(topic) => format!(in alloc; "{topic:?}")?,
         Request::Generate(asked) => format!(in alloc;
             "{} {} {} {} {} {} {}",
             asked.source.file,
@@ -54,6 +56,14 @@ fn reads_words(rt: HostRuntime) -> io::Result<()> {
         ("generate f s --lanes 2 --lanes 2", "refused"),
         ("generate f s -V", "refused"),
         ("generate f", "refused"),
+        ("explain", "all topics"),
+        ("explain --help", "all topics"),
+        ("explain 201", "Fault(Syntax)"),
+        ("explain 7", "Status(Sink)"),
+        ("explain 3", "refused"),
+        ("explain 200", "refused"),
+        ("explain 0201", "refused"),
+        ("explain 201 202", "refused"),
         ("", "refused"),
         ("make 1", "refused"),
         ("--version", "help: osc 0.1.0"),

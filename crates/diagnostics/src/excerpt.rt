@@ -61,6 +61,17 @@ pub fn line_start(source: &[u8], number: u32) -> Option<usize>
     None
 }
 
+/// The word that begins at a place of a source. `None` if none does.
+pub fn word_at(source: &[u8], line: u32, column: u32) -> Option<&str> {
+    let line = first_line(source.get(line_start(source, line)?..)?);
+    let after = line.get((column as usize).saturating_sub(1)..)?;
+    let word = after.get(..word_len(after))?;
+    if word.is_empty() {
+        return None;
+    }
+    str::from_utf8(word).ok()
+}
+
 /// The bytes before the first line end.
 fn first_line(bytes: &[u8]) -> &[u8] {
     let line = match bytes.iter().position(|b| *b == b'\n') {
@@ -70,14 +81,19 @@ fn first_line(bytes: &[u8]) -> &[u8] {
     line.strip_suffix(b"\r").unwrap_or(line)
 }
 
-/// The length of the word at the front, else of the character there.
+/// The length of the word that the bytes begin with.
+fn word_len(bytes: &[u8]) -> usize {
+    bytes
+        .iter()
+        .take_while(|b| b.is_ascii_alphanumeric() || **b == b'_')
+        .count()
+}
+
+/// The length of the word that the bytes begin with, else of the character there.
 fn marked_len(bytes: &[u8]) -> usize
     ensures { result ≤ length bytes.now }
 {
-    let word = bytes
-        .iter()
-        .take_while(|b| b.is_ascii_alphanumeric() || **b == b'_')
-        .count();
+    let word = word_len(bytes);
     match bytes.first() {
         None => 0,
         Some(first) if word == 0 => character_len(*first).min(bytes.len()),
@@ -144,7 +160,7 @@ fn last_characters(alloc: Global, text: &str) -> Result<String, AllocError> {
     Ok(end)
 }
 
-/// Puts the beginning of a text behind another one.
+/// Puts the beginning of a text after another one.
 fn put_first_characters(text: &mut String, more: &str) -> Result<(), AllocError> {
     let mut left = SIDE;
     for c in more.chars() {

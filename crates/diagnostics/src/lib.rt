@@ -5,12 +5,14 @@
 #![tactic(auto)]
 
 mod candidates;
+mod declared;
 mod excerpt;
 mod expected;
 mod message;
 mod noted_sink;
 mod refusal;
 mod told;
+mod words;
 
 pub use noted_sink::NotedSink;
 pub use refusal::{refusal_message, status_message};

@@ -1,14 +1,17 @@
 //! The message for a call that was refused.
 
-use crate::excerpt::line_start;
+use crate::excerpt::{line_start, word_at};
 use crate::expected::expected;
 use crate::message::{gutter_of, put_help, put_site};
+use crate::declared::{declared_names, earlier, nearest};
 use crate::told::{Spot, Told, told_by};
-use command_words::{Request, read_words};
+use crate::words::words_message;
+use command_words::{Request, Source, read_words};
 use fault_texts::{Status, fault_text, status_text};
-use name_scope::library_text;
+use name_scope::{Program, library_text};
 use osc_base::{FaultCode, Row};
 use outside_io::{ReadStop, Shelf, read_all};
+use program_load::{LoadStop, load};
 use std::alloc::{AllocError, Global};
 
 /// The longest source, in bytes.
@@ -30,6 +33,9 @@ pub fn refusal_message<H: Shelf>(
     if number == Status::Sink.number() {
         return status_message(alloc, Status::Sink);
     }
+    if number == Status::Memory.number() {
+        return status_message(alloc, Status::Memory);
+    }
     if number <= LAST_ANSWER {
         return Ok(String::new(alloc));
     }
@@ -47,7 +53,7 @@ fn line_message<H: Shelf>(
     shelf: &mut H,
 ) -> Result<String, AllocError> {
     match told_by(line) {
-        Told::Fault(spot) => fault_message(alloc, spot, shelf),
+        Told::Fault(spot) => fault_message(alloc, words, spot, shelf),
         Told::Missing(name) => file_message(alloc, "there is no file ", name),
         Told::Long(name) => file_message(
             alloc,
@@ -71,21 +77,100 @@ pub fn status_message(alloc: Global, status: Status) -> Result<String, AllocErro
 /// The message for a fault of a source.
 fn fault_message<H: Shelf>(
     alloc: Global,
+    words: &[String],
     spot: Spot<'_>,
     shelf: &mut H,
 ) -> Result<String, AllocError> {
     let source = source_of(alloc, spot.file, shelf)?;
-    let source = match &source {
-        Some(source) => Some(source.as_slice()),
-        None => None,
-    };
+    let source = bytes_of(&source);
     let label = label_of(alloc, spot, source)?;
     let gutter = gutter_of(spot.line);
     let mut text = String::new(alloc);
     put_head(&mut text, spot.code)?;
     put_site(alloc, &mut text, gutter, &spot, source, label.as_str())?;
+    match spot.code {
+        FaultCode::Twice => put_earlier(alloc, &mut text, words, &spot, shelf)?,
+        FaultCode::Unknown => {
+            let word = source.and_then(|s| word_at(s, spot.line, spot.column));
+            put_nearest(alloc, &mut text, words, gutter, word, shelf)?;
+        }
+        FaultCode::NoScenario => {
+            let word = source_in(alloc, words)?.map(|asked| asked.scenario);
+            put_nearest(alloc, &mut text, words, gutter, word, shelf)?;
+        }
+        _ => {}
+    }
     put_tail(&mut text, gutter, spot.code)?;
     Ok(text)
+}
+
+fn bytes_of(source: &Option<Row<u8>>) -> Option<&[u8]> {
+    match source {
+        Some(source) => Some(source.as_slice()),
+        None => None,
+    }
+}
+
+/// Puts the place of the first declaration of a name that is declared again at the spot.
+fn put_earlier<H: Shelf>(
+    alloc: Global,
+    text: &mut String,
+    words: &[String],
+    spot: &Spot<'_>,
+    shelf: &mut H,
+) -> Result<(), AllocError> {
+    let Some(program) = program_of(alloc, words, shelf)? else {
+        return Ok(());
+    };
+    let names = declared_names(alloc, &program)?;
+    let Some(first) = earlier(&program, names.as_slice(), spot) else {
+        return Ok(());
+    };
+    let gutter = gutter_of(spot.line).max(gutter_of(first.line));
+    let source = source_of(alloc, first.file, shelf)?;
+    let source = bytes_of(&source);
+    put_site(alloc, text, gutter, &first, source, "the earlier declaration")
+}
+
+/// Puts the declared name that is nearest to a word, if one is near.
+fn put_nearest<H: Shelf>(
+    alloc: Global,
+    text: &mut String,
+    words: &[String],
+    gutter: usize,
+    word: Option<&str>,
+    shelf: &mut H,
+) -> Result<(), AllocError> {
+    let Some(word) = word else {
+        return Ok(());
+    };
+    let Some(program) = program_of(alloc, words, shelf)? else {
+        return Ok(());
+    };
+    let names = declared_names(alloc, &program)?;
+    match nearest(alloc, names.as_slice(), word)? {
+        Some(name) => {
+            let help = format!(in alloc; "a name near `{word}` is `{name}`")?;
+            put_help(text, gutter, help.as_str())
+        }
+        None => Ok(()),
+    }
+}
+
+/// The program that the words name, if it can be loaded again.
+fn program_of<H: Shelf>(
+    alloc: Global,
+    words: &[String],
+    shelf: &mut H,
+) -> Result<Option<Program>, AllocError> {
+    let Some(source) = source_in(alloc, words)? else {
+        return Ok(None);
+    };
+    match load(alloc, shelf, source.file) {
+        Ok(program) => Ok(Some(program)),
+        Err(LoadStop::Memory) => Err(AllocError),
+        Err(_) => Ok(None),
+    }
 }
 
 fn put_head(text: &mut String, code: FaultCode) -> Result<(), AllocError> {
@@ -102,7 +187,15 @@ fn put_explain(text: &mut String, gutter: usize, number: u16) -> Result<(), Allo
     for _column in 0..gutter {
         text.push(' ')?;
     }
-    write!(text, "  = help: docs/FORMATS.md tells more of {number}\n")
+    write!(text, "  = help: `osc explain {number}` tells more\n")
+}
+
+/// The source that the words name.
+fn source_in(alloc: Global, words: &[String]) -> Result<Option<Source<'_>>, AllocError> {
+    match read_words(alloc, words)? {
+        Request::Generate(asked) => Ok(Some(asked.source)),
+        _ => Ok(None),
+    }
 }
 
 /// The bytes of the file of this name, if they can be read again.
@@ -151,37 +244,8 @@ fn file_message(alloc: Global, what: &str, name: &str) -> Result<String, AllocEr
     Ok(text)
 }
 
-fn put_status(text: &mut String, status: Status) -> Result<(), AllocError> {
+/// Puts how to mend what a status says.
+pub fn put_status(text: &mut String, status: Status) -> Result<(), AllocError> {
     put_help(text, 0, status_text(status).mending)?;
     put_explain(text, 0, u16::from(status.number()))
-}
-
-/// The message for words that are refused.
-fn words_message(alloc: Global, words: &[String]) -> Result<String, AllocError> {
-    let mut text = words_head(alloc, words)?;
-    put_status(&mut text, Status::Words)?;
-    Ok(text)
-}
-
-fn words_head(alloc: Global, words: &[String]) -> Result<String, AllocError> {
-    let Some(first) = words.first() else {
-        return String::from_str(alloc, "error: there is no command\n");
-    };
-    let word = first.as_str();
-    if is_command(alloc, word)? {
-        format!(in alloc; "error: `osc {word}` doesn't take these words\n")
-    } else {
-        format!(in alloc; "error: `{word}` is no command\n")
-    }
-}
-
-/// Whether there is help on a command of this name.
-fn is_command(alloc: Global, word: &str) -> Result<bool, AllocError> {
-    let mut words = Vec::new(alloc);
-    words.push(String::from_str(alloc, word)?)?;
-    words.push(String::from_str(alloc, "--help")?)?;
-    match read_words(alloc, words.as_slice())? {
-        Request::Help(_) => Ok(true),
-        _ => Ok(false),
-    }
 }

@@ -1,26 +1,42 @@
 //! The program `osc`: it hands its arguments, the files of the system and standard output to
-//! `command`, and ends with the number that this returns.
+//! `command`, and ends with the number that this returns. If the call was refused, a message for
+//! people then goes to standard error.
 #![tactic(auto)]
 
+use diagnostics::{NotedSink, refusal_message, status_message};
+use fault_texts::Status;
 use outside_io::{FileShelf, OutSink};
-use scenario_tool::{Status, command};
+use scenario_tool::command;
+use std::alloc::AllocError;
 use std::process::ExitCode;
 use std::{env, io};
 
-/// The number when the arguments can't be collected, as when one isn't UTF-8. `command` never returns it.
-const NO_ARGUMENTS: u8 = 9;
+/// What is said when there is no memory for a message.
+const NO_MESSAGE: &str = "error: out of memory, so there is no message\n";
 
 fn main(rt: HostRuntime) -> ExitCode {
     let words = match words(&rt) {
         Ok(words) => words,
         Err(error) if error.kind() == io::ErrorKind::OutOfMemory => {
-            return ExitCode::from(Status::OutOfMemory.number());
+            return without_words(&rt, Status::Memory);
         }
-        Err(_) => return ExitCode::from(NO_ARGUMENTS),
+        Err(_) => return without_words(&rt, Status::Arguments),
     };
     let mut shelf = FileShelf::new(&rt);
-    let mut out = OutSink::new(&rt);
-    ExitCode::from(command(rt.alloc(), &words, &mut shelf, &mut out))
+    let mut out = NotedSink::new(rt.alloc(), OutSink::new(&rt));
+    let number = command(rt.alloc(), &words, &mut shelf, &mut out);
+    let mut again = FileShelf::new(&rt);
+    tell(
+        &rt,
+        refusal_message(
+            rt.alloc(),
+            words.as_slice(),
+            number,
+            out.note(),
+            &mut again,
+        ),
+    );
+    ExitCode::from(number)
 }
 
 /// The arguments after the program's name.
@@ -30,4 +46,19 @@ fn words(rt: &HostRuntime) -> io::Result<Vec<String>> {
         words.push(word)?;
     }
     Ok(words)
+}
+
+/// Ends a call whose arguments can't be collected, as when one isn't UTF-8. `command` never returns
+/// the number of `Status::Arguments`.
+fn without_words(rt: &HostRuntime, status: Status) -> ExitCode {
+    tell(rt, status_message(rt.alloc(), status));
+    ExitCode::from(status.number())
+}
+
+/// Writes a message to standard error. If that fails, nothing is told.
+fn tell(rt: &HostRuntime, message: Result<String, AllocError>) {
+    let _ = match message {
+        Ok(text) => rt.eprint(text.as_str()),
+        Err(AllocError) => rt.eprint(NO_MESSAGE),
+    };
 }

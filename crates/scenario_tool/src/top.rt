@@ -7,6 +7,7 @@ use crate::compile::compile;
 use crate::replies::{Reply, done, failed_shelf, refused_source, words_refused};
 use crate::status::Status;
 use command_words::{GenerateWords, Request, read_words};
+use fault_texts::{explanation, topic_list};
 use osc_base::Text;
 use outside_io::{Shelf, Sink, write_all};
 use program_load::{LoadStop, load};
@@ -50,6 +51,8 @@ fn reply_to<H: Shelf>(alloc: Global, words: &[String], shelf: &mut H) -> Result<
 {
     match read_words(alloc, words)? {
         Request::Help(text) => Ok(done(Text::copy(alloc, text)?)),
+        Request::Topics => Ok(done(topic_list(alloc)?)),
+        Request::Explain(topic) => Ok(done(explanation(alloc, topic)?)),
         Request::Generate(asked) => reply_to_generate(alloc, asked, shelf),
         Request::Refused => words_refused(alloc),
     }

@@ -1,0 +1,61 @@
+//! Calls of `command` as the program makes them, over a shelf and a sink in memory.
+
+use diagnostics::{NotedSink, refusal_message};
+use osc_base::Row;
+use outside_io::{MemoryShelf, MemorySink};
+use scenario_tool::command;
+use std::alloc::{AllocError, Global};
+
+/// Files by their names.
+pub type Files<'a> = &'a [(&'a str, &'a [u8])];
+
+/// How a call went.
+#[derive(Drop)]
+pub struct Called {
+    pub status: u8,
+    /// What standard output got.
+    pub written: String,
+    /// What standard error got.
+    pub message: String,
+}
+
+/// Calls `command`, and makes the message for it.
+pub fn call(alloc: Global, words: &[&str], files: Files<'_>) -> Result<Called, AllocError> {
+    call_failing(alloc, words, files, &[], 8192)
+}
+
+/// Calls `command` over a shelf whose calls of these numbers fail, and a sink with so much room.
+pub fn call_failing(
+    alloc: Global,
+    words: &[&str],
+    files: Files<'_>,
+    failing: &[u64],
+    room: usize,
+) -> Result<Called, AllocError> {
+    let words = owned(alloc, words)?;
+    let mut shelf = MemoryShelf::of(alloc, files, 4096, failing)?;
+    let sink = MemorySink::new(alloc, room, 4096, Row::new(alloc))?;
+    let mut out = NotedSink::new(alloc, sink);
+    let status = command(alloc, &words, &mut shelf, &mut out);
+    let message = refusal_message(alloc, words.as_slice(), status, out.note(), &mut shelf)?;
+    Ok(Called {
+        status,
+        written: String::from_utf8_lossy(alloc, out.note())?,
+        message,
+    })
+}
+
+/// The message for a call of `generate main.osc top` that wrote this line.
+pub fn message_for(alloc: Global, line: &str, files: Files<'_>) -> Result<String, AllocError> {
+    let words = owned(alloc, &["generate", "main.osc", "top"])?;
+    let mut shelf = MemoryShelf::of(alloc, files, 4096, &[])?;
+    refusal_message(alloc, words.as_slice(), 3, line.as_bytes(), &mut shelf)
+}
+
+fn owned(alloc: Global, words: &[&str]) -> Result<Vec<String>, AllocError> {
+    let mut owned = Vec::new(alloc);
+    for word in words {
+        owned.push(String::from_str(alloc, word)?)?;
+    }
+    Ok(owned)
+}

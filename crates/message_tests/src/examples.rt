@@ -1,0 +1,128 @@
+use crate::call::{Called, call, message_for};
+use fault_texts::{Topic, fault_text, status_text, topic_named};
+use osc_base::FaultCode;
+use std::alloc::{AllocError, Global};
+use std::process::Abort;
+use std::test::Fail;
+
+/// How many codes there are.
+const CODES: usize = 29;
+/// The codes that `generate` tells today. The examples of all others give the fault 298.
+const TOLD: [u16; 14] = [
+    101, 102, 103, 104, 105, 106, 107, 201, 202, 298, 301, 302, 311, 324,
+];
+const GENERATE: [&str; 3] = ["generate", "main.osc", "top"];
+
+/// All that there is to explain.
+fn topics(alloc: Global) -> Result<Vec<Topic>, AllocError> {
+    let mut topics = Vec::new(alloc);
+    for number in 0..1000 {
+        let word = format!(in alloc; "{number}")?;
+        if let Some(topic) = topic_named(word.as_str()) {
+            topics.push(topic)?;
+        }
+    }
+    Ok(topics)
+}
+
+/// The codes of faults.
+fn codes(alloc: Global) -> Result<Vec<FaultCode>, AllocError> {
+    let mut codes = Vec::new(alloc);
+    for topic in topics(alloc)?.as_slice() {
+        if let Topic::Fault(code) = topic {
+            codes.push(*code)?;
+        }
+    }
+    Ok(codes)
+}
+
+/// The file `main.osc` of the example of a code, with what its text only hints at.
+fn source_of(alloc: Global, code: FaultCode) -> Result<Vec<u8>, AllocError> {
+    match code {
+        FaultCode::Utf8 => Vec::from_slice(alloc, b"#\xff\n".as_slice()),
+        FaultCode::TooManyFiles => {
+            let mut source = String::new(alloc);
+            for part in 1..65 {
+                write!(source, "import \"part{part}.osc\"\n")?;
+            }
+            Vec::from_slice(alloc, source.as_bytes())
+        }
+        _ => Vec::from_slice(alloc, fault_text(code).example.as_bytes()),
+    }
+}
+
+#[test]
+fn each_example_gives_its_fault(rt: HostRuntime) -> Result<(), Fail> {
+    let alloc = rt.alloc();
+    let codes = codes(alloc)?;
+    assert_eq!(rt; codes.len(), CODES);
+    for code in codes.as_slice() {
+        let source = source_of(alloc, *code)?;
+        let called = call(alloc, &GENERATE, &[("main.osc", source.as_slice())])?;
+        assert_eq!(rt; called.status, 3);
+        let (number, answer) = (code.number(), fault_text(*code).answer);
+        let want = if TOLD.contains(&number) {
+            format!(in alloc; "{answer}\n")?
+        } else {
+            format!(in alloc; "fault 298 main.osc:")?
+        };
+        assert!(rt; called.written.as_str().starts_with(want.as_str()), "{number}");
+    }
+    Ok(())
+}
+
+#[test]
+fn each_example_has_its_message(rt: HostRuntime) -> Result<(), Fail> {
+    let alloc = rt.alloc();
+    for code in codes(alloc)?.as_slice() {
+        let source = source_of(alloc, *code)?;
+        let said = fault_text(*code);
+        let message = message_for(alloc, said.answer, &[("main.osc", source.as_slice())])?;
+        let number = code.number();
+        let title = said.title;
+        let head = format!(in alloc; "error[{number}]: {title}\n")?;
+        let explain = format!(in alloc; "= help: `osc explain {number}` tells more\n")?;
+        let first = said.mending.lines().next().unwrap_or("");
+        assert!(rt; message.as_str().starts_with(head.as_str()), "{number}");
+        assert!(rt; message.as_str().ends_with(explain.as_str()), "{number}");
+        for part in [" --> main.osc:", " | ", "^", first] {
+            assert!(rt; message.as_str().contains(part), "{number}: {part}");
+        }
+    }
+    Ok(())
+}
+
+/// Whether what is written has all parts of a text.
+fn has_all(called: &Called, parts: &[&str]) -> bool {
+    let written = called.written.as_str();
+    for part in parts {
+        if !written.contains(*part) {
+            return false;
+        }
+    }
+    called.status == 0 && called.message.as_str().is_empty()
+}
+
+#[test]
+fn each_topic_is_explained(rt: HostRuntime) -> Result<(), Fail> {
+    let alloc = rt.alloc();
+    let list = call(alloc, &["explain"], &[])?;
+    for topic in topics(alloc)?.as_slice() {
+        let (number, said) = match topic {
+            Topic::Fault(code) => (code.number(), fault_text(*code)),
+            Topic::Status(status) => (u16::from(status.number()), status_text(*status)),
+        };
+        let word = format!(in alloc; "{number}")?;
+        let called = call(alloc, &["explain", word.as_str()], &[])?;
+        let parts = [
+            said.title,
+            said.meaning,
+            said.example,
+            said.answer,
+            said.mending,
+        ];
+        assert!(rt; has_all(&called, &parts), "{number}");
+        assert!(rt; has_all(&list, &[word.as_str(), said.title]), "{number}");
+    }
+    Ok(())
+}

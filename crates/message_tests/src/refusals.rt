@@ -1,0 +1,121 @@
+use crate::call::{Called, call, call_failing};
+use std::process::Abort;
+use std::test::Fail;
+
+const SOURCE: &str = "scenario top:\n    x: int\n    keep(x in [3..3])\n";
+
+fn begins(rt: &(impl Abort + AllocGlobal), called: &Called, status: u8, want: &str) {
+    let got = called.message.as_str();
+    assert_eq!(rt; called.status, status, "{want}");
+    assert_eq!(rt; got.get(..want.len()).unwrap_or(got), want);
+}
+
+#[test]
+fn words_after_a_command(rt: HostRuntime) -> Result<(), Fail> {
+    let rows: [(&[&str], &str); 9] = [
+        (&[], "error: FILE and SCENARIO are missing\n"),
+        (&["a.osc"], "error: SCENARIO is missing after FILE\n"),
+        (
+            &["a.osc", "--ticks", "5"],
+            "error: SCENARIO is missing after FILE\n",
+        ),
+        (
+            &["a.osc", "top", "third"],
+            "error: `osc generate` doesn't take the word `third` here\n",
+        ),
+        (
+            &["a.osc", "--tick", "5", "top"],
+            "error: `osc generate` doesn't take the word `--tick` here\n",
+        ),
+        (
+            &["a.osc", "--ticks", "0", "top"],
+            "error: `--ticks` doesn't take the value `0`\n",
+        ),
+        (&["a.osc", "top", "--road"], "error: `--road` has no value\n"),
+        (
+            &["a.osc", "top", "--road=ten"],
+            "error: `osc generate` doesn't take the word `--road=ten` here\n",
+        ),
+        (
+            &["a.osc", "top", "--lanes", "2", "--lanes", "2"],
+            "error: `osc generate` doesn't take the word `--lanes` here\n",
+        ),
+    ];
+    for (rest, want) in rows {
+        let mut words = Vec::from_slice(rt.alloc(), &["generate"])?;
+        words.extend_from_slice(rest)?;
+        let called = call(rt.alloc(), words.as_slice(), &[])?;
+        begins(&rt, &called, 4, want);
+    }
+    Ok(())
+}
+
+#[test]
+fn first_words(rt: HostRuntime) -> Result<(), Fail> {
+    let rows: [(&[&str], &str); 6] = [
+        (&[], "error: there is no command\n  = help: "),
+        (
+            &["genrate", "a.osc", "top"],
+            "error: `genrate` is no command\n  = help: a command near it is `osc generate`\n",
+        ),
+        (
+            &["check", "a.osc"],
+            "error: `check` is no command\n  = help: `osc help` lists the commands.",
+        ),
+        (
+            &["explain", "200"],
+            "error: `200` is the number of no code and of no status that refuses\n  = help: `osc explain` lists all of them\n",
+        ),
+        (
+            &["explain", "201", "202"],
+            "error: `osc explain` takes one word at most\n",
+        ),
+        (&["-v"], "error: `-v` is no command\n"),
+    ];
+    for (words, want) in rows {
+        let called = call(rt.alloc(), words, &[])?;
+        begins(&rt, &called, 4, want);
+        assert!(rt; called.message.as_str().ends_with("  = help: `osc explain 4` tells more\n"));
+    }
+    Ok(())
+}
+
+#[test]
+fn files_and_standard_output(rt: HostRuntime) -> Result<(), Fail> {
+    let alloc = rt.alloc();
+    let words = ["generate", "main.osc", "top"];
+    let main = [("main.osc", SOURCE.as_bytes())];
+    let missing = call(alloc, &words, &[])?;
+    begins(&rt, &missing, 6, "error: there is no file `main.osc`\n  = help: ");
+    let failed = call_failing(alloc, &words, &main, &[0], 8192)?;
+    begins(&rt, &failed, 6, "error: the system can't read `main.osc`\n  = help: ");
+    let full = call_failing(alloc, &words, &main, &[], 0)?;
+    begins(&rt, &full, 7, "error: standard output failed\n  = help: ");
+    let bytes = vec![in alloc; b'#'; 1_048_577]?;
+    let long = call(alloc, &words, &[("main.osc", bytes.as_slice())])?;
+    begins(
+        &rt,
+        &long,
+        6,
+        "error: a source has at most 1048576 bytes, unlike `main.osc`\n",
+    );
+    Ok(())
+}
+
+/// Answers have no message.
+#[test]
+fn answers(rt: HostRuntime) -> Result<(), Fail> {
+    let main = [("main.osc", SOURCE.as_bytes())];
+    let rows: [&[&str]; 4] = [
+        &["generate", "main.osc", "top"],
+        &["help"],
+        &["--version"],
+        &["explain"],
+    ];
+    for words in rows {
+        let called = call(rt.alloc(), words, &main)?;
+        begins(&rt, &called, 0, "");
+        assert!(rt; called.message.as_str().is_empty());
+    }
+    Ok(())
+}
