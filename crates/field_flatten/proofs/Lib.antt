@@ -1,0 +1,5 @@
+pub mod JoinedRows
+pub mod Multiples
+pub mod ShapeLaw
+pub mod Tests
+pub mod Times
