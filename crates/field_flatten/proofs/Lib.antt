@@ -1,6 +1,7 @@
 pub mod JoinedRows
 pub mod Multiples
 pub mod NamedRun
+pub mod NumberLaw
 pub mod Presence
 pub mod ShapeLaw
 pub mod SlotLaw

@@ -45,3 +45,11 @@ source_value at point path OfValue = value_of point (at.slot (SlotName.Value pat
 -- the number that a point gives a path
 abbrev pub seen : Layout → List ℤ → Path → ℤ
 seen at point path = source_value at point path (at.source path)
+
+-- ---- scenes
+
+-- a path at which a value is read, and no duration
+abbrev pub is_value_source : Source → Bool
+is_value_source OfRun = false
+is_value_source (OfPhase phase) = false
+is_value_source OfValue = true
