@@ -1,3 +1,4 @@
+pub mod ExprReads
 pub mod JoinedRows
 pub mod Multiples
 pub mod NamedRun
