@@ -1,3 +1,4 @@
+pub mod ConstraintLaw
 pub mod ExprReads
 pub mod JoinedRows
 pub mod Multiples

@@ -140,10 +140,10 @@ module _ (scene : Scene) where
 -- ---- numbers
 
 module _ (scene : Scene) (point : List ℤ) (slot : SlotName → ℕ) where
-  abbrev at : SlotName → ℤ
+  abbrev pub at : SlotName → ℤ
   at name = value_of point (slot name)
 
-  abbrev lay : Layout
+  abbrev pub lay : Layout
   lay = record { slot = slot; source = source scene; end = end_term scene slot; tick = scene.setting.tick }
 
   module _ (inside : Inside scene at) where
