@@ -1,3 +1,4 @@
+pub mod ArrangedLaw
 pub mod ConstraintLaw
 pub mod ExprReads
 pub mod JoinedRows
