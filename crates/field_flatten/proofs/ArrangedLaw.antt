@@ -150,37 +150,37 @@ module _ (one other : Times) where
     pub start : one.start path ≡ other.start path
     pub end : one.end path ≡ other.end path
 
-  span_same : (a b : Path) → SameTimes a → SameTimes b → same_span one a b ≡ same_span other a b
+  pub span_same : (a b : Path) → SameTimes a → SameTimes b → same_span one a b ≡ same_span other a b
   span_same a b s t = ap₂ (◌&&◌) (ap₂ same_number s.start t.start) (ap₂ same_number s.end t.end)
 
-  abbrev AllSame : List Path → Type 0
+  abbrev pub AllSame : List Path → Type 0
   AllSame members = (m : Path) → In m members → SameTimes m
 
-  follow_same : (from to from' to' : ℤ) (members : List Path) → from ≡ from' → to ≡ to' → AllSame members → follow one from to members ≡ follow other from' to' members
+  pub follow_same : (from to from' to' : ℤ) (members : List Path) → from ≡ from' → to ≡ to' → AllSame members → follow one from to members ≡ follow other from' to' members
   follow_same from to from' to' [] p q f = ap₂ same_number p q
   follow_same from to from' to' (m ∷ ms) p q f = ap₂ (◌&&◌) (ap₂ same_number p (f m (inl refl)).start)
       (follow_same (one.end m) to (other.end m) to' ms (f m (inl refl)).end q (λ n i. f n (inr i)))
 
-  starts_same : (members : List Path) → AllSame members → starts_of one members ≡ starts_of other members
+  pub starts_same : (members : List Path) → AllSame members → starts_of one members ≡ starts_of other members
   starts_same members f = map_same one.start other.start members (λ m i. (f m i).start)
 
-  ends_same : (members : List Path) → AllSame members → ends_of one members ≡ ends_of other members
+  pub ends_same : (members : List Path) → AllSame members → ends_of one members ≡ ends_of other members
   ends_same members f = map_same one.end other.end members (λ m i. (f m i).end)
 
-  covers_same : (path : Path) (members : List Path) → SameTimes path → AllSame members → covers one path members ≡ covers other path members
+  pub covers_same : (path : Path) (members : List Path) → SameTimes path → AllSame members → covers one path members ≡ covers other path members
   covers_same path members s f = ap₂ (◌&&◌) (ap₂ is_least s.start (starts_same members f)) (ap₂ is_greatest s.end (ends_same members f))
 
   -- the members of which a `one_of` asks the span
-  abbrev ChosenSame : Path → ℕ → List Path → Type 0
+  abbrev pub ChosenSame : Path → ℕ → List Path → Type 0
   ChosenSame path k [] = Unit {0}
   ChosenSame path k (m ∷ ms) = (same_number (one.member path) (pos k) ≡ true → SameTimes m) × ChosenSame path (k + 1) ms
 
-  chosen_same : (path : Path) (k : ℕ) (members : List Path) → one.member path ≡ other.member path → SameTimes path → ChosenSame path k members → chosen_spans one path k members ≡ chosen_spans other path k members
+  pub chosen_same : (path : Path) (k : ℕ) (members : List Path) → one.member path ≡ other.member path → SameTimes path → ChosenSame path k members → chosen_spans one path k members ≡ chosen_spans other path k members
   chosen_same path k [] e s f = refl
   chosen_same path k (m ∷ ms) e s f = ap₂ (◌&&◌)
       (under_one (same_number (one.member path) (pos k)) (same_number (other.member path) (pos k)) (same_span one m path) (same_span other m path) (ap (λ z. same_number z (pos k)) e)
       (λ h. span_same m path (f.0 h) s))
       (chosen_same path (k + 1) ms e s f.1)
 
-  all_span_same : (path : Path) (members : List Path) → SameTimes path → AllSame members → list_all (λ m. same_span one m path) members ≡ list_all (λ m. same_span other m path) members
+  pub all_span_same : (path : Path) (members : List Path) → SameTimes path → AllSame members → list_all (λ m. same_span one m path) members ≡ list_all (λ m. same_span other m path) members
   all_span_same path members s f = T.all_same (λ m. same_span one m path) (λ m. same_span other m path) members (λ m i. span_same m path (f m i) s)

@@ -5,6 +5,7 @@ pub mod JoinedRows
 pub mod Multiples
 pub mod NamedRun
 pub mod NumberLaw
+pub mod PhaseLaw
 pub mod Presence
 pub mod ShapeLaw
 pub mod SlotLaw
