@@ -171,6 +171,11 @@ module _ (scene : Scene) (point : List ℤ) (slot : SlotName → ℕ) where
             ∙ ap Some (back (at (SlotName.Value path)) low)
 
     module _ (texts : (are_texts scene.texts && nat_lt 0 (length scene.texts)) ≡ true) (free : list_all (λ (s : Spot). is_value_source (source scene s.path)) scene.spots ≡ true) where
+      pub value_there : (path : Path) (v : ValueSpot) → value_at scene path ≡ Some v → source scene path ≡ OfValue → stands scene at path ≡ true
+          → number_at scene (run_named scene at) path ≡ Some (at (SlotName.Value path))
+      value_there path v known is there = ap (number_from scene (run_named scene at) path) is
+          ∙ ap (option_and_then (number_of scene.texts)) (held_there scene at path v there known) ∙ held_number path texts v known
+
       pub number_there : (i : Info) (path : Path) (per : ℕ) → is_read scene i path per (source scene path) ≡ true → stands scene at path ≡ true
           → number_at scene (run_named scene at) path ≡ Some (source_value lay point path (source scene path))
       number_there i path per read there = by (source scene path) refl read
