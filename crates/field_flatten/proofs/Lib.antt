@@ -8,6 +8,7 @@ pub mod NamedRun
 pub mod NumberLaw
 pub mod PhaseLaw
 pub mod Presence
+pub mod RelationLaw
 pub mod ShapeLaw
 pub mod SlotLaw
 pub mod Tests
