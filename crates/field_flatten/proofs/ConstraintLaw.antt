@@ -83,7 +83,7 @@ module _ (scene : Scene) (point : List ℤ) (slot : SlotName → ℕ) (expanded 
 
   -- ---- expressions
 
-  abbrev reading : Info → Path → ℕ → Bool
+  abbrev pub reading : Info → Path → ℕ → Bool
   reading i path per = is_read scene i path per (source scene path)
 
   pub value_law : (t : Typed) → is_expression scene t ≡ true → has_values t ≡ true → ((p : Path) → In p (reads t) → stands scene named p ≡ true)

@@ -2,6 +2,7 @@ pub mod ArrangedLaw
 pub mod ConstraintLaw
 pub mod ExprReads
 pub mod JoinedRows
+pub mod ModifierLaw
 pub mod MotionLaw
 pub mod Multiples
 pub mod NamedRun

@@ -164,7 +164,7 @@ module _ (scene : Scene) (point : List ℤ) (slot : SlotName → ℕ) (expanded 
       ap (λ o. unwrap_or o (pos 0))
       (value_there scene point slot inside expanded.is_scene.texts expanded.no_durations limit l.spot l.known l.is (ap (list_all (is_held named)) l.conditions ∙ there))
 
-  sample_is : (vehicle : Path) (tick : ℕ) → In vehicle (vehicles scene) → stands scene named vehicle ≡ true → tick ≤ end_named scene named → sample_of runs vehicle tick ≡ sample_named named vehicle tick
+  pub sample_is : (vehicle : Path) (tick : ℕ) → In vehicle (vehicles scene) → stands scene named vehicle ≡ true → tick ≤ end_named scene named → sample_of runs vehicle tick ≡ sample_named named vehicle tick
   sample_is vehicle tick i there small = ap (λ o. unwrap_or o still)
       (sample_there scene named vehicle tick there (any_from (λ v. same_path v vehicle) (vehicles scene) vehicle i (path_self vehicle)) small)
 

@@ -58,20 +58,20 @@ module _ (point : List ℤ) where
   less_one : (a b : ℤ) → same_number a (b +ℤ negsuc 0) ≡ same_number a (b -ℤ pos 1)
   less_one a b = let e : b +ℤ negsuc 0 ≡ b -ℤ pos 1 = omega (arith, ints) in ap (same_number a) e
 
-  pub relation_law : (kind : Kind) (own other : SampleSlots) (low high : FlatTerm) (e : ℕ) (x y : Number) → 0 < e
-      → (has_range kind ≡ true → IsTimes x e (worth_at point low) × IsTimes y e (worth_at point high))
+  pub relation_law : (kind : Kind) (own other : SampleSlots) (low high : FlatTerm) (e : ℕ) (x y : Number)
+      → (has_range kind ≡ true → (0 < e) × IsTimes x e (worth_at point low) × IsTimes y e (worth_at point high))
       → holds_at point (relation_at kind own other low high e) ≡ holds_of kind x y (sample_at own) (sample_at other)
-  relation_law Kind.Speed own other low high e x y p f = between_law 1000 1000 (Slot own.speed) low high e x y (omega arith) refl p (f refl).0 (f refl).1
-  relation_law Kind.FasterThan own other low high e x y p f = between_law 1000 1000 (apart own.speed other.speed) low high e x y (omega arith) refl p (f refl).0 (f refl).1
-  relation_law Kind.SlowerThan own other low high e x y p f = between_law 1000 1000 (apart other.speed own.speed) low high e x y (omega arith) refl p (f refl).0 (f refl).1
-  relation_law Kind.SameSpeed own other low high e x y p f = refl
-  relation_law Kind.Lane own other low high e x y p f = between_law 1 1000000 (Slot own.lane) low high e x y (omega arith) refl p (f refl).0 (f refl).1
-  relation_law Kind.SameLane own other low high e x y p f = refl
-  relation_law Kind.LeftOf own other low high e x y p f = refl
-  relation_law Kind.RightOf own other low high e x y p f = less_one (worth_at point (Slot own.lane)) (worth_at point (Slot other.lane))
-  relation_law Kind.Position own other low high e x y p f = between_law 1000000 1 (Slot own.position) low high e x y (omega arith) refl p (f refl).0 (f refl).1
-  relation_law Kind.AheadOf own other low high e x y p f = between_law 1000000 1 (apart own.position other.position) low high e x y (omega arith) refl p (f refl).0 (f refl).1
-  relation_law Kind.Behind own other low high e x y p f = between_law 1000000 1 (apart other.position own.position) low high e x y (omega arith) refl p (f refl).0 (f refl).1
+  relation_law Kind.Speed own other low high e x y f = between_law 1000 1000 (Slot own.speed) low high e x y (omega arith) refl (f refl).0 (f refl).1 (f refl).2
+  relation_law Kind.FasterThan own other low high e x y f = between_law 1000 1000 (apart own.speed other.speed) low high e x y (omega arith) refl (f refl).0 (f refl).1 (f refl).2
+  relation_law Kind.SlowerThan own other low high e x y f = between_law 1000 1000 (apart other.speed own.speed) low high e x y (omega arith) refl (f refl).0 (f refl).1 (f refl).2
+  relation_law Kind.SameSpeed own other low high e x y f = refl
+  relation_law Kind.Lane own other low high e x y f = between_law 1 1000000 (Slot own.lane) low high e x y (omega arith) refl (f refl).0 (f refl).1 (f refl).2
+  relation_law Kind.SameLane own other low high e x y f = refl
+  relation_law Kind.LeftOf own other low high e x y f = refl
+  relation_law Kind.RightOf own other low high e x y f = less_one (worth_at point (Slot own.lane)) (worth_at point (Slot other.lane))
+  relation_law Kind.Position own other low high e x y f = between_law 1000000 1 (Slot own.position) low high e x y (omega arith) refl (f refl).0 (f refl).1 (f refl).2
+  relation_law Kind.AheadOf own other low high e x y f = between_law 1000000 1 (apart own.position other.position) low high e x y (omega arith) refl (f refl).0 (f refl).1 (f refl).2
+  relation_law Kind.Behind own other low high e x y f = between_law 1000000 1 (apart other.position own.position) low high e x y (omega arith) refl (f refl).0 (f refl).1 (f refl).2
 
   pub moment_law : (moment : Moment) (start end : FlatTerm) (tick : ℕ) → list_all (holds_at point) (moment_at moment start end tick) ≡ is_moment moment (worth_at point start) (worth_at point end) (pos tick)
   moment_law Moment.Start start end tick = and_unit (same_number (worth_at point start) (pos tick))
