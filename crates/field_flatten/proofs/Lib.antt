@@ -1,11 +1,13 @@
 pub mod ArrangedLaw
 pub mod ConstraintLaw
 pub mod ExprReads
+pub mod ItemLaw
 pub mod JoinedRows
 pub mod ModifierLaw
 pub mod MotionLaw
 pub mod Multiples
 pub mod NamedRun
+pub mod Nesting
 pub mod NumberLaw
 pub mod PhaseLaw
 pub mod Presence

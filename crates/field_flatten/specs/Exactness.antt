@@ -1,13 +1,12 @@
 -- When a flat form says exactly what its scene says.
-use Rattle.std.specs.Prelude.{◌≡◌, ◌&&◌, ◌++◌, Bool, true, false, not, List, [], ◌∷◌, flat_map, option_to_list, ℤ, pos}
-use Rattle.std.specs.List.{list_any, list_all}
+use Rattle.std.specs.Prelude.{◌≡◌, ◌&&◌, ◌++◌, Bool, true, false, List, [], ◌∷◌, flat_map, option_to_list, ℤ, pos, int_lt}
+use Rattle.std.specs.List.{list_all}
 use Rattle.osc_base.specs.declared.path.Path.{Path}
 use Rattle.osc_base.specs.declared.listing.SlotName.{SlotName}
 use Rattle.box_eval.specs.Box.{value_of}
 use Rattle.box_eval.specs.FlatRules.{worth_at}
 use Rattle.expr_eval.specs.Kinds.{is_number}
 use Rattle.expr_eval.specs.Typed.{Typed, Constant, Read, Whole, Listed, Span, Minus, Not, Sum, Times, And, Or, Implies, Relation, Within, TypedRow, End, Item}
-use Rattle.osc_base.specs.Comparisons.{same_number}
 use Rattle.composition.specs.declared.spot.ValueRange.{ValueRange}
 use Rattle.composition.specs.declared.spot.ValueSpot.{ValueSpot}
 use Rattle.composition.specs.Scenes.{Scene, Spot, Occurrence, ModifierSpot, Source, OfRun, OfPhase, OfValue, source, values}
@@ -59,15 +58,16 @@ is_value_source OfRun = false
 is_value_source (OfPhase phase) = false
 is_value_source OfValue = true
 
--- no number stands twice
-abbrev pub distinct_numbers : List ℤ → Bool
-distinct_numbers [] = true
-distinct_numbers (n ∷ ns) = not (list_any (same_number n) ns) && distinct_numbers ns
+-- each number is less than the next
+abbrev pub is_ascending : List ℤ → Bool
+is_ascending [] = true
+is_ascending (n ∷ []) = true
+is_ascending (n ∷ m ∷ ms) = int_lt n m && is_ascending (m ∷ ms)
 
--- the numbers of an enum are distinct
-abbrev pub is_distinct_range : ValueRange → Bool
-is_distinct_range (ValueRange.Among numbers) = distinct_numbers numbers
-is_distinct_range _ = true
+-- the numbers of an enum are distinct, and in order
+abbrev pub is_ordered_range : ValueRange → Bool
+is_ordered_range (ValueRange.Among numbers) = is_ascending numbers
+is_ordered_range _ = true
 
 -- the expressions of a scene: those of constraints, and the ends of modifiers
 abbrev pub expressions : Scene → List Typed
@@ -76,9 +76,9 @@ expressions scene =
     ++ flat_map (λ (m : ModifierSpot). option_to_list m.low ++ option_to_list m.high) scene.modifiers
 
 -- What the laws need of an expanded scene: what holds of every scene; each part of an expression is a value; nothing stands where a duration is
--- read; and the numbers of each enum are distinct.
+-- read; and the numbers of each enum ascend.
 pub record IsExpanded (scene : Scene) : Type 0 where
   pub is_scene : IsScene scene
   pub all_values : list_all has_values (expressions scene) ≡ true
   pub no_durations : list_all (λ (s : Spot). is_value_source (source scene s.path)) scene.spots ≡ true
-  pub enums_distinct : list_all (λ (v : ValueSpot). is_distinct_range v.range) (values scene) ≡ true
+  pub enums_ordered : list_all (λ (v : ValueSpot). is_ordered_range v.range) (values scene) ≡ true
