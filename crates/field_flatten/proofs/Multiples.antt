@@ -1,0 +1,46 @@
+-- Common multiples of scales.
+use Rattle.std.proofs.Common.{◌≡◌, ℕ, zero, suc, ◌*◌, ◌/◌, ◌%◌, ◌≤◌, ◌<◌, refl, sym, ap, ◌∙◌, subst, arith}
+use Rattle.std.specs.Int.{IsGcd, ◌∣◌}
+use Rattle.std.proofs.Math.Nat.{mul_comm, div-mul_cancel, mul-div_cancel', pos_of_dvd_of_pos, dvd-mul_left, dvd-mul_right}
+use Rattle.std.proofs.lemmas.Nat.Gcd.{IsGcd-from_zero, IsGcd-from_mod}
+use Rattle.osc_base.specs.LowestTerms.{gcd, gcd_within, lcm}
+use Rattle.osc_base.proofs.Multiples.{lowest_same}
+
+gcd_is_within : (steps a b : ℕ) → b < steps → IsGcd a b (gcd_within steps a b)
+gcd_is_within zero a b few = absurd (omega arith)
+gcd_is_within (suc steps) a zero few = IsGcd-from_zero a zero refl
+gcd_is_within (suc steps) a (suc b) few = IsGcd-from_mod a (suc b) (gcd_within steps (suc b) (a % suc b)) (gcd_is_within steps (suc b) (a % suc b) (omega arith))
+
+pub gcd_is : (a b : ℕ) → IsGcd a b (gcd a b)
+unfolding gcd
+gcd_is a b = gcd_is_within (suc b) a b (omega arith)
+
+-- a scale, and a number that it is multiplied with
+pub record Common (a b : ℕ) : Type 0 where
+  pub left : ℕ
+  pub right : ℕ
+  pub left_is : lcm a b ≡ a * left
+  pub right_is : lcm a b ≡ b * right
+  pub above : 0 < lcm a b
+
+pub product_positive : (a b : ℕ) → 0 < a → 0 < b → 0 < a * b
+product_positive zero b p q = elim p [ ]
+product_positive (suc a) zero p q = elim q [ ]
+product_positive (suc a) (suc b) p q = grind arith
+
+pub common : (a b : ℕ) → 0 < a → 0 < b → Common a b
+unfolding lcm
+common a b p q =
+    let g = gcd_is a b in
+    let share : 0 < b / gcd a b = pos_of_dvd_of_pos (subst (λ n. b / gcd a b ∣ n) (mul-div_cancel' (gcd a b) g.1) (dvd-mul_left (b / gcd a b) (gcd a b))) q in
+    record {
+      left = b / gcd a b;
+      right = a / gcd a b;
+      left_is = refl;
+      right_is = sym (lowest_same a b (gcd a b) g.0 g.1) ∙ mul_comm (a / gcd a b) b;
+      above = product_positive a (b / gcd a b) p share;
+    }
+
+-- a multiple over what it is a multiple of
+pub share_of : (a k : ℕ) → 0 < a → (a * k) / a ≡ k
+share_of a k p = grind arith
