@@ -95,14 +95,7 @@ pub(crate) fn ends_of(trail: &Trail, slot: u32) -> Pair
 }
 
 /// Whether a rule is false on the first part that has so many values of the slot, which has these ends.
-fn is_false_on(
-    rule: &Rule,
-    trail: &Trail,
-    slot: u32,
-    side: Side,
-    ends: Pair,
-    count: u64,
-) -> bool
+fn is_false_on(rule: &Rule, trail: &Trail, slot: u32, side: Side, ends: Pair, count: u64) -> bool
     requires probe { IsProbe (present trail.now) rule.now slot }
     requires ends { ends ≡ pair (low_at (present trail.now) slot) (high_at (present trail.now) slot) }
     requires part { IsPartOf (pair (low_at (present trail.now) slot) (high_at (present trail.now) slot)) count }
