@@ -51,13 +51,16 @@ refuted_text draws cuts flat claim boxes is short r =
 -- an undecided record that the search returns with so many cuts is accepted, and leaves something open
 pub undecided_record : (draws : ℕ → ℕ) (cuts : ℕ) (flat : Flat) (claim : Record) (boxes : List (List Pair)) (queue : List ℕ) → IsUndecidedAnswer draws cuts flat claim boxes queue
     → (u : IsUndecided flat claim) × (u.cuts ≡ cuts)
-undecided_record draws cuts flat claim boxes queue r = (record {
-  tree = r.tree;
-  accepted = r.spent.guided.accepted;
-  some_open = some_open_at (last_of boxes) flat.bounds.pairs r.tree r.spent.ends_at;
-  cuts = cuts;
-  cuts_are = r.spent.cuts_are;
-}, refl)
+undecided_record draws cuts flat claim boxes queue r = (
+  record {
+    tree = r.tree;
+    accepted = r.spent.guided.accepted;
+    some_open = some_open_at (last_of boxes) flat.bounds.pairs r.tree r.spent.ends_at;
+    cuts = cuts;
+    cuts_are = r.spent.cuts_are;
+  },
+  refl,
+)
 
 -- what is written of a record is read as that record, and as no other
 pub read_back : (flat : Flat) (claim other : Record) (tree t : Tree) → IsFlat flat → HasShortEnds flat.bounds.pairs → IsAcceptedAs flat claim tree → IsTextOf (record_text claim) other t → (other ≡ claim) × (t ≡ tree)
@@ -67,7 +70,7 @@ read_back flat claim other tree t is short a text =
 -- the text of a record with c cuts has 2 c + 6 lines
 pub lines_count : (claim : Record) (tree : Tree) → IsRecordOf claim tree → length (record_lines claim) ≡ 2 * cuts_of tree + 6
 lines_count claim tree r =
-    omega (arith, length-append (map text_line claim.lines) (T.End ∷ []), length-map text_line claim.lines, ap length r.lines, length_lines tree)
+    omega (arith, length-append (map text_line claim.lines) (T.End ∷ []), length-map claim.lines text_line, ap length r.lines, length_lines tree)
 
 -- ---- what `verify` says of their texts
 

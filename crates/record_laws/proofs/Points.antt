@@ -59,16 +59,22 @@ points_both (x ∷ xs) ys = omega (arith, points_both xs ys)
 -- the leaves together have as many points as the box
 pub leaves_points : (ends : List Pair) (tree : Tree) → AllCut ends tree → points_all (leaf_boxes ends tree) ≡ points_of ends
 leaves_points ends (branch cut first second) all =
-    omega (arith, points_both (leaf_boxes (first_part cut ends) first) (leaf_boxes (second_part cut ends) second),
-    leaves_points (first_part cut ends) first all.1, leaves_points (second_part cut ends) second all.2, cut_points ends cut all.0)
+    omega (
+      arith,
+      points_both (leaf_boxes (first_part cut ends) first) (leaf_boxes (second_part cut ends) second),
+      leaves_points (first_part cut ends) first all.1,
+      leaves_points (second_part cut ends) second all.2,
+      cut_points ends cut all.0,
+    )
 leaves_points ends (leaf l) all = omega arith
 
 -- each cut of an accepted tree cuts its box
 pub accepted_cuts : (rules : List Rule) (room : ℕ) (ends : List Pair) (above : ℕ) (tree : Tree) → Accepted rules room ends above tree → AllCut ends tree
 accepted_cuts rules room ends above (branch cut first second) all =
     let firsts = accepts rules room (first_part cut ends) (above + 1) first in
-    let seconds = accepts rules room (second_part cut ends) (above + 1) second in
-    ((cut_facts room ends above cut all.0).parts,
-    accepted_cuts rules room (first_part cut ends) (above + 1) first (AllTrue-front firsts seconds all.1),
-    accepted_cuts rules room (second_part cut ends) (above + 1) second (AllTrue-back firsts seconds all.1))
+    let seconds = accepts rules room (second_part cut ends) (above + 1) second in (
+      (cut_facts room ends above cut all.0).parts,
+      accepted_cuts rules room (first_part cut ends) (above + 1) first (AllTrue-front firsts seconds all.1),
+      accepted_cuts rules room (second_part cut ends) (above + 1) second (AllTrue-back firsts seconds all.1),
+    )
 accepted_cuts rules room ends above (leaf l) all = tt

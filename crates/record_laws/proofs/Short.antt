@@ -49,14 +49,15 @@ module _ (rules : List Rule) (root : List Pair) (few_slots : length root < 2 ^ 3
   short_lines ends above (branch cut first second) inside all =
       let is = (cut_facts room ends above cut all.0).parts in
       let firsts = accepts rules room (first_part cut ends) (above + 1) first in
-      let seconds = accepts rules room (second_part cut ends) (above + 1) second in
-      (short_cut cut.side cut.slot cut.value
-      (omega (arith, is.slot_there, inside.as_long, few_slots))
-      (between_short (low_at root cut.slot) (low_at ends cut.slot) cut.value (high_at ends cut.slot) (high_at root cut.slot)
-      (short.low cut.slot) (short.high cut.slot) (inside.above cut.slot) is.low is.high (inside.below cut.slot)),
-      short_map (lines_of first) (lines_of second)
-      (short_lines (first_part cut ends) (above + 1) first (inside_trans (first_part cut ends) ends root (first_part_inside ends cut is) inside) (AllTrue-front firsts seconds all.1))
-      (short_lines (second_part cut ends) (above + 1) second (inside_trans (second_part cut ends) ends root (second_part_inside ends cut is) inside) (AllTrue-back firsts seconds all.1)))
+      let seconds = accepts rules room (second_part cut ends) (above + 1) second in (
+        short_cut cut.side cut.slot cut.value
+            (omega (arith, is.slot_there, inside.as_long, few_slots))
+            (between_short (low_at root cut.slot) (low_at ends cut.slot) cut.value (high_at ends cut.slot) (high_at root cut.slot)
+            (short.low cut.slot) (short.high cut.slot) (inside.above cut.slot) is.low is.high (inside.below cut.slot)),
+        short_map (lines_of first) (lines_of second)
+            (short_lines (first_part cut ends) (above + 1) first (inside_trans (first_part cut ends) ends root (first_part_inside ends cut is) inside) (AllTrue-front firsts seconds all.1))
+            (short_lines (second_part cut ends) (above + 1) second (inside_trans (second_part cut ends) ends root (second_part_inside ends cut is) inside) (AllTrue-back firsts seconds all.1)),
+      )
   short_lines ends above (leaf l) inside all = short_leaf ends above l all
 
 same_number : (a b : ℕ) → nat_eq a b ≡ true → a ≡ b
@@ -70,6 +71,16 @@ accepted_short flat claim tree is short a =
     let slots : claim.slots ≡ length flat.bounds.pairs = same_number claim.slots (length flat.bounds.pairs) a.accepted.1.0 in
     let rules : claim.rules ≡ length flat.rules = same_number claim.rules (length flat.rules) a.accepted.1.1.0 in
     let room : claim.room ≤ 1000000 = at_most claim.room 1000000 a.accepted.1.1.1.0 in
-    let lines : AllShort (map text_line (lines_of tree)) = short_lines flat.rules flat.bounds.pairs is.few_slots is.few_rules short claim.room flat.bounds.pairs 0 tree (inside_self flat.bounds.pairs) a.accepted.1.1.1.1 in
-    (tt, (omega (arith, slots, is.few_slots), (omega (arith, rules, is.few_rules), (omega (arith, room),
-    short_both (map text_line claim.lines) (T.End ∷ []) (subst (λ (ls : List Line). AllShort (map text_line ls)) (sym a.record_of.lines) lines) (tt, tt)))))
+    let lines : AllShort (map text_line (lines_of tree)) = short_lines flat.rules flat.bounds.pairs is.few_slots is.few_rules short claim.room flat.bounds.pairs 0 tree (inside_self flat.bounds.pairs) a.accepted.1.1.1.1 in (
+      tt,
+      (
+        omega (arith, slots, is.few_slots),
+        (
+          omega (arith, rules, is.few_rules),
+          (
+            omega (arith, room),
+            short_both (map text_line claim.lines) (T.End ∷ []) (subst (λ (ls : List Line). AllShort (map text_line ls)) (sym a.record_of.lines) lines) (tt, tt),
+          ),
+        ),
+      ),
+    )

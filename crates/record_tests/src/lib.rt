@@ -2,9 +2,9 @@
 #![tactic(auto)]
 
 #[cfg(test)]
-mod answers;
-#[cfg(test)]
 mod accepted;
+#[cfg(test)]
+mod answers;
 #[cfg(test)]
 mod bad_lines;
 #[cfg(test)]

@@ -70,13 +70,15 @@ fn is_refuted(
 
 #[test]
 fn above_3_and_below_3(rt: HostRuntime) -> Result<(), Fail> {
-    let text = b"osc-refutation 1\nslots 1\nrules 3\nroom 3\nlow 0 -1\nclose 0\nhigh 0 5\nclose 0\nlow 0 3\nclose 1\nclose 2\nend\n";
+    let text =
+        b"osc-refutation 1\nslots 1\nrules 3\nroom 3\nlow 0 -1\nclose 0\nhigh 0 5\nclose 0\nlow 0 3\nclose 1\nclose 2\nend\n";
     is_refuted(&rt, &forms::apart(rt.alloc())?, text, 12)
 }
 
 #[test]
 fn a_default_that_stands(rt: HostRuntime) -> Result<(), Fail> {
-    let text = b"osc-refutation 1\nslots 1\nrules 3\nroom 3\nlow 0 3\nclose 0\nhigh 0 9\nclose 0\nlow 0 8\nclose 1\nclose 2\nend\n";
+    let text =
+        b"osc-refutation 1\nslots 1\nrules 3\nroom 3\nlow 0 3\nclose 0\nhigh 0 9\nclose 0\nlow 0 8\nclose 1\nclose 2\nend\n";
     is_refuted(&rt, &forms::overridden(rt.alloc(), true)?, text, 12)
 }
 
@@ -88,13 +90,22 @@ fn above_the_greatest_number(rt: HostRuntime) -> Result<(), Fail> {
 
 #[test]
 fn every_slot_of_a_turn_is_taken(rt: HostRuntime) -> Result<(), Fail> {
-    let text = b"osc-refutation 1\nslots 2\nrules 1\nroom 3\nlow 0 -2\nclose 0\nhigh 0 1\nclose 0\nlow 1 999999999\nclose 0\nclose 0\nend\n";
+    let text =
+        b"osc-refutation 1\nslots 2\nrules 1\nroom 3\nlow 0 -2\nclose 0\nhigh 0 1\nclose 0\nlow 1 999999999\nclose 0\nclose 0\nend\n";
     is_refuted(&rt, &forms::no_root(rt.alloc())?, text, 12)
 }
 
 #[test]
 fn each_below_the_other(rt: HostRuntime) -> Result<(), Fail> {
-    let start = b"osc-undecided 1\nslots 2\nrules 2\nroom 1000\nhigh 0 999999999\nclose 0\nlow 1 -1000000000\nclose 0\nlow 0 -999999999\nclose 1\nhigh 1 999999998\nclose 1\n";
+    let start =
+        b"osc-undecided 1\nslots 2\nrules 2\nroom 1000\nhigh 0 999999999\nclose 0\nlow 1 -1000000000\nclose 0\nlow 0 -999999999\nclose 1\nhigh 1 999999998\nclose 1\n";
     let flat = forms::both_below(rt.alloc())?;
-    is_written(&rt, &flat, start, b"\nopen\nend\n", 2006, "Ok(Open { cuts: 1000 })")
+    is_written(
+        &rt,
+        &flat,
+        start,
+        b"\nopen\nend\n",
+        2006,
+        "Ok(Open { cuts: 1000 })",
+    )
 }

@@ -39,6 +39,9 @@ fn a_sink_without_room_has_what_fits(rt: HostRuntime) -> Result<(), Fail> {
 
 #[test]
 fn a_sink_that_fails_has_what_came_before(rt: HostRuntime) -> Result<(), Fail> {
-    assert_eq!(rt; written(rt.alloc(), 4096, 4, &[3])?.as_str(), "Err(Sink) 12");
+    assert_eq!(rt;
+        written(rt.alloc(), 4096, 4, &[3])?.as_str(),
+        "Err(Sink) 12"
+    );
     Ok(())
 }

@@ -17,22 +17,22 @@ fn main(rt: HostRuntime) -> Result<()> {
         bail!("the words are a part and a number");
     };
     let number = number.as_str().parse::<u32>().context("the number")?;
-    let total = match part.as_str() {
-        "root" => searches::roots(rt.alloc(), number)?,
-        "below" => searches::both_below(rt.alloc(), number)?,
-        "field" => searches::vehicles(rt.alloc(), number)?,
-        "form" => searches::many_rules(rt.alloc(), number, 0)?,
-        "desk" => searches::many_rules(rt.alloc(), number, 1_000_000)?,
-        "verify" => {
-            let Some(file) = words.next() else {
-                bail!("the words are verify, a number of slots and a file");
-            };
-            let verified = records::verified(&rt, number, file.as_str())?;
-            println!(rt; "{verified:?}")?;
-            return Ok(());
-        }
-        _ => bail!("the part is root, below, field, form, desk or verify"),
-    };
-    println!(rt; "{total}")?;
+    match words.next() {
+        Some(file) => println!(rt; "{:?}", records::verified(&rt, number, file.as_str())?)?,
+        None => println!(rt; "{}", total(&rt, part.as_str(), number)?)?,
+    }
     Ok(())
+}
+
+/// A number that depends on all answers of a part.
+fn total(rt: &impl AllocGlobal, part: &str, number: u32) -> Result<u64> {
+    let alloc = rt.alloc();
+    match part {
+        "root" => searches::roots(alloc, number),
+        "below" => searches::both_below(alloc, number),
+        "field" => searches::vehicles(alloc, number),
+        "form" => searches::many_rules(alloc, number, 0),
+        "desk" => searches::many_rules(alloc, number, 1_000_000),
+        _ => bail!("the part is root, below, field, form, desk, or verify with a file"),
+    }
 }

@@ -29,12 +29,7 @@ fn sum(alloc: Global, a: Term, b: Term) -> Result<Term, AllocError> {
 }
 
 /// A slot that is at least a number and at most another.
-fn within(
-    alloc: Global,
-    number: u32,
-    low: i128,
-    high: i128,
-) -> Result<Rule, AllocError> {
+fn within(alloc: Global, number: u32, low: i128, high: i128) -> Result<Rule, AllocError> {
     let least = Rule::AtMost(whole(low), slot(number));
     let most = Rule::AtMost(slot(number), whole(high));
     Ok(Rule::Both(Boxed::new(alloc, least)?, Boxed::new(alloc, most)?))

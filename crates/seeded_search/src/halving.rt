@@ -94,13 +94,14 @@ pub(crate) fn ends_of(trail: &Trail, slot: u32) -> Pair
     }
 }
 
-/// Whether a rule is false on the first part that has so many values of the slot.
-fn is_false_on(rule: &Rule, trail: &Trail, slot: u32, side: Side, count: u64) -> bool
+/// Whether a rule is false on the first part that has so many values of the slot, which has these ends.
+fn is_false_on(rule: &Rule, trail: &Trail, slot: u32, side: Side, ends: Pair, count: u64) -> bool
     requires probe { IsProbe (present trail.now) rule.now slot }
+    requires ends { ends ≡ pair (low_at (present trail.now) slot) (high_at (present trail.now) slot) }
     requires part { IsPartOf (pair (low_at (present trail.now) slot) (high_at (present trail.now) slot)) count }
     ensures { result ≡ is_false (verdict_of (part_of side (present trail.now) slot count) rule.now) }
 {
-    let pair = part_pair(side, ends_of(trail, slot), count);
+    let pair = part_pair(side, ends, count);
     matches_false(judge(rule, &Narrowed { trail, slot, pair }))
 }
 
@@ -124,25 +125,25 @@ pub(crate) fn longest(rule: &Rule, trail: &Trail, slot: u32, side: Side) -> Opti
         × IsHalved (present trail.now) rule.now slot side count count) }
 {
     let ends = ends_of(trail, slot);
-    if ends.low == ends.high || !is_false_on(rule, trail, slot, side, 1) {
+    if ends.low == ends.high || !is_false_on(rule, trail, slot, side, ends, 1) {
         return None;
     }
-    let count = halved(rule, trail, slot, side, ends.high.abs_diff(ends.low));
+    let count = halved(rule, trail, slot, side, ends);
     Some(value_of(side, ends, count))
 }
 
-/// The number of values of the slot in that part, where a rule is false on the part with one value.
-fn halved(rule: &Rule, trail: &Trail, slot: u32, side: Side, all: u64) -> u64
+/// The number of values of the slot, which has these ends, in that part. The rule is false on the part with one value.
+fn halved(rule: &Rule, trail: &Trail, slot: u32, side: Side, ends: Pair) -> u64
     requires probe { IsProbe (present trail.now) rule.now slot }
-    requires all { all ≡ width (present trail.now) slot }
-    requires one { IsHalved (present trail.now) rule.now slot side 1 all }
+    requires ends { ends ≡ pair (low_at (present trail.now) slot) (high_at (present trail.now) slot) }
+    requires one { IsHalved (present trail.now) rule.now slot side 1 (width (present trail.now) slot) }
     ensures { IsHalved (present trail.now) rule.now slot side result result }
 {
     let mut least = 1;
-    let mut most = all;
+    let mut most = ends.high.abs_diff(ends.low);
     while least < most {
         let half = most - (most - least) / 2;
-        if is_false_on(rule, trail, slot, side, half) {
+        if is_false_on(rule, trail, slot, side, ends, half) {
             least = half;
         } else {
             most = half - 1;
