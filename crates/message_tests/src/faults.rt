@@ -113,7 +113,7 @@ fn places_in_messages(rt: HostRuntime) -> Result<(), Fail> {
                 "error[324]: there is no such scenario\n",
                 "  --> main.osc:2:1\n",
                 "   |\n",
-                " 2 | \n",
+                " 2 |\n",
                 "   | ^\n",
                 "   |\n",
                 "   = help: a name near `top` is `tops`\n",
