@@ -198,16 +198,16 @@ fn first_of<'a>(names: &[Declared<'a>], later: Declared<'a>) -> Option<Declared<
 
 /// Of the names that are a few edits away from a word, the first of the nearest.
 #[derive(Clone, Copy)]
-pub struct Nearest<'a> {
-    word: &'a str,
+pub struct Nearest<'w, 'a> {
+    word: &'w str,
     /// The edits to the name that is found, else one more than may be.
     edits: usize,
     name: Option<&'a str>,
 }
 
-impl<'a> Nearest<'a> {
+impl<'w, 'a> Nearest<'w, 'a> {
     /// No name is found yet. A third of the word's characters may be edited, and at least one.
-    pub fn new(word: &'a str) -> Nearest<'a> {
+    pub fn new(word: &'w str) -> Nearest<'w, 'a> {
         Nearest {
             word,
             edits: word.chars().count().max(3) / 3 + 1,
@@ -235,10 +235,10 @@ impl<'a> Nearest<'a> {
 }
 
 /// The name nearest to a word, of the declared ones and of those that need no declaration.
-pub fn nearest<'a>(
+pub fn nearest_name<'a>(
     alloc: Global,
     names: &[Declared<'a>],
-    word: &'a str,
+    word: &str,
 ) -> Result<Option<&'a str>, AllocError> {
     let mut nearest = Nearest::new(word);
     for declared in names {

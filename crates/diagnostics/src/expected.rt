@@ -10,7 +10,7 @@ use dsl_parser::{ParseStop, parse};
 use std::alloc::{AllocError, Global};
 
 /// The longest text before the place, in bytes: it is read once for each kind of token.
-const FRONT_LIMIT: usize = 32_768;
+const BEFORE_LIMIT: usize = 32_768;
 /// How many names are written.
 const NAMED: u32 = 8;
 /// The longest source, in bytes.
@@ -20,11 +20,11 @@ const SOURCE_LIMIT: usize = 1_048_576;
 #[derive(Clone, Copy)]
 struct Question<'a> {
     alloc: Global,
-    front: &'a [u8],
+    before: &'a [u8],
     tokens: u32,
 }
 
-/// A list of names, written one behind the other.
+/// A list of names, written one after the other.
 #[derive(Drop)]
 struct Names {
     text: String,
@@ -52,14 +52,14 @@ impl Names {
 ///
 /// The text is empty if the text before is long, or if the source has no syntax fault.
 pub fn expected(alloc: Global, source: &[u8], at: usize) -> Result<String, AllocError> {
-    let front = source.get(..at).unwrap_or(source);
-    if front.len() > FRONT_LIMIT {
+    let before = source.get(..at).unwrap_or(source);
+    if before.len() > BEFORE_LIMIT {
         return Ok(String::new(alloc));
     }
     match first_dead(alloc, source)? {
         Read::Dead(tokens) => named(Question {
             alloc,
-            front,
+            before,
             tokens,
         }),
         Read::Whole | Read::Uncut => Ok(String::new(alloc)),
@@ -72,7 +72,7 @@ fn named(question: Question<'_>) -> Result<String, AllocError> {
         count: 0,
     };
     put_names(question, &mut names)?;
-    if names.count == 0 && begins_line(question.front) {
+    if names.count == 0 && begins_line(question.before) {
         names.text.push_str("the line before opens no block")?;
     }
     Ok(names.text)
@@ -115,7 +115,7 @@ fn put_words(question: Question<'_>, names: &mut Names) -> Result<(), AllocError
 
 /// Names the end of the line, or a line that opens a block.
 fn put_layout(question: Question<'_>, names: &mut Names) -> Result<(), AllocError> {
-    let candidate = if begins_line(question.front) {
+    let candidate = if begins_line(question.before) {
         kinds::BLOCK
     } else {
         kinds::LINE_END
@@ -166,8 +166,8 @@ fn may_all_stand(question: Question<'_>, candidates: &[Candidate]) -> Result<boo
 
 /// Whether a token may stand at the place, of which the lexer makes this text.
 fn may_stand(question: Question<'_>, text: &str) -> Result<bool, AllocError> {
-    let mut source = Vec::from_slice(question.alloc, question.front)?;
-    if !begins_line(question.front) {
+    let mut source = Vec::from_slice(question.alloc, question.before)?;
+    if !begins_line(question.before) {
         source.push(b' ')?;
     }
     source.extend_from_slice(text.as_bytes())?;
@@ -178,9 +178,9 @@ fn may_stand(question: Question<'_>, text: &str) -> Result<bool, AllocError> {
     }
 }
 
-/// Whether nothing but spaces stands behind the last line feed.
-fn begins_line(front: &[u8]) -> bool {
-    match front.iter().rev().find(|b| **b != b' ') {
+/// Whether nothing but spaces stands after the last line feed.
+fn begins_line(before: &[u8]) -> bool {
+    match before.iter().rev().find(|b| **b != b' ') {
         Some(byte) => *byte == b'\n',
         None => true,
     }
@@ -191,7 +191,7 @@ fn begins_line(front: &[u8]) -> bool {
 enum Read {
     /// A tree.
     Whole,
-    /// A token with which no file goes on, behind so many others.
+    /// A token with which no file goes on, after so many others.
     Dead(u32),
     /// No tokens.
     Uncut,

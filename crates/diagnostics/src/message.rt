@@ -77,6 +77,9 @@ fn put_numbered(
     source: &str,
 ) -> Result<(), AllocError> {
     put_times(text, ' ', gutter.saturating_sub(gutter_of(line)))?;
+    if source.is_empty() {
+        return write!(text, " {line} |\n");
+    }
     write!(text, " {line} | {source}\n")
 }
 

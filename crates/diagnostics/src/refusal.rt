@@ -3,7 +3,7 @@
 use crate::excerpt::{line_start, word_at};
 use crate::expected::expected;
 use crate::message::{gutter_of, put_help, put_site};
-use crate::declared::{declared_names, earlier, nearest};
+use crate::declared::{declared_names, earlier, nearest_name};
 use crate::told::{Spot, Told, told_by};
 use crate::words::words_message;
 use command_words::{Request, Source, read_words};
@@ -148,7 +148,7 @@ fn put_nearest<H: Shelf>(
         return Ok(());
     };
     let names = declared_names(alloc, &program)?;
-    match nearest(alloc, names.as_slice(), word)? {
+    match nearest_name(alloc, names.as_slice(), word)? {
         Some(name) => {
             let help = format!(in alloc; "a name near `{word}` is `{name}`")?;
             put_help(text, gutter, help.as_str())

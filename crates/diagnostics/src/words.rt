@@ -25,11 +25,11 @@ pub fn words_message(alloc: Global, words: &[String]) -> Result<String, AllocErr
     Ok(text)
 }
 
-fn put_words(
+fn put_words<'a>(
     alloc: Global,
     text: &mut String,
-    command: &str,
-    rest: &[String],
+    command: &'a str,
+    rest: &'a [String],
 ) -> Result<(), AllocError> {
     if command == "explain" {
         put_explained(text, rest)
@@ -69,11 +69,11 @@ fn put_no_command(alloc: Global, text: &mut String, word: &str) -> Result<(), Al
 }
 
 /// Puts which word after a command is refused, or that one is missing.
-fn put_refused(
+fn put_refused<'a>(
     alloc: Global,
     text: &mut String,
-    command: &str,
-    rest: &[String],
+    command: &'a str,
+    rest: &'a [String],
 ) -> Result<(), AllocError> {
     let mut words = Vec::new(alloc);
     words.push(command)?;
@@ -143,20 +143,25 @@ fn is_taken(asked: Asked) -> bool {
     matches!(asked, Asked::Other)
 }
 
-fn read_with(alloc: Global, words: &[&str], more: &[&str]) -> Result<Asked, AllocError> {
-    let mut all = Vec::from_slice(alloc, words)?;
-    all.extend_from_slice(more)?;
-    read(alloc, all.as_slice())
+fn read(alloc: Global, words: &[&str]) -> Result<Asked, AllocError> {
+    read_with(alloc, words, &[])
 }
 
-fn read(alloc: Global, words: &[&str]) -> Result<Asked, AllocError> {
-    let mut owned = Vec::new(alloc);
-    for word in words {
-        owned.push(String::from_str(alloc, word)?)?;
-    }
-    match read_words(alloc, owned.as_slice())? {
+/// What the words and then some more ask for.
+fn read_with(alloc: Global, words: &[&str], more: &[&str]) -> Result<Asked, AllocError> {
+    let mut all = Vec::new(alloc);
+    put_copies(alloc, &mut all, words)?;
+    put_copies(alloc, &mut all, more)?;
+    match read_words(alloc, all.as_slice())? {
         Request::Help(_) => Ok(Asked::Help),
         Request::Refused => Ok(Asked::Nothing),
         Request::Topics | Request::Explain(_) | Request::Generate(_) => Ok(Asked::Other),
     }
+}
+
+fn put_copies(alloc: Global, all: &mut Vec<String>, words: &[&str]) -> Result<(), AllocError> {
+    for word in words {
+        all.push(String::from_str(alloc, word)?)?;
+    }
+    Ok(())
 }

@@ -11,6 +11,7 @@ const CODES: usize = 29;
 const TOLD: [u16; 14] = [
     101, 102, 103, 104, 105, 106, 107, 201, 202, 298, 301, 302, 311, 324,
 ];
+
 const GENERATE: [&str; 3] = ["generate", "main.osc", "top"];
 
 /// All that there is to explain.
@@ -66,7 +67,10 @@ fn each_example_gives_its_fault(rt: HostRuntime) -> Result<(), Fail> {
         } else {
             format!(in alloc; "fault 298 main.osc:")?
         };
-        assert!(rt; called.written.as_str().starts_with(want.as_str()), "{number}");
+        assert!(rt;
+            called.written.as_str().starts_with(want.as_str()),
+            "{number}"
+        );
     }
     Ok(())
 }

@@ -113,7 +113,7 @@ fn places_in_messages(rt: HostRuntime) -> Result<(), Fail> {
                 "error[324]: there is no such scenario\n",
                 "  --> main.osc:2:1\n",
                 "   |\n",
-                " 2 | \n",
+                " 2 |\n",
                 "   | ^\n",
                 "   |\n",
                 "   = help: a name near `top` is `tops`\n",
@@ -131,7 +131,8 @@ fn places_in_messages(rt: HostRuntime) -> Result<(), Fail> {
 /// Messages for faults that aren't told today.
 #[test]
 fn names_that_are_near(rt: HostRuntime) -> Result<(), Fail> {
-    let source = "enum kind: [fast, slow]\nscenario top:\n    speed: flot\n    keep(sped > 3 and xyz == 1)\n";
+    let source =
+        "enum kind: [fast, slow]\nscenario top:\n    speed: flot\n    keep(sped > 3 and xyz == 1)\n";
     let files = [("main.osc", source.as_bytes())];
     let rows = [
         (
@@ -172,7 +173,10 @@ fn earlier_declarations(rt: HostRuntime) -> Result<(), Fail> {
     for (line, want) in rows {
         let message = message_for(rt.alloc(), line, &files)?;
         assert!(rt; message.as_str().contains(want), "{line}");
-        assert!(rt; message.as_str().contains("^^^^ the earlier declaration\n"), "{line}");
+        assert!(rt;
+            message.as_str().contains("^^^^ the earlier declaration\n"),
+            "{line}"
+        );
     }
     Ok(())
 }

@@ -31,7 +31,10 @@ fn words_after_a_command(rt: HostRuntime) -> Result<(), Fail> {
             &["a.osc", "--ticks", "0", "top"],
             "error: `--ticks` doesn't take the value `0`\n",
         ),
-        (&["a.osc", "top", "--road"], "error: `--road` has no value\n"),
+        (
+            &["a.osc", "top", "--road"],
+            "error: `--road` has no value\n",
+        ),
         (
             &["a.osc", "top", "--road=ten"],
             "error: `osc generate` doesn't take the word `--road=ten` here\n",
@@ -75,7 +78,12 @@ fn first_words(rt: HostRuntime) -> Result<(), Fail> {
     for (words, want) in rows {
         let called = call(rt.alloc(), words, &[])?;
         begins(&rt, &called, 4, want);
-        assert!(rt; called.message.as_str().ends_with("  = help: `osc explain 4` tells more\n"));
+        assert!(rt;
+            called
+                .message
+                .as_str()
+                .ends_with("  = help: `osc explain 4` tells more\n")
+        );
     }
     Ok(())
 }
@@ -86,9 +94,19 @@ fn files_and_standard_output(rt: HostRuntime) -> Result<(), Fail> {
     let words = ["generate", "main.osc", "top"];
     let main = [("main.osc", SOURCE.as_bytes())];
     let missing = call(alloc, &words, &[])?;
-    begins(&rt, &missing, 6, "error: there is no file `main.osc`\n  = help: ");
+    begins(
+        &rt,
+        &missing,
+        6,
+        "error: there is no file `main.osc`\n  = help: ",
+    );
     let failed = call_failing(alloc, &words, &main, &[0], 8192)?;
-    begins(&rt, &failed, 6, "error: the system can't read `main.osc`\n  = help: ");
+    begins(
+        &rt,
+        &failed,
+        6,
+        "error: the system can't read `main.osc`\n  = help: ",
+    );
     let full = call_failing(alloc, &words, &main, &[], 0)?;
     begins(&rt, &full, 7, "error: standard output failed\n  = help: ");
     let bytes = vec![in alloc; b'#'; 1_048_577]?;

@@ -28,13 +28,7 @@ fn main(rt: HostRuntime) -> ExitCode {
     let mut again = FileShelf::new(&rt);
     tell(
         &rt,
-        refusal_message(
-            rt.alloc(),
-            words.as_slice(),
-            number,
-            out.note(),
-            &mut again,
-        ),
+        refusal_message(rt.alloc(), words.as_slice(), number, out.note(), &mut again),
     );
     ExitCode::from(number)
 }

@@ -1,4 +1,5 @@
 use Rattle.std.proofs.Common.{◌∙◌, sym, ap}
+use Rattle.fault_texts.specs.Explained.{explanation, topic_list}
 use Rattle.command_words.specs.Seen.{asked_by, seen}
 use Rattle.command_words.specs.Words.{Wanted}
 use Rattle.scenario_tool.specs.Replies.{done}
@@ -8,6 +9,14 @@ use Rattle.scenario_tool.proofs.top.reply_to.Goals as goal
 pub returns-in_ok-copy-in-Help-clause-reply : goal.returns-in_ok-copy-in-Help-clause-reply
 returns-in_ok-copy-in-Help-clause-reply g c = help_reply (g.H.Shelf.files c.args.shelf.now) _ c.in-Help.text.now _ c.done.result
     (sym (ap seen c.in-Help.is) ∙ c.in_ok-text.ensures.request) (c.done.ensures ∙ ap done c.in_ok-copy-in-Help.ensures)
+
+pub returns-in_ok-topic_list-in-Topics-clause-reply : goal.returns-in_ok-topic_list-in-Topics-clause-reply
+returns-in_ok-topic_list-in-Topics-clause-reply g c = help_reply (g.H.Shelf.files c.args.shelf.now) _ topic_list _ c.done-in-Topics.result
+    (sym (ap seen c.in-Topics.is) ∙ c.in_ok-text.ensures.request) (c.done-in-Topics.ensures ∙ ap done c.in_ok-topic_list-in-Topics.ensures)
+
+pub returns-in_ok-explanation-in-Explain-clause-reply : goal.returns-in_ok-explanation-in-Explain-clause-reply
+returns-in_ok-explanation-in-Explain-clause-reply g c = help_reply (g.H.Shelf.files c.args.shelf.now) _ (explanation c.in-Explain.topic) _ c.done-in-Explain.result
+    (sym (ap seen c.in-Explain.is) ∙ c.in_ok-text.ensures.request) (c.done-in-Explain.ensures ∙ ap done c.in_ok-explanation-in-Explain.ensures)
 
 pub returns-in-Generate-clause-reply : goal.returns-in-Generate-clause-reply
 returns-in-Generate-clause-reply g c = same_reply (g.H.Shelf.files c.args.shelf.now) (Wanted.Generate (asked_by c.in-Generate.asked)) _ _ _ c.reply_to_generate.result
