@@ -1,6 +1,7 @@
 pub mod ArrangedLaw
 pub mod ConstraintLaw
 pub mod ExprReads
+pub mod Frame
 pub mod ItemLaw
 pub mod JoinedRows
 pub mod ModifierLaw

@@ -51,7 +51,7 @@ module _ {A B : Type 0} (make : A → Option B) where
 
 -- ---- texts
 
-text_in : (texts : List (List ℕ)) (n : ℕ) → n < length texts → In (unwrap_or (slice_get texts n) []) texts
+pub text_in : (texts : List (List ℕ)) (n : ℕ) → n < length texts → In (unwrap_or (slice_get texts n) []) texts
 text_in [] n small = absurd (omega arith)
 text_in (t ∷ ts) zero small = inl refl
 text_in (t ∷ ts) (suc n) small = inr (text_in ts n (omega arith))
