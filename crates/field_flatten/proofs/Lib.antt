@@ -4,6 +4,7 @@ pub mod ExprReads
 pub mod Frame
 pub mod ItemLaw
 pub mod JoinedRows
+pub mod ListedRun
 pub mod ModifierLaw
 pub mod MotionLaw
 pub mod Multiples
