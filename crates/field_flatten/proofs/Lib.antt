@@ -12,6 +12,7 @@ pub mod NamedRun
 pub mod Nesting
 pub mod NumberLaw
 pub mod PhaseLaw
+pub mod PointOfRun
 pub mod Presence
 pub mod RelationLaw
 pub mod ShapeLaw
