@@ -15,6 +15,7 @@ pub mod PhaseLaw
 pub mod PointOfRun
 pub mod Presence
 pub mod RelationLaw
+pub mod RunBack
 pub mod ShapeLaw
 pub mod SlotLaw
 pub mod Tests

@@ -75,7 +75,7 @@ slice_in [] i x h = cc
 slice_in (y ∷ ys) zero x h = let e : x ≡ y = cc in inl e
 slice_in (y ∷ ys) (suc i) x h = inr (slice_in ys i x h)
 
-some_less : {A : Type 0} (xs : List A) (i : ℕ) (x : A) → slice_get xs i ≡ Some x → i < length xs
+pub some_less : {A : Type 0} (xs : List A) (i : ℕ) (x : A) → slice_get xs i ≡ Some x → i < length xs
 some_less [] i x h = cc
 some_less (y ∷ ys) zero x h = omega arith
 some_less (y ∷ ys) (suc i) x h = let rest = some_less ys i x h in omega arith
