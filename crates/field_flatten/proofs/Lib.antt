@@ -1,4 +1,5 @@
 pub mod ArrangedLaw
+pub mod ClaimLists
 pub mod ConstraintLaw
 pub mod ExprReads
 pub mod Frame

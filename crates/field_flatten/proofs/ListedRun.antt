@@ -80,91 +80,92 @@ module _ (A B : Type 0) (key : A → Path) (key_of : B → Path) (keep : Path �
 
 -- ---- the run
 
-module _ (scene : Scene) (run : TimedRun) (framed : Framed scene run) where
-  abbrev choice_row : List Claim
+module _ (scene : Scene) (run : TimedRun) where
+  abbrev pub choice_row : List Claim
   choice_row = listed (those_there scene run (map (λ (c : ChoiceSpot). c.path) (choices scene))) (map (λ (c : Choice). c.path) run.choices)
 
-  abbrev value_row : List Claim
+  abbrev pub value_row : List Claim
   value_row = listed (those_there scene run (map (λ (v : ValueSpot). v.path) (values scene))) (map (λ (v : Value). v.path) run.values)
 
-  abbrev phase_row : List Claim
+  abbrev pub phase_row : List Claim
   phase_row = listed (those_there scene run (map (λ (p : PhaseSpot). p.path) (phases scene))) (map (λ (p : Span). p.path) run.phases)
 
-  abbrev trace_row : List Claim
+  abbrev pub trace_row : List Claim
   trace_row = listed (those_there scene run (vehicles scene)) (map (λ (t : Trace). t.path) run.traces)
 
-  abbrev length_row : List Claim
+  abbrev pub length_row : List Claim
   length_row = map (λ (t : Trace). claim Clause.Listed t.path (nat_eq (length t.samples) (run.end + 1))) run.traces
 
-  pub choices_listed : filter (is_there scene run) (map (λ (c : ChoiceSpot). c.path) (choices scene)) ≡ map (λ (c : Choice). c.path) run.choices
-  choices_listed =
-      let a = all_parts holds_in (choice_row ++ value_row ++ phase_row ++ trace_row) length_row framed.listed in
-      let b = all_parts holds_in (choice_row ++ value_row ++ phase_row) trace_row a.0 in
-      let c = all_parts holds_in (choice_row ++ value_row) phase_row b.0 in
-      listed_are (those_there scene run (map (λ (c : ChoiceSpot). c.path) (choices scene))) (map (λ (c : Choice). c.path) run.choices) (all_parts holds_in choice_row value_row c.0).0
-
-  pub values_listed : filter (is_there scene run) (map (λ (v : ValueSpot). v.path) (values scene)) ≡ map (λ (v : Value). v.path) run.values
-  values_listed =
-      let a = all_parts holds_in (choice_row ++ value_row ++ phase_row ++ trace_row) length_row framed.listed in
-      let b = all_parts holds_in (choice_row ++ value_row ++ phase_row) trace_row a.0 in
-      let c = all_parts holds_in (choice_row ++ value_row) phase_row b.0 in
-      listed_are (those_there scene run (map (λ (v : ValueSpot). v.path) (values scene))) (map (λ (v : Value). v.path) run.values) (all_parts holds_in choice_row value_row c.0).1
-
-  pub phases_listed : filter (is_there scene run) (map (λ (p : PhaseSpot). p.path) (phases scene)) ≡ map (λ (s : Span). s.path) run.phases
-  phases_listed =
-      let a = all_parts holds_in (choice_row ++ value_row ++ phase_row ++ trace_row) length_row framed.listed in
-      let b = all_parts holds_in (choice_row ++ value_row ++ phase_row) trace_row a.0 in
-      listed_are (those_there scene run (map (λ (p : PhaseSpot). p.path) (phases scene))) (map (λ (p : Span). p.path) run.phases) (all_parts holds_in (choice_row ++ value_row) phase_row b.0).1
-
-  pub traces_listed : filter (is_there scene run) (map (λ v. v) (vehicles scene)) ≡ map (λ (t : Trace). t.path) run.traces
-  traces_listed =
-      let a = all_parts holds_in (choice_row ++ value_row ++ phase_row ++ trace_row) length_row framed.listed in
-      ap (filter (is_there scene run)) (map_self (vehicles scene))
-      ∙ listed_are (those_there scene run (vehicles scene)) (map (λ (t : Trace). t.path) run.traces) (all_parts holds_in (choice_row ++ value_row ++ phase_row) trace_row a.0).1
-    where
-      map_self : (ps : List Path) → map (λ v. v) ps ≡ ps
-      map_self [] = refl
-      map_self (p ∷ ps) = ap (λ qs. p ∷ qs) (map_self ps)
-
-  pub trace_long : (t : Trace) → In t run.traces → length t.samples ≡ run.end + 1
-  trace_long t i =
-      let a = all_parts holds_in (choice_row ++ value_row ++ phase_row ++ trace_row) length_row framed.listed in
-      let b = sym (all_map holds_in (λ (u : Trace). claim Clause.Listed u.path (nat_eq (length u.samples) (run.end + 1))) run.traces) ∙ a.1 in
-      number_is (length t.samples) (run.end + 1) (all_at (λ (u : Trace). nat_eq (length u.samples) (run.end + 1)) run.traces b t i)
-
-  -- ---- bounds
-
-  abbrev choice_bounds : List Claim
+  abbrev pub choice_bounds : List Claim
   choice_bounds = map (λ (c : Choice). claim Clause.Bounds c.path (choice_in_range scene c)) run.choices
 
-  abbrev value_bounds : List Claim
+  abbrev pub value_bounds : List Claim
   value_bounds = map (λ (v : Value). claim Clause.Bounds v.path (value_in_range scene v)) run.values
 
-  abbrev span_bounds : List Claim
+  abbrev pub span_bounds : List Claim
   span_bounds = map (λ (s : Span). claim Clause.Bounds s.path (span_in_range scene.setting s)) run.phases
 
-  abbrev trace_bounds : List Claim
+  abbrev pub trace_bounds : List Claim
   trace_bounds = map (λ (t : Trace). claim Clause.Bounds t.path (list_all (sample_in_range scene.setting) t.samples)) run.traces
 
-  pub choice_bounded : (c : Choice) → In c run.choices → choice_in_range scene c ≡ true
-  choice_bounded c i =
-      let a = all_parts holds_in (choice_bounds ++ value_bounds ++ span_bounds) trace_bounds framed.bounded in
-      let b = all_parts holds_in (choice_bounds ++ value_bounds) span_bounds a.0 in
-      all_at (choice_in_range scene) run.choices (sym (all_map holds_in (λ (d : Choice). claim Clause.Bounds d.path (choice_in_range scene d)) run.choices) ∙ (all_parts holds_in choice_bounds value_bounds b.0).0) c i
+  module _ (framed : Framed scene run) where
+    pub choices_listed : filter (is_there scene run) (map (λ (c : ChoiceSpot). c.path) (choices scene)) ≡ map (λ (c : Choice). c.path) run.choices
+    choices_listed =
+        let a = all_parts holds_in (choice_row ++ value_row ++ phase_row ++ trace_row) length_row framed.listed in
+        let b = all_parts holds_in (choice_row ++ value_row ++ phase_row) trace_row a.0 in
+        let c = all_parts holds_in (choice_row ++ value_row) phase_row b.0 in
+        listed_are (those_there scene run (map (λ (c : ChoiceSpot). c.path) (choices scene))) (map (λ (c : Choice). c.path) run.choices) (all_parts holds_in choice_row value_row c.0).0
 
-  pub value_bounded : (v : Value) → In v run.values → value_in_range scene v ≡ true
-  value_bounded v i =
-      let a = all_parts holds_in (choice_bounds ++ value_bounds ++ span_bounds) trace_bounds framed.bounded in
-      let b = all_parts holds_in (choice_bounds ++ value_bounds) span_bounds a.0 in
-      all_at (value_in_range scene) run.values (sym (all_map holds_in (λ (w : Value). claim Clause.Bounds w.path (value_in_range scene w)) run.values) ∙ (all_parts holds_in choice_bounds value_bounds b.0).1) v i
+    pub values_listed : filter (is_there scene run) (map (λ (v : ValueSpot). v.path) (values scene)) ≡ map (λ (v : Value). v.path) run.values
+    values_listed =
+        let a = all_parts holds_in (choice_row ++ value_row ++ phase_row ++ trace_row) length_row framed.listed in
+        let b = all_parts holds_in (choice_row ++ value_row ++ phase_row) trace_row a.0 in
+        let c = all_parts holds_in (choice_row ++ value_row) phase_row b.0 in
+        listed_are (those_there scene run (map (λ (v : ValueSpot). v.path) (values scene))) (map (λ (v : Value). v.path) run.values) (all_parts holds_in choice_row value_row c.0).1
 
-  pub span_bounded : (s : Span) → In s run.phases → span_in_range scene.setting s ≡ true
-  span_bounded s i =
-      let a = all_parts holds_in (choice_bounds ++ value_bounds ++ span_bounds) trace_bounds framed.bounded in
-      all_at (span_in_range scene.setting) run.phases (sym (all_map holds_in (λ (p : Span). claim Clause.Bounds p.path (span_in_range scene.setting p)) run.phases) ∙ (all_parts holds_in (choice_bounds ++ value_bounds) span_bounds a.0).1) s i
+    pub phases_listed : filter (is_there scene run) (map (λ (p : PhaseSpot). p.path) (phases scene)) ≡ map (λ (s : Span). s.path) run.phases
+    phases_listed =
+        let a = all_parts holds_in (choice_row ++ value_row ++ phase_row ++ trace_row) length_row framed.listed in
+        let b = all_parts holds_in (choice_row ++ value_row ++ phase_row) trace_row a.0 in
+        listed_are (those_there scene run (map (λ (p : PhaseSpot). p.path) (phases scene))) (map (λ (p : Span). p.path) run.phases) (all_parts holds_in (choice_row ++ value_row) phase_row b.0).1
 
-  pub trace_bounded : (t : Trace) → In t run.traces → list_all (sample_in_range scene.setting) t.samples ≡ true
-  trace_bounded t i =
-      let a = all_parts holds_in (choice_bounds ++ value_bounds ++ span_bounds) trace_bounds framed.bounded in
-      all_at (λ (u : Trace). list_all (sample_in_range scene.setting) u.samples) run.traces
-      (sym (all_map holds_in (λ (u : Trace). claim Clause.Bounds u.path (list_all (sample_in_range scene.setting) u.samples)) run.traces) ∙ a.1) t i
+    pub traces_listed : filter (is_there scene run) (map (λ v. v) (vehicles scene)) ≡ map (λ (t : Trace). t.path) run.traces
+    traces_listed =
+        let a = all_parts holds_in (choice_row ++ value_row ++ phase_row ++ trace_row) length_row framed.listed in
+        ap (filter (is_there scene run)) (map_self (vehicles scene))
+        ∙ listed_are (those_there scene run (vehicles scene)) (map (λ (t : Trace). t.path) run.traces) (all_parts holds_in (choice_row ++ value_row ++ phase_row) trace_row a.0).1
+      where
+        map_self : (ps : List Path) → map (λ v. v) ps ≡ ps
+        map_self [] = refl
+        map_self (p ∷ ps) = ap (λ qs. p ∷ qs) (map_self ps)
+
+    pub trace_long : (t : Trace) → In t run.traces → length t.samples ≡ run.end + 1
+    trace_long t i =
+        let a = all_parts holds_in (choice_row ++ value_row ++ phase_row ++ trace_row) length_row framed.listed in
+        let b = sym (all_map holds_in (λ (u : Trace). claim Clause.Listed u.path (nat_eq (length u.samples) (run.end + 1))) run.traces) ∙ a.1 in
+        number_is (length t.samples) (run.end + 1) (all_at (λ (u : Trace). nat_eq (length u.samples) (run.end + 1)) run.traces b t i)
+
+    -- ---- bounds
+
+    pub choice_bounded : (c : Choice) → In c run.choices → choice_in_range scene c ≡ true
+    choice_bounded c i =
+        let a = all_parts holds_in (choice_bounds ++ value_bounds ++ span_bounds) trace_bounds framed.bounded in
+        let b = all_parts holds_in (choice_bounds ++ value_bounds) span_bounds a.0 in
+        all_at (choice_in_range scene) run.choices (sym (all_map holds_in (λ (d : Choice). claim Clause.Bounds d.path (choice_in_range scene d)) run.choices) ∙ (all_parts holds_in choice_bounds value_bounds b.0).0) c i
+
+    pub value_bounded : (v : Value) → In v run.values → value_in_range scene v ≡ true
+    value_bounded v i =
+        let a = all_parts holds_in (choice_bounds ++ value_bounds ++ span_bounds) trace_bounds framed.bounded in
+        let b = all_parts holds_in (choice_bounds ++ value_bounds) span_bounds a.0 in
+        all_at (value_in_range scene) run.values (sym (all_map holds_in (λ (w : Value). claim Clause.Bounds w.path (value_in_range scene w)) run.values) ∙ (all_parts holds_in choice_bounds value_bounds b.0).1) v i
+
+    pub span_bounded : (s : Span) → In s run.phases → span_in_range scene.setting s ≡ true
+    span_bounded s i =
+        let a = all_parts holds_in (choice_bounds ++ value_bounds ++ span_bounds) trace_bounds framed.bounded in
+        all_at (span_in_range scene.setting) run.phases (sym (all_map holds_in (λ (p : Span). claim Clause.Bounds p.path (span_in_range scene.setting p)) run.phases) ∙ (all_parts holds_in (choice_bounds ++ value_bounds) span_bounds a.0).1) s i
+
+    pub trace_bounded : (t : Trace) → In t run.traces → list_all (sample_in_range scene.setting) t.samples ≡ true
+    trace_bounded t i =
+        let a = all_parts holds_in (choice_bounds ++ value_bounds ++ span_bounds) trace_bounds framed.bounded in
+        all_at (λ (u : Trace). list_all (sample_in_range scene.setting) u.samples) run.traces
+        (sym (all_map holds_in (λ (u : Trace). claim Clause.Bounds u.path (list_all (sample_in_range scene.setting) u.samples)) run.traces) ∙ a.1) t i

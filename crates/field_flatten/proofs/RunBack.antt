@@ -27,6 +27,7 @@ use Rattle.composition.specs.There.{is_number, is_met, is_there}
 use Rattle.composition.specs.Numbers.{text_number, number_of}
 use Rattle.composition.specs.Ranges.{in_range}
 use Rattle.composition.specs.Claims.{value_in_range, ends_with_root_do}
+use Rattle.composition.specs.Items.{typed_holds}
 use Rattle.composition.specs.Slots.{slot_names, sample_names}
 use Rattle.composition.specs.Invariants.{is_guard, guard_path, value_at, is_numeric, are_distinct}
 use Rattle.field_flatten.specs.Ends.{ends_of}
@@ -274,3 +275,19 @@ module _ (scene : Scene) (expanded : IsExpanded scene) (run : TimedRun) (framed 
       ∙ ap (λ k. made run.choices run.end run.phases k now.traces now.values) (sym end_parts.0)
       ∙ ap (λ t. made run.choices run.end run.phases run.tick t now.values) traces_back
       ∙ ap (λ v. made run.choices run.end run.phases run.tick run.traces v) values_back
+
+  -- ---- enums
+
+  pub typed_back : (path : Path) (numbers : List ℤ) (v : ValueSpot) → In v (values scene) → v.path ≡ path → v.range ≡ ValueRange.Among numbers → typed_holds scene run path numbers ≡ true
+  typed_back path numbers v i is range = two_ways (there path)
+      (λ e. let w = entry_there ValueSpot Value (λ u. u.path) (λ u. u.path) there (values scene) run.values (values_listed scene run framed) v i (subst (λ p. there p ≡ true) (sym is) e) in
+      let holds = subst (λ r. in_range scene.texts r w.0.held ≡ true) range (value_range w.0 w.1 v i (sym w.2)) in
+      let at : w.0.path ≡ path = sym w.2 ∙ is in
+      ap (λ b. not b || option_map_or (λ h. list_any (λ n. is_number n h) numbers) (held_in run path) false) e
+      ∙ ap (λ o. option_map_or (λ h. list_any (λ n. is_number n h) numbers) o false) (ap (held_in run) (sym at) ∙ value_entry w.0 w.1)
+      ∙ by w.0.held holds)
+      (λ e. ap (λ b. not b || option_map_or (λ h. list_any (λ n. is_number n h) numbers) (held_in run path) false) e)
+    where
+      by : (held : Held) → in_range scene.texts (ValueRange.Among numbers) held ≡ true → list_any (λ n. is_number n held) numbers ≡ true
+      by (Held.Number n) h = h
+      by (Held.Chars text) h = absurd (true≢false (sym h))

@@ -25,7 +25,7 @@ use Rattle.expr_eval.specs.Operators.{fit_for, fits_in, is_range_or_list}
 use Rattle.expr_eval.specs.Sound.{same_size, has_size, is_lowest, is_constant_of, is_per, are_truths, is_truth_info, can_join, is_sound, are_sound}
 use Rattle.composition.specs.Scenes.{Source, OfRun, OfPhase, OfValue}
 use Rattle.field_flatten.specs.Shapes.{Layout, Shape, in_nothing, of_rule, of_term, constant_term, of_constant, phase_start, phase_end, read_term, product_term, compared, at_common, relation, in_span, in_list, shape, shapes}
-use Rattle.field_flatten.specs.Exactness.{has_values, have_values, source_value, seen}
+use Rattle.field_flatten.specs.Seen.{has_values, have_values, source_value, seen}
 use Rattle.field_flatten.proofs.Tests.{left_of, right_of, both, contrary, two_ways, number_is}
 use Rattle.field_flatten.proofs.JoinedRows.{any_holds, times_worth}
 use Rattle.field_flatten.proofs.Multiples.{Common, common, share_of, product_positive}

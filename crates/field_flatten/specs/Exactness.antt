@@ -1,54 +1,22 @@
 -- When a flat form says exactly what its scene says.
-use Rattle.std.specs.Prelude.{◌≡◌, ◌&&◌, ◌++◌, Bool, true, false, List, [], ◌∷◌, flat_map, option_to_list, ℤ, pos, int_lt}
+use Rattle.std.specs.Prelude.{◌≡◌, ◌&&◌, ◌||◌, ◌++◌, Bool, true, false, List, [], ◌∷◌, map, flat_map, option_to_list, ℤ, int_lt}
 use Rattle.std.specs.List.{list_all}
 use Rattle.osc_base.specs.declared.path.Path.{Path}
-use Rattle.osc_base.specs.declared.listing.SlotName.{SlotName}
-use Rattle.box_eval.specs.Box.{value_of}
-use Rattle.box_eval.specs.FlatRules.{worth_at}
-use Rattle.expr_eval.specs.Kinds.{is_number}
-use Rattle.expr_eval.specs.Typed.{Typed, Constant, Read, Whole, Listed, Span, Minus, Not, Sum, Times, And, Or, Implies, Relation, Within, TypedRow, End, Item}
+use Rattle.box_eval.specs.Box.{IsPointOf}
+use Rattle.box_eval.specs.FlatRules.{holds_at}
+use Rattle.expr_eval.specs.Typed.{Typed}
 use Rattle.composition.specs.declared.spot.ValueRange.{ValueRange}
 use Rattle.composition.specs.declared.spot.ValueSpot.{ValueSpot}
-use Rattle.composition.specs.Scenes.{Scene, Spot, Occurrence, ModifierSpot, Source, OfRun, OfPhase, OfValue, source, values}
+use Rattle.composition.specs.Scenes.{Scene, Spot, Occurrence, ModifierSpot, Source, OfRun, OfPhase, OfValue, source, values, phases}
+use Rattle.composition.specs.declared.clause.Clause.{Clause}
+use Rattle.composition.specs.TimedRuns.{TimedRun}
+use Rattle.composition.specs.Items.{Item, items, item_holds, is_hard}
+use Rattle.composition.specs.Claims.{Claim, claims, IsInstance}
 use Rattle.composition.specs.Invariants.{IsScene}
-use Rattle.composition.specs.Numbers.{thousandths}
-use Rattle.field_flatten.specs.Shapes.{Layout}
-
--- ---- expressions
-
--- each part is a value: no whole object or phase stands in it, and a product is a number
-abbrev mutual
-  pub has_values : Typed → Bool
-  has_values (Constant i number) = true
-  has_values (Read i path per) = true
-  has_values (Whole i path) = false
-  has_values (Listed i is_field items) = have_values items
-  has_values (Span i low high) = has_values low && has_values high
-  has_values (Minus i part) = has_values part
-  has_values (Not i part) = has_values part
-  has_values (Sum i left right) = has_values left && has_values right
-  has_values (Times i left right) = is_number i.kind && (has_values left && has_values right)
-  has_values (And i left right) = has_values left && has_values right
-  has_values (Or i left right) = has_values left && has_values right
-  has_values (Implies i left right) = has_values left && has_values right
-  has_values (Relation i sign left right) = has_values left && has_values right
-  has_values (Within i left right) = has_values left && has_values right
-
-  -- the same of each item of a list
-  pub have_values : TypedRow → Bool
-  have_values End = true
-  have_values (Item item others) = has_values item && have_values others
-
--- the number that a point gives what is read at a path
-abbrev pub source_value : Layout → List ℤ → Path → Source → ℤ
-source_value at point path OfRun = thousandths at.tick (pos 0) (worth_at point at.end)
-source_value at point path (OfPhase phase) =
-    thousandths at.tick (value_of point (at.slot (SlotName.Start phase))) (value_of point (at.slot (SlotName.End phase)))
-source_value at point path OfValue = value_of point (at.slot (SlotName.Value path))
-
--- the number that a point gives a path
-abbrev pub seen : Layout → List ℤ → Path → ℤ
-seen at point path = source_value at point path (at.source path)
+use Rattle.field_flatten.specs.Ends.{bounds}
+use Rattle.field_flatten.specs.Seen.{has_values}
+use Rattle.field_flatten.specs.Points.{run_of, point_of}
+use Rattle.field_flatten.specs.Rules.{layout, arranged_rule, item_rule, rules}
 
 -- ---- scenes
 
@@ -82,3 +50,51 @@ pub record IsExpanded (scene : Scene) : Type 0 where
   pub all_values : list_all has_values (expressions scene) ≡ true
   pub no_durations : list_all (λ (s : Spot). is_value_source (source scene s.path)) scene.spots ≡ true
   pub enums_ordered : list_all (λ (v : ValueSpot). is_ordered_range v.range) (values scene) ≡ true
+
+-- ---- points and runs
+
+-- every rule holds at a point
+abbrev pub meets : Scene → List ℤ → Bool
+meets scene point = list_all (holds_at point) (rules scene)
+
+-- every rule holds at a point, those of hard constraints left out
+abbrev pub meets_soft : Scene → List ℤ → Bool
+meets_soft scene point = list_all (λ i. is_hard i || holds_at point (item_rule scene (layout scene) i)) (items scene)
+
+-- the rule of every phase holds at a point
+abbrev pub meets_phases : Scene → List ℤ → Bool
+meets_phases scene point = list_all (λ p. holds_at point (arranged_rule scene (layout scene) p)) (phases scene)
+
+-- the clause of hard constraints
+abbrev pub is_hard_clause : Clause → Bool
+is_hard_clause Clause.Hard = true
+is_hard_clause _ = false
+
+-- every claim holds in a run, those of hard constraints left out
+abbrev pub is_framed : Scene → TimedRun → Bool
+is_framed scene run = list_all (λ (c : Claim). is_hard_clause c.clause || c.holds) (claims scene run)
+
+-- At a point at which the rules of phases hold, the rule of each item holds exactly if the item holds in the point's run.
+abbrev pub ItemsAgree : Scene → List ℤ → Type 0
+ItemsAgree scene point = map (λ i. holds_at point (item_rule scene (layout scene) i)) (items scene) ≡ map (item_holds scene (run_of scene point)) (items scene)
+
+-- a run is that of its point, which is in the box and at which every rule holds but those of hard constraints
+pub record IsReached (scene : Scene) (run : TimedRun) : Type 0 where
+  pub inside : IsPointOf (bounds scene) (point_of scene run)
+  pub met : meets_soft scene (point_of scene run) ≡ true
+  pub gives : run_of scene (point_of scene run) ≡ run
+
+-- a run is that of its point, which is in the box and at which every rule holds
+pub record IsFound (scene : Scene) (run : TimedRun) : Type 0 where
+  pub inside : IsPointOf (bounds scene) (point_of scene run)
+  pub met : meets scene (point_of scene run) ≡ true
+  pub gives : run_of scene (point_of scene run) ≡ run
+
+-- The flat form of a scene says exactly what the scene says.
+pub record IsExact (scene : Scene) : Type 0 where
+  pub items_agree : (point : List ℤ) → IsPointOf (bounds scene) point → meets_phases scene point ≡ true → ItemsAgree scene point
+  pub forth : (point : List ℤ) → IsPointOf (bounds scene) point → meets_soft scene point ≡ true → is_framed scene (run_of scene point) ≡ true
+  pub back : (run : TimedRun) → is_framed scene run ≡ true → IsReached scene run
+  pub instance_of : (point : List ℤ) → IsPointOf (bounds scene) point → meets scene point ≡ true → IsInstance scene (run_of scene point)
+  pub point_of_instance : (run : TimedRun) → IsInstance scene run → IsFound scene run
+  pub none : ((point : List ℤ) → IsPointOf (bounds scene) point → meets scene point ≡ false) → (run : TimedRun) → IsInstance scene run → ⊥
