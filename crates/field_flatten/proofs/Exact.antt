@@ -5,6 +5,8 @@ use Rattle.std.specs.List.{list_all}
 use Rattle.osc_base.specs.declared.path.Path.{Path}
 use Rattle.osc_base.specs.declared.listing.SlotName.{SlotName}
 use Rattle.box_eval.specs.Box.{IsPointOf}
+use Rattle.box_eval.specs.declared.flat.Flat.{Flat}
+use Rattle.box_eval.specs.Rules.{Meets, IsEmpty}
 use Rattle.box_eval.specs.FlatRules.{holds_at}
 use Rattle.composition.specs.declared.spot.ValueSpot.{ValueSpot}
 use Rattle.composition.specs.declared.spot.ValueRange.{ValueRange}
@@ -17,8 +19,9 @@ use Rattle.composition.specs.Slots.{slot_names}
 use Rattle.field_flatten.specs.Ends.{slot_in, bounds}
 use Rattle.field_flatten.specs.Points.{slot_value, run_of, point_of}
 use Rattle.field_flatten.specs.Rules.{layout, arranged_rule, item_rule, rules}
-use Rattle.field_flatten.specs.Exactness.{IsExpanded, meets, meets_soft, meets_phases, is_framed, ItemsAgree, IsReached, IsFound, IsExact}
+use Rattle.field_flatten.specs.Exactness.{IsExpanded, meets, meets_soft, meets_phases, is_framed, ItemsAgree, IsReached, IsFound, IsExact, IsFlatOf, IsExactFlat}
 use Rattle.field_flatten.proofs.Tests.{left_of, right_of, two_ways, contrary, In, in_map, all_at, all_from, all_map, map_same}
+use Rattle.field_flatten.proofs.FlatTruth.{meets_all, all_meets}
 use Rattle.field_flatten.proofs.SlotLaw.{Inside, point_inside}
 use Rattle.field_flatten.proofs.PhaseLaw.{arranged_law}
 use Rattle.field_flatten.proofs.Nesting.{AllArranged}
@@ -131,3 +134,24 @@ module _ (scene : Scene) (expanded : IsExpanded scene) where
     point_of_instance = found;
     none = λ empty run h. let f = found run h in true≢false (sym f.met ∙ empty (point_of scene run) f.inside);
   }
+
+-- ---- flat forms as the program holds them
+
+pub exact_flat : (scene : Scene) (flat : Flat) → IsExpanded scene → IsFlatOf scene flat → IsExactFlat scene flat
+exact_flat scene flat expanded is = record {
+  instance_of = λ point p m. (exact scene expanded).instance_of point (in_scene point p)
+      (sym (ap (list_all (holds_at point)) is.same_rules) ∙ meets_all point flat.rules m);
+  inside = λ run h. in_flat run h;
+  met = meets_in;
+  gives = λ run h. (found scene expanded run h).gives;
+  none = λ empty run h. empty (point_of scene run) (in_flat run h) (meets_in run h);
+}
+  where
+    in_scene : (point : List ℤ) → IsPointOf flat.bounds.pairs point → IsPointOf (bounds scene) point
+    in_scene point p = subst (λ ends. IsPointOf ends point) is.same_ends p
+
+    in_flat : (run : TimedRun) → IsInstance scene run → IsPointOf flat.bounds.pairs (point_of scene run)
+    in_flat run h = subst (λ ends. IsPointOf ends (point_of scene run)) (sym is.same_ends) (found scene expanded run h).inside
+
+    meets_in : (run : TimedRun) → IsInstance scene run → Meets (point_of scene run) flat.rules
+    meets_in run h = all_meets (point_of scene run) flat.rules (ap (list_all (holds_at (point_of scene run))) is.same_rules ∙ (found scene expanded run h).met)

@@ -3,7 +3,9 @@ use Rattle.std.specs.Prelude.{◌≡◌, ◌&&◌, ◌||◌, ◌++◌, Bool, tru
 use Rattle.std.specs.List.{list_all}
 use Rattle.osc_base.specs.declared.path.Path.{Path}
 use Rattle.box_eval.specs.Box.{IsPointOf}
-use Rattle.box_eval.specs.FlatRules.{holds_at}
+use Rattle.box_eval.specs.declared.flat.Flat.{Flat}
+use Rattle.box_eval.specs.Rules.{Meets, IsEmpty}
+use Rattle.box_eval.specs.FlatRules.{holds_at, flat_rule}
 use Rattle.expr_eval.specs.Typed.{Typed}
 use Rattle.composition.specs.declared.spot.ValueRange.{ValueRange}
 use Rattle.composition.specs.declared.spot.ValueSpot.{ValueSpot}
@@ -98,3 +100,28 @@ pub record IsExact (scene : Scene) : Type 0 where
   pub instance_of : (point : List ℤ) → IsPointOf (bounds scene) point → meets scene point ≡ true → IsInstance scene (run_of scene point)
   pub point_of_instance : (run : TimedRun) → IsInstance scene run → IsFound scene run
   pub none : ((point : List ℤ) → IsPointOf (bounds scene) point → meets scene point ≡ false) → (run : TimedRun) → IsInstance scene run → ⊥
+
+-- ---- flat forms as the program holds them
+
+-- its ends are those of a scene's slots, and its rules are a scene's rules
+pub record IsFlatOf (scene : Scene) (flat : Flat) : Type 0 where
+  pub same_ends : flat.bounds.pairs ≡ bounds scene
+  pub same_rules : map flat_rule flat.rules ≡ rules scene
+
+-- its points are the instances of the scene
+pub record IsExactFlat (scene : Scene) (flat : Flat) : Type 0 where
+  pub instance_of : (point : List ℤ) → IsPointOf flat.bounds.pairs point → Meets point flat.rules → IsInstance scene (run_of scene point)
+  pub inside : (run : TimedRun) → IsInstance scene run → IsPointOf flat.bounds.pairs (point_of scene run)
+  pub met : (run : TimedRun) → IsInstance scene run → Meets (point_of scene run) flat.rules
+  pub gives : (run : TimedRun) → IsInstance scene run → run_of scene (point_of scene run) ≡ run
+  pub none : IsEmpty flat.rules flat.bounds.pairs → (run : TimedRun) → IsInstance scene run → ⊥
+
+-- ---- the laws
+
+-- the rules of a scene say exactly what the scene says
+abbrev pub ScenesAreExact : Type 0
+ScenesAreExact = (scene : Scene) → IsExpanded scene → IsExact scene
+
+-- the points that meet all rules of a scene's flat form are the instances of the scene
+abbrev pub FlatFormsAreExact : Type 0
+FlatFormsAreExact = (scene : Scene) (flat : Flat) → IsExpanded scene → IsFlatOf scene flat → IsExactFlat scene flat
