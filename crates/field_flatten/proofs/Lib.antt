@@ -3,6 +3,7 @@ pub mod ClaimLists
 pub mod ConstraintLaw
 pub mod Exact
 pub mod ExprReads
+pub mod Fitting
 pub mod FlatReach
 pub mod FlatTruth
 pub mod Frame
