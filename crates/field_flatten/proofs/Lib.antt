@@ -22,6 +22,7 @@ pub mod Presence
 pub mod RelationLaw
 pub mod RunBack
 pub mod ShapeLaw
+pub mod ShapeReach
 pub mod SlotLaw
 pub mod Tests
 pub mod Times
