@@ -23,7 +23,7 @@ use Rattle.field_flatten.specs.Seen.{has_values, have_values}
 use Rattle.field_flatten.specs.Shapes.{Layout, Shape, of_rule, of_term, constant_term, of_constant, read_term, product_term, compared, at_common, relation, in_span, in_list, shape, shapes}
 use Rattle.field_flatten.proofs.Tests.{left_of, right_of, both, contrary, two_ways, number_is, In, map_in}
 use Rattle.field_flatten.proofs.Multiples.{Common, common, share_of, product_positive, lcm_swap}
-use Rattle.field_flatten.proofs.ShapeLaw.{scale_is, law, PerLaw}
+use Rattle.field_flatten.proofs.ShapeLaw.{scale_is, law, PerLaw, per_law, read_scale, number_no_truth, units_no_truth}
 use Rattle.field_flatten.proofs.Fitting.{Fits, RuleFits, weaker, whole_fits, sum_fits, less_fits, product_fits, times_fits, truth_fits, below_fits, at_most_fits, equal_fits, differ_fits, both_fits, either_fits, not_fits, always_fits, any_fits}
 
 reach_is : (i : Info) (s : Size) → has_size i s ≡ true → i.reach ≡ s.reach
@@ -290,3 +290,118 @@ module _ (ends : List Pair) (most : ℕ) (one_most : 1 ≤ most) (wide : (n : �
         where
           once : (n : ℕ) → n ≡ n * 1
           once n = omega arith
+
+  read_node : (i : Info) (path : Path) (per : ℕ) → test i path per ≡ true
+      → is_per i.kind per && (has_size i (field_size per) || (nat_eq per 1000 && has_size i duration_size)) ≡ true → Reaches (Read i path per)
+  read_node i path per passes h =
+      let rest = right_of (is_per i.kind per) (has_size i (field_size per) || (nat_eq per 1000 && has_size i duration_size)) h in
+      let p = per_law i.kind per (left_of (is_per i.kind per) (has_size i (field_size per) || (nat_eq per 1000 && has_size i duration_size)) h) in
+      let is = read_scale i per rest in
+      number_node i (read_term at path per (at.source path)) (record {
+        above = rw is p.above;
+        one = read_one i path per passes;
+        small = two_ways (has_size i (field_size per)) (narrow_info i (field_size per))
+            (λ e. let other : nat_eq per 1000 && has_size i duration_size ≡ true = rw e at rest in narrow_info i duration_size (right_of (nat_eq per 1000) (has_size i duration_size) other));
+        kept = refl;
+        terms = read_fits i path per passes;
+      }) (λ t. is ∙ p.of_truth_one t)
+
+  truth_sized : (i : Info) → is_truth_info i ≡ true → has_size i unit_size ≡ true
+  truth_sized i h = right_of (is_truth i.kind) (has_size i unit_size) h
+
+  truths_left : (a b : Typed) → are_truths a b ≡ true → is_truth (kind a) ≡ true
+  truths_left a b h = right_of (is_scalar a) (is_truth (kind a)) (left_of (is_scalar a && is_truth (kind a)) (is_scalar b && is_truth (kind b)) h)
+
+  truths_right : (a b : Typed) → are_truths a b ≡ true → is_truth (kind b) ≡ true
+  truths_right a b h = right_of (is_scalar b) (is_truth (kind b)) (right_of (is_scalar a && is_truth (kind a)) (is_scalar b && is_truth (kind b)) h)
+
+  -- two truth values joined by a rule
+  logic_node : (i : Info) (left right : Typed) (join : FlatRule → FlatRule → FlatRule) → ((a b : FlatRule) → RuleFits ends most a → RuleFits ends most b → RuleFits ends most (join a b))
+      → is_truth_info i && (are_truths left right && (is_sound left && is_sound right)) ≡ true → Reaches left → Reaches right → NodeFits i (of_rule (join (shape at left).rule (shape at right).rule)) []
+  logic_node i left right join keeps h a b =
+      let rest = right_of (is_truth_info i) (are_truths left right && (is_sound left && is_sound right)) h in
+      let truths = left_of (are_truths left right) (is_sound left && is_sound right) rest in
+      truth_node i (join (shape at left).rule (shape at right).rule) (truth_sized i (left_of (is_truth_info i) (are_truths left right && (is_sound left && is_sound right)) h))
+      (keeps (shape at left).rule (shape at right).rule (a.rule (truths_left left right truths)) (b.rule (truths_right left right truths)))
+
+  logic_left : (i : Info) (left right : Typed) → is_truth_info i && (are_truths left right && (is_sound left && is_sound right)) ≡ true → is_sound left ≡ true
+  logic_left i left right h = left_of (is_sound left) (is_sound right) (right_of (are_truths left right) (is_sound left && is_sound right) (right_of (is_truth_info i) (are_truths left right && (is_sound left && is_sound right)) h))
+
+  logic_right : (i : Info) (left right : Typed) → is_truth_info i && (are_truths left right && (is_sound left && is_sound right)) ≡ true → is_sound right ≡ true
+  logic_right i left right h = right_of (is_sound left) (is_sound right) (right_of (are_truths left right) (is_sound left && is_sound right) (right_of (is_truth_info i) (are_truths left right && (is_sound left && is_sound right)) h))
+
+  mutual
+    pub reaches : (t : Typed) → is_sound t ≡ true → has_values t ≡ true → each_read test t ≡ true → Reaches t
+    reaches (Constant i number) h v r = constant_node i number h (law [] at (Constant i number) h v).above
+    reaches (Read i path per) h v r = read_node i path per r h
+    reaches (Whole i path) h v r = absurd (true≢false (sym v))
+    reaches (Listed i is_field items) h v r =
+        rest_node i (in_list (shapes at items)) (items_of items) (left_of (has_size i unit_size) (are_sound items) h)
+        (λ l s j. any_fits ends most (map (λ (p : Shape). at_common Compare.Equal (shape at l).scale (shape at l).term p.scale p.term) (shapes at items)) (row_reaches items (right_of (has_size i unit_size) (are_sound items) h) v r l s j))
+    reaches (Span i low high) h v r =
+        let rest = right_of (is_scalar low && is_scalar high) (has_size i unit_size && (is_sound low && is_sound high)) h in
+        let parts = right_of (has_size i unit_size) (is_sound low && is_sound high) rest in
+        rest_node i (in_span (shape at low) (shape at high)) (low ∷ high ∷ []) (left_of (has_size i unit_size) (is_sound low && is_sound high) rest)
+        (span_node low high (reaches low (left_of (is_sound low) (is_sound high) parts) (left_of (has_values low) (has_values high) v) (left_of (each_read test low) (each_read test high) r)).sized
+        (reaches high (right_of (is_sound low) (is_sound high) parts) (right_of (has_values low) (has_values high) v) (right_of (each_read test low) (each_read test high) r)).sized)
+    reaches (Minus i part) h v r =
+        let rest = right_of (same_units i.kind (kind part)) (has_size i (size part) && is_sound part) h in
+        minus_node i part (left_of (has_size i (size part)) (is_sound part) rest) (reaches part (right_of (has_size i (size part)) (is_sound part) rest) v r).sized
+        (units_no_truth i.kind (kind part) (left_of (same_units i.kind (kind part)) (has_size i (size part) && is_sound part) h))
+    reaches (Not i part) h v r =
+        let rest = right_of (is_truth_info i) (are_truths part part && is_sound part) h in
+        truth_node i (Flat.Not (shape at part).rule) (truth_sized i (left_of (is_truth_info i) (are_truths part part && is_sound part) h))
+        (not_fits ends most (shape at part).rule ((reaches part (right_of (are_truths part part) (is_sound part) rest) v r).rule (truths_left part part (left_of (are_truths part part) (is_sound part) rest))))
+    reaches (Sum i left right) h v r =
+        let units = left_of (same_units i.kind (kind left) && same_units i.kind (kind right)) (has_size i (joined (size left) (size right)) && (is_sound left && is_sound right)) h in
+        let rest = right_of (same_units i.kind (kind left) && same_units i.kind (kind right)) (has_size i (joined (size left) (size right)) && (is_sound left && is_sound right)) h in
+        let parts = right_of (has_size i (joined (size left) (size right))) (is_sound left && is_sound right) rest in
+        sum_node i left right (left_of (has_size i (joined (size left) (size right))) (is_sound left && is_sound right) rest)
+        (reaches left (left_of (is_sound left) (is_sound right) parts) (left_of (has_values left) (has_values right) v) (left_of (each_read test left) (each_read test right) r)).sized
+        (reaches right (right_of (is_sound left) (is_sound right) parts) (right_of (has_values left) (has_values right) v) (right_of (each_read test left) (each_read test right) r)).sized
+        (units_no_truth i.kind (kind left) (left_of (same_units i.kind (kind left)) (same_units i.kind (kind right)) units))
+    reaches (Times i left right) h v r =
+        let rest = right_of (is_number (kind left) && is_number (kind right)) (has_size i (multiplied (size left) (size right)) && (is_sound left && is_sound right)) h in
+        let parts = right_of (has_size i (multiplied (size left) (size right))) (is_sound left && is_sound right) rest in
+        let w = right_of (is_number i.kind) (has_values left && has_values right) v in
+        times_node i left right (left_of (has_size i (multiplied (size left) (size right))) (is_sound left && is_sound right) rest)
+        (reaches left (left_of (is_sound left) (is_sound right) parts) (left_of (has_values left) (has_values right) w) (left_of (each_read test left) (each_read test right) r)).sized
+        (reaches right (right_of (is_sound left) (is_sound right) parts) (right_of (has_values left) (has_values right) w) (right_of (each_read test left) (each_read test right) r)).sized
+        (number_no_truth i.kind (left_of (is_number i.kind) (has_values left && has_values right) v))
+    reaches (And i left right) h v r = logic_node i left right Flat.Both (both_fits ends most) h
+        (reaches left (logic_left i left right h) (left_of (has_values left) (has_values right) v) (left_of (each_read test left) (each_read test right) r))
+        (reaches right (logic_right i left right h) (right_of (has_values left) (has_values right) v) (right_of (each_read test left) (each_read test right) r))
+    reaches (Or i left right) h v r = logic_node i left right Flat.Either (either_fits ends most) h
+        (reaches left (logic_left i left right h) (left_of (has_values left) (has_values right) v) (left_of (each_read test left) (each_read test right) r))
+        (reaches right (logic_right i left right h) (right_of (has_values left) (has_values right) v) (right_of (each_read test left) (each_read test right) r))
+    reaches (Implies i left right) h v r = logic_node i left right (λ a b. Flat.Either (Flat.Not a) b) (λ a b f g. either_fits ends most (Flat.Not a) b (not_fits ends most a f) g) h
+        (reaches left (logic_left i left right h) (left_of (has_values left) (has_values right) v) (left_of (each_read test left) (each_read test right) r))
+        (reaches right (logic_right i left right h) (right_of (has_values left) (has_values right) v) (right_of (each_read test left) (each_read test right) r))
+    reaches (Relation i sign left right) h v r =
+        let rest = right_of (is_truth_info i) ((fit_for sign left right && can_join left right) && (is_sound left && is_sound right)) h in
+        let can = right_of (fit_for sign left right) (can_join left right) (left_of (fit_for sign left right && can_join left right) (is_sound left && is_sound right) rest) in
+        let parts = right_of (fit_for sign left right && can_join left right) (is_sound left && is_sound right) rest in
+        truth_node i (relation sign (shape at left) (shape at right)) (truth_sized i (left_of (is_truth_info i) ((fit_for sign left right && can_join left right) && (is_sound left && is_sound right)) h))
+        (common_fits sign left right
+        (reaches left (left_of (is_sound left) (is_sound right) parts) (left_of (has_values left) (has_values right) v) (left_of (each_read test left) (each_read test right) r)).sized
+        (reaches right (right_of (is_sound left) (is_sound right) parts) (right_of (has_values left) (has_values right) v) (right_of (each_read test left) (each_read test right) r)).sized can)
+    reaches (Within i left right) h v r =
+        let rest = right_of (is_truth_info i) (((is_range_or_list right && fits_in left right) && list_all (can_join left) (parts_of right)) && (is_sound left && is_sound right)) h in
+        let can = right_of (is_range_or_list right && fits_in left right) (list_all (can_join left) (parts_of right)) (left_of ((is_range_or_list right && fits_in left right) && list_all (can_join left) (parts_of right)) (is_sound left && is_sound right) rest) in
+        let parts = right_of ((is_range_or_list right && fits_in left right) && list_all (can_join left) (parts_of right)) (is_sound left && is_sound right) rest in
+        truth_node i ((shape at right).holding (shape at left).scale (shape at left).term)
+        (truth_sized i (left_of (is_truth_info i) (((is_range_or_list right && fits_in left right) && list_all (can_join left) (parts_of right)) && (is_sound left && is_sound right)) h))
+        ((reaches right (right_of (is_sound left) (is_sound right) parts) (right_of (has_values left) (has_values right) v) (right_of (each_read test left) (each_read test right) r)).holding left
+        (reaches left (left_of (is_sound left) (is_sound right) parts) (left_of (has_values left) (has_values right) v) (left_of (each_read test left) (each_read test right) r)).sized can)
+
+    row_reaches : (row : TypedRow) → are_sound row ≡ true → have_values row ≡ true → each_read_of test row ≡ true → RowReaches row
+    row_reaches End h v r l s j p i = absurd i
+    row_reaches (Item item others) h v r l s j p (inl e) =
+        let rest = right_of (is_scalar item) (is_sound item && are_sound others) h in
+        subst (RuleFits ends most) (sym e) (common_fits Compare.Equal l item s
+        (reaches item (left_of (is_sound item) (are_sound others) rest) (left_of (has_values item) (have_values others) v) (left_of (each_read test item) (each_read_of test others) r)).sized
+        (left_of (can_join l item) (list_all (can_join l) (items_of others)) j))
+    row_reaches (Item item others) h v r l s j p (inr i) =
+        let rest = right_of (is_scalar item) (is_sound item && are_sound others) h in
+        row_reaches others (right_of (is_sound item) (are_sound others) rest) (right_of (has_values item) (have_values others) v) (right_of (each_read test item) (each_read_of test others) r) l s
+        (right_of (can_join l item) (list_all (can_join l) (items_of others)) j) p i
