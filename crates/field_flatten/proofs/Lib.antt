@@ -8,6 +8,7 @@ pub mod FlatReach
 pub mod FlatTruth
 pub mod Frame
 pub mod ItemLaw
+pub mod ItemReach
 pub mod JoinedRows
 pub mod ListedRun
 pub mod ModifierLaw

@@ -26,7 +26,7 @@ use Rattle.field_flatten.proofs.Multiples.{Common, common, share_of, product_pos
 use Rattle.field_flatten.proofs.ShapeLaw.{scale_is, law, PerLaw, per_law, read_scale, number_no_truth, units_no_truth}
 use Rattle.field_flatten.proofs.Fitting.{Fits, RuleFits, weaker, whole_fits, sum_fits, less_fits, product_fits, times_fits, truth_fits, below_fits, at_most_fits, equal_fits, differ_fits, both_fits, either_fits, not_fits, always_fits, any_fits}
 
-reach_is : (i : Info) (s : Size) → has_size i s ≡ true → i.reach ≡ s.reach
+pub reach_is : (i : Info) (s : Size) → has_size i s ≡ true → i.reach ≡ s.reach
 reach_is i s h =
     let here : Size = record { scale = i.scale; reach = i.reach } in
     number_is i.reach s.reach (right_of (nat_eq i.scale s.scale) (nat_eq i.reach s.reach) (left_of (same_size here s) (not (is_wide s)) h))
@@ -37,7 +37,7 @@ factor_above a zero n is h = absurd (let zero_is : a * 0 ≡ 0 = omega arith in 
 factor_above a (suc b) n is h = omega arith
 
 module _ (ends : List Pair) (most : ℕ) (one_most : 1 ≤ most) (wide : (n : ℕ) → nat_lt greatest_part n ≡ false → n ≤ most) (at : Layout) (test : Info → Path → ℕ → Bool)
-    (read_fits : (i : Info) (path : Path) (per : ℕ) → test i path per ≡ true → (e k : ℕ) → e ≡ i.scale * k → 0 < k → i.reach * k ≤ most → Fits ends most (read_term at path per (at.source path) e) (i.reach * k))
+    (read_fits : (i : Info) (path : Path) (per : ℕ) → test i path per ≡ true → 0 < i.scale → (e k : ℕ) → e ≡ i.scale * k → 0 < k → i.reach * k ≤ most → Fits ends most (read_term at path per (at.source path) e) (i.reach * k))
     (read_one : (i : Info) (path : Path) (per : ℕ) → test i path per ≡ true → 1 ≤ i.reach) where
   narrow : (s : Size) → is_wide s ≡ false → s.reach ≤ most
   narrow s h = wide s.reach (part (nat_lt greatest_part s.scale) (nat_lt greatest_part s.reach) h)
@@ -303,7 +303,7 @@ module _ (ends : List Pair) (most : ℕ) (one_most : 1 ≤ most) (wide : (n : �
         small = two_ways (has_size i (field_size per)) (narrow_info i (field_size per))
             (λ e. let other : nat_eq per 1000 && has_size i duration_size ≡ true = rw e at rest in narrow_info i duration_size (right_of (nat_eq per 1000) (has_size i duration_size) other));
         kept = refl;
-        terms = read_fits i path per passes;
+        terms = read_fits i path per passes (rw is p.above);
       }) (λ t. is ∙ p.of_truth_one t)
 
   truth_sized : (i : Info) → is_truth_info i ≡ true → has_size i unit_size ≡ true

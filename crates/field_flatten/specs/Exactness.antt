@@ -1,12 +1,20 @@
 -- When a flat form says exactly what its scene says.
-use Rattle.std.specs.Prelude.{◌≡◌, ◌&&◌, ◌||◌, ◌++◌, Bool, true, false, List, [], ◌∷◌, map, flat_map, option_to_list, ℤ, int_lt}
+use Rattle.std.specs.Prelude.{◌≡◌, ℕ, ◌*◌, ◌/◌, not, length, nat_le, nat_lt, ◌&&◌, ◌||◌, ◌++◌, Bool, true, false, List, [], ◌∷◌, Option, map, flat_map, option_to_list, ℤ, int_lt}
+use Rattle.std.specs.Option.{option_map_or}
 use Rattle.std.specs.List.{list_all}
+use Rattle.osc_base.specs.LowestTerms.{lcm}
+use Rattle.osc_base.specs.Comparisons.{greatest_part}
+use Rattle.modifier_rules.specs.Relations.{position_scale}
 use Rattle.osc_base.specs.declared.path.Path.{Path}
 use Rattle.box_eval.specs.Box.{IsPointOf}
 use Rattle.box_eval.specs.declared.flat.Flat.{Flat}
 use Rattle.box_eval.specs.Rules.{Meets, IsEmpty}
 use Rattle.box_eval.specs.FlatRules.{holds_at, flat_rule}
-use Rattle.expr_eval.specs.Typed.{Typed}
+use Rattle.expr_eval.specs.Typed.{Typed, reach}
+use Rattle.expr_eval.specs.Sizes.{field_reach}
+use Rattle.composition.specs.declared.guard.Guard.{Guard}
+use Rattle.composition.specs.declared.spot.PhaseSpot.{PhaseSpot}
+use Rattle.composition.specs.There.{presence, modifier_presence}
 use Rattle.composition.specs.declared.spot.ValueRange.{ValueRange}
 use Rattle.composition.specs.declared.spot.ValueSpot.{ValueSpot}
 use Rattle.composition.specs.Scenes.{Scene, Spot, Occurrence, ModifierSpot, Source, OfRun, OfPhase, OfValue, source, values, phases}
@@ -14,11 +22,11 @@ use Rattle.composition.specs.declared.clause.Clause.{Clause}
 use Rattle.composition.specs.TimedRuns.{TimedRun}
 use Rattle.composition.specs.Items.{Item, items, item_holds, is_hard}
 use Rattle.composition.specs.Claims.{Claim, claims, IsInstance}
-use Rattle.composition.specs.Invariants.{IsScene}
+use Rattle.composition.specs.Invariants.{IsScene, is_small}
 use Rattle.field_flatten.specs.Ends.{bounds}
 use Rattle.field_flatten.specs.Seen.{has_values}
 use Rattle.field_flatten.specs.Points.{run_of, point_of}
-use Rattle.field_flatten.specs.Rules.{layout, arranged_rule, item_rule, rules}
+use Rattle.field_flatten.specs.Rules.{layout, scale_of, arranged_rule, item_rule, rules}
 
 -- ---- scenes
 
@@ -125,3 +133,40 @@ ScenesAreExact = (scene : Scene) → IsExpanded scene → IsExact scene
 -- the points that meet all rules of a scene's flat form are the instances of the scene
 abbrev pub FlatFormsAreExact : Type 0
 FlatFormsAreExact = (scene : Scene) (flat : Flat) → IsExpanded scene → IsFlatOf scene flat → IsExactFlat scene flat
+
+-- ---- reach
+
+-- a condition asks for a number of at most 10^9 in magnitude
+abbrev pub is_small_guard : Guard → Bool
+is_small_guard (Guard.Choice phase member) = nat_le member field_reach
+is_small_guard (Guard.Value path value) = is_small value
+
+-- conditions with small numbers
+abbrev pub are_small_guards : List Guard → Bool
+are_small_guards conditions = list_all is_small_guard conditions
+
+-- the greatest position, in micrometres
+abbrev pub farthest : ℕ
+farthest = 10000000000
+
+-- the reach of an end, 1 if there is none
+abbrev pub end_reach : Option Typed → ℕ
+end_reach typed = option_map_or reach typed 1
+
+-- The ends of a modifier's range are narrow at the scale at which they are compared with a quantity, and so is the greatest quantity.
+abbrev pub is_narrow_range : ModifierSpot → Bool
+is_narrow_range m =
+    let own = lcm position_scale (lcm (scale_of m.low) (scale_of m.high)) in
+    let common = lcm position_scale own in
+    not (nat_lt greatest_part (farthest * common))
+    && (not (nat_lt greatest_part (end_reach m.low * (own / scale_of m.low) * (common / own)))
+    && not (nat_lt greatest_part (end_reach m.high * (own / scale_of m.high) * (common / own))))
+
+-- What the reach of rules needs of a scene beside `IsExpanded`: small numbers in conditions, few texts and members, and narrow ranges of modifiers.
+pub record IsLimited (scene : Scene) : Type 0 where
+  pub spots_small : list_all (λ (s : Spot). are_small_guards s.guards) scene.spots ≡ true
+  pub occurrences_small : list_all (λ (o : Occurrence). are_small_guards (presence scene o)) scene.occurrences ≡ true
+  pub modifiers_small : list_all (λ (m : ModifierSpot). are_small_guards (modifier_presence scene m)) scene.modifiers ≡ true
+  pub few_texts : nat_le (length scene.texts) field_reach ≡ true
+  pub few_members : list_all (λ (p : PhaseSpot). nat_le (length p.members) field_reach) (phases scene) ≡ true
+  pub narrow_ranges : list_all is_narrow_range scene.modifiers ≡ true
