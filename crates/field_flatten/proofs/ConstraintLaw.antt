@@ -29,7 +29,8 @@ use Rattle.composition.specs.Invariants.{IsScene, are_grounded, is_guard, guard_
 use Rattle.field_flatten.specs.Shapes.{Layout, shape}
 use Rattle.field_flatten.specs.Points.{is_held, stands, held_of, run_named}
 use Rattle.field_flatten.specs.Rules.{guard_rule, presence_rules, typed_rule, hard_rule, presence_of_number, default_rule, member_rule, enum_rule}
-use Rattle.field_flatten.specs.Exactness.{has_values, seen, source_value, expressions, IsExpanded}
+use Rattle.field_flatten.specs.Seen.{has_values, seen, source_value}
+use Rattle.field_flatten.specs.Exactness.{expressions, IsExpanded}
 use Rattle.field_flatten.proofs.Tests.{left_of, right_of, both, contrary, two_ways, under_one, path_is, In, in_left, in_right, in_flat_map, all_at, all_from, all_same, all_map, all_append, any_map, any_same, any_append, found_in}
 use Rattle.field_flatten.proofs.JoinedRows.{all_holds, any_holds, under_holds}
 use Rattle.field_flatten.proofs.ShapeLaw.{law}

@@ -31,7 +31,8 @@ use Rattle.composition.specs.Invariants.{are_grounded, is_expression, is_end, ha
 use Rattle.field_flatten.specs.Shapes.{Layout, shape, phase_start, phase_end}
 use Rattle.field_flatten.specs.Points.{is_held, stands, sample_named, end_named}
 use Rattle.field_flatten.specs.Rules.{presence_rules, sample_slots, scale_of, end_of, modifier_rule}
-use Rattle.field_flatten.specs.Exactness.{has_values, seen, expressions, IsExpanded}
+use Rattle.field_flatten.specs.Seen.{has_values, seen}
+use Rattle.field_flatten.specs.Exactness.{expressions, IsExpanded}
 use Rattle.field_flatten.proofs.Tests.{left_of, right_of, both, two_ways, under_one, path_is, path_self, In, in_left, in_right, in_flat_map, all_at, all_from, all_append, any_at}
 use Rattle.field_flatten.proofs.JoinedRows.{under_holds}
 use Rattle.field_flatten.proofs.Multiples.{common}

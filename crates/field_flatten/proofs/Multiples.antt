@@ -1,10 +1,11 @@
 -- Common multiples of scales.
 use Rattle.std.proofs.Common.{◌≡◌, ℕ, zero, suc, ◌*◌, ◌/◌, ◌%◌, ◌≤◌, ◌<◌, refl, sym, ap, ◌∙◌, subst, arith}
 use Rattle.std.specs.Int.{IsGcd, ◌∣◌}
-use Rattle.std.proofs.Math.Nat.{mul_comm, div-mul_cancel, mul-div_cancel', pos_of_dvd_of_pos, dvd-mul_left, dvd-mul_right}
+use Rattle.std.proofs.Math.Nat.{mul_comm, div-mul_cancel, mul-div_cancel', pos_of_dvd_of_pos, dvd-mul_left, dvd-mul_right, dvd_antisymm}
 use Rattle.std.proofs.lemmas.Nat.Gcd.{IsGcd-from_zero, IsGcd-from_mod}
 use Rattle.osc_base.specs.LowestTerms.{gcd, gcd_within, lcm}
-use Rattle.osc_base.proofs.Multiples.{lowest_same}
+use Rattle.osc_base.specs.Number.{IsLeastCommonMultiple}
+use Rattle.osc_base.proofs.Multiples.{lowest_same, is_least_common_multiple}
 
 gcd_is_within : (steps a b : ℕ) → b < steps → IsGcd a b (gcd_within steps a b)
 gcd_is_within zero a b few = absurd (omega arith)
@@ -44,3 +45,14 @@ common a b p q =
 -- a multiple over what it is a multiple of
 pub share_of : (a k : ℕ) → 0 < a → (a * k) / a ≡ k
 share_of a k p = grind arith
+
+least : (x y : ℕ) → 0 < x → IsLeastCommonMultiple x y (lcm x y)
+unfolding lcm
+least x y above = let g = gcd_is x y in subst (IsLeastCommonMultiple x y) (lowest_same x y (gcd x y) g.0 g.1) (is_least_common_multiple x y (gcd x y) above g)
+
+-- the order of the two doesn't matter
+pub lcm_swap : (a b : ℕ) → 0 < a → 0 < b → lcm a b ≡ lcm b a
+lcm_swap a b p q =
+    let one = least a b p in
+    let two = least b a q in
+    dvd_antisymm (one.least (lcm b a) two.second two.first) (two.least (lcm a b) one.second one.first)

@@ -85,7 +85,7 @@ module _ (scene : Scene) (at : SlotName → ℤ) where
       ∙ ap (option_map (λ (p : PhaseSpot). span_of at p.path)) first.1
       ∙ ap (λ p. Some (span_of at p)) is
 
-  abbrev value_named : ValueSpot → Value
+  abbrev pub value_named : ValueSpot → Value
   value_named v = record { path = v.path; held = held_of scene.texts v.range (at (SlotName.Value v.path)) }
 
   pub held_there : (path : Path) (v : ValueSpot) → stands scene at path ≡ true → value_at scene path ≡ Some v → held_in run path ≡ Some (held_of scene.texts v.range (at (SlotName.Value path)))
@@ -97,7 +97,7 @@ module _ (scene : Scene) (at : SlotName → ℤ) where
       ∙ ap (option_map value_named) known)
       ∙ ap (λ p. Some (held_of scene.texts v.range (at (SlotName.Value p)))) is
 
-  abbrev trace_named : Path → Trace
+  abbrev pub trace_named : Path → Trace
   trace_named v = record { path = v; samples = map (sample_named at v) (range_with_len 0 (end_named scene at + 1)) }
 
   pub sample_there : (vehicle : Path) (tick : ℕ) → stands scene at vehicle ≡ true → list_any (λ v. same_path v vehicle) (vehicles scene) ≡ true → tick ≤ end_named scene at

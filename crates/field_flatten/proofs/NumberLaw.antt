@@ -23,7 +23,8 @@ use Rattle.composition.specs.Invariants.{value_at, is_read, are_texts}
 use Rattle.field_flatten.specs.Points.{is_held, stands, held_of, span_of, end_named, run_named}
 use Rattle.field_flatten.specs.Shapes.{Layout}
 use Rattle.field_flatten.specs.Rules.{end_term}
-use Rattle.field_flatten.specs.Exactness.{source_value, is_value_source}
+use Rattle.field_flatten.specs.Seen.{source_value}
+use Rattle.field_flatten.specs.Exactness.{is_value_source}
 use Rattle.field_flatten.proofs.Tests.{left_of, right_of, both, contrary, two_ways, number_is, path_is, In, any_at, any_from, all_at, found_in, finds}
 use Rattle.field_flatten.proofs.NamedRun.{span_there, held_there}
 use Rattle.field_flatten.proofs.SlotLaw.{Inside, start_between, end_between, text_between}
@@ -51,7 +52,7 @@ module _ {A B : Type 0} (make : A → Option B) where
 
 -- ---- texts
 
-text_in : (texts : List (List ℕ)) (n : ℕ) → n < length texts → In (unwrap_or (slice_get texts n) []) texts
+pub text_in : (texts : List (List ℕ)) (n : ℕ) → n < length texts → In (unwrap_or (slice_get texts n) []) texts
 text_in [] n small = absurd (omega arith)
 text_in (t ∷ ts) zero small = inl refl
 text_in (t ∷ ts) (suc n) small = inr (text_in ts n (omega arith))

@@ -25,7 +25,7 @@ use Rattle.expr_eval.specs.Operators.{fit_for, fits_in, is_range_or_list}
 use Rattle.expr_eval.specs.Sound.{same_size, has_size, is_lowest, is_constant_of, is_per, are_truths, is_truth_info, can_join, is_sound, are_sound}
 use Rattle.composition.specs.Scenes.{Source, OfRun, OfPhase, OfValue}
 use Rattle.field_flatten.specs.Shapes.{Layout, Shape, in_nothing, of_rule, of_term, constant_term, of_constant, phase_start, phase_end, read_term, product_term, compared, at_common, relation, in_span, in_list, shape, shapes}
-use Rattle.field_flatten.specs.Exactness.{has_values, have_values, source_value, seen}
+use Rattle.field_flatten.specs.Seen.{has_values, have_values, source_value, seen}
 use Rattle.field_flatten.proofs.Tests.{left_of, right_of, both, contrary, two_ways, number_is}
 use Rattle.field_flatten.proofs.JoinedRows.{any_holds, times_worth}
 use Rattle.field_flatten.proofs.Multiples.{Common, common, share_of, product_positive}
@@ -38,7 +38,7 @@ scale_is i s h =
     let here : Size = record { scale = i.scale; reach = i.reach } in
     number_is i.scale s.scale (left_of (nat_eq i.scale s.scale) (nat_eq i.reach s.reach) (left_of (same_size here s) (not (is_wide s)) h))
 
-number_no_truth : {A : Type 0} (k : ValueKind) → is_number k ≡ true → is_truth k ≡ true → A
+pub number_no_truth : {A : Type 0} (k : ValueKind) → is_number k ≡ true → is_truth k ≡ true → A
 number_no_truth ValueKind.Truth p q = absurd (true≢false (sym p))
 number_no_truth (ValueKind.Number x) p q = absurd (true≢false (sym q))
 number_no_truth (ValueKind.Member x) p q = absurd (true≢false (sym q))
@@ -46,7 +46,7 @@ number_no_truth ValueKind.Chars p q = absurd (true≢false (sym q))
 number_no_truth (ValueKind.Object x) p q = absurd (true≢false (sym q))
 number_no_truth (ValueKind.Phase x) p q = absurd (true≢false (sym q))
 
-units_no_truth : {A : Type 0} (k l : ValueKind) → same_units k l ≡ true → is_truth k ≡ true → A
+pub units_no_truth : {A : Type 0} (k l : ValueKind) → same_units k l ≡ true → is_truth k ≡ true → A
 units_no_truth ValueKind.Truth l p q = absurd (true≢false (sym p))
 units_no_truth (ValueKind.Number x) l p q = absurd (true≢false (sym q))
 units_no_truth (ValueKind.Member x) l p q = absurd (true≢false (sym q))
@@ -55,17 +55,17 @@ units_no_truth (ValueKind.Object x) l p q = absurd (true≢false (sym q))
 units_no_truth (ValueKind.Phase x) l p q = absurd (true≢false (sym q))
 
 pub record PerLaw (k : ValueKind) (per : ℕ) : Type 0 where
-  above : 0 < per
-  of_truth_one : is_truth k ≡ true → per ≡ 1
+  pub above : 0 < per
+  pub of_truth_one : is_truth k ≡ true → per ≡ 1
 
-per_law : (k : ValueKind) (per : ℕ) → is_per k per ≡ true → PerLaw k per
+pub per_law : (k : ValueKind) (per : ℕ) → is_per k per ≡ true → PerLaw k per
 per_law k per h = two_ways (nat_eq per 1)
     (λ e. let one : per ≡ 1 = number_is per 1 e in record { above = omega arith; of_truth_one = λ _. one })
     (λ e. let rest : is_number k && nat_eq per 1000 ≡ true = rw e at h in
     let many : per ≡ 1000 = number_is per 1000 (right_of (is_number k) (nat_eq per 1000) rest) in
     record { above = omega arith; of_truth_one = number_no_truth k (left_of (is_number k) (nat_eq per 1000) rest) })
 
-read_scale : (i : Info) (per : ℕ) → has_size i (field_size per) || (nat_eq per 1000 && has_size i duration_size) ≡ true → i.scale ≡ per
+pub read_scale : (i : Info) (per : ℕ) → has_size i (field_size per) || (nat_eq per 1000 && has_size i duration_size) ≡ true → i.scale ≡ per
 read_scale i per h = two_ways (has_size i (field_size per)) (scale_is i (field_size per))
     (λ e. let rest : nat_eq per 1000 && has_size i duration_size ≡ true = rw e at h in
     scale_is i duration_size (right_of (nat_eq per 1000) (has_size i duration_size) rest) ∙ sym (number_is per 1000 (left_of (nat_eq per 1000) (has_size i duration_size) rest)))

@@ -1,2 +1,6 @@
 //! The flat form of a scene, and the run of a point.
 #![tactic(auto)]
+
+mod laws;
+
+pub use laws::{flat_forms_are_exact, scenes_are_exact};
