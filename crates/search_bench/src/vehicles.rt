@@ -71,31 +71,29 @@ fn moves(alloc: Global, vehicle: u32, tick: u32) -> Result<Rule, AllocError>
 }
 
 /// From a tick to the next, a part of a vehicle rises by at most so much.
-fn rises(
-    alloc: Global,
-    vehicle: u32,
-    tick: u32,
-    part: Part,
-    most: i128,
-) -> Result<Rule, AllocError>
+fn rises(alloc: Global, vehicle: u32, tick: u32, part: Part, most: i128) -> Result<Rule, AllocError>
     requires vehicle { vehicle < 2 }
     requires tick { tick < 99 }
 {
-    near(alloc, at(vehicle, tick + 1, part), at(vehicle, tick, part), most)
+    near(
+        alloc,
+        at(vehicle, tick + 1, part),
+        at(vehicle, tick, part),
+        most,
+    )
 }
 
 /// From a tick to the next, a part of a vehicle falls by at most so much.
-fn falls(
-    alloc: Global,
-    vehicle: u32,
-    tick: u32,
-    part: Part,
-    most: i128,
-) -> Result<Rule, AllocError>
+fn falls(alloc: Global, vehicle: u32, tick: u32, part: Part, most: i128) -> Result<Rule, AllocError>
     requires vehicle { vehicle < 2 }
     requires tick { tick < 99 }
 {
-    near(alloc, at(vehicle, tick, part), at(vehicle, tick + 1, part), most)
+    near(
+        alloc,
+        at(vehicle, tick, part),
+        at(vehicle, tick + 1, part),
+        most,
+    )
 }
 
 /// What the speed of a vehicle and its lane do from a tick to the next.
