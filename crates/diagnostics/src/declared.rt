@@ -1,9 +1,7 @@
 //! The names that a program declares.
 
 use crate::told::Spot;
-use dsl_tree::{
-    CompoundDecl, Declaration, EnumItem, FieldDecl, File, Ident, Member, QName,
-};
+use dsl_tree::{CompoundDecl, Declaration, EnumItem, FieldDecl, File, Ident, Member, QName};
 use name_scope::Program;
 use std::alloc::{AllocError, Global};
 use strsim::osa_distance;

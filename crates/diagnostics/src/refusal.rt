@@ -1,9 +1,9 @@
 //! The message for a call that was refused.
 
+use crate::declared::{declared_names, earlier, nearest_name};
 use crate::excerpt::{line_start, word_at};
 use crate::expected::expected;
 use crate::message::{gutter_of, put_help, put_site};
-use crate::declared::{declared_names, earlier, nearest_name};
 use crate::told::{Spot, Told, told_by};
 use crate::words::words_message;
 use command_words::{Request, Source, read_words};
@@ -129,7 +129,14 @@ fn put_earlier<H: Shelf>(
     let gutter = gutter_of(spot.line).max(gutter_of(first.line));
     let source = source_of(alloc, first.file, shelf)?;
     let source = bytes_of(&source);
-    put_site(alloc, text, gutter, &first, source, "the earlier declaration")
+    put_site(
+        alloc,
+        text,
+        gutter,
+        &first,
+        source,
+        "the earlier declaration",
+    )
 }
 
 /// Puts the declared name that is nearest to a word, if one is near.

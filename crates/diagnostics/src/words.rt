@@ -45,7 +45,10 @@ fn put_explained(text: &mut String, rest: &[String]) -> Result<(), AllocError> {
     match rest {
         [word] => {
             let word = word.as_str();
-            write!(text, "`{word}` is the number of no code and of no status that refuses\n")?;
+            write!(
+                text,
+                "`{word}` is the number of no code and of no status that refuses\n"
+            )?;
             put_help(text, 0, "`osc explain` lists all of them")
         }
         _ => text.push_str("`osc explain` takes one word at most\n"),
@@ -86,7 +89,10 @@ fn put_refused<'a>(
     match after {
         [] => put_missing(alloc, text, words),
         [word, ..] if is_option(alloc, before, word)? => put_value(text, word, after.get(1)),
-        [word, ..] => write!(text, "`osc {command}` doesn't take the word `{word}` here\n"),
+        [word, ..] => write!(
+            text,
+            "`osc {command}` doesn't take the word `{word}` here\n"
+        ),
     }
 }
 
