@@ -47,7 +47,7 @@ use Rattle.field_flatten.proofs.NumberLaw.{at, lay, text_in}
 use Rattle.field_flatten.proofs.ConstraintLaw.{run, there_stands}
 use Rattle.field_flatten.proofs.PhaseLaw.{phase_known}
 use Rattle.field_flatten.proofs.Nesting.{AllArranged, in_order}
-use Rattle.field_flatten.proofs.ItemLaw.{distinct_found, typed_item_in}
+use Rattle.field_flatten.proofs.ItemLaw.{counted_in, distinct_found, typed_item_in}
 
 abbrev pub holds_in : Claim → Bool
 holds_in c = c.holds
@@ -62,11 +62,6 @@ module _ {A B : Type 0} (key : A → Path) (key_of : B → Path) (make : A → B
   pub kept_paths : (xs : List A) → filter keep (map key xs) ≡ map key_of (map make (filter (λ a. keep (key a)) xs))
   kept_paths [] = refl
   kept_paths (x ∷ xs) = two_ways (keep (key x)) (λ e. rw e (ap₂ (◌∷◌) (sym (keyed x)) (kept_paths xs))) (λ e. rw e (kept_paths xs))
-
-counted_in : (from n t : ℕ) → In t (range_with_len from n) → t < from + n
-counted_in from zero t i = absurd i
-counted_in from (suc n) t (inl e) = omega arith
-counted_in from (suc n) t (inr i) = let h = counted_in (from + 1) n t i in omega arith
 
 counted_length : (from n : ℕ) → length (range_with_len from n) ≡ n
 counted_length from zero = refl

@@ -81,6 +81,11 @@ module _ {A : Type 0} (key : A → Path) where
           (λ e. e) in
       rw differ (distinct_found ys (right_of (not (list_any (same_path (key y)) (map key ys))) (are_distinct (map key ys)) h) x i)
 
+pub counted_in : (from n t : ℕ) → In t (range_with_len from n) → t < from + n
+counted_in from zero t i = absurd i
+counted_in from (suc n) t (inl e) = omega arith
+counted_in from (suc n) t (inr i) = let h = counted_in (from + 1) n t i in omega arith
+
 -- ---- the items of a scene
 
 module _ (scene : Scene) where
@@ -89,8 +94,8 @@ module _ (scene : Scene) where
   IsItem (OfDefault later o) = In o scene.occurrences × (o.mark.strength ≡ Strength.Default) × ((n : ℕ) → In n later → n < length scene.occurrences)
   IsItem (OfTyped path numbers) = (v : ValueSpot) × In v (values scene) × (v.path ≡ path) × (v.range ≡ ValueRange.Among numbers)
   IsItem (OfPhase p) = In p (phases scene)
-  IsItem (OfModifier m tick) = In m scene.modifiers
-  IsItem (OfMotion vehicle tick) = In vehicle (vehicles scene)
+  IsItem (OfModifier m tick) = In m scene.modifiers × (tick ≤ scene.setting.ticks)
+  IsItem (OfMotion vehicle tick) = In vehicle (vehicles scene) × (tick ≤ scene.setting.ticks)
 
   occurrence_is : (k : ℕ) (os : List Occurrence) → ((o : Occurrence) → In o os → In o scene.occurrences) → (i : Item) → In i (occurrence_items scene k os) → IsItem i
   occurrence_is k [] known i j = absurd j
@@ -132,6 +137,9 @@ module _ (scene : Scene) where
   abbrev motions : List Item
   motions = flat_map (λ v. map (OfMotion v) (ticks_of scene.setting)) (vehicles scene)
 
+  tick_small : (t : ℕ) → In t (ticks_of scene.setting) → t ≤ scene.setting.ticks
+  tick_small t i = let h = counted_in 0 (scene.setting.ticks + 1) t i in omega arith
+
   pub item_is : (i : Item) → In i (items scene) → IsItem i
   item_is i j = elim (in_either i (constraints ++ enums ++ map OfPhase (phases scene) ++ moments) motions j) as (λ _. IsItem i) [
     inl a ↦ elim (in_either i (constraints ++ enums ++ map OfPhase (phases scene)) moments a) as (λ _. IsItem i) [
@@ -143,10 +151,10 @@ module _ (scene : Scene) where
         | inr c ↦ let p = map_in OfPhase (phases scene) i c in subst IsItem (sym p.2) p.1
       ]
       | inr b ↦ let m = flat_map_in (λ m. map (OfModifier m) (ticks_of scene.setting)) scene.modifiers i b in
-        let t = map_in (OfModifier m.0) (ticks_of scene.setting) i m.2 in subst IsItem (sym t.2) m.1
+        let t = map_in (OfModifier m.0) (ticks_of scene.setting) i m.2 in subst IsItem (sym t.2) (m.1, tick_small t.0 t.1)
     ]
     | inr a ↦ let v = flat_map_in (λ v. map (OfMotion v) (ticks_of scene.setting)) (vehicles scene) i a in
-      let t = map_in (OfMotion v.0) (ticks_of scene.setting) i v.2 in subst IsItem (sym t.2) v.1
+      let t = map_in (OfMotion v.0) (ticks_of scene.setting) i v.2 in subst IsItem (sym t.2) (v.1, tick_small t.0 t.1)
   ]
 
   pub phase_item : (p : PhaseSpot) → In p (phases scene) → In (OfPhase p) (items scene)
@@ -177,13 +185,13 @@ module _ (scene : Scene) (point : List ℤ) (slot : SlotName → ℕ) (expanded 
   item_law all (OfTyped path numbers) is = typed_law scene point slot expanded inside path numbers is.0
       (subst (λ p. value_at scene p ≡ Some is.0) is.2 (distinct_found (λ (v : ValueSpot). v.path) (values scene) expanded.is_scene.values_distinct is.0 is.1)) is.3
   item_law all (OfPhase p) is = arranged_law scene point slot expanded inside p is
-  item_law all (OfModifier m tick) is = modifier_law scene point slot expanded inside m tick is
-      (λ there h. moment_within scene named expanded all m.moment m.phase tick (phase_of m is) there h)
+  item_law all (OfModifier m tick) is = modifier_law scene point slot expanded inside m tick is.0
+      (λ there h. moment_within scene named expanded all m.moment m.phase tick (phase_of m is.0) there h)
     where
       phase_of : (n : ModifierSpot) → In n scene.modifiers → has_phase scene n.phase ≡ true
       phase_of n i = left_of (has_phase scene n.phase) (list_any (same_path n.own) (vehicles scene))
           (left_of (has_phase scene n.phase && list_any (same_path n.own) (vehicles scene)) _ (all_at (is_modifier scene) scene.modifiers expanded.is_scene.modifiers n i))
-  item_law all (OfMotion vehicle tick) is = motion_law scene point slot expanded inside vehicle tick is
+  item_law all (OfMotion vehicle tick) is = motion_law scene point slot expanded inside vehicle tick is.0
 
   -- if the rules of all phases hold, each phase is arranged
   pub arranged_all : ((p : PhaseSpot) → In p (phases scene) → holds_at point (arranged_rule scene layed p) ≡ true) → AllArranged scene named expanded

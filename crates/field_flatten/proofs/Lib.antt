@@ -18,6 +18,7 @@ pub mod NamedRun
 pub mod Nesting
 pub mod NumberLaw
 pub mod PhaseLaw
+pub mod PhaseReach
 pub mod PointOfRun
 pub mod Presence
 pub mod RelationLaw
