@@ -43,10 +43,10 @@ use Rattle.field_flatten.proofs.PointOfRun.{some_less}
 use Rattle.field_flatten.proofs.FlatReach.{term_slots, interval}
 use Rattle.field_flatten.proofs.Fitting.{Fits, RuleFits, AllRules, weaker, whole_fits, slot_fits, gap_fits, times_fits, equal_fits}
 
-le_number : (a b : ℕ) → nat_le a b ≡ true → a ≤ b
+pub le_number : (a b : ℕ) → nat_le a b ≡ true → a ≤ b
 le_number a b h = grind arith
 
-small_number : (z : ℤ) → is_small z ≡ true → unsigned_abs z ≤ field_reach
+pub small_number : (z : ℤ) → is_small z ≡ true → unsigned_abs z ≤ field_reach
 small_number z h =
     let low = left_of (int_le (neg_ℤ (pos field_reach)) z) (int_le z (pos field_reach)) h in
     let high = right_of (int_le (neg_ℤ (pos field_reach)) z) (int_le z (pos field_reach)) h in
@@ -69,18 +69,18 @@ greatest_small (n ∷ []) m f = f n (inl refl)
 greatest_small (n ∷ k ∷ ks) m f = let here = f n (inl refl) in let rest = greatest_small (k ∷ ks) m (λ z i. f z (inr i)) in omega (arith, ints, clamps)
 
 module _ (scene : Scene) (expanded : IsExpanded scene) (limited : IsLimited scene) (most : ℕ) (large : 1000000000000000 ≤ most) where
-  abbrev ends : List Pair
+  abbrev pub ends : List Pair
   ends = bounds scene
 
-  abbrev slot : SlotName → ℕ
+  abbrev pub slot : SlotName → ℕ
   slot = slot_in (slot_names scene)
 
-  abbrev at : Layout
+  abbrev pub at : Layout
   at = layout scene
 
   -- ---- slots
 
-  ends_at : (name : SlotName) → In name (slot_names scene) → slice_get ends (slot name) ≡ Some (ends_of scene name)
+  pub ends_at : (name : SlotName) → In name (slot_names scene) → slice_get ends (slot name) ≡ Some (ends_of scene name)
   ends_at name i = slice_get-map (ends_of scene) (slot_names scene) (slot name) ∙ ap (option_map (ends_of scene)) (named_at (slot_names scene) name i)
 
   pub name_fits : (name : SlotName) (m : ℕ) → In name (slot_names scene) → unsigned_abs (ends_of scene name).low ≤ m → unsigned_abs (ends_of scene name).high ≤ m → m ≤ most → Fits ends most (Slot (slot name)) m
@@ -90,7 +90,7 @@ module _ (scene : Scene) (expanded : IsExpanded scene) (limited : IsLimited scen
       (subst (λ o. unsigned_abs (option_map_or (λ (e : Pair). e.low) o (pos 0)) ≤ m) (sym is) low)
       (subst (λ o. unsigned_abs (option_map_or (λ (e : Pair). e.high) o (pos 0)) ≤ m) (sym is) high) small
 
-  setting_parts : (1 ≤ scene.setting.ticks) × (scene.setting.ticks ≤ 600) × (1 ≤ scene.setting.tick) × (scene.setting.ticks * scene.setting.tick ≤ duration_reach) × (scene.setting.lanes ≤ 8) × (scene.setting.road ≤ 10000)
+  pub setting_parts : (1 ≤ scene.setting.ticks) × (scene.setting.ticks ≤ 600) × (1 ≤ scene.setting.tick) × (scene.setting.ticks * scene.setting.tick ≤ duration_reach) × (scene.setting.lanes ≤ 8) × (scene.setting.road ≤ 10000)
   setting_parts =
       let s = scene.setting in
       let first = left_of (is_from_to 1 600 s.ticks && (is_from_to 1 8 s.lanes && is_from_to 1 10000 s.road)) (nat_le 1 s.tick && nat_le (s.ticks * s.tick) duration_reach) expanded.is_scene.setting in
@@ -145,7 +145,7 @@ module _ (scene : Scene) (expanded : IsExpanded scene) (limited : IsLimited scen
       (least_small numbers field_reach (λ n i. small_number n (all_at is_small numbers all n i)), greatest_small numbers field_reach (λ n i. small_number n (all_at is_small numbers all n i)))
   range_small ValueRange.Chars h = let few = le_number (length scene.texts) field_reach limited.few_texts in (omega (arith, ints), omega (arith, ints))
 
-  field_small : field_reach ≤ most
+  pub field_small : field_reach ≤ most
   field_small = omega arith
 
   pub value_fits : (path : Path) (v : ValueSpot) → value_at scene path ≡ Some v → Fits ends most (Slot (slot (SlotName.Value path))) field_reach

@@ -1,6 +1,7 @@
 pub mod ArrangedLaw
 pub mod ClaimLists
 pub mod ConstraintLaw
+pub mod ConstraintReach
 pub mod Exact
 pub mod ExprReads
 pub mod Fitting
