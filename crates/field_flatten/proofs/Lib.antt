@@ -14,6 +14,7 @@ pub mod JoinedRows
 pub mod ListedRun
 pub mod ModifierLaw
 pub mod MotionLaw
+pub mod MotionReach
 pub mod Multiples
 pub mod NamedRun
 pub mod Nesting
