@@ -13,6 +13,7 @@ pub mod ItemReach
 pub mod JoinedRows
 pub mod ListedRun
 pub mod ModifierLaw
+pub mod ModifierReach
 pub mod MotionLaw
 pub mod MotionReach
 pub mod Multiples
