@@ -5,6 +5,7 @@ pub mod ConstraintReach
 pub mod Exact
 pub mod ExprReads
 pub mod Fitting
+pub mod FlatForms
 pub mod FlatReach
 pub mod FlatTruth
 pub mod Frame

@@ -8,7 +8,7 @@ use Rattle.modifier_rules.specs.Relations.{position_scale}
 use Rattle.osc_base.specs.declared.path.Path.{Path}
 use Rattle.box_eval.specs.Box.{IsPointOf}
 use Rattle.box_eval.specs.declared.flat.Flat.{Flat}
-use Rattle.box_eval.specs.Rules.{Meets, IsEmpty}
+use Rattle.box_eval.specs.Rules.{Meets, IsEmpty, IsFlat}
 use Rattle.box_eval.specs.FlatRules.{holds_at, flat_rule}
 use Rattle.expr_eval.specs.Typed.{Typed, reach}
 use Rattle.expr_eval.specs.Sizes.{field_reach}
@@ -170,3 +170,7 @@ pub record IsLimited (scene : Scene) : Type 0 where
   pub few_texts : nat_le (length scene.texts) field_reach ≡ true
   pub few_members : list_all (λ (p : PhaseSpot). nat_le (length p.members) field_reach) (phases scene) ≡ true
   pub narrow_ranges : list_all is_narrow_range scene.modifiers ≡ true
+
+-- a scene's flat form is one: its ends are a box on which each rule may be judged
+abbrev pub FlatFormsAreFlat : Type 0
+FlatFormsAreFlat = (scene : Scene) (flat : Flat) → IsExpanded scene → IsLimited scene → IsFlatOf scene flat → IsFlat flat
