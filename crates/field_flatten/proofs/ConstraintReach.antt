@@ -1,6 +1,6 @@
 -- The rules of conditions, constraints, enums and phases fit.
-use Rattle.std.proofs.Common.{◌≡◌, ℕ, zero, suc, ◌+◌, ◌-◌, ◌≤◌, ◌<◌, refl, sym, ap, ap₂, ◌∙◌, subst, ◌⊎◌, inl, inr, List, [], ◌∷◌, ◌++◌, length, map, Bool, true, false, ◌&&◌, ◌||◌, not, cond, Option, Some, None, arith, true≢false}
-use Rattle.std.specs.Prelude.{ℤ, pos, find, nat_eq, nat_le, nat_lt, unsigned_abs, option_to_list, option_and_then, slice_get}
+use Rattle.std.proofs.Common.{◌≡◌, ℕ, zero, suc, ◌-◌, ◌≤◌, refl, sym, ap, subst, ◌⊎◌, inl, inr, List, [], ◌∷◌, ◌++◌, length, map, true, false, ◌&&◌, Option, Some, None, arith, true≢false}
+use Rattle.std.specs.Prelude.{ℤ, pos, nat_le, nat_lt, unsigned_abs, option_to_list, option_and_then, slice_get}
 use Rattle.std.specs.Option.{option_map_or, option_or}
 use Rattle.std.specs.List.{list_any, list_all}
 use Rattle.std.proofs.lemmas.Int.{ints}
@@ -11,9 +11,9 @@ use Rattle.osc_base.specs.Comparisons.{greatest_part}
 use Rattle.osc_base.specs.Paths.{same_path, path_of, timed_part}
 use Rattle.box_eval.specs.declared.bounds.Pair.{Pair}
 use Rattle.box_eval.specs.Box.{pair}
-use Rattle.box_eval.specs.FlatRules.{FlatTerm, FlatRule, Whole, Slot, Equal, AtMost, all_of, any_of, under}
+use Rattle.box_eval.specs.FlatRules.{FlatRule, Whole, Slot, Equal, AtMost, all_of, any_of, under}
 use Rattle.expr_eval.specs.Kinds.{is_truth}
-use Rattle.expr_eval.specs.Typed.{Typed, Info, kind}
+use Rattle.expr_eval.specs.Typed.{Typed, kind}
 use Rattle.expr_eval.specs.Sizes.{field_reach}
 use Rattle.expr_eval.specs.Parts.{is_scalar}
 use Rattle.expr_eval.specs.Sound.{is_sound, each_read}
@@ -24,7 +24,6 @@ use Rattle.composition.specs.declared.spot.ValueRange.{ValueRange}
 use Rattle.composition.specs.declared.spot.PhaseSpot.{PhaseSpot}
 use Rattle.composition.specs.declared.spot.PhaseKind.{PhaseKind}
 use Rattle.composition.specs.Scenes.{Scene, Spot, Content, Object, Value, Phase, Occurrence, phase_spot, choice_spot, is_one_of, spot_at, guards, choices, values, phases, has_phase}
-use Rattle.composition.specs.Slots.{slot_names}
 use Rattle.composition.specs.There.{same_guard, presence}
 use Rattle.composition.specs.Invariants.{are_grounded, is_guard, guard_path, value_at, is_numeric, is_small, is_range, is_expression, are_members}
 use Rattle.field_flatten.specs.Ends.{ends_of, no_ends}
@@ -32,14 +31,14 @@ use Rattle.field_flatten.specs.Shapes.{Layout, shape, phase_start, phase_end}
 use Rattle.field_flatten.specs.Rules.{guard_rule, presence_rules, typed_rule, hard_rule, presence_of_number, default_rule, member_rule, enum_rule, kind_rules, root_do_rules, arranged_rule}
 use Rattle.field_flatten.specs.Seen.{has_values}
 use Rattle.field_flatten.specs.Exactness.{IsExpanded, IsLimited, is_small_guard, are_small_guards, expressions}
-use Rattle.field_flatten.proofs.Tests.{left_of, right_of, two_ways, path_is, path_self, In, in_left, in_flat_map, map_in, all_at, any_at, found_in, finds, any_from}
+use Rattle.field_flatten.proofs.Tests.{left_of, right_of, two_ways, path_is, path_self, In, in_left, in_flat_map, all_at, any_at, found_in, finds}
 use Rattle.field_flatten.proofs.Presence.{guards_grounded}
 use Rattle.field_flatten.proofs.SlotLaw.{choice_named}
 use Rattle.field_flatten.proofs.NumberLaw.{made_from, making}
 use Rattle.field_flatten.proofs.PhaseLaw.{phase_known, one_of_choice}
 use Rattle.field_flatten.proofs.ShapeReach.{reaches}
 use Rattle.field_flatten.proofs.Fitting.{Fits, RuleFits, AllRules, whole_fits, equal_fits, at_most_fits, all_fit, any_fits, under_fits}
-use Rattle.field_flatten.proofs.PhaseReach.{Timed, AllTimed, appended, single, mapped, kind_fit, root_do_fit, member_known}
+use Rattle.field_flatten.proofs.PhaseReach.{Timed, appended, single, mapped, kind_fit, root_do_fit, member_known}
 use Rattle.field_flatten.proofs.ItemReach.{le_number, small_number, ends, slot, at, name_fits, start_fits, end_fits, value_fits, field_small, reading, read_fits, read_one}
 
 -- a choice is a phase with as many members
@@ -81,7 +80,7 @@ guards_small scene h path = by (option_or (spot_at scene path) (option_and_then 
         → are_small_guards (option_map_or (λ s. s.guards) o []) ≡ true
     by None e = refl
     by (Some s) e = elim (by_or (spot_at scene path) (option_and_then (λ steps. spot_at scene (path_of steps)) (timed_part path.steps)) s e) as (λ _. are_small_guards s.guards ≡ true) [
-      inl f ↦ of_spot path s f
+      | inl f ↦ of_spot path s f
       | inr f ↦ timed (timed_part path.steps) s f
     ]
 
@@ -215,7 +214,7 @@ module _ (scene : Scene) (expanded : IsExpanded scene) (limited : IsLimited scen
       let few = le_number (length p.members) field_reach (all_at (λ (q : PhaseSpot). nat_le (length q.members) field_reach) (phases scene) limited.few_members p i) in
       let known = member_known scene p.kind p (all_at (λ (q : PhaseSpot). are_members scene q q.kind) (phases scene) expanded.is_scene.members p i) in
       let rest = appended box most 0 layed (kind_rules p.kind layed p.path p.members) (root_do_rules layed p.path)
-          (kind_fit box most scene.setting.ticks layed field_reach field_most p.kind p.path p.members few (choice p i) own (λ m j. timed m (known m j))) (root_do_fit box most scene.setting.ticks layed p.path own) in
+      (kind_fit box most scene.setting.ticks layed field_reach field_most p.kind p.path p.members few (choice p i) own (λ m j. timed m (known m j))) (root_do_fit box most scene.setting.ticks layed p.path own) in
       all_fit box most (map (under (presence_rules layed (guards scene p.path))) parts)
       (mapped box most 0 layed (under (presence_rules layed (guards scene p.path))) parts (λ r j. under_fits box most (presence_rules layed (guards scene p.path)) r (there_fit p.path)
       (appended box most 0 layed (AtMost (phase_start layed p.path) (phase_end layed p.path) ∷ []) (kind_rules p.kind layed p.path p.members ++ root_do_rules layed p.path)

@@ -1,19 +1,16 @@
 -- Each rule of a scene's flat form may be judged on the form's box.
-use Rattle.std.proofs.Common.{◌≡◌, ℕ, zero, suc, ◌+◌, ◌≤◌, ◌<◌, ◌^◌, refl, sym, ap, ap₂, ◌∙◌, subst, inl, inr, List, [], ◌∷◌, length, map, Bool, true, false, Option, Some, None, arith}
+use Rattle.std.proofs.Common.{◌≡◌, ℕ, ◌≤◌, ◌<◌, ◌^◌, refl, sym, ap, ◌∙◌, subst, inl, inr, List, [], ◌∷◌, length, true, false, Option, Some, None, arith}
 use Rattle.std.proofs.lemmas.List.{length-map}
 use Rattle.std.proofs.lemmas.Option.{slice_get-map}
-use Rattle.std.specs.Prelude.{ℤ, pos, ◌≤ℤ◌, nat_lt, option_map, slice_get}
+use Rattle.std.specs.Prelude.{pos, ◌≤ℤ◌, nat_lt, option_map, slice_get}
 use Rattle.std.specs.Option.{option_map_or}
-use Rattle.std.specs.List.{list_all}
 use Rattle.std.proofs.lemmas.Int.{ints}
-use Rattle.osc_base.specs.declared.path.Path.{Path}
-use Rattle.osc_base.specs.declared.mark.Strength.{Strength}
 use Rattle.osc_base.specs.declared.listing.SlotName.{SlotName}
 use Rattle.osc_base.specs.Comparisons.{greatest_part}
 use Rattle.box_eval.specs.declared.rule.Rule.{Rule}
 use Rattle.box_eval.specs.declared.bounds.Pair.{Pair}
 use Rattle.box_eval.specs.declared.flat.Flat.{Flat}
-use Rattle.box_eval.specs.Box.{low_at, high_at, IsBox}
+use Rattle.box_eval.specs.Box.{IsBox}
 use Rattle.box_eval.specs.Rules.{CanJudge, AllFit, IsFlat}
 use Rattle.box_eval.specs.Reach.{reach_of}
 use Rattle.box_eval.specs.FlatRules.{FlatRule, flat_rule}
@@ -36,8 +33,10 @@ use Rattle.field_flatten.proofs.ModifierReach.{modifier_fits}
 
 -- ends in order are a box
 scene_box : (scene : Scene) → IsExpanded scene → IsBox (bounds scene)
-scene_box scene expanded = record { ordered = λ slot. subst (λ o. option_map_or (λ (e : Pair). e.low) o (pos 0) ≤ℤ option_map_or (λ (e : Pair). e.high) o (pos 0))
-    (sym (slice_get-map (ends_of scene) (slot_names scene) slot)) (by (slice_get (slot_names scene) slot)) }
+scene_box scene expanded = record {
+  ordered = λ slot. subst (λ o. option_map_or (λ (e : Pair). e.low) o (pos 0) ≤ℤ option_map_or (λ (e : Pair). e.high) o (pos 0))
+      (sym (slice_get-map (ends_of scene) (slot_names scene) slot)) (by (slice_get (slot_names scene) slot));
+}
   where
     by : (o : Option SlotName) → option_map_or (λ (e : Pair). e.low) (option_map (ends_of scene) o) (pos 0) ≤ℤ option_map_or (λ (e : Pair). e.high) (option_map (ends_of scene) o) (pos 0)
     by None = omega (arith, ints)

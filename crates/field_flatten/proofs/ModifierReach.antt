@@ -1,12 +1,11 @@
 -- The rule of a modifier fits.
-use Rattle.std.proofs.Common.{◌≡◌, ℕ, zero, suc, ◌+◌, ◌*◌, ◌/◌, ◌≤◌, ◌<◌, refl, sym, ap, ap₂, ◌∙◌, subst, inl, inr, List, [], ◌∷◌, ◌++◌, map, Bool, true, false, ◌&&◌, ◌||◌, not, cond, Option, Some, None, arith, true≢false}
-use Rattle.std.specs.Prelude.{ℤ, pos, negsuc, ◌≤ℤ◌, nat_lt, unsigned_abs, unwrap_or, option_to_list, flat_map}
+use Rattle.std.proofs.Common.{◌≡◌, ℕ, zero, suc, ◌*◌, ◌/◌, ◌≤◌, ◌<◌, refl, sym, ap, ap₂, ◌∙◌, subst, inl, List, [], ◌∷◌, ◌++◌, Bool, true, false, ◌&&◌, ◌||◌, not, Option, Some, None, arith, true≢false}
+use Rattle.std.specs.Prelude.{pos, negsuc, nat_lt, unwrap_or, option_to_list, flat_map}
 use Rattle.std.specs.Option.{option_map_or}
-use Rattle.std.specs.List.{list_any, list_all}
-use Rattle.std.proofs.Math.Nat.{mul_assoc, mul_comm, mul-le-mul_left, mul-le-mul_right, div-le_self, le-mul_of_pos_right}
+use Rattle.std.specs.List.{list_any}
+use Rattle.std.proofs.Math.Nat.{mul_assoc, mul-le-mul_left, mul-le-mul_right, div-le_self, le-mul_of_pos_right}
 use Rattle.std.proofs.lemmas.Int.{ints}
 use Rattle.osc_base.specs.declared.path.Path.{Path}
-use Rattle.osc_base.specs.declared.sample.SampleSlots.{SampleSlots}
 use Rattle.osc_base.specs.declared.modifier.Kind.{Kind}
 use Rattle.osc_base.specs.declared.modifier.Moment.{Moment}
 use Rattle.osc_base.specs.declared.listing.SlotName.{SlotName}
@@ -14,8 +13,8 @@ use Rattle.osc_base.specs.Comparisons.{greatest_part}
 use Rattle.osc_base.specs.LowestTerms.{lcm}
 use Rattle.osc_base.specs.Paths.{same_path}
 use Rattle.box_eval.specs.declared.bounds.Pair.{Pair}
-use Rattle.box_eval.specs.FlatRules.{FlatTerm, FlatRule, Whole, Slot, Sum, Less, Equal, AtMost, Below, Both, under, times}
-use Rattle.modifier_rules.specs.Relations.{position_scale, speed_scale, lane_scale, between, apart, relation_at, moment_at}
+use Rattle.box_eval.specs.FlatRules.{FlatTerm, FlatRule, Whole, Slot, Sum, Less, Equal, AtMost, Below, times}
+use Rattle.modifier_rules.specs.Relations.{position_scale, speed_scale, lane_scale, between, relation_at, moment_at}
 use Rattle.expr_eval.specs.Kinds.{is_number}
 use Rattle.expr_eval.specs.Typed.{Typed, kind, scale, reach}
 use Rattle.expr_eval.specs.Sizes.{field_reach}
@@ -29,11 +28,11 @@ use Rattle.field_flatten.specs.Shapes.{Layout, shape, phase_start, phase_end}
 use Rattle.field_flatten.specs.Rules.{presence_rules, sample_slots, scale_of, end_of, modifier_rule}
 use Rattle.field_flatten.specs.Seen.{has_values}
 use Rattle.field_flatten.specs.Exactness.{IsExpanded, IsLimited, are_small_guards, farthest, end_reach, is_narrow_range, expressions}
-use Rattle.field_flatten.proofs.Tests.{left_of, right_of, two_ways, path_is, In, in_left, in_right, in_flat_map, all_at, any_at}
+use Rattle.field_flatten.proofs.Tests.{left_of, right_of, path_is, In, in_left, in_right, in_flat_map, all_at, any_at}
 use Rattle.field_flatten.proofs.Multiples.{common, share_of}
 use Rattle.field_flatten.proofs.Fitting.{Fits, RuleFits, AllRules, weaker, whole_fits, sum_fits, times_fits, equal_fits, at_most_fits, below_fits, both_fits, under_fits}
 use Rattle.field_flatten.proofs.PhaseReach.{appended, single}
-use Rattle.field_flatten.proofs.ShapeReach.{NodeFits, reaches}
+use Rattle.field_flatten.proofs.ShapeReach.{reaches}
 use Rattle.field_flatten.proofs.ItemReach.{ends, slot, at, start_fits, end_fits, setting_parts, reading, read_fits, read_one}
 use Rattle.field_flatten.proofs.ConstraintReach.{presence_fit}
 use Rattle.field_flatten.proofs.MotionReach.{lane_fits, position_fits, speed_fits, position_gap, speed_gap}
@@ -130,7 +129,7 @@ module _ (scene : Scene) (expanded : IsExpanded scene) (limited : IsLimited scen
   end_known (Some t) h v =
       let rest = right_of (is_scalar t) (is_sound t && each_read (reading scene expanded limited most large) t) (right_of (is_number (kind t)) (is_expression scene t) h) in
       let node = reaches box most (omega arith) wide layed (reading scene expanded limited most large) (read_fits scene expanded limited most large) (read_one scene expanded limited most large) t
-          (left_of (is_sound t) (each_read (reading scene expanded limited most large) t) rest) (v t refl) (right_of (is_sound t) (each_read (reading scene expanded limited most large) t) rest) in
+      (left_of (is_sound t) (each_read (reading scene expanded limited most large) t) rest) (v t refl) (right_of (is_sound t) (each_read (reading scene expanded limited most large) t) rest) in
       record { term = t; is = refl; above = node.sized.above; one = node.sized.one; terms = node.sized.terms }
 
   end_fit : (typed : Option Typed) (n : EndOf typed) (own k : ℕ) → own ≡ scale_of typed * k → 0 < own → end_reach typed * (own / scale_of typed) * (lcm position_scale own / own) ≤ most → EndFits (end_of layed typed own) own
@@ -186,18 +185,19 @@ module _ (scene : Scene) (expanded : IsExpanded scene) (limited : IsLimited scen
   range_fits m i h narrow ranged =
       let ends_there = implied (has_range m.kind) (option_map_or (is_end scene) m.low false && option_map_or (is_end scene) m.high false) h ranged in
       let low = end_known m.low (left_of (option_map_or (is_end scene) m.low false) (option_map_or (is_end scene) m.high false) ends_there)
-          (λ t e. listed t (in_left t (option_to_list m.low) (option_to_list m.high) (subst (λ o. In t (option_to_list o)) (sym e) (inl refl)))) in
+      (λ t e. listed t (in_left t (option_to_list m.low) (option_to_list m.high) (subst (λ o. In t (option_to_list o)) (sym e) (inl refl)))) in
       let high = end_known m.high (right_of (option_map_or (is_end scene) m.low false) (option_map_or (is_end scene) m.high false) ends_there)
-          (λ t e. listed t (in_right t (option_to_list m.low) (option_to_list m.high) (subst (λ o. In t (option_to_list o)) (sym e) (inl refl)))) in
+      (λ t e. listed t (in_right t (option_to_list m.low) (option_to_list m.high) (subst (λ o. In t (option_to_list o)) (sym e) (inl refl)))) in
       let a = scale_of m.low in
       let b = scale_of m.high in
       let inner = common a b (subst (λ n. 0 < n) (sym (ap scale_of low.is)) low.above) (subst (λ n. 0 < n) (sym (ap scale_of high.is)) high.above) in
       let outer = common position_scale (lcm a b) (omega arith) inner.above in
-      let rest = right_of (not (nat_lt greatest_part (farthest * lcm position_scale (scaled m)))) _ narrow in
-      (end_fit m.low low (scaled m) (inner.left * outer.right) (outer.right_is ∙ ap (λ n. n * outer.right) inner.left_is ∙ mul_assoc a inner.left outer.right) outer.above
-      (wide (end_reach m.low * (scaled m / a) * (lcm position_scale (scaled m) / scaled m)) (not_true (nat_lt greatest_part (end_reach m.low * (scaled m / a) * (lcm position_scale (scaled m) / scaled m))) (left_of _ _ rest))),
-      end_fit m.high high (scaled m) (inner.right * outer.right) (outer.right_is ∙ ap (λ n. n * outer.right) inner.right_is ∙ mul_assoc b inner.right outer.right) outer.above
-      (wide (end_reach m.high * (scaled m / b) * (lcm position_scale (scaled m) / scaled m)) (not_true (nat_lt greatest_part (end_reach m.high * (scaled m / b) * (lcm position_scale (scaled m) / scaled m))) (right_of _ _ rest))))
+      let rest = right_of (not (nat_lt greatest_part (farthest * lcm position_scale (scaled m)))) _ narrow in (
+        end_fit m.low low (scaled m) (inner.left * outer.right) (outer.right_is ∙ ap (λ n. n * outer.right) inner.left_is ∙ mul_assoc a inner.left outer.right) outer.above
+            (wide (end_reach m.low * (scaled m / a) * (lcm position_scale (scaled m) / scaled m)) (not_true (nat_lt greatest_part (end_reach m.low * (scaled m / a) * (lcm position_scale (scaled m) / scaled m))) (left_of _ _ rest))),
+        end_fit m.high high (scaled m) (inner.right * outer.right) (outer.right_is ∙ ap (λ n. n * outer.right) inner.right_is ∙ mul_assoc b inner.right outer.right) outer.above
+            (wide (end_reach m.high * (scaled m / b) * (lcm position_scale (scaled m) / scaled m)) (not_true (nat_lt greatest_part (end_reach m.high * (scaled m / b) * (lcm position_scale (scaled m) / scaled m))) (right_of _ _ rest))),
+      )
     where
       listed : (t : Typed) → In t (option_to_list m.low ++ option_to_list m.high) → has_values t ≡ true
       listed t j = all_at has_values (expressions scene) expanded.all_values t

@@ -1,20 +1,18 @@
 -- The rules of vehicles and modifiers fit.
-use Rattle.std.proofs.Common.{◌≡◌, ℕ, zero, suc, ◌+◌, ◌*◌, ◌/◌, ◌≤◌, ◌<◌, refl, sym, ap, ap₂, ◌∙◌, subst, inl, inr, List, [], ◌∷◌, ◌++◌, map, Bool, true, false, ◌&&◌, ◌||◌, not, cond, Option, Some, None, arith, true≢false}
-use Rattle.std.specs.Prelude.{ℤ, pos, negsuc, ◌≤ℤ◌, nat_lt, unsigned_abs, option_to_list, flat_map}
+use Rattle.std.proofs.Common.{◌≡◌, ℕ, ◌+◌, ◌*◌, ◌≤◌, ◌<◌, refl, sym, ap, ◌∙◌, subst, inl, inr, List, [], ◌∷◌, ◌++◌, map, true, false, ◌&&◌, cond, Option, Some, None, arith, true≢false}
+use Rattle.std.specs.Prelude.{pos, ◌≤ℤ◌, nat_lt}
 use Rattle.std.specs.Option.{option_map_or}
-use Rattle.std.specs.List.{list_any, list_all}
-use Rattle.std.proofs.Math.Nat.{mul_assoc, mul_comm, mul-le-mul_left, mul-le-mul_right, div-le_self}
+use Rattle.std.proofs.Math.Nat.{mul-le-mul_left, mul-le-mul_right}
 use Rattle.std.proofs.lemmas.Int.{ints}
 use Rattle.osc_base.specs.declared.path.Path.{Path}
 use Rattle.osc_base.specs.declared.listing.SlotName.{SlotName}
 use Rattle.osc_base.specs.Comparisons.{greatest_part}
-use Rattle.osc_base.specs.Paths.{same_path}
 use Rattle.box_eval.specs.declared.bounds.Pair.{Pair}
 use Rattle.box_eval.specs.Box.{pair}
-use Rattle.box_eval.specs.FlatRules.{FlatTerm, FlatRule, Whole, Slot, Sum, Less, Equal, AtMost, Below, under, times}
+use Rattle.box_eval.specs.FlatRules.{FlatTerm, FlatRule, Whole, Slot, Sum, Less, AtMost, Below, under, times}
 use Rattle.expr_eval.specs.Sizes.{field_reach, duration_reach}
 use Rattle.composition.specs.declared.spot.ValueSpot.{ValueSpot}
-use Rattle.composition.specs.Scenes.{Scene, vehicles, guards, source, max_speed, max_acceleration}
+use Rattle.composition.specs.Scenes.{Scene, vehicles, guards, max_speed, max_acceleration}
 use Rattle.composition.specs.Slots.{slot_names}
 use Rattle.composition.specs.Invariants.{same_guards, value_at, is_numeric, is_limit, is_limited}
 use Rattle.field_flatten.specs.Ends.{ends_of}
@@ -23,10 +21,10 @@ use Rattle.field_flatten.specs.Rules.{end_term, presence_rules, sample_slots, va
 use Rattle.field_flatten.specs.Exactness.{IsExpanded, IsLimited, farthest}
 use Rattle.field_flatten.proofs.Tests.{left_of, right_of, two_ways, In, all_at}
 use Rattle.field_flatten.proofs.SlotLaw.{sample_is_named}
-use Rattle.field_flatten.proofs.Fitting.{Fits, RuleFits, AllRules, whole_fits, sum_fits, less_fits, gap_fits, times_fits, equal_fits, at_most_fits, below_fits, all_fit, under_fits}
+use Rattle.field_flatten.proofs.Fitting.{Fits, RuleFits, AllRules, whole_fits, sum_fits, gap_fits, times_fits, equal_fits, at_most_fits, below_fits, all_fit, under_fits}
 use Rattle.field_flatten.proofs.FlatReach.{interval}
 use Rattle.field_flatten.proofs.PhaseReach.{appended, single, mapped}
-use Rattle.field_flatten.proofs.ItemReach.{ends, slot, at, ends_at, name_fits, value_fits, field_small, setting_parts, run_end_fits}
+use Rattle.field_flatten.proofs.ItemReach.{ends, slot, at, ends_at, name_fits, value_fits, setting_parts, run_end_fits}
 use Rattle.field_flatten.proofs.ConstraintReach.{there_fit}
 
 less_number : (a b : ℕ) → nat_lt a b ≡ true → a < b
@@ -70,9 +68,10 @@ module _ (scene : Scene) (expanded : IsExpanded scene) (limited : IsLimited scen
   from_zero : (name : SlotName) (high : ℕ) → In name (slot_names scene) → ends_of scene name ≡ pair (pos 0) (pos high)
       → (pos 0 ≤ℤ (interval box (Slot (number name))).low) × ((interval box (Slot (number name))).low ≤ℤ (interval box (Slot (number name))).high)
   from_zero name high i is =
-      let here = ends_at scene expanded limited most large name i ∙ ap Some is in
-      (subst (λ o. pos 0 ≤ℤ option_map_or (λ (e : Pair). e.low) o (pos 0)) (sym here) (omega (arith, ints)),
-      subst (λ o. option_map_or (λ (e : Pair). e.low) o (pos 0) ≤ℤ option_map_or (λ (e : Pair). e.high) o (pos 0)) (sym here) (omega (arith, ints)))
+      let here = ends_at scene expanded limited most large name i ∙ ap Some is in (
+        subst (λ o. pos 0 ≤ℤ option_map_or (λ (e : Pair). e.low) o (pos 0)) (sym here) (omega (arith, ints)),
+        subst (λ o. option_map_or (λ (e : Pair). e.low) o (pos 0) ≤ℤ option_map_or (λ (e : Pair). e.high) o (pos 0)) (sym here) (omega (arith, ints)),
+      )
 
   pub position_gap : (v w : Path) (t : ℕ) → In v (vehicles scene) → In w (vehicles scene) → t ≤ scene.setting.ticks → Fits box most (Less (Slot (number (SlotName.Position v t))) (Slot (number (SlotName.Position w t)))) farthest
   position_gap v w t i j small =
@@ -162,8 +161,8 @@ module _ (scene : Scene) (expanded : IsExpanded scene) (limited : IsLimited scen
       let before_fit = appended box most 0 layed there (before ∷ []) here (single box most 0 layed before (at_most_fits box most (Whole (pos t)) (end_term scene number) t scene.setting.ticks tick end)) in
       let strict_fit = appended box most 0 layed there (strict ∷ []) here (single box most 0 layed strict (below_fits box most (Whole (pos t)) (end_term scene number) t scene.setting.ticks tick end)) in
       let rest : FitAll (cond (nat_lt t scene.setting.ticks) (map (under (there ++ strict ∷ [])) steps) []) = two_ways (nat_lt t scene.setting.ticks)
-          (λ e. rw e (mapped box most 0 layed (under (there ++ strict ∷ [])) steps (λ r j. under_fits box most (there ++ strict ∷ []) r strict_fit (steps_fit v t i (less_number t scene.setting.ticks e) r j))))
-          (λ e. rw e (λ r j. absurd j)) in
+      (λ e. rw e (mapped box most 0 layed (under (there ++ strict ∷ [])) steps (λ r j. under_fits box most (there ++ strict ∷ []) r strict_fit (steps_fit v t i (less_number t scene.setting.ticks e) r j))))
+      (λ e. rw e (λ r j. absurd j)) in
       all_fit box most (motion_parts scene layed v t)
       (appended box most 0 layed (under (there ++ before ∷ []) first ∷ []) (cond (nat_lt t scene.setting.ticks) (map (under (there ++ strict ∷ [])) steps) [])
       (single box most 0 layed (under (there ++ before ∷ []) first) (under_fits box most (there ++ before ∷ []) first before_fit

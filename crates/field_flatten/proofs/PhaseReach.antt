@@ -1,17 +1,17 @@
 -- The rule of a phase fits.
-use Rattle.std.proofs.Common.{◌≡◌, ℕ, zero, suc, ◌+◌, ◌≤◌, refl, sym, ap, subst, inl, inr, List, [], ◌∷◌, ◌++◌, length, map, Bool, true, false, ◌&&◌, cond, arith, true≢false}
-use Rattle.std.specs.Prelude.{ℤ, pos, flat_map, nat_eq}
+use Rattle.std.proofs.Common.{◌≡◌, ℕ, suc, ◌+◌, ◌≤◌, refl, sym, subst, inl, inr, List, [], ◌∷◌, ◌++◌, length, map, true, arith}
+use Rattle.std.specs.Prelude.{pos, nat_eq}
 use Rattle.std.specs.List.{list_all}
 use Rattle.std.proofs.lemmas.Int.{ints}
 use Rattle.osc_base.specs.declared.path.Path.{Path}
 use Rattle.osc_base.specs.declared.listing.SlotName.{SlotName}
 use Rattle.osc_base.specs.Paths.{same_path}
 use Rattle.box_eval.specs.declared.bounds.Pair.{Pair}
-use Rattle.box_eval.specs.FlatRules.{FlatTerm, FlatRule, Whole, Slot, Equal, AtMost, Below, Both, any_of, under}
+use Rattle.box_eval.specs.FlatRules.{FlatTerm, FlatRule, Whole, Slot, Equal, AtMost, Below, any_of}
 use Rattle.composition.specs.declared.guard.Guard.{Guard}
 use Rattle.composition.specs.declared.spot.PhaseSpot.{PhaseSpot}
 use Rattle.composition.specs.declared.spot.PhaseKind.{PhaseKind}
-use Rattle.composition.specs.Scenes.{Scene, phases, guards, has_phase, root_do}
+use Rattle.composition.specs.Scenes.{Scene, guards, has_phase, root_do}
 use Rattle.composition.specs.Invariants.{same_guards, is_member, are_choices, are_members}
 use Rattle.field_flatten.specs.Shapes.{Layout, phase_start, phase_end}
 use Rattle.field_flatten.specs.Rules.{follow_rules, least_rules, greatest_rules, same_rules, overlap_rules, starts, ends, cover_rules, span_rule, chosen_rules, kind_rules, root_do_rules}

@@ -5,7 +5,6 @@ use Rattle.std.specs.List.{list_all}
 use Rattle.osc_base.specs.LowestTerms.{lcm}
 use Rattle.osc_base.specs.Comparisons.{greatest_part}
 use Rattle.modifier_rules.specs.Relations.{position_scale}
-use Rattle.osc_base.specs.declared.path.Path.{Path}
 use Rattle.box_eval.specs.Box.{IsPointOf}
 use Rattle.box_eval.specs.declared.flat.Flat.{Flat}
 use Rattle.box_eval.specs.Rules.{Meets, IsEmpty, IsFlat}
@@ -20,7 +19,7 @@ use Rattle.composition.specs.declared.spot.ValueSpot.{ValueSpot}
 use Rattle.composition.specs.Scenes.{Scene, Spot, Occurrence, ModifierSpot, Source, OfRun, OfPhase, OfValue, source, values, phases}
 use Rattle.composition.specs.declared.clause.Clause.{Clause}
 use Rattle.composition.specs.TimedRuns.{TimedRun}
-use Rattle.composition.specs.Items.{Item, items, item_holds, is_hard}
+use Rattle.composition.specs.Items.{items, item_holds, is_hard}
 use Rattle.composition.specs.Claims.{Claim, claims, IsInstance}
 use Rattle.composition.specs.Invariants.{IsScene, is_small}
 use Rattle.field_flatten.specs.Ends.{bounds}
