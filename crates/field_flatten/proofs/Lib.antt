@@ -32,3 +32,4 @@ pub mod ShapeReach
 pub mod SlotLaw
 pub mod Tests
 pub mod Times
+pub mod Worked
