@@ -10,4 +10,4 @@ mod WorkedRows
 mod Clauses
 mod NamedScenarios
 mod Scenes
-pub mod ExpandedScenes
+mod ExpandedScenes

@@ -1,6 +1,6 @@
 -- What `is_sound` alone leaves open, by computation: a product said to be a truth value, and a whole object that is compared. So the law of
 -- expressions asks for `has_values`.
-use Rattle.std.specs.Prelude.{◌≡◌, refl, ℤ, ℕ, [], ◌∷◌, true, false, None, pos}
+use Rattle.std.specs.Prelude.{◌≡◌, refl, ℕ, [], ◌∷◌, true, false, None, pos}
 use Rattle.osc_base.specs.declared.fault.Place.{Place}
 use Rattle.osc_base.specs.declared.path.Path.{Path}
 use Rattle.osc_base.specs.declared.listing.SlotName.{SlotName}
