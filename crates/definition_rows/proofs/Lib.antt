@@ -11,3 +11,4 @@ mod WorkedRows
 mod Clauses
 mod NamedScenarios
 mod Scenes
+mod ExpandedScenes

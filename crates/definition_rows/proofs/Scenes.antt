@@ -145,7 +145,7 @@ run_of_point = refl
 -- ---- what holds of every scene
 
 -- the scenario is type 5, after the basic types
-not_chosen_is_scene : IsScene (scene (types_of not_chosen) 5 (within 10))
+pub not_chosen_is_scene : IsScene (scene (types_of not_chosen) 5 (within 10))
 unfolding types_of gcd lcm
 not_chosen_is_scene = record {
   spots_grounded = refl;

@@ -1,31 +1,25 @@
 -- Phases: the rule is true at a point exactly if the phase is arranged in the point's run.
-use Rattle.std.proofs.Common.{◌≡◌, ℕ, zero, suc, ◌+◌, ◌<◌, ◌≤◌, refl, sym, ap, ap₂, ◌∙◌, subst, ◌⊎◌, inl, inr, List, [], ◌∷◌, ◌++◌, Bool, true, false, ◌&&◌, ◌||◌, not, cond, Option, Some, None, map, length, arith, true≢false}
-use Rattle.std.specs.Prelude.{ℤ, pos, ◌≤ℤ◌, int_le, int_lt, flat_map, unsigned_abs}
-use Rattle.std.specs.Option.{option_map_or}
-use Rattle.std.specs.List.{list_any, list_all}
-use Rattle.std.proofs.lemmas.Int.{ints}
+use Rattle.std.proofs.Common.{◌≡◌, ℕ, ◌+◌, refl, sym, ap, ap₂, ◌∙◌, inl, inr, List, [], ◌∷◌, ◌++◌, Bool, true, false, ◌&&◌, ◌||◌, not, map, true≢false}
+use Rattle.std.specs.Prelude.{ℤ, pos, int_le, int_lt}
+use Rattle.std.specs.List.{list_all}
 use Rattle.osc_base.specs.declared.path.Path.{Path}
 use Rattle.osc_base.specs.declared.listing.SlotName.{SlotName}
 use Rattle.osc_base.specs.Comparisons.{same_number}
 use Rattle.osc_base.specs.Paths.{same_path}
 use Rattle.box_eval.specs.Box.{value_of}
-use Rattle.box_eval.specs.FlatRules.{FlatTerm, FlatRule, Equal, AtMost, Slot, Whole, worth_at, holds_at, all_of, any_of, under}
+use Rattle.box_eval.specs.FlatRules.{FlatTerm, FlatRule, Equal, AtMost, Slot, Whole, worth_at, holds_at, any_of}
 use Rattle.composition.specs.declared.guard.Guard.{Guard}
 use Rattle.composition.specs.declared.spot.PhaseSpot.{PhaseSpot}
 use Rattle.composition.specs.declared.spot.PhaseKind.{PhaseKind}
-use Rattle.composition.specs.declared.run.Span.{Span}
-use Rattle.composition.specs.TimedRuns.{TimedRun, span_in, choice_in}
-use Rattle.composition.specs.Scenes.{Scene, phases, choices, guards, has_phase, root_do}
-use Rattle.composition.specs.There.{same_guard, is_there}
+use Rattle.composition.specs.Scenes.{root_do}
+use Rattle.composition.specs.There.{same_guard}
 use Rattle.composition.specs.Arrangement.{Times, same_span, follow, is_least, is_greatest, all_same, overlap, starts_of, ends_of, covers, chosen_spans, by_kind, arranged}
-use Rattle.composition.specs.Items.{times_of, arranged_holds}
-use Rattle.composition.specs.Invariants.{same_guards, is_member, are_choices, are_members}
+use Rattle.composition.specs.Invariants.{same_guards}
 use Rattle.field_flatten.specs.Shapes.{Layout, phase_start, phase_end}
-use Rattle.field_flatten.specs.Points.{is_held, stands, span_of, run_named}
-use Rattle.field_flatten.specs.Rules.{presence_rules, follow_rules, least_rules, greatest_rules, same_rules, overlap_rules, starts, ends, cover_rules, span_rule, chosen_rules, kind_rules, root_do_rules, arranged_rule}
+use Rattle.field_flatten.specs.Rules.{follow_rules, least_rules, greatest_rules, same_rules, overlap_rules, starts, ends, cover_rules, span_rule, chosen_rules, kind_rules, root_do_rules}
 use Rattle.field_flatten.proofs.Tests.{left_of, right_of, both, two_ways, under_one, path_self, In, in_map, all_at, all_append, all_map, any_map, map_same, any_from}
 use Rattle.field_flatten.proofs.Tests as T
-use Rattle.field_flatten.proofs.JoinedRows.{all_holds, any_holds, under_holds}
+use Rattle.field_flatten.proofs.JoinedRows.{any_holds, under_holds}
 use Rattle.field_flatten.proofs.Presence.{guard_is}
 
 pub and_unit : (b : Bool) → (b && true) ≡ b

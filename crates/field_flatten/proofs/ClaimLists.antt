@@ -1,7 +1,7 @@
 -- The claims of a run, list by list.
-use Rattle.std.proofs.Common.{◌≡◌, ℕ, refl, sym, ap, ap₂, ◌∙◌, subst, ◌⊎◌, inl, inr, List, [], ◌∷◌, ◌++◌, Bool, true, false, ◌&&◌, ◌||◌, not, Option, Some, None, map, length, arith, true≢false}
-use Rattle.std.specs.Prelude.{ℤ, ◌+◌, nat_eq, filter, flat_map}
-use Rattle.std.specs.List.{list_any, list_all}
+use Rattle.std.proofs.Common.{◌≡◌, refl, sym, ap, ap₂, ◌∙◌, subst, List, [], ◌∷◌, ◌++◌, Bool, true, false, ◌&&◌, ◌||◌, not, map, length, true≢false}
+use Rattle.std.specs.Prelude.{ℤ, ◌+◌, nat_eq, filter}
+use Rattle.std.specs.List.{list_all}
 use Rattle.osc_base.specs.declared.path.Path.{Path}
 use Rattle.osc_base.specs.Paths.{same_path}
 use Rattle.composition.specs.declared.clause.Clause.{Clause}
@@ -15,9 +15,9 @@ use Rattle.composition.specs.declared.run.Value.{Value}
 use Rattle.composition.specs.declared.run.Trace.{Trace}
 use Rattle.composition.specs.Scenes.{Scene, choices, values, phases, vehicles}
 use Rattle.composition.specs.Items.{Item, OfHard, OfDefault, OfTyped, OfPhase, OfModifier, OfMotion, items, item_holds, is_hard}
-use Rattle.composition.specs.Claims.{Claim, claim, listed, those_there, listed_claims, sample_in_range, choice_in_range, value_in_range, span_in_range, end_claim, bounds_claims, item_claim, item_claims, claims, is_instance}
+use Rattle.composition.specs.Claims.{Claim, claim, listed, those_there, listed_claims, sample_in_range, choice_in_range, value_in_range, span_in_range, end_claim, bounds_claims, item_claim, item_claims, is_instance}
 use Rattle.field_flatten.specs.Exactness.{is_hard_clause, is_framed}
-use Rattle.field_flatten.proofs.Tests.{left_of, right_of, both, In, in_flat_map, flat_map_in, all_at, all_from, all_append, filter_in, in_filter}
+use Rattle.field_flatten.proofs.Tests.{left_of, In, in_flat_map, flat_map_in, all_at, all_from, all_append, filter_in, in_filter}
 use Rattle.field_flatten.proofs.Frame.{holds_in}
 use Rattle.field_flatten.proofs.ListedRun.{Framed, all_parts, choice_row, value_row, phase_row, trace_row, length_row, choice_bounds, value_bounds, span_bounds, trace_bounds}
 
@@ -156,14 +156,15 @@ module _ (scene : Scene) (run : TimedRun) where
       let a = all_parts holds_in (listed_claims scene run ++ end_claim scene run ∷ [] ++ bounds_claims scene run ++ item_claims scene run hards) (item_claims scene run softs) h in
       let b = all_parts holds_in (listed_claims scene run ++ end_claim scene run ∷ [] ++ bounds_claims scene run) (item_claims scene run hards) a.0 in
       let c = all_parts holds_in (listed_claims scene run ++ end_claim scene run ∷ []) (bounds_claims scene run) b.0 in
-      let d = all_parts holds_in (listed_claims scene run) (end_claim scene run ∷ []) c.0 in
-      (record {
-        listed = d.0;
-        ended = and_true (end_claim scene run).holds d.1;
-        bounded = c.1;
-        soft = λ i j e. each_item holds_in softs a.1 i (filter_in (λ k. not (is_hard k)) (items scene) i j (not_hard (is_hard i) e));
-      },
-      λ i j e. true_item i (item_holds scene run i) (λ path numbers is. absurd (true≢false (sym (subst (λ k. is_hard k ≡ true) is e)))) (each_item holds_in hards b.1 i (filter_in is_hard (items scene) i j e)))
+      let d = all_parts holds_in (listed_claims scene run) (end_claim scene run ∷ []) c.0 in (
+        record {
+          listed = d.0;
+          ended = and_true (end_claim scene run).holds d.1;
+          bounded = c.1;
+          soft = λ i j e. each_item holds_in softs a.1 i (filter_in (λ k. not (is_hard k)) (items scene) i j (not_hard (is_hard i) e));
+        },
+        λ i j e. true_item i (item_holds scene run i) (λ path numbers is. absurd (true≢false (sym (subst (λ k. is_hard k ≡ true) is e)))) (each_item holds_in hards b.1 i (filter_in is_hard (items scene) i j e)),
+      )
 
   pub instance_is : Framed scene run → AllHard → is_instance scene run ≡ true
   instance_is f hard =

@@ -1,16 +1,10 @@
 -- Hard constraints, defaults and enums: the rule is true at a point exactly if the item holds in the point's run.
-use Rattle.std.proofs.Common.{◌≡◌, ℕ, zero, suc, ◌+◌, ◌<◌, ◌≤◌, refl, sym, ap, ap₂, ◌∙◌, subst, ◌⊎◌, inl, inr, List, [], ◌∷◌, ◌++◌, Bool, true, false, ◌&&◌, ◌||◌, not, cond, Option, Some, None, map, length, arith, true≢false}
-use Rattle.std.specs.Prelude.{ℤ, pos, ◌≤ℤ◌, nat_eq, nat_lt, option_map, option_and_then, find, flat_map, slice_get, unwrap_or, is_some, option_to_list}
-use Rattle.std.specs.Option.{option_map_or, option_or}
+use Rattle.std.proofs.Common.{◌≡◌, ℕ, zero, suc, ◌<◌, refl, sym, ap, ap₂, ◌∙◌, subst, inl, inr, List, [], ◌∷◌, ◌++◌, Bool, true, false, ◌&&◌, ◌||◌, not, Option, Some, None, map, length, arith, true≢false}
+use Rattle.std.specs.Prelude.{ℤ, flat_map, slice_get, option_to_list}
+use Rattle.std.specs.Option.{option_map_or}
 use Rattle.std.specs.List.{list_any, list_all}
-use Rattle.std.proofs.lemmas.Int.{ints}
 use Rattle.osc_base.specs.declared.path.Path.{Path}
-use Rattle.osc_base.specs.declared.mark.Strength.{Strength}
-use Rattle.osc_base.specs.declared.mark.Mark.{Mark}
 use Rattle.osc_base.specs.declared.listing.SlotName.{SlotName}
-use Rattle.osc_base.specs.Number.{Number}
-use Rattle.osc_base.specs.Comparisons.{same_number}
-use Rattle.box_eval.specs.Box.{value_of}
 use Rattle.box_eval.specs.FlatRules.{FlatRule, Equal, Slot, Whole, holds_at, all_of, any_of, under}
 use Rattle.expr_eval.specs.Kinds.{is_truth}
 use Rattle.expr_eval.specs.Typed.{Typed, Info, reads, kind}
@@ -21,17 +15,17 @@ use Rattle.composition.specs.declared.guard.Guard.{Guard}
 use Rattle.composition.specs.declared.spot.ValueSpot.{ValueSpot}
 use Rattle.composition.specs.declared.spot.ValueRange.{ValueRange}
 use Rattle.composition.specs.TimedRuns.{TimedRun, held_in}
-use Rattle.composition.specs.Scenes.{Scene, Spot, Occurrence, ModifierSpot, Source, source, guards, values}
-use Rattle.composition.specs.There.{is_number, is_met, are_met, once, presence, read_by, removed, is_asked, is_there}
+use Rattle.composition.specs.Scenes.{Scene, Occurrence, ModifierSpot, source, guards}
+use Rattle.composition.specs.There.{is_number, is_met, are_met, presence, read_by, removed, is_asked, is_there}
 use Rattle.composition.specs.Numbers.{number_at, is_true}
 use Rattle.composition.specs.Items.{is_satisfied, hard_holds, is_asked_number, is_overridden, default_holds, typed_holds}
-use Rattle.composition.specs.Invariants.{IsScene, are_grounded, is_guard, guard_path, value_at, is_read, is_expression, is_occurrence, are_texts}
+use Rattle.composition.specs.Invariants.{are_grounded, value_at, is_read, is_expression}
 use Rattle.field_flatten.specs.Shapes.{Layout, shape}
 use Rattle.field_flatten.specs.Points.{is_held, stands, held_of, run_named}
 use Rattle.field_flatten.specs.Rules.{guard_rule, presence_rules, typed_rule, hard_rule, presence_of_number, default_rule, member_rule, enum_rule}
-use Rattle.field_flatten.specs.Seen.{has_values, seen, source_value}
+use Rattle.field_flatten.specs.Seen.{has_values, seen}
 use Rattle.field_flatten.specs.Exactness.{expressions, IsExpanded}
-use Rattle.field_flatten.proofs.Tests.{left_of, right_of, both, contrary, two_ways, under_one, path_is, In, in_left, in_right, in_flat_map, all_at, all_from, all_same, all_map, all_append, any_map, any_same, any_append, found_in}
+use Rattle.field_flatten.proofs.Tests.{left_of, right_of, under_one, In, in_left, in_right, in_flat_map, all_at, all_from, all_same, all_map, any_map, any_same, any_append}
 use Rattle.field_flatten.proofs.JoinedRows.{all_holds, any_holds, under_holds}
 use Rattle.field_flatten.proofs.ShapeLaw.{law}
 use Rattle.field_flatten.proofs.ExprReads.{value_is, passes}
@@ -149,7 +143,7 @@ module _ (scene : Scene) (point : List ℤ) (slot : SlotName → ℕ) (expanded 
   default_law later o i truths known =
       let row : List FlatRule = map (presence_of_number scene layed) later ++ typed_rule layed o.typed ∷ [] in
       let others : list_any (holds_at point) (map (presence_of_number scene layed) later) ≡ is_overridden scene run later =
-          any_map (holds_at point) (presence_of_number scene layed) later ∙ any_same (λ n. holds_at point (presence_of_number scene layed n)) (is_asked_number scene run) later (λ n j. overrider n (known n j)) in
+      any_map (holds_at point) (presence_of_number scene layed) later ∙ any_same (λ n. holds_at point (presence_of_number scene layed n)) (is_asked_number scene run) later (λ n j. overrider n (known n j)) in
       under_met (presence scene o) (any_of row) (grounded o i)
       ∙ under_one (is_asked scene run o) (is_asked scene run o) (holds_at point (any_of row)) (is_overridden scene run later || is_satisfied scene run o) refl (λ asked.
       any_holds point row ∙ any_append (holds_at point) (map (presence_of_number scene layed) later) (typed_rule layed o.typed ∷ [])

@@ -1,26 +1,23 @@
 -- The flat form of a scene says exactly what the scene says.
-use Rattle.std.proofs.Common.{◌≡◌, ℕ, refl, sym, ap, ap₂, ◌∙◌, subst, ◌⊎◌, inl, inr, List, [], ◌∷◌, ◌++◌, Bool, true, false, ◌&&◌, ◌||◌, not, Option, Some, None, map, true≢false}
+use Rattle.std.proofs.Common.{◌≡◌, ℕ, refl, sym, ap, ◌∙◌, subst, List, Bool, true, false, ◌||◌, true≢false}
 use Rattle.std.specs.Prelude.{ℤ}
 use Rattle.std.specs.List.{list_all}
-use Rattle.osc_base.specs.declared.path.Path.{Path}
 use Rattle.osc_base.specs.declared.listing.SlotName.{SlotName}
 use Rattle.box_eval.specs.Box.{IsPointOf}
 use Rattle.box_eval.specs.declared.flat.Flat.{Flat}
-use Rattle.box_eval.specs.Rules.{Meets, IsEmpty}
+use Rattle.box_eval.specs.Rules.{Meets}
 use Rattle.box_eval.specs.FlatRules.{holds_at}
-use Rattle.composition.specs.declared.spot.ValueSpot.{ValueSpot}
-use Rattle.composition.specs.declared.spot.ValueRange.{ValueRange}
 use Rattle.composition.specs.declared.spot.PhaseSpot.{PhaseSpot}
 use Rattle.composition.specs.TimedRuns.{TimedRun}
 use Rattle.composition.specs.Scenes.{Scene, phases}
-use Rattle.composition.specs.Items.{Item, OfHard, OfDefault, OfTyped, OfPhase, OfModifier, OfMotion, items, item_holds, is_hard, typed_holds}
-use Rattle.composition.specs.Claims.{IsInstance, item_claim}
+use Rattle.composition.specs.Items.{Item, OfTyped, OfPhase, items, item_holds, is_hard}
+use Rattle.composition.specs.Claims.{IsInstance}
 use Rattle.composition.specs.Slots.{slot_names}
 use Rattle.field_flatten.specs.Ends.{slot_in, bounds}
 use Rattle.field_flatten.specs.Points.{slot_value, run_of, point_of}
-use Rattle.field_flatten.specs.Rules.{layout, arranged_rule, item_rule, rules}
-use Rattle.field_flatten.specs.Exactness.{IsExpanded, meets, meets_soft, meets_phases, is_framed, ItemsAgree, IsReached, IsFound, IsExact, IsFlatOf, IsExactFlat}
-use Rattle.field_flatten.proofs.Tests.{left_of, right_of, two_ways, contrary, In, in_map, all_at, all_from, all_map, map_same}
+use Rattle.field_flatten.specs.Rules.{layout, arranged_rule, item_rule}
+use Rattle.field_flatten.specs.Exactness.{IsExpanded, meets, meets_soft, meets_phases, IsFound, IsExact, IsFlatOf, IsExactFlat}
+use Rattle.field_flatten.proofs.Tests.{two_ways, In, all_at, all_from, all_map, map_same}
 use Rattle.field_flatten.proofs.FlatTruth.{meets_all, all_meets}
 use Rattle.field_flatten.proofs.SlotLaw.{Inside, point_inside}
 use Rattle.field_flatten.proofs.PhaseLaw.{arranged_law}

@@ -1,10 +1,10 @@
 -- What an expression is worth depends on the paths that it reads alone.
-use Rattle.std.proofs.Common.{◌≡◌, ℕ, refl, sym, ap, ap₂, ◌∙◌, subst, ◌⊎◌, inl, inr, List, [], ◌∷◌, ◌++◌, Bool, true, false, ◌&&◌, ◌||◌, not, cond, Option, Some, None, true≢false}
+use Rattle.std.proofs.Common.{◌≡◌, ℕ, refl, sym, ap, ap₂, ◌∙◌, subst, inl, inr, List, ◌++◌, Bool, true, ◌&&◌, ◌||◌, not, Option, Some, true≢false}
 use Rattle.std.specs.Prelude.{ℤ, pos, is_some, unwrap_or}
 use Rattle.std.specs.List.{list_all}
 use Rattle.osc_base.specs.declared.path.Path.{Path}
-use Rattle.osc_base.specs.Number.{Number, whole, plus, product}
-use Rattle.osc_base.specs.Comparisons.{is_same, is_between, is_at_most}
+use Rattle.osc_base.specs.Number.{Number, plus, product}
+use Rattle.osc_base.specs.Comparisons.{is_same, is_between}
 use Rattle.expr_eval.specs.Kinds.{is_number}
 use Rattle.expr_eval.specs.Typed.{Typed, Info, Constant, Read, Whole, Listed, Span, Minus, Not, Sum, Times, And, Or, Implies, Relation, Within, TypedRow, End, Item, reads, reads_of}
 use Rattle.expr_eval.specs.Value.{opposite, of_truth, is_one, compares, worth, is_in, is_item, value}

@@ -1,12 +1,12 @@
 -- Terms and rules that read slots of a box alone and reach no further than a bound.
-use Rattle.std.proofs.Common.{◌≡◌, ℕ, zero, suc, ◌+◌, ◌*◌, ◌≤◌, ◌<◌, max, refl, sym, ap, ap₂, ◌∙◌, subst, inl, inr, List, [], ◌∷◌, ◌++◌, length, map, Bool, true, false, cond, arith}
+use Rattle.std.proofs.Common.{◌≡◌, ℕ, zero, suc, ◌+◌, ◌*◌, ◌≤◌, ◌<◌, max, refl, sym, subst, inl, inr, List, [], ◌∷◌, length, arith}
 use Rattle.std.specs.Prelude.{ℤ, pos, neg_ℤ, ◌+ℤ◌, ◌-ℤ◌, ◌≤ℤ◌, nat_eq, unsigned_abs}
-use Rattle.std.proofs.lemmas.Int.{ints, clamps, unsigned_abs-mul}
-use Rattle.std.proofs.Math.Nat.{mul_comm, mul-le-mul_left, mul-le-mul_right, le-mul_of_pos_right}
+use Rattle.std.proofs.lemmas.Int.{ints}
+use Rattle.std.proofs.Math.Nat.{mul_comm, mul-le-mul_left, mul-le-mul_right}
 use Rattle.box_eval.specs.declared.bounds.Pair.{Pair}
-use Rattle.box_eval.specs.Box.{pair, low_at, high_at}
+use Rattle.box_eval.specs.Box.{low_at, high_at}
 use Rattle.box_eval.specs.FlatRules.{FlatTerm, FlatRule, Whole, Slot, Sum, Less, Times, Truth, Always, Below, AtMost, Equal, Differ, Both, Either, Not, paired, joined_rounds, first_or, joined, all_of, any_of, under, times}
-use Rattle.field_flatten.proofs.Tests.{two_ways, number_is, In, all_at}
+use Rattle.field_flatten.proofs.Tests.{two_ways, number_is, In}
 use Rattle.field_flatten.proofs.FlatReach.{term_slots, rule_slots, size, interval, term_far, rule_far}
 
 module _ (ends : List Pair) (most : ℕ) where

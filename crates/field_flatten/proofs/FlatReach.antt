@@ -1,5 +1,5 @@
 -- How far the numbers within a rule's tree reach, and that the rule itself reaches no further.
-use Rattle.std.proofs.Common.{◌≡◌, ℕ, ◌+◌, ◌*◌, ◌≤◌, max, refl, sym, ap, ap₂, ◌∙◌, subst, List, [], ◌∷◌, arith}
+use Rattle.std.proofs.Common.{◌≡◌, ℕ, ◌+◌, ◌*◌, ◌≤◌, max, refl, ap₂, List, arith}
 use Rattle.std.specs.Prelude.{ℤ, pos, neg_ℤ, ◌+ℤ◌, ◌-ℤ◌, ◌*ℤ◌, ◌≤ℤ◌, unsigned_abs}
 use Rattle.std.proofs.lemmas.Int.{ints, clamps, unsigned_abs-mul}
 use Rattle.std.proofs.Math.Nat.{mul-le-mul_left, mul-le-mul_right}
@@ -10,8 +10,8 @@ use Rattle.box_eval.specs.declared.bounds.Pair.{Pair}
 use Rattle.box_eval.specs.declared.verdict.Verdict.{Verdict}
 use Rattle.box_eval.specs.declared.verdict.Verdict.TheVariants.{True, False, Open}
 use Rattle.box_eval.specs.Box.{pair, low_at, high_at, IsBox}
-use Rattle.box_eval.specs.Verdict.{times_of, truth_of, least_of, greatest_of}
-use Rattle.box_eval.specs.Reach.{Seen, Judged, magnitude, greatest_in_rule, slots_in_term, term_seen, rule_judged, reach_of, slot_bound}
+use Rattle.box_eval.specs.Verdict.{truth_of, least_of, greatest_of}
+use Rattle.box_eval.specs.Reach.{Seen, Judged, greatest_in_rule, slots_in_term, term_seen, rule_judged, reach_of, slot_bound}
 use Rattle.box_eval.specs.FlatRules.{FlatTerm, FlatRule, Whole, Slot, Sum, Less, Times, Truth, Always, Below, AtMost, Equal, Differ, Both, Either, Not, rule_step, term_step, flat_rule}
 use Rattle.box_eval.proofs.Folds.{Two, rule_ones, rule_others, term_ones, term_others, rule_law}
 

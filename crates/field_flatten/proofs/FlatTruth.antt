@@ -1,9 +1,8 @@
 -- The tree of a rule holds at a point exactly if the rule is true there.
-use Rattle.std.proofs.Common.{◌≡◌, refl, sym, ap, ap₂, ◌∙◌, List, [], ◌∷◌, Bool, true, false, not, ◌&&◌, ◌||◌, map}
+use Rattle.std.proofs.Common.{◌≡◌, refl, sym, ap, ap₂, ◌∙◌, List, [], ◌∷◌, Bool, true, not, ◌&&◌, ◌||◌, map}
 use Rattle.std.specs.Prelude.{ℤ, ◌+ℤ◌, ◌-ℤ◌, ◌*ℤ◌, int_lt, int_le}
 use Rattle.std.specs.List.{list_all}
 use Rattle.box_eval.specs.declared.rule.Rule.{Rule}
-use Rattle.box_eval.specs.declared.rule.Term.{Term}
 use Rattle.box_eval.specs.declared.rule.Rule.TheOpen.{Rule-F, Term-F, Always, Below, AtMost, Equal, Differ, Both, Either, Not, Whole, Slot, Sum, Less, Times, Truth}
 use Rattle.box_eval.specs.Truth.{is_same, as_number, rule_truth, term_value, true_at}
 use Rattle.box_eval.specs.Rules.{Meets}
@@ -51,5 +50,7 @@ module _ (point : List ℤ) where
 
   pub all_meets : (rules : List Rule) → list_all (holds_at point) (map flat_rule rules) ≡ true → Meets point rules
   all_meets [] h = tt
-  all_meets (r ∷ rs) h = (sym (flat_truth r) ∙ left_of (holds_at point (flat_rule r)) (list_all (holds_at point) (map flat_rule rs)) h,
-      all_meets rs (right_of (holds_at point (flat_rule r)) (list_all (holds_at point) (map flat_rule rs)) h))
+  all_meets (r ∷ rs) h = (
+    sym (flat_truth r) ∙ left_of (holds_at point (flat_rule r)) (list_all (holds_at point) (map flat_rule rs)) h,
+    all_meets rs (right_of (holds_at point (flat_rule r)) (list_all (holds_at point) (map flat_rule rs)) h),
+  )

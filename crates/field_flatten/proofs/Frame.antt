@@ -1,15 +1,14 @@
 -- The run of a point lists what is there, ends as it should, and keeps all bounds, if its phases are arranged and its enums hold their numbers.
-use Rattle.std.proofs.Common.{◌≡◌, ℕ, zero, suc, ◌+◌, ◌-◌, ◌<◌, ◌≤◌, refl, sym, ap, ap₂, ◌∙◌, subst, ◌⊎◌, inl, inr, List, [], ◌∷◌, ◌++◌, Bool, true, false, ◌&&◌, ◌||◌, not, cond, Option, Some, None, map, length, arith, true≢false}
+use Rattle.std.proofs.Common.{◌≡◌, ℕ, zero, suc, ◌+◌, ◌-◌, ◌<◌, ◌≤◌, refl, sym, ap, ap₂, ◌∙◌, subst, inl, inr, List, [], ◌∷◌, ◌++◌, Bool, true, false, ◌&&◌, ◌||◌, not, cond, Some, map, length, arith, true≢false}
 use Rattle.std.proofs.lemmas.List.{length-map}
-use Rattle.std.specs.Prelude.{ℤ, pos, ◌≤ℤ◌, ◌<ℤ◌, ◌+ℤ◌, ◌-ℤ◌, int_le, int_lt, filter, find, nat_eq, nat_le, nat_lt, unsigned_abs, slice_get, unwrap_or, bytes_eq}
-use Rattle.std.specs.Int.{int_min, int_max}
+use Rattle.std.specs.Prelude.{ℤ, pos, ◌≤ℤ◌, ◌<ℤ◌, ◌+ℤ◌, ◌-ℤ◌, int_le, int_lt, filter, nat_eq, nat_le, nat_lt, unsigned_abs, slice_get, unwrap_or, bytes_eq}
+use Rattle.std.specs.Int.{int_max}
 use Rattle.std.specs.Option.{option_map_or}
 use Rattle.std.specs.List.{list_any, list_all, range_with_len}
 use Rattle.std.proofs.lemmas.Int.{ints, clamps}
 use Rattle.std.proofs.lemmas.Bool.{or_cases, cond-true, cond-false}
 use Rattle.std.proofs.lemmas.Slice.Eq.{bytes_eq-Decides}
 use Rattle.osc_base.specs.declared.path.Path.{Path}
-use Rattle.osc_base.specs.declared.sample.Sample.{Sample}
 use Rattle.osc_base.specs.declared.listing.SlotName.{SlotName}
 use Rattle.osc_base.specs.Comparisons.{same_number}
 use Rattle.osc_base.specs.Paths.{same_path}
@@ -17,37 +16,32 @@ use Rattle.box_eval.specs.Box.{pair}
 use Rattle.type_model.specs.Bounds.{least_of, greatest_of}
 use Rattle.composition.specs.declared.clause.Clause.{Clause}
 use Rattle.composition.specs.declared.guard.Guard.{Guard}
-use Rattle.composition.specs.declared.setting.Setting.{Setting}
 use Rattle.composition.specs.declared.spot.ChoiceSpot.{ChoiceSpot}
 use Rattle.composition.specs.declared.spot.ValueSpot.{ValueSpot}
 use Rattle.composition.specs.declared.spot.ValueRange.{ValueRange}
 use Rattle.composition.specs.declared.spot.PhaseSpot.{PhaseSpot}
-use Rattle.composition.specs.declared.run.Held.{Held}
 use Rattle.composition.specs.declared.run.Choice.{Choice}
 use Rattle.composition.specs.declared.run.Span.{Span}
 use Rattle.composition.specs.declared.run.Value.{Value}
 use Rattle.composition.specs.declared.run.Trace.{Trace}
 use Rattle.composition.specs.TimedRuns.{TimedRun, held_in, span_in}
-use Rattle.composition.specs.Scenes.{Scene, choices, values, phases, vehicles, guards, has_phase, has_root_do, root_do}
+use Rattle.composition.specs.Scenes.{Scene, choices, values, phases, vehicles, guards, has_root_do, root_do}
 use Rattle.composition.specs.There.{is_there, is_number}
 use Rattle.composition.specs.Ranges.{lies_between, in_range, has_gap}
-use Rattle.composition.specs.Items.{Item, OfTyped, items, typed_item, typed_holds}
+use Rattle.composition.specs.Items.{OfTyped, items, typed_item, typed_holds}
 use Rattle.composition.specs.Claims.{Claim, claim, listed, those_there, listed_claims, ends_with_root_do, end_claim, road_end, top_speed, sample_in_range, choice_in_range, value_in_range, span_in_range, bounds_claims}
-use Rattle.composition.specs.Slots.{sample_names}
 use Rattle.composition.specs.Invariants.{value_at, has_whole, are_texts, is_range, is_small}
 use Rattle.field_flatten.specs.Ends.{ends_of, range_ends, no_ends}
-use Rattle.field_flatten.specs.Shapes.{Layout}
-use Rattle.field_flatten.specs.Points.{is_held, stands, choice_of, span_of, held_of, sample_named, end_named, run_named}
+use Rattle.field_flatten.specs.Points.{is_held, stands, choice_of, span_of, held_of, sample_named, end_named}
 use Rattle.field_flatten.specs.Exactness.{is_ascending, is_ordered_range, IsExpanded}
-use Rattle.field_flatten.proofs.Tests.{left_of, right_of, both, contrary, two_ways, path_is, path_self, number_is, number_self, In, in_map, all_at, all_from, all_append, all_map, any_from, filter_same, in_filter, found_in, finds}
-use Rattle.field_flatten.proofs.Presence.{same_number_self}
+use Rattle.field_flatten.proofs.Tests.{left_of, right_of, both, two_ways, path_self, number_is, number_self, In, all_at, all_from, all_append, all_map, any_from, filter_same, in_filter, found_in, finds}
 use Rattle.field_flatten.proofs.NamedRun.{span_there, held_there, value_named, trace_named}
 use Rattle.field_flatten.proofs.SlotLaw.{Inside, Between, choice_named, value_is_named, sample_is_named, start_between, end_between}
-use Rattle.field_flatten.proofs.NumberLaw.{at, lay, text_in}
+use Rattle.field_flatten.proofs.NumberLaw.{at, text_in}
 use Rattle.field_flatten.proofs.ConstraintLaw.{run, there_stands}
 use Rattle.field_flatten.proofs.PhaseLaw.{phase_known}
 use Rattle.field_flatten.proofs.Nesting.{AllArranged, in_order}
-use Rattle.field_flatten.proofs.ItemLaw.{distinct_found, typed_item_in}
+use Rattle.field_flatten.proofs.ItemLaw.{counted_in, distinct_found, typed_item_in}
 
 abbrev pub holds_in : Claim → Bool
 holds_in c = c.holds
@@ -62,11 +56,6 @@ module _ {A B : Type 0} (key : A → Path) (key_of : B → Path) (make : A → B
   pub kept_paths : (xs : List A) → filter keep (map key xs) ≡ map key_of (map make (filter (λ a. keep (key a)) xs))
   kept_paths [] = refl
   kept_paths (x ∷ xs) = two_ways (keep (key x)) (λ e. rw e (ap₂ (◌∷◌) (sym (keyed x)) (kept_paths xs))) (λ e. rw e (kept_paths xs))
-
-counted_in : (from n t : ℕ) → In t (range_with_len from n) → t < from + n
-counted_in from zero t i = absurd i
-counted_in from (suc n) t (inl e) = omega arith
-counted_in from (suc n) t (inr i) = let h = counted_in (from + 1) n t i in omega arith
 
 counted_length : (from n : ℕ) → length (range_with_len from n) ≡ n
 counted_length from zero = refl
@@ -145,7 +134,7 @@ all_of_none test (x ∷ xs) h = let e : suc (length xs) ≡ 0 = number_is (suc (
 -- the `do` of the named scenario is there
 pub root_there : (scene : Scene) (test : Guard → Bool) → has_whole scene ≡ true → has_root_do scene ≡ true → list_all test (guards scene root_do) ≡ true
 root_there scene test h e = elim (or_cases (nat_eq (length (phases scene)) 0) (has_root_do scene && nat_eq (length (guards scene root_do)) 0) h) as (λ _. list_all test (guards scene root_do) ≡ true) [
-  inl f ↦ absurd (none_of (λ (p : PhaseSpot). same_path p.path root_do) (phases scene) f e)
+  | inl f ↦ absurd (none_of (λ (p : PhaseSpot). same_path p.path root_do) (phases scene) f e)
   | inr f ↦ all_of_none test (guards scene root_do) (right_of (has_root_do scene) (nat_eq (length (guards scene root_do)) 0) f)
 ]
 
@@ -163,7 +152,7 @@ module _ (scene : Scene) (point : List ℤ) (slot : SlotName → ℕ) (expanded 
       → list_all holds_in (listed (those_there scene runs (map key xs)) (map key_of (map make (filter (λ a. stands scene named (key a)) xs)))) ≡ true
   list_listed A B key key_of make keyed xs =
       let same : those_there scene runs (map key xs) ≡ map key_of (map make (filter (λ a. stands scene named (key a)) xs)) =
-          filter_same (is_there scene runs) (stands scene named) (map key xs) (λ p i. there_stands scene point slot expanded inside p) ∙ kept_paths key key_of make keyed (stands scene named) xs in
+      filter_same (is_there scene runs) (stands scene named) (map key xs) (λ p i. there_stands scene point slot expanded inside p) ∙ kept_paths key key_of make keyed (stands scene named) xs in
       subst (λ ys. list_all holds_in (listed ys (map key_of (map make (filter (λ a. stands scene named (key a)) xs)))) ≡ true) (sym same) (listed_self (map key_of (map make (filter (λ a. stands scene named (key a)) xs))))
 
   trace_lengths : list_all holds_in (map (λ (t : Trace). claim Clause.Listed t.path (nat_eq (length t.samples) (runs.end + 1))) runs.traces) ≡ true

@@ -1,9 +1,8 @@
 -- The rule of each item is true at a point exactly if the item holds in the point's run.
-use Rattle.std.proofs.Common.{◌≡◌, ℕ, zero, suc, ◌+◌, ◌<◌, ◌≤◌, refl, sym, ap, ap₂, ◌∙◌, subst, ◌⊎◌, inl, inr, List, [], ◌∷◌, ◌++◌, Bool, true, false, ◌&&◌, ◌||◌, not, cond, Option, Some, None, map, length, arith, true≢false}
+use Rattle.std.proofs.Common.{◌≡◌, ℕ, zero, suc, ◌+◌, ◌<◌, ◌≤◌, refl, sym, ◌∙◌, subst, ◌⊎◌, inl, inr, List, [], ◌∷◌, ◌++◌, Bool, true, false, ◌&&◌, ◌||◌, not, cond, Option, Some, None, map, length, arith, true≢false}
 use Rattle.std.proofs.lemmas.List.{length-map}
-use Rattle.std.specs.Prelude.{ℤ, pos, flat_map, find, slice_get, drop}
-use Rattle.std.specs.Option.{option_map_or}
-use Rattle.std.specs.List.{list_any, list_all, range_with_len}
+use Rattle.std.specs.Prelude.{ℤ, flat_map, find, slice_get, drop}
+use Rattle.std.specs.List.{list_any, range_with_len}
 use Rattle.osc_base.specs.declared.path.Path.{Path}
 use Rattle.osc_base.specs.declared.mark.Mark.{Mark}
 use Rattle.osc_base.specs.declared.mark.Strength.{Strength}
@@ -18,15 +17,14 @@ use Rattle.composition.specs.TimedRuns.{TimedRun}
 use Rattle.composition.specs.Scenes.{Scene, Occurrence, ModifierSpot, marks, values, phases, vehicles, has_phase, root_do}
 use Rattle.composition.specs.Ranges.{has_gap}
 use Rattle.composition.specs.Slots.{ticks_of}
-use Rattle.composition.specs.Arrangement.{Times, arranged}
+use Rattle.composition.specs.Arrangement.{arranged}
 use Rattle.composition.specs.There.{is_there}
-use Rattle.composition.specs.Items.{times_of, arranged_holds, Item, OfHard, OfDefault, OfTyped, OfPhase, OfModifier, OfMotion, occurrence_item, occurrence_items, typed_item, items, item_holds, is_hard}
-use Rattle.composition.specs.Invariants.{are_distinct, value_at, is_occurrence, is_modifier, has_other, has_range, is_end}
+use Rattle.composition.specs.Items.{times_of, arranged_holds, Item, OfHard, OfDefault, OfTyped, OfPhase, OfModifier, OfMotion, occurrence_item, occurrence_items, typed_item, items, item_holds}
+use Rattle.composition.specs.Invariants.{are_distinct, value_at, is_occurrence, is_modifier}
 use Rattle.field_flatten.specs.Shapes.{Layout}
-use Rattle.field_flatten.specs.Points.{stands}
 use Rattle.field_flatten.specs.Rules.{item_rule, arranged_rule}
 use Rattle.field_flatten.specs.Exactness.{IsExpanded}
-use Rattle.field_flatten.proofs.Tests.{left_of, right_of, both, contrary, two_ways, path_is, path_self, In, in_left, in_right, in_either, in_map, map_in, in_flat_map, flat_map_in, all_at, found_in, finds, any_from}
+use Rattle.field_flatten.proofs.Tests.{left_of, right_of, contrary, two_ways, path_self, In, in_left, in_right, in_either, in_map, map_in, in_flat_map, flat_map_in, all_at, any_from}
 use Rattle.field_flatten.proofs.SlotLaw.{Inside}
 use Rattle.field_flatten.proofs.NumberLaw.{at, lay}
 use Rattle.field_flatten.proofs.ConstraintLaw.{run, there_stands, hard_law, default_law, typed_law}
@@ -56,7 +54,7 @@ overrider_small ms i k j = by (slice_get ms i) j
   where
     of_target : (target : Option Path) → In k (with_target target (i + 1) (drop (i + 1) ms)) → k < length ms
     of_target target h = elim (drop_length (i + 1) ms) as (λ _. k < length ms) [
-      inl few ↦ let small = target_small target (i + 1) (drop (i + 1) ms) k h in omega arith
+      | inl few ↦ let small = target_small target (i + 1) (drop (i + 1) ms) k h in omega arith
       | inr e ↦ absurd (subst (λ xs. In k (with_target target (i + 1) xs)) e h)
     ]
 
@@ -77,9 +75,14 @@ module _ {A : Type 0} (key : A → Path) where
   distinct_found (y ∷ ys) h x (inr i) =
       let fresh = left_of (not (list_any (same_path (key y)) (map key ys))) (are_distinct (map key ys)) h in
       let differ : same_path (key y) (key x) ≡ false = two_ways (same_path (key y) (key x))
-          (λ e. contrary (not (list_any (same_path (key y)) (map key ys))) fresh (rw (any_from (same_path (key y)) (map key ys) (key x) (in_map key ys x i) e) refl))
-          (λ e. e) in
+      (λ e. contrary (not (list_any (same_path (key y)) (map key ys))) fresh (rw (any_from (same_path (key y)) (map key ys) (key x) (in_map key ys x i) e) refl))
+      (λ e. e) in
       rw differ (distinct_found ys (right_of (not (list_any (same_path (key y)) (map key ys))) (are_distinct (map key ys)) h) x i)
+
+pub counted_in : (from n t : ℕ) → In t (range_with_len from n) → t < from + n
+counted_in from zero t i = absurd i
+counted_in from (suc n) t (inl e) = omega arith
+counted_in from (suc n) t (inr i) = let h = counted_in (from + 1) n t i in omega arith
 
 -- ---- the items of a scene
 
@@ -89,21 +92,25 @@ module _ (scene : Scene) where
   IsItem (OfDefault later o) = In o scene.occurrences × (o.mark.strength ≡ Strength.Default) × ((n : ℕ) → In n later → n < length scene.occurrences)
   IsItem (OfTyped path numbers) = (v : ValueSpot) × In v (values scene) × (v.path ≡ path) × (v.range ≡ ValueRange.Among numbers)
   IsItem (OfPhase p) = In p (phases scene)
-  IsItem (OfModifier m tick) = In m scene.modifiers
-  IsItem (OfMotion vehicle tick) = In vehicle (vehicles scene)
+  IsItem (OfModifier m tick) = In m scene.modifiers × (tick ≤ scene.setting.ticks)
+  IsItem (OfMotion vehicle tick) = In vehicle (vehicles scene) × (tick ≤ scene.setting.ticks)
 
   occurrence_is : (k : ℕ) (os : List Occurrence) → ((o : Occurrence) → In o os → In o scene.occurrences) → (i : Item) → In i (occurrence_items scene k os) → IsItem i
   occurrence_is k [] known i j = absurd j
   occurrence_is k (o ∷ os) known i j = elim (in_either i (occurrence_item scene k o.mark.strength o) (occurrence_items scene (k + 1) os) j) as (λ _. IsItem i) [
-    inl h ↦ by o.mark.strength refl h
+    | inl h ↦ by o.mark.strength refl h
     | inr h ↦ occurrence_is (k + 1) os (λ p e. known p (inr e)) i h
   ]
     where
       by : (s : Strength) → o.mark.strength ≡ s → In i (occurrence_item scene k s o) → IsItem i
       by Strength.Hard e (inl is) = subst IsItem (sym is) (known o (inl refl), e)
       by Strength.Hard e (inr h) = absurd h
-      by Strength.Default e (inl is) = subst IsItem (sym is) (known o (inl refl), e, λ n h. let small = overrider_small (marks scene) k n h in
-          let same = length-map scene.occurrences (λ (p : Occurrence). p.mark) in omega arith)
+      by Strength.Default e (inl is) = subst IsItem (sym is) (
+        known o (inl refl),
+        e,
+        λ n h. let small = overrider_small (marks scene) k n h in
+            let same = length-map scene.occurrences (λ (p : Occurrence). p.mark) in omega arith,
+      )
       by Strength.Default e (inr h) = absurd h
       by Strength.Remove e h = absurd h
 
@@ -132,21 +139,24 @@ module _ (scene : Scene) where
   abbrev motions : List Item
   motions = flat_map (λ v. map (OfMotion v) (ticks_of scene.setting)) (vehicles scene)
 
+  tick_small : (t : ℕ) → In t (ticks_of scene.setting) → t ≤ scene.setting.ticks
+  tick_small t i = let h = counted_in 0 (scene.setting.ticks + 1) t i in omega arith
+
   pub item_is : (i : Item) → In i (items scene) → IsItem i
   item_is i j = elim (in_either i (constraints ++ enums ++ map OfPhase (phases scene) ++ moments) motions j) as (λ _. IsItem i) [
-    inl a ↦ elim (in_either i (constraints ++ enums ++ map OfPhase (phases scene)) moments a) as (λ _. IsItem i) [
-      inl b ↦ elim (in_either i (constraints ++ enums) (map OfPhase (phases scene)) b) as (λ _. IsItem i) [
-        inl c ↦ elim (in_either i constraints enums c) as (λ _. IsItem i) [
-          inl d ↦ occurrence_is 0 scene.occurrences (λ o h. h) i d
+    | inl a ↦ elim (in_either i (constraints ++ enums ++ map OfPhase (phases scene)) moments a) as (λ _. IsItem i) [
+      | inl b ↦ elim (in_either i (constraints ++ enums) (map OfPhase (phases scene)) b) as (λ _. IsItem i) [
+        | inl c ↦ elim (in_either i constraints enums c) as (λ _. IsItem i) [
+          | inl d ↦ occurrence_is 0 scene.occurrences (λ o h. h) i d
           | inr d ↦ let v = flat_map_in (λ (v : ValueSpot). typed_item v.path v.range) (values scene) i d in typed_is v.0 v.1 i v.2
         ]
         | inr c ↦ let p = map_in OfPhase (phases scene) i c in subst IsItem (sym p.2) p.1
       ]
       | inr b ↦ let m = flat_map_in (λ m. map (OfModifier m) (ticks_of scene.setting)) scene.modifiers i b in
-        let t = map_in (OfModifier m.0) (ticks_of scene.setting) i m.2 in subst IsItem (sym t.2) m.1
+          let t = map_in (OfModifier m.0) (ticks_of scene.setting) i m.2 in subst IsItem (sym t.2) (m.1, tick_small t.0 t.1)
     ]
     | inr a ↦ let v = flat_map_in (λ v. map (OfMotion v) (ticks_of scene.setting)) (vehicles scene) i a in
-      let t = map_in (OfMotion v.0) (ticks_of scene.setting) i v.2 in subst IsItem (sym t.2) v.1
+        let t = map_in (OfMotion v.0) (ticks_of scene.setting) i v.2 in subst IsItem (sym t.2) (v.1, tick_small t.0 t.1)
   ]
 
   pub phase_item : (p : PhaseSpot) → In p (phases scene) → In (OfPhase p) (items scene)
@@ -177,13 +187,13 @@ module _ (scene : Scene) (point : List ℤ) (slot : SlotName → ℕ) (expanded 
   item_law all (OfTyped path numbers) is = typed_law scene point slot expanded inside path numbers is.0
       (subst (λ p. value_at scene p ≡ Some is.0) is.2 (distinct_found (λ (v : ValueSpot). v.path) (values scene) expanded.is_scene.values_distinct is.0 is.1)) is.3
   item_law all (OfPhase p) is = arranged_law scene point slot expanded inside p is
-  item_law all (OfModifier m tick) is = modifier_law scene point slot expanded inside m tick is
-      (λ there h. moment_within scene named expanded all m.moment m.phase tick (phase_of m is) there h)
+  item_law all (OfModifier m tick) is = modifier_law scene point slot expanded inside m tick is.0
+      (λ there h. moment_within scene named expanded all m.moment m.phase tick (phase_of m is.0) there h)
     where
       phase_of : (n : ModifierSpot) → In n scene.modifiers → has_phase scene n.phase ≡ true
       phase_of n i = left_of (has_phase scene n.phase) (list_any (same_path n.own) (vehicles scene))
           (left_of (has_phase scene n.phase && list_any (same_path n.own) (vehicles scene)) _ (all_at (is_modifier scene) scene.modifiers expanded.is_scene.modifiers n i))
-  item_law all (OfMotion vehicle tick) is = motion_law scene point slot expanded inside vehicle tick is
+  item_law all (OfMotion vehicle tick) is = motion_law scene point slot expanded inside vehicle tick is.0
 
   -- if the rules of all phases hold, each phase is arranged
   pub arranged_all : ((p : PhaseSpot) → In p (phases scene) → holds_at point (arranged_rule scene layed p) ≡ true) → AllArranged scene named expanded

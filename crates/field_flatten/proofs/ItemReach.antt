@@ -1,52 +1,45 @@
 -- The rule of each item reads slots of the scene alone, and reaches no further than the limit.
-use Rattle.std.proofs.Common.{◌≡◌, ℕ, zero, suc, ◌+◌, ◌-◌, ◌*◌, ◌/◌, ◌≤◌, ◌<◌, max, refl, sym, ap, ap₂, ◌∙◌, subst, ◌⊎◌, inl, inr, List, [], ◌∷◌, ◌++◌, length, map, Bool, true, false, ◌&&◌, ◌||◌, not, cond, Option, Some, None, arith, true≢false}
-use Rattle.std.proofs.lemmas.List.{length-map}
+use Rattle.std.proofs.Common.{◌≡◌, ℕ, ◌*◌, ◌/◌, ◌≤◌, ◌<◌, refl, sym, ap, ap₂, ◌∙◌, subst, inl, inr, List, [], ◌∷◌, length, Bool, true, ◌&&◌, Option, Some, None, arith, true≢false}
 use Rattle.std.proofs.lemmas.Option.{slice_get-map}
-use Rattle.std.specs.Prelude.{ℤ, pos, neg_ℤ, ◌≤ℤ◌, int_le, nat_eq, nat_le, nat_lt, unsigned_abs, find, flat_map, option_map, option_to_list, option_and_then, slice_get, is_some}
-use Rattle.std.specs.Int.{int_min, int_max}
-use Rattle.std.specs.Option.{option_map_or, option_or}
-use Rattle.std.specs.List.{list_any, list_all, cons_option}
-use Rattle.std.proofs.Math.Nat.{mul_assoc, mul_comm, mul-le-mul_left, mul-le-mul_right}
+use Rattle.std.specs.Prelude.{ℤ, pos, neg_ℤ, ◌≤ℤ◌, int_le, nat_eq, nat_le, nat_lt, unsigned_abs, option_map, slice_get, is_some}
+use Rattle.std.specs.Option.{option_map_or}
+use Rattle.std.specs.List.{list_all}
+use Rattle.std.proofs.Math.Nat.{mul_assoc, mul_comm, mul-le-mul_right}
 use Rattle.std.proofs.lemmas.Int.{ints, clamps}
 use Rattle.osc_base.specs.declared.path.Path.{Path}
-use Rattle.osc_base.specs.declared.path.Step.{Step}
 use Rattle.osc_base.specs.declared.listing.SlotName.{SlotName}
-use Rattle.osc_base.specs.Comparisons.{greatest_part}
-use Rattle.osc_base.specs.Paths.{same_path, path_of, timed_part}
+use Rattle.osc_base.specs.Paths.{same_path}
 use Rattle.box_eval.specs.declared.bounds.Pair.{Pair}
-use Rattle.box_eval.specs.Box.{pair, low_at, high_at}
-use Rattle.box_eval.specs.FlatRules.{FlatTerm, FlatRule, Whole, Slot, Less, Equal, times}
+use Rattle.box_eval.specs.Box.{pair}
+use Rattle.box_eval.specs.FlatRules.{FlatTerm, Slot, Less, times}
 use Rattle.type_model.specs.Bounds.{least_of, greatest_of}
-use Rattle.expr_eval.specs.Typed.{Typed, Info}
-use Rattle.expr_eval.specs.Sizes.{Size, field_reach, field_size, duration_reach, duration_size, duration_scale}
+use Rattle.expr_eval.specs.Typed.{Info}
+use Rattle.expr_eval.specs.Sizes.{field_reach, field_size, duration_reach, duration_size, duration_scale}
 use Rattle.expr_eval.specs.Sound.{has_size}
-use Rattle.composition.specs.declared.guard.Guard.{Guard}
-use Rattle.composition.specs.declared.setting.Setting.{Setting}
-use Rattle.composition.specs.declared.spot.ChoiceSpot.{ChoiceSpot}
 use Rattle.composition.specs.declared.spot.ValueSpot.{ValueSpot}
 use Rattle.composition.specs.declared.spot.ValueRange.{ValueRange}
 use Rattle.composition.specs.declared.spot.PhaseSpot.{PhaseSpot}
-use Rattle.composition.specs.Scenes.{Scene, Spot, Source, OfRun, OfPhase, OfValue, source, choices, values, phases, spot_at, guards, has_phase, has_root_do, root_do}
+use Rattle.composition.specs.Scenes.{Scene, Source, OfRun, OfPhase, OfValue, source, values, phases, has_phase, has_root_do, root_do}
 use Rattle.composition.specs.Slots.{slot_names}
-use Rattle.composition.specs.Invariants.{are_grounded, is_guard, guard_path, value_at, is_small, is_range, is_read, is_numeric, is_setting, is_from_to}
+use Rattle.composition.specs.Invariants.{value_at, is_small, is_range, is_read, is_from_to}
 use Rattle.field_flatten.specs.Ends.{slot_in, ends_of, range_ends, no_ends, bounds}
 use Rattle.field_flatten.specs.Shapes.{Layout, read_term, phase_start, phase_end}
-use Rattle.field_flatten.specs.Rules.{layout, end_term, guard_rule, presence_rules}
-use Rattle.field_flatten.specs.Exactness.{IsExpanded, IsLimited, is_small_guard, are_small_guards}
-use Rattle.field_flatten.proofs.Tests.{left_of, right_of, both, two_ways, number_is, path_is, In, map_in, all_at, any_at, found_in}
-use Rattle.field_flatten.proofs.Multiples.{share_of, product_positive}
-use Rattle.field_flatten.proofs.SlotLaw.{named_at, choice_named, start_named, end_is_named, value_is_named}
+use Rattle.field_flatten.specs.Rules.{layout, end_term}
+use Rattle.field_flatten.specs.Exactness.{IsExpanded, IsLimited}
+use Rattle.field_flatten.proofs.Tests.{left_of, right_of, two_ways, number_is, path_is, In, all_at, any_at, found_in}
+use Rattle.field_flatten.proofs.Multiples.{share_of}
+use Rattle.field_flatten.proofs.SlotLaw.{named_at, start_named, end_is_named, value_is_named}
 use Rattle.field_flatten.proofs.NumberLaw.{duration_of}
 use Rattle.field_flatten.proofs.ShapeLaw.{scale_is}
 use Rattle.field_flatten.proofs.ShapeReach.{reach_is}
 use Rattle.field_flatten.proofs.PointOfRun.{some_less}
-use Rattle.field_flatten.proofs.FlatReach.{term_slots, interval}
-use Rattle.field_flatten.proofs.Fitting.{Fits, RuleFits, AllRules, weaker, whole_fits, slot_fits, gap_fits, times_fits, equal_fits}
+use Rattle.field_flatten.proofs.FlatReach.{interval}
+use Rattle.field_flatten.proofs.Fitting.{Fits, weaker, whole_fits, slot_fits, gap_fits, times_fits}
 
-le_number : (a b : ℕ) → nat_le a b ≡ true → a ≤ b
+pub le_number : (a b : ℕ) → nat_le a b ≡ true → a ≤ b
 le_number a b h = grind arith
 
-small_number : (z : ℤ) → is_small z ≡ true → unsigned_abs z ≤ field_reach
+pub small_number : (z : ℤ) → is_small z ≡ true → unsigned_abs z ≤ field_reach
 small_number z h =
     let low = left_of (int_le (neg_ℤ (pos field_reach)) z) (int_le z (pos field_reach)) h in
     let high = right_of (int_le (neg_ℤ (pos field_reach)) z) (int_le z (pos field_reach)) h in
@@ -69,18 +62,18 @@ greatest_small (n ∷ []) m f = f n (inl refl)
 greatest_small (n ∷ k ∷ ks) m f = let here = f n (inl refl) in let rest = greatest_small (k ∷ ks) m (λ z i. f z (inr i)) in omega (arith, ints, clamps)
 
 module _ (scene : Scene) (expanded : IsExpanded scene) (limited : IsLimited scene) (most : ℕ) (large : 1000000000000000 ≤ most) where
-  abbrev ends : List Pair
+  abbrev pub ends : List Pair
   ends = bounds scene
 
-  abbrev slot : SlotName → ℕ
+  abbrev pub slot : SlotName → ℕ
   slot = slot_in (slot_names scene)
 
-  abbrev at : Layout
+  abbrev pub at : Layout
   at = layout scene
 
   -- ---- slots
 
-  ends_at : (name : SlotName) → In name (slot_names scene) → slice_get ends (slot name) ≡ Some (ends_of scene name)
+  pub ends_at : (name : SlotName) → In name (slot_names scene) → slice_get ends (slot name) ≡ Some (ends_of scene name)
   ends_at name i = slice_get-map (ends_of scene) (slot_names scene) (slot name) ∙ ap (option_map (ends_of scene)) (named_at (slot_names scene) name i)
 
   pub name_fits : (name : SlotName) (m : ℕ) → In name (slot_names scene) → unsigned_abs (ends_of scene name).low ≤ m → unsigned_abs (ends_of scene name).high ≤ m → m ≤ most → Fits ends most (Slot (slot name)) m
@@ -90,7 +83,7 @@ module _ (scene : Scene) (expanded : IsExpanded scene) (limited : IsLimited scen
       (subst (λ o. unsigned_abs (option_map_or (λ (e : Pair). e.low) o (pos 0)) ≤ m) (sym is) low)
       (subst (λ o. unsigned_abs (option_map_or (λ (e : Pair). e.high) o (pos 0)) ≤ m) (sym is) high) small
 
-  setting_parts : (1 ≤ scene.setting.ticks) × (scene.setting.ticks ≤ 600) × (1 ≤ scene.setting.tick) × (scene.setting.ticks * scene.setting.tick ≤ duration_reach) × (scene.setting.lanes ≤ 8) × (scene.setting.road ≤ 10000)
+  pub setting_parts : (1 ≤ scene.setting.ticks) × (scene.setting.ticks ≤ 600) × (1 ≤ scene.setting.tick) × (scene.setting.ticks * scene.setting.tick ≤ duration_reach) × (scene.setting.lanes ≤ 8) × (scene.setting.road ≤ 10000)
   setting_parts =
       let s = scene.setting in
       let first = left_of (is_from_to 1 600 s.ticks && (is_from_to 1 8 s.lanes && is_from_to 1 10000 s.road)) (nat_le 1 s.tick && nat_le (s.ticks * s.tick) duration_reach) expanded.is_scene.setting in
@@ -98,10 +91,14 @@ module _ (scene : Scene) (expanded : IsExpanded scene) (limited : IsLimited scen
       let ticks = left_of (is_from_to 1 600 s.ticks) (is_from_to 1 8 s.lanes && is_from_to 1 10000 s.road) first in
       let rest = right_of (is_from_to 1 600 s.ticks) (is_from_to 1 8 s.lanes && is_from_to 1 10000 s.road) first in
       let lanes = left_of (is_from_to 1 8 s.lanes) (is_from_to 1 10000 s.road) rest in
-      let road = right_of (is_from_to 1 8 s.lanes) (is_from_to 1 10000 s.road) rest in
-      (le_number 1 s.ticks (left_of (nat_le 1 s.ticks) (nat_le s.ticks 600) ticks), le_number s.ticks 600 (right_of (nat_le 1 s.ticks) (nat_le s.ticks 600) ticks),
-      le_number 1 s.tick (left_of (nat_le 1 s.tick) (nat_le (s.ticks * s.tick) duration_reach) second), le_number (s.ticks * s.tick) duration_reach (right_of (nat_le 1 s.tick) (nat_le (s.ticks * s.tick) duration_reach) second),
-      le_number s.lanes 8 (right_of (nat_le 1 s.lanes) (nat_le s.lanes 8) lanes), le_number s.road 10000 (right_of (nat_le 1 s.road) (nat_le s.road 10000) road))
+      let road = right_of (is_from_to 1 8 s.lanes) (is_from_to 1 10000 s.road) rest in (
+        le_number 1 s.ticks (left_of (nat_le 1 s.ticks) (nat_le s.ticks 600) ticks),
+        le_number s.ticks 600 (right_of (nat_le 1 s.ticks) (nat_le s.ticks 600) ticks),
+        le_number 1 s.tick (left_of (nat_le 1 s.tick) (nat_le (s.ticks * s.tick) duration_reach) second),
+        le_number (s.ticks * s.tick) duration_reach (right_of (nat_le 1 s.tick) (nat_le (s.ticks * s.tick) duration_reach) second),
+        le_number s.lanes 8 (right_of (nat_le 1 s.lanes) (nat_le s.lanes 8) lanes),
+        le_number s.road 10000 (right_of (nat_le 1 s.road) (nat_le s.road 10000) road),
+      )
 
   few_ticks : scene.setting.ticks ≤ most
   few_ticks = let s = setting_parts in let t : scene.setting.ticks ≤ 600 = s.1 in omega arith
@@ -120,9 +117,10 @@ module _ (scene : Scene) (expanded : IsExpanded scene) (limited : IsLimited scen
   tick_low : (name : SlotName) → In name (slot_names scene) → ends_of scene name ≡ pair (pos 0) (pos scene.setting.ticks)
       → (pos 0 ≤ℤ (interval ends (Slot (slot name))).low) × ((interval ends (Slot (slot name))).low ≤ℤ (interval ends (Slot (slot name))).high)
   tick_low name i is =
-      let here = ends_at name i ∙ ap Some is in
-      (subst (λ o. pos 0 ≤ℤ option_map_or (λ (e : Pair). e.low) o (pos 0)) (sym here) (omega (arith, ints)),
-      subst (λ o. option_map_or (λ (e : Pair). e.low) o (pos 0) ≤ℤ option_map_or (λ (e : Pair). e.high) o (pos 0)) (sym here) (omega (arith, ints)))
+      let here = ends_at name i ∙ ap Some is in (
+        subst (λ o. pos 0 ≤ℤ option_map_or (λ (e : Pair). e.low) o (pos 0)) (sym here) (omega (arith, ints)),
+        subst (λ o. option_map_or (λ (e : Pair). e.low) o (pos 0) ≤ℤ option_map_or (λ (e : Pair). e.high) o (pos 0)) (sym here) (omega (arith, ints)),
+      )
 
   pub duration_fits : (path : Path) → has_phase scene path ≡ true → Fits ends most (Less (phase_end at path) (phase_start at path)) scene.setting.ticks
   duration_fits path h =
@@ -145,7 +143,7 @@ module _ (scene : Scene) (expanded : IsExpanded scene) (limited : IsLimited scen
       (least_small numbers field_reach (λ n i. small_number n (all_at is_small numbers all n i)), greatest_small numbers field_reach (λ n i. small_number n (all_at is_small numbers all n i)))
   range_small ValueRange.Chars h = let few = le_number (length scene.texts) field_reach limited.few_texts in (omega (arith, ints), omega (arith, ints))
 
-  field_small : field_reach ≤ most
+  pub field_small : field_reach ≤ most
   field_small = omega arith
 
   pub value_fits : (path : Path) (v : ValueSpot) → value_at scene path ≡ Some v → Fits ends most (Slot (slot (SlotName.Value path))) field_reach
@@ -172,7 +170,7 @@ module _ (scene : Scene) (expanded : IsExpanded scene) (limited : IsLimited scen
       let reaches : i.reach ≡ duration_reach = reach_is i duration_size sized in
       let share : e / per ≡ k = ap₂ (λ a b. a / b) (is ∙ ap (λ n. n * k) scales) thousand ∙ share_of duration_scale k (omega arith) in
       let product : scene.setting.ticks * (k * scene.setting.tick) ≡ (scene.setting.ticks * scene.setting.tick) * k =
-          ap (λ n. scene.setting.ticks * n) (mul_comm k scene.setting.tick) ∙ sym (mul_assoc scene.setting.ticks scene.setting.tick k) in
+      ap (λ n. scene.setting.ticks * n) (mul_comm k scene.setting.tick) ∙ sym (mul_assoc scene.setting.ticks scene.setting.tick k) in
       let less : scene.setting.ticks * (k * scene.setting.tick) ≤ i.reach * k = subst (λ n. n ≤ i.reach * k) (sym product) (mul-le-mul_right k (subst (λ n. scene.setting.ticks * scene.setting.tick ≤ n) (sym reaches) total)) in
       subst (λ n. Fits ends most (times (n * scene.setting.tick) term) (i.reach * k)) (sym share)
       (weaker ends most (times (k * scene.setting.tick) term) (scene.setting.ticks * (k * scene.setting.tick)) (i.reach * k) less

@@ -1,10 +1,9 @@
 -- Rows of rules, and rules under conditions.
-use Rattle.std.proofs.Common.{◌≡◌, ℕ, zero, suc, ◌≤◌, ◌+◌, refl, sym, ap, ap₂, ◌∙◌, subst, List, [], ◌∷◌, ◌++◌, length, map, Bool, true, false, ◌&&◌, ◌||◌, not, cond, arith}
+use Rattle.std.proofs.Common.{◌≡◌, ℕ, zero, suc, ◌≤◌, refl, sym, ap, ap₂, ◌∙◌, List, [], ◌∷◌, length, Bool, true, false, ◌&&◌, ◌||◌, not, arith}
 use Rattle.std.specs.Prelude.{ℤ, pos, ◌*ℤ◌, nat_eq}
 use Rattle.std.specs.List.{list_any, list_all}
-use Rattle.std.proofs.Math.IntN.{*ℤ_comm}
 use Rattle.std.proofs.lemmas.Int.{ints}
-use Rattle.box_eval.specs.FlatRules.{FlatTerm, FlatRule, Always, Both, Either, Not, Times, Whole, paired, joined_rounds, first_or, joined, all_of, any_of, under, times, holds_at, worth_at}
+use Rattle.box_eval.specs.FlatRules.{FlatTerm, FlatRule, Always, Both, Either, Not, paired, joined_rounds, first_or, joined, all_of, any_of, under, times, holds_at, worth_at}
 use Rattle.field_flatten.proofs.Tests.{two_ways}
 
 -- ---- what joins keep

@@ -1,9 +1,11 @@
 pub mod ArrangedLaw
 pub mod ClaimLists
 pub mod ConstraintLaw
+pub mod ConstraintReach
 pub mod Exact
 pub mod ExprReads
 pub mod Fitting
+pub mod FlatForms
 pub mod FlatReach
 pub mod FlatTruth
 pub mod Frame
@@ -12,12 +14,15 @@ pub mod ItemReach
 pub mod JoinedRows
 pub mod ListedRun
 pub mod ModifierLaw
+pub mod ModifierReach
 pub mod MotionLaw
+pub mod MotionReach
 pub mod Multiples
 pub mod NamedRun
 pub mod Nesting
 pub mod NumberLaw
 pub mod PhaseLaw
+pub mod PhaseReach
 pub mod PointOfRun
 pub mod Presence
 pub mod RelationLaw
@@ -27,3 +32,4 @@ pub mod ShapeReach
 pub mod SlotLaw
 pub mod Tests
 pub mod Times
+pub mod Worked

@@ -1,11 +1,8 @@
 -- What a run that lists exactly what is there holds at a path.
-use Rattle.std.proofs.Common.{◌≡◌, ℕ, zero, suc, ◌+◌, ◌-◌, ◌<◌, ◌≤◌, refl, sym, ap, ap₂, ◌∙◌, subst, ◌⊎◌, inl, inr, List, [], ◌∷◌, ◌++◌, Bool, true, false, ◌&&◌, ◌||◌, not, cond, Option, Some, None, map, length, arith, true≢false}
-use Rattle.std.specs.Prelude.{ℤ, pos, ◌≤ℤ◌, filter, find, nat_eq, nat_le, nat_lt, int_le, option_map}
-use Rattle.std.specs.Option.{option_map_or}
+use Rattle.std.proofs.Common.{◌≡◌, ◌+◌, refl, sym, ap, ap₂, ◌∙◌, subst, inl, inr, List, [], ◌∷◌, ◌++◌, Bool, true, false, not, Some, map, length, true≢false}
+use Rattle.std.specs.Prelude.{filter, find, nat_eq}
 use Rattle.std.specs.List.{list_any, list_all}
-use Rattle.std.proofs.lemmas.Int.{ints}
 use Rattle.osc_base.specs.declared.path.Path.{Path}
-use Rattle.osc_base.specs.declared.sample.Sample.{Sample}
 use Rattle.osc_base.specs.Paths.{same_path}
 use Rattle.composition.specs.declared.clause.Clause.{Clause}
 use Rattle.composition.specs.declared.spot.ChoiceSpot.{ChoiceSpot}
@@ -21,8 +18,7 @@ use Rattle.composition.specs.There.{is_there}
 use Rattle.composition.specs.Items.{Item, items, item_holds, is_hard}
 use Rattle.composition.specs.Claims.{Claim, claim, listed, those_there, listed_claims, end_claim, bounds_claims, item_claim, sample_in_range, choice_in_range, value_in_range, span_in_range}
 use Rattle.composition.specs.Invariants.{are_distinct}
-use Rattle.field_flatten.specs.Exactness.{IsExpanded}
-use Rattle.field_flatten.proofs.Tests.{left_of, right_of, both, contrary, two_ways, path_is, path_self, number_is, In, in_map, map_in, all_at, all_append, all_map, any_from, any_at, in_filter, filter_in, found_in}
+use Rattle.field_flatten.proofs.Tests.{left_of, right_of, both, contrary, two_ways, path_is, number_is, In, in_map, map_in, all_at, all_append, all_map, any_from, any_at, in_filter, filter_in}
 use Rattle.field_flatten.proofs.Frame.{holds_in}
 use Rattle.field_flatten.proofs.ItemLaw.{distinct_found}
 

@@ -1,31 +1,25 @@
 -- A modifier's rule at a tick is true at a point exactly if the modifier holds there in the point's run, if its moments lie within the run.
-use Rattle.std.proofs.Common.{◌≡◌, ℕ, zero, suc, ◌+◌, ◌*◌, ◌<◌, ◌≤◌, refl, sym, ap, ap₂, ◌∙◌, subst, inl, inr, List, [], ◌∷◌, ◌++◌, Bool, true, false, ◌&&◌, ◌||◌, not, cond, Option, Some, None, map, arith, true≢false}
-use Rattle.std.specs.Prelude.{ℤ, pos, ◌≤ℤ◌, flat_map, unwrap_or, option_to_list, option_and_then}
+use Rattle.std.proofs.Common.{◌≡◌, ℕ, ◌*◌, ◌<◌, ◌≤◌, refl, sym, ap, ap₂, ◌∙◌, subst, inl, inr, List, [], ◌∷◌, ◌++◌, Bool, true, false, ◌&&◌, ◌||◌, not, Option, Some, None, arith, true≢false}
+use Rattle.std.specs.Prelude.{ℤ, pos, flat_map, unwrap_or, option_to_list}
 use Rattle.std.specs.Option.{option_map_or}
 use Rattle.std.specs.List.{list_any, list_all}
 use Rattle.std.proofs.Math.Nat.{mul_assoc}
 use Rattle.osc_base.specs.declared.path.Path.{Path}
-use Rattle.osc_base.specs.declared.sample.Sample.{Sample}
-use Rattle.osc_base.specs.declared.modifier.Kind.{Kind}
-use Rattle.osc_base.specs.declared.modifier.Moment.{Moment}
 use Rattle.osc_base.specs.declared.listing.SlotName.{SlotName}
-use Rattle.osc_base.specs.Number.{Number, whole}
+use Rattle.osc_base.specs.Number.{whole}
 use Rattle.osc_base.specs.LowestTerms.{lcm}
 use Rattle.osc_base.specs.Paths.{same_path}
 use Rattle.osc_base.specs.Modifiers.{holds_of, is_moment}
-use Rattle.box_eval.specs.FlatRules.{FlatTerm, FlatRule, worth_at, holds_at, under}
+use Rattle.box_eval.specs.FlatRules.{FlatRule, worth_at, holds_at}
 use Rattle.modifier_rules.specs.Relations.{position_scale, relation_at, moment_at}
 use Rattle.expr_eval.specs.Kinds.{is_number}
 use Rattle.expr_eval.specs.Typed.{Typed, reads, kind, scale}
-use Rattle.expr_eval.specs.Value.{worth, value}
+use Rattle.expr_eval.specs.Value.{worth}
 use Rattle.expr_eval.specs.Parts.{is_scalar}
 use Rattle.expr_eval.specs.Sound.{is_sound, each_read}
-use Rattle.composition.specs.declared.guard.Guard.{Guard}
 use Rattle.composition.specs.TimedRuns.{TimedRun}
 use Rattle.composition.specs.Scenes.{Scene, Occurrence, ModifierSpot, guards, vehicles, has_phase}
-use Rattle.composition.specs.There.{are_met, once, read_by, modifier_presence}
-use Rattle.composition.specs.Numbers.{number_at}
-use Rattle.composition.specs.Arrangement.{Times}
+use Rattle.composition.specs.There.{are_met, read_by, modifier_presence}
 use Rattle.composition.specs.Items.{times_of, sample_of, end_value, other_of, modifier_holds}
 use Rattle.composition.specs.Invariants.{are_grounded, is_expression, is_end, has_range, has_other, is_modifier}
 use Rattle.field_flatten.specs.Shapes.{Layout, shape, phase_start, phase_end}
@@ -33,7 +27,7 @@ use Rattle.field_flatten.specs.Points.{is_held, stands, sample_named, end_named}
 use Rattle.field_flatten.specs.Rules.{presence_rules, sample_slots, scale_of, end_of, modifier_rule}
 use Rattle.field_flatten.specs.Seen.{has_values, seen}
 use Rattle.field_flatten.specs.Exactness.{expressions, IsExpanded}
-use Rattle.field_flatten.proofs.Tests.{left_of, right_of, both, two_ways, under_one, path_is, path_self, In, in_left, in_right, in_flat_map, all_at, all_from, all_append, any_at}
+use Rattle.field_flatten.proofs.Tests.{left_of, right_of, two_ways, under_one, path_is, In, in_left, in_right, in_flat_map, all_at, all_from, all_append, any_at}
 use Rattle.field_flatten.proofs.JoinedRows.{under_holds}
 use Rattle.field_flatten.proofs.Multiples.{common}
 use Rattle.field_flatten.proofs.Times.{IsTimes}
@@ -42,7 +36,6 @@ use Rattle.field_flatten.proofs.Presence.{once_same}
 use Rattle.field_flatten.proofs.SlotLaw.{Inside}
 use Rattle.field_flatten.proofs.NumberLaw.{at, lay}
 use Rattle.field_flatten.proofs.ConstraintLaw.{run, reading, rules_held, met_held, value_law}
-use Rattle.field_flatten.proofs.ArrangedLaw.{times_at}
 use Rattle.field_flatten.proofs.PhaseLaw.{phase_times}
 use Rattle.field_flatten.proofs.MotionLaw.{sample_is}
 use Rattle.field_flatten.proofs.RelationLaw.{relation_law, moment_law, without_other}
@@ -144,18 +137,19 @@ module _ (scene : Scene) (point : List ℤ) (slot : SlotName → ℕ) (expanded 
       let rest = right_of (has_phase scene m.phase && list_any (same_path m.own) (vehicles scene)) (Others m && Fits m) sound in
       let ends = implied (has_range m.kind) (option_map_or (is_end scene) m.low false && option_map_or (is_end scene) m.high false) (right_of (Others m) (Fits m) rest) ranged in
       let low = end_there m.low (left_of (option_map_or (is_end scene) m.low false) (option_map_or (is_end scene) m.high false) ends)
-          (λ t e. ends_listed m i t (in_left t (option_to_list m.low) (option_to_list m.high) (subst (λ o. In t (option_to_list o)) (sym e) (inl refl))))
-          (λ t e p j. path_stands m asked p (low_path m t e p j)) in
+      (λ t e. ends_listed m i t (in_left t (option_to_list m.low) (option_to_list m.high) (subst (λ o. In t (option_to_list o)) (sym e) (inl refl))))
+      (λ t e p j. path_stands m asked p (low_path m t e p j)) in
       let high = end_there m.high (right_of (option_map_or (is_end scene) m.low false) (option_map_or (is_end scene) m.high false) ends)
-          (λ t e. ends_listed m i t (in_right t (option_to_list m.low) (option_to_list m.high) (subst (λ o. In t (option_to_list o)) (sym e) (inl refl))))
-          (λ t e p j. path_stands m asked p (high_path m t e p j)) in
+      (λ t e. ends_listed m i t (in_right t (option_to_list m.low) (option_to_list m.high) (subst (λ o. In t (option_to_list o)) (sym e) (inl refl))))
+      (λ t e p j. path_stands m asked p (high_path m t e p j)) in
       let a = scale_of m.low in
       let b = scale_of m.high in
       let inner = common a b (subst (λ n. 0 < n) (sym (scale_is m.low low)) low.shaped.above) (subst (λ n. 0 < n) (sym (scale_is m.high high)) high.shaped.above) in
-      let outer = common position_scale (lcm a b) (omega arith) inner.above in
-      (outer.above,
-      end_times m.low low (scaled m) (inner.left * outer.right) (outer.right_is ∙ ap (λ n. n * outer.right) inner.left_is ∙ mul_assoc a inner.left outer.right ∙ ap (λ n. n * (inner.left * outer.right)) (scale_is m.low low)),
-      end_times m.high high (scaled m) (inner.right * outer.right) (outer.right_is ∙ ap (λ n. n * outer.right) inner.right_is ∙ mul_assoc b inner.right outer.right ∙ ap (λ n. n * (inner.right * outer.right)) (scale_is m.high high)))
+      let outer = common position_scale (lcm a b) (omega arith) inner.above in (
+        outer.above,
+        end_times m.low low (scaled m) (inner.left * outer.right) (outer.right_is ∙ ap (λ n. n * outer.right) inner.left_is ∙ mul_assoc a inner.left outer.right ∙ ap (λ n. n * (inner.left * outer.right)) (scale_is m.low low)),
+        end_times m.high high (scaled m) (inner.right * outer.right) (outer.right_is ∙ ap (λ n. n * outer.right) inner.right_is ∙ mul_assoc b inner.right outer.right ∙ ap (λ n. n * (inner.right * outer.right)) (scale_is m.high high)),
+      )
 
   others_same : (m : ModifierSpot) (tick : ℕ) → In m scene.modifiers → is_modifier scene m ≡ true → Asked m → tick ≤ end_named scene named
       → holds_of m.kind (end_value scene runs m.low) (end_value scene runs m.high) (sample_named named m.own tick) (sample_named named (other_of m) tick)

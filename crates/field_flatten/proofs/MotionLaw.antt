@@ -1,8 +1,8 @@
 -- A vehicle's rule at a tick is true at a point exactly if it moves as it may in the point's run.
-use Rattle.std.proofs.Common.{◌≡◌, ℕ, zero, suc, ◌+◌, ◌<◌, ◌≤◌, refl, sym, ap, ap₂, ◌∙◌, subst, inl, inr, List, [], ◌∷◌, ◌++◌, Bool, true, false, ◌&&◌, ◌||◌, not, cond, Option, Some, None, map, length, arith, true≢false}
-use Rattle.std.specs.Prelude.{ℤ, pos, ◌≤ℤ◌, ◌+ℤ◌, ◌-ℤ◌, ◌*ℤ◌, int_le, int_lt, nat_lt, unsigned_abs, unwrap_or}
+use Rattle.std.proofs.Common.{◌≡◌, ℕ, ◌+◌, ◌<◌, ◌≤◌, refl, sym, ap, ap₂, ◌∙◌, List, [], ◌∷◌, ◌++◌, Bool, true, false, ◌&&◌, ◌||◌, not, cond, Option, Some, None, map, arith, true≢false}
+use Rattle.std.specs.Prelude.{ℤ, pos, ◌+ℤ◌, int_le, int_lt, nat_lt, unwrap_or}
 use Rattle.std.specs.Option.{option_map_or}
-use Rattle.std.specs.List.{list_any, list_all}
+use Rattle.std.specs.List.{list_all}
 use Rattle.std.proofs.lemmas.Int.{ints}
 use Rattle.osc_base.specs.declared.path.Path.{Path}
 use Rattle.osc_base.specs.declared.sample.Sample.{Sample}
@@ -11,17 +11,15 @@ use Rattle.osc_base.specs.declared.listing.SlotName.{SlotName}
 use Rattle.osc_base.specs.Comparisons.{same_number}
 use Rattle.osc_base.specs.Paths.{same_path}
 use Rattle.box_eval.specs.FlatRules.{FlatTerm, FlatRule, AtMost, Below, Equal, Slot, Whole, Less, Sum, worth_at, holds_at, under, times}
-use Rattle.composition.specs.declared.guard.Guard.{Guard}
 use Rattle.composition.specs.declared.spot.ValueSpot.{ValueSpot}
 use Rattle.composition.specs.TimedRuns.{TimedRun}
 use Rattle.composition.specs.Scenes.{Scene, Source, OfRun, OfPhase, OfValue, source, guards, vehicles, max_speed, max_acceleration}
 use Rattle.composition.specs.There.{is_there}
-use Rattle.composition.specs.Numbers.{number_at}
-use Rattle.composition.specs.Movement.{Course, moves_on, keeps_lane, is_gentle, is_step, moves}
+use Rattle.composition.specs.Movement.{Course, keeps_lane, is_step, moves}
 use Rattle.composition.specs.Items.{still, sample_of, field_number, course_of, motion_holds}
 use Rattle.composition.specs.Invariants.{same_guards, value_at, is_numeric, is_limit, is_limited}
 use Rattle.field_flatten.specs.Shapes.{Layout}
-use Rattle.field_flatten.specs.Points.{is_held, stands, sample_named, end_named, run_named}
+use Rattle.field_flatten.specs.Points.{is_held, stands, sample_named, end_named}
 use Rattle.field_flatten.specs.Rules.{end_term, presence_rules, sample_slots, value_term, one_more, step_rules, motion_parts, motion_rule}
 use Rattle.field_flatten.specs.Exactness.{IsExpanded}
 use Rattle.field_flatten.proofs.Tests.{left_of, right_of, both, two_ways, under_one, path_self, In, all_at, all_append, all_map, any_from}
@@ -31,7 +29,7 @@ use Rattle.field_flatten.proofs.NamedRun.{sample_there}
 use Rattle.field_flatten.proofs.SlotLaw.{Inside}
 use Rattle.field_flatten.proofs.NumberLaw.{at, lay, end_back, value_there}
 use Rattle.field_flatten.proofs.ConstraintLaw.{run, rules_held, there_stands}
-use Rattle.field_flatten.proofs.ArrangedLaw.{under_each, guards_are, and_unit}
+use Rattle.field_flatten.proofs.ArrangedLaw.{under_each, guards_are}
 
 -- ---- steps at a point
 
@@ -114,17 +112,17 @@ module _ (scene : Scene) (point : List ℤ) (slot : SlotName → ℕ) (expanded 
       let steps : List FlatRule = step_rules layed vehicle (sample_slots layed vehicle tick) (sample_slots layed vehicle (tick + 1)) in
       let step = is_step scene.setting.tick (named (SlotName.Value (max_acceleration vehicle))) (sample_named named vehicle tick) (sample_named named vehicle (tick + 1)) in
       let first : holds_at point (under (there ++ before ∷ []) fast) ≡ not met || (not (holds_at point before) || holds_at point fast) =
-          under_holds point (there ++ before ∷ []) fast ∙ ap (λ b. not b || holds_at point fast) (all_append (holds_at point) there (before ∷ []))
-          ∙ two_conditions met (holds_at point before) (holds_at point fast) in
+      under_holds point (there ++ before ∷ []) fast ∙ ap (λ b. not b || holds_at point fast) (all_append (holds_at point) there (before ∷ []))
+      ∙ two_conditions met (holds_at point before) (holds_at point fast) in
       let later : list_all (holds_at point) (map (under (there ++ strict ∷ [])) steps) ≡ not met || (not (holds_at point strict) || step) =
-          all_map (holds_at point) (under (there ++ strict ∷ [])) steps
-          ∙ T.all_same (λ r. holds_at point (under (there ++ strict ∷ []) r)) (λ r. not (met && (holds_at point strict && true)) || holds_at point r) steps
-          (λ r i. under_holds point (there ++ strict ∷ []) r ∙ ap (λ b. not b || holds_at point r) (all_append (holds_at point) there (strict ∷ [])))
-          ∙ under_each (met && (holds_at point strict && true)) (holds_at point) steps
-          ∙ two_conditions met (holds_at point strict) (list_all (holds_at point) steps)
-          ∙ ap (λ b. not met || (not (holds_at point strict) || b)) (step_holds point layed vehicle (sample_slots layed vehicle tick) (sample_slots layed vehicle (tick + 1))) in
+      all_map (holds_at point) (under (there ++ strict ∷ [])) steps
+      ∙ T.all_same (λ r. holds_at point (under (there ++ strict ∷ []) r)) (λ r. not (met && (holds_at point strict && true)) || holds_at point r) steps
+      (λ r i. under_holds point (there ++ strict ∷ []) r ∙ ap (λ b. not b || holds_at point r) (all_append (holds_at point) there (strict ∷ [])))
+      ∙ under_each (met && (holds_at point strict && true)) (holds_at point) steps
+      ∙ two_conditions met (holds_at point strict) (list_all (holds_at point) steps)
+      ∙ ap (λ b. not met || (not (holds_at point strict) || b)) (step_holds point layed vehicle (sample_slots layed vehicle tick) (sample_slots layed vehicle (tick + 1))) in
       let second : list_all (holds_at point) (cond (nat_lt tick scene.setting.ticks) (map (under (there ++ strict ∷ [])) steps) []) ≡ not met || (not (nat_lt tick scene.setting.ticks) || (not (holds_at point strict) || step)) =
-          two_ways (nat_lt tick scene.setting.ticks) (λ e. rw e later) (λ e. rw e (sym (free met))) in
+      two_ways (nat_lt tick scene.setting.ticks) (λ e. rw e later) (λ e. rw e (sym (free met))) in
       ap₂ (◌&&◌) first second
       ∙ under_two met (not (holds_at point before) || holds_at point fast) (not (nat_lt tick scene.setting.ticks) || (not (holds_at point strict) || step))
     where

@@ -1,7 +1,7 @@
 -- Common multiples of scales.
-use Rattle.std.proofs.Common.{◌≡◌, ℕ, zero, suc, ◌*◌, ◌/◌, ◌%◌, ◌≤◌, ◌<◌, refl, sym, ap, ◌∙◌, subst, arith}
+use Rattle.std.proofs.Common.{◌≡◌, ℕ, zero, suc, ◌*◌, ◌/◌, ◌%◌, ◌<◌, refl, sym, ◌∙◌, subst, arith}
 use Rattle.std.specs.Int.{IsGcd, ◌∣◌}
-use Rattle.std.proofs.Math.Nat.{mul_comm, div-mul_cancel, mul-div_cancel', pos_of_dvd_of_pos, dvd-mul_left, dvd-mul_right, dvd_antisymm}
+use Rattle.std.proofs.Math.Nat.{mul_comm, mul-div_cancel', pos_of_dvd_of_pos, dvd-mul_left, dvd_antisymm}
 use Rattle.std.proofs.lemmas.Nat.Gcd.{IsGcd-from_zero, IsGcd-from_mod}
 use Rattle.osc_base.specs.LowestTerms.{gcd, gcd_within, lcm}
 use Rattle.osc_base.specs.Number.{IsLeastCommonMultiple}

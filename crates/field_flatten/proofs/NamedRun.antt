@@ -1,11 +1,10 @@
 -- What the run that numbers of slots say holds at a path.
-use Rattle.std.proofs.Common.{◌≡◌, ℕ, zero, suc, ◌+◌, ◌<◌, ◌≤◌, refl, sym, ap, ap₂, ◌∙◌, subst, ◌⊎◌, inl, inr, List, [], ◌∷◌, ◌++◌, Bool, true, false, ◌&&◌, not, cond, Option, Some, None, map, length, arith, true≢false}
-use Rattle.std.specs.Prelude.{ℤ, pos, ◌≤ℤ◌, nat_eq, option_map, option_and_then, find, filter, slice_get, unsigned_abs, is_some}
-use Rattle.std.specs.Option.{option_map_or, option_or}
-use Rattle.std.specs.List.{list_any, list_all, range_with_len}
+use Rattle.std.proofs.Common.{◌≡◌, ℕ, zero, suc, ◌+◌, ◌<◌, ◌≤◌, refl, sym, ap, ◌∙◌, subst, List, [], ◌∷◌, Bool, true, false, cond, Option, Some, None, map, arith, true≢false}
+use Rattle.std.specs.Prelude.{ℤ, pos, ◌≤ℤ◌, nat_eq, option_map, option_and_then, find, filter, slice_get, unsigned_abs}
+use Rattle.std.specs.Option.{option_map_or}
+use Rattle.std.specs.List.{list_any, range_with_len}
 use Rattle.std.proofs.lemmas.Int.{ints}
 use Rattle.osc_base.specs.declared.path.Path.{Path}
-use Rattle.osc_base.specs.declared.sample.Sample.{Sample}
 use Rattle.osc_base.specs.declared.listing.SlotName.{SlotName}
 use Rattle.osc_base.specs.Comparisons.{same_number}
 use Rattle.osc_base.specs.Paths.{same_path}
@@ -14,17 +13,16 @@ use Rattle.composition.specs.declared.spot.ChoiceSpot.{ChoiceSpot}
 use Rattle.composition.specs.declared.spot.ValueSpot.{ValueSpot}
 use Rattle.composition.specs.declared.spot.ValueRange.{ValueRange}
 use Rattle.composition.specs.declared.spot.PhaseSpot.{PhaseSpot}
-use Rattle.composition.specs.declared.run.Held.{Held}
 use Rattle.composition.specs.declared.run.Choice.{Choice}
 use Rattle.composition.specs.declared.run.Span.{Span}
 use Rattle.composition.specs.declared.run.Value.{Value}
 use Rattle.composition.specs.declared.run.Trace.{Trace}
-use Rattle.composition.specs.TimedRuns.{TimedRun, choice_in, held_in, span_in, samples_in, sample_in}
-use Rattle.composition.specs.Scenes.{Scene, choices, values, phases, vehicles, guards, has_phase}
+use Rattle.composition.specs.TimedRuns.{TimedRun, choice_in, held_in, span_in, sample_in}
+use Rattle.composition.specs.Scenes.{Scene, choices, values, phases, vehicles, has_phase}
 use Rattle.composition.specs.There.{is_met, is_number}
 use Rattle.composition.specs.Invariants.{is_guard, guard_path, value_at, is_numeric}
 use Rattle.field_flatten.specs.Points.{is_held, stands, choice_of, span_of, held_of, sample_named, end_named, run_named}
-use Rattle.field_flatten.proofs.Tests.{contrary, two_ways, path_is, path_self, In, any_at, found_in, finds}
+use Rattle.field_flatten.proofs.Tests.{two_ways, path_is, any_at, found_in, finds}
 
 -- ---- the first entry of a list of what is kept
 

@@ -1,5 +1,5 @@
 -- If each phase is arranged, none ends after the run.
-use Rattle.std.proofs.Common.{◌≡◌, ℕ, zero, suc, ◌+◌, ◌<◌, ◌≤◌, refl, sym, ap, ap₂, ◌∙◌, subst, ◌⊎◌, inl, inr, List, [], ◌∷◌, ◌++◌, Bool, true, false, ◌&&◌, ◌||◌, not, cond, map, length, arith, true≢false}
+use Rattle.std.proofs.Common.{◌≡◌, ℕ, suc, ◌+◌, ◌≤◌, refl, sym, ap, ◌∙◌, subst, inl, inr, List, [], ◌∷◌, ◌++◌, Bool, true, false, ◌&&◌, ◌||◌, not, length, arith, true≢false}
 use Rattle.std.specs.Prelude.{ℤ, pos, ◌≤ℤ◌, int_le, nat_eq, unsigned_abs}
 use Rattle.std.specs.List.{list_any, list_all}
 use Rattle.std.proofs.lemmas.Int.{ints}
@@ -15,10 +15,10 @@ use Rattle.composition.specs.declared.spot.PhaseSpot.{PhaseSpot}
 use Rattle.composition.specs.declared.spot.PhaseKind.{PhaseKind}
 use Rattle.composition.specs.Scenes.{Scene, phases, guards, has_phase, has_root_do, root_do}
 use Rattle.composition.specs.Arrangement.{Times, same_span, follow, is_least, is_greatest, all_same, overlap, starts_of, ends_of, covers, chosen_spans, by_kind, arranged}
-use Rattle.composition.specs.Invariants.{same_guards, is_member, are_choices, are_members, are_nested, has_whole}
+use Rattle.composition.specs.Invariants.{same_guards, is_member, are_choices, are_members, are_nested}
 use Rattle.field_flatten.specs.Points.{is_held, stands, end_named}
 use Rattle.field_flatten.specs.Exactness.{IsExpanded}
-use Rattle.field_flatten.proofs.Tests.{left_of, right_of, both, two_ways, path_is, path_self, number_is, In, in_map, all_at, all_append, any_at}
+use Rattle.field_flatten.proofs.Tests.{left_of, right_of, path_is, number_is, In, in_map, all_at, all_append, any_at}
 use Rattle.field_flatten.proofs.Presence.{same_number_is}
 use Rattle.field_flatten.proofs.ArrangedLaw.{guards_are, and_unit}
 
@@ -159,7 +159,7 @@ module _ (scene : Scene) (named : SlotName → ℤ) (expanded : IsExpanded scene
         let first = int_le (times.start q.path) (times.end q.path) in
         let kinds = by_kind q.kind times q.path q.members in
         let e = kind_ends q.kind q (all_at (λ (r : PhaseSpot). are_members scene r r.kind) (phases scene) expanded.is_scene.members q i)
-            (λ w. right_of first kinds (left_of (first && kinds) root (all q i w))) m.0 m.1 (subst (λ r. stands scene named r ≡ true) is there) in
+        (λ w. right_of first kinds (left_of (first && kinds) root (all q i w))) m.0 m.1 (subst (λ r. stands scene named r ≡ true) is there) in
         subst (λ r. times.end r ≤ℤ times.end root_do) (sym is) (le_more (times.end m.0) (times.end q.path) (times.end root_do) e.before (within e.there))
 
     nested_within : (before ps : List PhaseSpot) → are_nested before ps ≡ true → ((q : PhaseSpot) → In q ps → In q (phases scene)) → ((q : PhaseSpot) → In q before → In q (phases scene) × Within q)
@@ -173,7 +173,7 @@ module _ (scene : Scene) (named : SlotName → ℤ) (expanded : IsExpanded scene
       where
         first : same_path x.path root_do || list_any (λ (q : PhaseSpot). list_any (same_path x.path) q.members) before ≡ true → Within x
         first g = elim (or_cases (same_path x.path root_do) (list_any (λ (q : PhaseSpot). list_any (same_path x.path) q.members) before) g) as (λ _. Within x) [
-          inl e ↦ λ there. le_same (times.end x.path) (times.end root_do) (ap times.end (path_is x.path root_do e))
+          | inl e ↦ λ there. le_same (times.end x.path) (times.end root_do) (ap times.end (path_is x.path root_do e))
           | inr e ↦ let q = any_at (λ (q : PhaseSpot). list_any (same_path x.path) q.members) before e in member_within x q.0 (f q.0 q.1).0 (f q.0 q.1).1 q.2
         ]
 
@@ -194,7 +194,7 @@ module _ (scene : Scene) (named : SlotName → ℤ) (expanded : IsExpanded scene
 
     root_known : (path : Path) → has_phase scene path ≡ true → has_root_do scene ≡ true
     root_known path known = elim (or_cases (nat_eq (length (phases scene)) 0) (has_root_do scene && nat_eq (length (guards scene root_do)) 0) expanded.is_scene.whole) as (λ _. has_root_do scene ≡ true) [
-      inl e ↦ absurd (none (phases scene) e known)
+      | inl e ↦ absurd (none (phases scene) e known)
       | inr e ↦ left_of (has_root_do scene) (nat_eq (length (guards scene root_do)) 0) e
     ]
       where

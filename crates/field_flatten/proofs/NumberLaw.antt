@@ -1,6 +1,6 @@
 -- What the run of a point holds at a path that is read is what the point gives it.
-use Rattle.std.proofs.Common.{◌≡◌, ℕ, zero, suc, ◌+◌, ◌-◌, ◌<◌, ◌≤◌, refl, sym, ap, ap₂, ◌∙◌, subst, ◌⊎◌, inl, inr, List, [], ◌∷◌, ◌++◌, Bool, true, false, ◌&&◌, ◌||◌, not, cond, Option, Some, None, map, length, arith, true≢false}
-use Rattle.std.specs.Prelude.{ℤ, pos, ◌≤ℤ◌, nat_eq, nat_lt, option_map, option_and_then, find, filter_map, slice_get, unwrap_or, position, is_some, unsigned_abs, bytes_eq}
+use Rattle.std.proofs.Common.{◌≡◌, ℕ, zero, suc, ◌+◌, ◌-◌, ◌<◌, refl, sym, ap, ap₂, ◌∙◌, subst, inl, inr, List, [], ◌∷◌, true, false, ◌&&◌, not, cond, Option, Some, None, length, arith, true≢false}
+use Rattle.std.specs.Prelude.{ℤ, pos, ◌≤ℤ◌, nat_lt, option_map, option_and_then, filter_map, slice_get, unwrap_or, is_some, unsigned_abs, bytes_eq}
 use Rattle.std.specs.Option.{option_map_or, option_or}
 use Rattle.std.specs.List.{list_any, list_all, position_or_len, cons_option}
 use Rattle.std.proofs.lemmas.Int.{ints}
@@ -16,16 +16,16 @@ use Rattle.composition.specs.declared.spot.ValueSpot.{ValueSpot}
 use Rattle.composition.specs.declared.spot.ValueRange.{ValueRange}
 use Rattle.composition.specs.declared.spot.PhaseSpot.{PhaseSpot}
 use Rattle.composition.specs.declared.run.Span.{Span}
-use Rattle.composition.specs.Scenes.{Scene, Spot, Content, Object, Value, Phase, phase_spot, Source, OfRun, OfPhase, OfValue, phases, values, source, source_timed, has_phase, has_root_do, root_do, spot_at, guards}
-use Rattle.composition.specs.TimedRuns.{held_in, span_in}
+use Rattle.composition.specs.Scenes.{Scene, Spot, Content, Object, Value, Phase, phase_spot, Source, OfRun, OfPhase, OfValue, phases, source, source_timed, has_phase, has_root_do, root_do, spot_at, guards}
+use Rattle.composition.specs.TimedRuns.{held_in}
 use Rattle.composition.specs.Numbers.{number_of, text_number, thousandths, number_from, number_at}
 use Rattle.composition.specs.Invariants.{value_at, is_read, are_texts}
-use Rattle.field_flatten.specs.Points.{is_held, stands, held_of, span_of, end_named, run_named}
+use Rattle.field_flatten.specs.Points.{is_held, stands, held_of, end_named, run_named}
 use Rattle.field_flatten.specs.Shapes.{Layout}
 use Rattle.field_flatten.specs.Rules.{end_term}
 use Rattle.field_flatten.specs.Seen.{source_value}
 use Rattle.field_flatten.specs.Exactness.{is_value_source}
-use Rattle.field_flatten.proofs.Tests.{left_of, right_of, both, contrary, two_ways, number_is, path_is, In, any_at, any_from, all_at, found_in, finds}
+use Rattle.field_flatten.proofs.Tests.{left_of, right_of, contrary, two_ways, path_is, In, any_at, any_from, all_at, found_in, finds}
 use Rattle.field_flatten.proofs.NamedRun.{span_there, held_there}
 use Rattle.field_flatten.proofs.SlotLaw.{Inside, start_between, end_between, text_between}
 
@@ -65,10 +65,10 @@ text_place (t ∷ ts) (suc n) h small =
     let rest : n < length ts = omega arith in
     let fresh : not (list_any (bytes_eq t) ts) ≡ true = left_of (not (list_any (bytes_eq t) ts)) (are_texts ts) h in
     let differ : bytes_eq text t ≡ false = two_ways (bytes_eq text t)
-        (λ e. let same : t ≡ text = sym ((bytes_eq-Decides text t).0 e) in
-        let found : list_any (bytes_eq t) ts ≡ true = any_from (bytes_eq t) ts text (text_in ts n rest) ((bytes_eq-Decides t text).1 same) in
-        contrary (not (list_any (bytes_eq t) ts)) fresh (rw found refl))
-        (λ e. e) in
+    (λ e. let same : t ≡ text = sym ((bytes_eq-Decides text t).0 e) in
+    let found : list_any (bytes_eq t) ts ≡ true = any_from (bytes_eq t) ts text (text_in ts n rest) ((bytes_eq-Decides t text).1 same) in
+    contrary (not (list_any (bytes_eq t) ts)) fresh (rw found refl))
+    (λ e. e) in
     let rec = text_place ts n (right_of (not (list_any (bytes_eq t) ts)) (are_texts ts) h) rest in
     rw (differ, rec) (let is : 1 + n ≡ suc n = omega arith in is)
 

@@ -1,8 +1,8 @@
 -- A phase's rule is true at a point exactly if the phase is arranged in the point's run.
-use Rattle.std.proofs.Common.{◌≡◌, ℕ, zero, suc, ◌+◌, refl, sym, ap, ap₂, ◌∙◌, subst, inl, inr, List, [], ◌∷◌, ◌++◌, Bool, true, false, ◌&&◌, ◌||◌, not, cond, Option, Some, None, map, length, arith, true≢false}
-use Rattle.std.specs.Prelude.{ℤ, pos, ◌≤ℤ◌, nat_eq, int_le, int_lt, unsigned_abs}
+use Rattle.std.proofs.Common.{◌≡◌, ℕ, ◌+◌, refl, sym, ap, ap₂, ◌∙◌, subst, List, [], ◌∷◌, ◌++◌, true, ◌&&◌, ◌||◌, not, Some, map, length, arith}
+use Rattle.std.specs.Prelude.{ℤ, pos, ◌≤ℤ◌, int_le, int_lt, unsigned_abs}
 use Rattle.std.specs.Option.{option_map_or}
-use Rattle.std.specs.List.{list_any, list_all}
+use Rattle.std.specs.List.{list_all}
 use Rattle.std.proofs.lemmas.Int.{ints}
 use Rattle.osc_base.specs.declared.path.Path.{Path}
 use Rattle.osc_base.specs.declared.listing.SlotName.{SlotName}
@@ -16,12 +16,12 @@ use Rattle.composition.specs.declared.spot.PhaseKind.{PhaseKind}
 use Rattle.composition.specs.declared.run.Span.{Span}
 use Rattle.composition.specs.TimedRuns.{TimedRun}
 use Rattle.composition.specs.Scenes.{Scene, Spot, Content, Object, Value, Phase, phase_spot, choice_spot, phases, choices, guards, has_phase, root_do}
-use Rattle.composition.specs.There.{is_there, are_met}
-use Rattle.composition.specs.Arrangement.{Times, by_kind, arranged, starts_of, ends_of, all_same, overlap, covers}
+use Rattle.composition.specs.There.{is_there}
+use Rattle.composition.specs.Arrangement.{Times, by_kind, arranged, all_same, overlap}
 use Rattle.composition.specs.Items.{times_of, arranged_holds}
 use Rattle.composition.specs.Invariants.{same_guards, is_member, are_choices, are_members}
 use Rattle.field_flatten.specs.Shapes.{Layout, phase_start, phase_end}
-use Rattle.field_flatten.specs.Points.{is_held, stands, run_named}
+use Rattle.field_flatten.specs.Points.{is_held, stands}
 use Rattle.field_flatten.specs.Rules.{presence_rules, kind_rules, root_do_rules, arranged_rule}
 use Rattle.field_flatten.specs.Exactness.{IsExpanded}
 use Rattle.field_flatten.proofs.Tests.{left_of, right_of, both, two_ways, under_one, path_self, In, all_at, all_append, all_map, any_from}
@@ -30,8 +30,8 @@ use Rattle.field_flatten.proofs.JoinedRows.{all_holds, under_holds}
 use Rattle.field_flatten.proofs.NamedRun.{span_there, choice_there}
 use Rattle.field_flatten.proofs.SlotLaw.{Inside, choice_above, start_between, end_between}
 use Rattle.field_flatten.proofs.NumberLaw.{at, lay, made_from, making}
-use Rattle.field_flatten.proofs.ConstraintLaw.{run, rules_held, met_held, there_stands, under_met}
-use Rattle.field_flatten.proofs.ArrangedLaw.{times_at, parts_hold, under_each, guards_are, and_unit, SameTimes, AllSame, ChosenSame, span_same, follow_same, starts_same, ends_same, covers_same, chosen_same, all_span_same}
+use Rattle.field_flatten.proofs.ConstraintLaw.{run, rules_held, there_stands}
+use Rattle.field_flatten.proofs.ArrangedLaw.{times_at, parts_hold, under_each, guards_are, and_unit, SameTimes, AllSame, ChosenSame, follow_same, starts_same, ends_same, covers_same, chosen_same, all_span_same}
 
 pub one_of_choice : (path : Path) (content : Content) (p : PhaseSpot) → phase_spot path content ≡ Some p → p.kind ≡ PhaseKind.OneOf → (c : ChoiceSpot) × (choice_spot path content ≡ Some c) × (c.path ≡ p.path)
 one_of_choice path (Object vehicle) p e k = cc

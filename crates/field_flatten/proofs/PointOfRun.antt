@@ -1,11 +1,10 @@
 -- The point of a run is in the box of the scene.
-use Rattle.std.proofs.Common.{◌≡◌, ℕ, zero, suc, ◌+◌, ◌-◌, ◌*◌, ◌<◌, ◌≤◌, refl, sym, ap, ap₂, ◌∙◌, subst, ◌⊎◌, inl, inr, List, [], ◌∷◌, ◌++◌, Bool, true, false, ◌&&◌, ◌||◌, not, cond, Option, Some, None, map, length, arith, true≢false}
+use Rattle.std.proofs.Common.{◌≡◌, ℕ, zero, suc, ◌-◌, ◌*◌, ◌<◌, ◌≤◌, refl, sym, ap, ◌∙◌, subst, inl, inr, List, [], ◌∷◌, true, false, ◌&&◌, Option, Some, None, length, arith, true≢false}
 use Rattle.std.proofs.lemmas.List.{length-map}
 use Rattle.std.proofs.lemmas.Option.{slice_get-map}
-use Rattle.std.specs.Prelude.{ℤ, pos, ◌≤ℤ◌, filter, find, nat_eq, nat_le, nat_lt, int_le, option_map, option_and_then, slice_get, unwrap_or, bytes_eq, position}
-use Rattle.std.specs.Int.{int_min, int_max}
+use Rattle.std.specs.Prelude.{ℤ, pos, ◌≤ℤ◌, find, nat_le, nat_lt, int_le, option_map, option_and_then, slice_get, unwrap_or, bytes_eq}
 use Rattle.std.specs.Option.{option_map_or}
-use Rattle.std.specs.List.{list_any, list_all, position_or_len}
+use Rattle.std.specs.List.{position_or_len}
 use Rattle.std.proofs.lemmas.Int.{ints, clamps}
 use Rattle.osc_base.specs.declared.path.Path.{Path}
 use Rattle.osc_base.specs.declared.sample.Sample.{Sample}
@@ -13,9 +12,8 @@ use Rattle.osc_base.specs.declared.listing.SlotName.{SlotName}
 use Rattle.osc_base.specs.Comparisons.{same_number}
 use Rattle.osc_base.specs.Paths.{same_path}
 use Rattle.box_eval.specs.declared.bounds.Pair.{Pair}
-use Rattle.box_eval.specs.Box.{pair, low_at, high_at, value_of, IsPointOf, IsBox}
+use Rattle.box_eval.specs.Box.{pair, value_of, IsPointOf}
 use Rattle.type_model.specs.Bounds.{least_of, greatest_of}
-use Rattle.composition.specs.declared.setting.Setting.{Setting}
 use Rattle.composition.specs.declared.spot.ChoiceSpot.{ChoiceSpot}
 use Rattle.composition.specs.declared.spot.ValueSpot.{ValueSpot}
 use Rattle.composition.specs.declared.spot.ValueRange.{ValueRange}
@@ -24,20 +22,20 @@ use Rattle.composition.specs.declared.run.Choice.{Choice}
 use Rattle.composition.specs.declared.run.Span.{Span}
 use Rattle.composition.specs.declared.run.Value.{Value}
 use Rattle.composition.specs.declared.run.Trace.{Trace}
-use Rattle.composition.specs.TimedRuns.{TimedRun, choice_in, held_in, span_in, samples_in, sample_in}
-use Rattle.composition.specs.Scenes.{Scene, choices, values, phases, vehicles}
+use Rattle.composition.specs.TimedRuns.{TimedRun, choice_in, held_in, span_in, sample_in}
+use Rattle.composition.specs.Scenes.{Scene, choices, values}
 use Rattle.composition.specs.Numbers.{text_number, number_of}
 use Rattle.composition.specs.Ranges.{lies_between, in_range}
-use Rattle.composition.specs.Claims.{road_end, top_speed, sample_in_range, choice_in_range, value_in_range, span_in_range}
+use Rattle.composition.specs.Claims.{road_end, top_speed, sample_in_range}
 use Rattle.composition.specs.Slots.{slot_names}
-use Rattle.composition.specs.Invariants.{are_texts, is_range, is_small, is_setting, is_from_to}
+use Rattle.composition.specs.Invariants.{is_range, is_small, is_from_to}
 use Rattle.expr_eval.specs.Sizes.{duration_reach}
 use Rattle.field_flatten.specs.Ends.{slot_in, ends_of, range_ends, no_ends, tick_ends, bounds}
 use Rattle.field_flatten.specs.Points.{slot_value, entry_of, filled, point_of}
 use Rattle.field_flatten.specs.Exactness.{IsExpanded}
-use Rattle.field_flatten.proofs.Tests.{left_of, right_of, both, contrary, two_ways, path_is, path_self, In, all_at, any_at, found_in}
+use Rattle.field_flatten.proofs.Tests.{left_of, right_of, two_ways, path_is, In, all_at, any_at, found_in}
 use Rattle.field_flatten.proofs.Presence.{same_number_is}
-use Rattle.field_flatten.proofs.SlotLaw.{Between, named_at, unnamed_at, at_position}
+use Rattle.field_flatten.proofs.SlotLaw.{Between, named_at, at_position}
 use Rattle.field_flatten.proofs.ListedRun.{Framed, choice_bounded, value_bounded, span_bounded, trace_bounded}
 
 pub le_of : (a b : ℤ) → int_le a b ≡ true → a ≤ℤ b

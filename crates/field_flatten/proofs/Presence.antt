@@ -1,6 +1,6 @@
 -- Two tests of conditions that agree where all earlier conditions hold agree on grounded conditions.
-use Rattle.std.proofs.Common.{◌≡◌, refl, sym, ap, ap₂, ◌∙◌, subst, ◌⊎◌, inl, inr, List, [], ◌∷◌, ◌++◌, Bool, true, false, ◌&&◌, cond, Option, Some, None, arith, true≢false}
-use Rattle.std.specs.Prelude.{ℤ, nat_eq, option_and_then, find, int_le}
+use Rattle.std.proofs.Common.{◌≡◌, refl, sym, ap₂, ◌⊎◌, inl, inr, List, [], ◌∷◌, Bool, true, false, ◌&&◌, Option, Some, None, arith, true≢false}
+use Rattle.std.specs.Prelude.{ℤ, nat_eq, option_and_then}
 use Rattle.std.specs.Option.{option_map_or, option_or}
 use Rattle.std.specs.List.{list_any, list_all}
 use Rattle.std.proofs.lemmas.Int.{ints}
@@ -11,7 +11,7 @@ use Rattle.composition.specs.declared.guard.Guard.{Guard}
 use Rattle.composition.specs.Scenes.{Scene, Spot, spot_at, guards}
 use Rattle.composition.specs.There.{same_guard, once, once_after}
 use Rattle.composition.specs.Invariants.{are_grounded, is_guard, guard_path}
-use Rattle.field_flatten.proofs.Tests.{left_of, right_of, both, contrary, two_ways, number_is, path_is, In, all_at, all_from, any_at, found_in}
+use Rattle.field_flatten.proofs.Tests.{left_of, right_of, both, two_ways, number_is, path_is, all_at, all_from, any_at, found_in}
 
 pub same_number_is : (a b : ℤ) → same_number a b ≡ true → a ≡ b
 same_number_is a b h = grind (arith, ints)
@@ -45,7 +45,7 @@ module _ (scene : Scene) where
           → are_grounded scene [] (option_map_or (λ s. s.guards) o []) ≡ true
       by None e = refl
       by (Some s) e = elim (by_or (spot_at scene path) (option_and_then (λ steps. spot_at scene (path_of steps)) (timed_part path.steps)) s e) as (λ _. are_grounded scene [] s.guards ≡ true) [
-        inl f ↦ of_spot path s f
+        | inl f ↦ of_spot path s f
         | inr f ↦ timed (timed_part path.steps) s f
       ]
 

@@ -1,6 +1,6 @@
 -- The relation of a modifier at a point is what the modifier says of the two samples there.
-use Rattle.std.proofs.Common.{◌≡◌, ℕ, zero, suc, ◌*◌, ◌/◌, ◌<◌, refl, sym, ap, ap₂, ◌∙◌, subst, List, [], ◌∷◌, Bool, true, false, ◌&&◌, not, cond, arith, true≢false}
-use Rattle.std.specs.Prelude.{ℤ, pos, negsuc, ◌+ℤ◌, ◌-ℤ◌, ◌*ℤ◌, ◌≤ℤ◌, int_le, int_lt}
+use Rattle.std.proofs.Common.{◌≡◌, ℕ, ◌*◌, ◌/◌, ◌<◌, refl, sym, ap, ap₂, ◌∙◌, subst, List, Bool, true, false, ◌&&◌, not, arith, true≢false}
+use Rattle.std.specs.Prelude.{ℤ, pos, negsuc, ◌+ℤ◌, ◌-ℤ◌, ◌*ℤ◌, int_le, int_lt}
 use Rattle.std.specs.List.{list_all}
 use Rattle.std.proofs.Math.Nat.{mul_assoc}
 use Rattle.std.proofs.Math.IntN.{*ℤ_comm}
@@ -10,13 +10,13 @@ use Rattle.osc_base.specs.declared.sample.SampleSlots.{SampleSlots}
 use Rattle.osc_base.specs.declared.modifier.Kind.{Kind}
 use Rattle.osc_base.specs.declared.modifier.Moment.{Moment}
 use Rattle.osc_base.specs.Number.{Number}
-use Rattle.osc_base.specs.Comparisons.{same_number, is_between, is_at_most}
+use Rattle.osc_base.specs.Comparisons.{same_number, is_between}
 use Rattle.osc_base.specs.LowestTerms.{lcm}
-use Rattle.osc_base.specs.Modifiers.{metres_a_second, metres, lanes, holds_of, is_moment}
-use Rattle.box_eval.specs.FlatRules.{FlatTerm, FlatRule, AtMost, Both, Whole, Slot, worth_at, holds_at, times}
-use Rattle.modifier_rules.specs.Relations.{speed_scale, lane_scale, position_scale, between, apart, relation_at, moment_at}
+use Rattle.osc_base.specs.Modifiers.{holds_of, is_moment}
+use Rattle.box_eval.specs.FlatRules.{FlatTerm, Slot, worth_at, holds_at, times}
+use Rattle.modifier_rules.specs.Relations.{position_scale, between, apart, relation_at, moment_at}
 use Rattle.composition.specs.Invariants.{has_range, has_other}
-use Rattle.field_flatten.proofs.Multiples.{Common, common, share_of, product_positive}
+use Rattle.field_flatten.proofs.Multiples.{common, share_of}
 use Rattle.field_flatten.proofs.Times.{IsTimes, widened, at_most_is}
 use Rattle.field_flatten.proofs.JoinedRows.{times_worth}
 
@@ -36,9 +36,9 @@ module _ (point : List ℤ) where
       let share' : lcm position_scale e / e ≡ m.right = ap (λ n. n / e) m.right_is ∙ share_of e m.right positive in
       let q : Number = record { numerator = worth_at point quantity; denominator = pos unit } in
       let middle : IsTimes q (lcm position_scale e) (worth_at point (times (lcm position_scale e / unit) quantity)) =
-          subst (IsTimes q (lcm position_scale e))
-          (*ℤ_comm (worth_at point quantity) (pos (c * m.left)) ∙ ap (λ n. pos n *ℤ worth_at point quantity) (sym share) ∙ sym (times_worth point (lcm position_scale e / unit) quantity))
-          (subst (λ n. IsTimes q n (worth_at point quantity *ℤ pos (c * m.left))) (sym own) (unit_times (worth_at point quantity) unit (c * m.left) above)) in
+      subst (IsTimes q (lcm position_scale e))
+      (*ℤ_comm (worth_at point quantity) (pos (c * m.left)) ∙ ap (λ n. pos n *ℤ worth_at point quantity) (sym share) ∙ sym (times_worth point (lcm position_scale e / unit) quantity))
+      (subst (λ n. IsTimes q n (worth_at point quantity *ℤ pos (c * m.left))) (sym own) (unit_times (worth_at point quantity) unit (c * m.left) above)) in
       let first : IsTimes x (lcm position_scale e) (worth_at point (times (lcm position_scale e / e) low)) = wide x low m.right f m.right_is share' in
       let last : IsTimes y (lcm position_scale e) (worth_at point (times (lcm position_scale e / e) high)) = wide y high m.right g m.right_is share' in
       ap₂ (◌&&◌)

@@ -1,6 +1,6 @@
 -- The run of the point of a run is that run, if all claims but those of hard constraints hold in it.
-use Rattle.std.proofs.Common.{◌≡◌, ℕ, zero, suc, ◌+◌, ◌-◌, ◌<◌, ◌≤◌, refl, sym, ap, ap₂, ◌∙◌, subst, ◌⊎◌, inl, inr, List, [], ◌∷◌, ◌++◌, Bool, true, false, ◌&&◌, ◌||◌, not, cond, Option, Some, None, map, length, arith, true≢false}
-use Rattle.std.specs.Prelude.{ℤ, pos, ◌≤ℤ◌, filter, find, nat_eq, nat_le, nat_lt, int_le, option_map, option_and_then, slice_get, unwrap_or, unsigned_abs, bytes_eq, position}
+use Rattle.std.proofs.Common.{◌≡◌, ℕ, zero, suc, ◌+◌, ◌≤◌, refl, sym, ap, ap₂, ◌∙◌, subst, inl, inr, List, [], ◌∷◌, Bool, true, false, ◌&&◌, ◌||◌, not, Option, Some, None, map, length, arith, true≢false}
+use Rattle.std.specs.Prelude.{ℤ, pos, filter, nat_eq, nat_le, option_map, option_and_then, slice_get, unwrap_or, unsigned_abs, bytes_eq}
 use Rattle.std.specs.Option.{option_map_or}
 use Rattle.std.specs.List.{list_any, list_all, range_with_len}
 use Rattle.std.proofs.lemmas.Int.{ints}
@@ -21,25 +21,25 @@ use Rattle.composition.specs.declared.run.Choice.{Choice}
 use Rattle.composition.specs.declared.run.Span.{Span}
 use Rattle.composition.specs.declared.run.Value.{Value}
 use Rattle.composition.specs.declared.run.Trace.{Trace}
-use Rattle.composition.specs.TimedRuns.{TimedRun, choice_in, held_in, span_in, samples_in, sample_in}
+use Rattle.composition.specs.TimedRuns.{TimedRun, choice_in, held_in, span_in, sample_in}
 use Rattle.composition.specs.Scenes.{Scene, choices, values, phases, vehicles, guards, has_root_do, root_do}
 use Rattle.composition.specs.There.{is_number, is_met, is_there}
 use Rattle.composition.specs.Numbers.{text_number, number_of}
 use Rattle.composition.specs.Ranges.{in_range}
-use Rattle.composition.specs.Claims.{value_in_range, ends_with_root_do}
+use Rattle.composition.specs.Claims.{ends_with_root_do}
 use Rattle.composition.specs.Items.{typed_holds}
-use Rattle.composition.specs.Slots.{slot_names, sample_names}
+use Rattle.composition.specs.Slots.{slot_names}
 use Rattle.composition.specs.Invariants.{is_guard, guard_path, value_at, is_numeric, are_distinct}
 use Rattle.field_flatten.specs.Ends.{ends_of}
-use Rattle.field_flatten.specs.Points.{slot_value, is_held, stands, choice_of, span_of, held_of, sample_named, end_named, run_named, run_of, entry_of, filled, point_of}
+use Rattle.field_flatten.specs.Points.{slot_value, is_held, stands, choice_of, span_of, held_of, sample_named, end_named, run_named, run_of, point_of}
 use Rattle.field_flatten.specs.Exactness.{IsExpanded}
-use Rattle.field_flatten.proofs.Tests.{left_of, right_of, both, contrary, two_ways, path_is, path_self, number_is, In, map_same, all_at, any_at, filter_same, in_filter, found_in, finds}
+use Rattle.field_flatten.proofs.Tests.{left_of, right_of, two_ways, path_is, number_is, In, map_same, any_at, filter_same, in_filter, found_in, finds}
 use Rattle.field_flatten.proofs.Presence.{guards_grounded, presence_law}
 use Rattle.field_flatten.proofs.NamedRun.{value_named, trace_named}
 use Rattle.field_flatten.proofs.SlotLaw.{choice_named, start_named, end_is_named, value_is_named, sample_is_named, at_position}
 use Rattle.field_flatten.proofs.ItemLaw.{distinct_found}
 use Rattle.field_flatten.proofs.ListedRun.{Framed, entry_there, spot_there, first_entry, rebuilt, choices_listed, values_listed, phases_listed, traces_listed, trace_long, value_bounded}
-use Rattle.field_flatten.proofs.PointOfRun.{Placed, placed, named_filled, some_less}
+use Rattle.field_flatten.proofs.PointOfRun.{placed, named_filled, some_less}
 
 -- ---- lists
 
@@ -207,9 +207,11 @@ module _ (scene : Scene) (expanded : IsExpanded scene) (run : TimedRun) (framed 
   end_parts : (run.tick ≡ scene.setting.tick) × (run.end ≤ scene.setting.ticks) × (ends_with_root_do scene run ≡ true)
   end_parts =
       let rest = right_of (nat_eq run.tick scene.setting.tick) (nat_le run.end scene.setting.ticks && ends_with_root_do scene run) framed.ended in
-      let small = left_of (nat_le run.end scene.setting.ticks) (ends_with_root_do scene run) rest in
-      (number_is run.tick scene.setting.tick (left_of (nat_eq run.tick scene.setting.tick) (nat_le run.end scene.setting.ticks && ends_with_root_do scene run) framed.ended),
-      nat_le_is run.end scene.setting.ticks small, right_of (nat_le run.end scene.setting.ticks) (ends_with_root_do scene run) rest)
+      let small = left_of (nat_le run.end scene.setting.ticks) (ends_with_root_do scene run) rest in (
+        number_is run.tick scene.setting.tick (left_of (nat_eq run.tick scene.setting.tick) (nat_le run.end scene.setting.ticks && ends_with_root_do scene run) framed.ended),
+        nat_le_is run.end scene.setting.ticks small,
+        right_of (nat_le run.end scene.setting.ticks) (ends_with_root_do scene run) rest,
+      )
     where
       nat_le_is : (a b : ℕ) → nat_le a b ≡ true → a ≤ b
       nat_le_is a b h = grind arith

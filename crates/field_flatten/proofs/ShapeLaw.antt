@@ -1,6 +1,6 @@
 -- The term of an expression is its value times the scale, and its rule is true exactly if the value is 1.
-use Rattle.std.proofs.Common.{◌≡◌, ℕ, zero, suc, ◌*◌, ◌/◌, ◌<◌, refl, sym, ap, ap₂, ◌∙◌, subst, List, [], ◌∷◌, map, Bool, true, false, ◌&&◌, ◌||◌, not, cond, arith, true≢false}
-use Rattle.std.specs.Prelude.{ℤ, pos, ◌+ℤ◌, ◌-ℤ◌, ◌*ℤ◌, ◌≤ℤ◌, nat_eq, int_le, unsigned_abs}
+use Rattle.std.proofs.Common.{◌≡◌, ℕ, ◌*◌, ◌/◌, ◌<◌, refl, sym, ap, ap₂, ◌∙◌, subst, List, map, Bool, true, false, ◌&&◌, ◌||◌, not, cond, arith, true≢false}
+use Rattle.std.specs.Prelude.{ℤ, pos, ◌-ℤ◌, ◌*ℤ◌, ◌≤ℤ◌, nat_eq, int_le, unsigned_abs}
 use Rattle.std.specs.List.{list_any, list_all}
 use Rattle.std.proofs.Math.Nat.{mul_assoc}
 use Rattle.std.proofs.Math.IntN.{pos-*ℤ-pos, *ℤ_comm}
@@ -8,7 +8,7 @@ use Rattle.std.proofs.lemmas.Int.{ints}
 use Rattle.osc_base.specs.declared.path.Path.{Path}
 use Rattle.osc_base.specs.declared.listing.SlotName.{SlotName}
 use Rattle.osc_base.specs.Number.{Number, whole, plus, product}
-use Rattle.osc_base.specs.Comparisons.{same_number, is_same, is_less, is_at_most}
+use Rattle.osc_base.specs.Comparisons.{same_number, is_at_most}
 use Rattle.osc_base.specs.LowestTerms.{gcd, lcm}
 use Rattle.osc_base.proofs.Integers.{assoc, abs_above}
 use Rattle.box_eval.specs.Box.{value_of}
@@ -24,11 +24,11 @@ use Rattle.expr_eval.specs.Parts.{is_scalar, parts_of}
 use Rattle.expr_eval.specs.Operators.{fit_for, fits_in, is_range_or_list}
 use Rattle.expr_eval.specs.Sound.{same_size, has_size, is_lowest, is_constant_of, is_per, are_truths, is_truth_info, can_join, is_sound, are_sound}
 use Rattle.composition.specs.Scenes.{Source, OfRun, OfPhase, OfValue}
-use Rattle.field_flatten.specs.Shapes.{Layout, Shape, in_nothing, of_rule, of_term, constant_term, of_constant, phase_start, phase_end, read_term, product_term, compared, at_common, relation, in_span, in_list, shape, shapes}
+use Rattle.field_flatten.specs.Shapes.{Layout, Shape, of_rule, of_term, constant_term, of_constant, phase_start, phase_end, read_term, product_term, compared, at_common, relation, in_span, in_list, shape, shapes}
 use Rattle.field_flatten.specs.Seen.{has_values, have_values, source_value, seen}
-use Rattle.field_flatten.proofs.Tests.{left_of, right_of, both, contrary, two_ways, number_is}
+use Rattle.field_flatten.proofs.Tests.{left_of, right_of, two_ways, number_is}
 use Rattle.field_flatten.proofs.JoinedRows.{any_holds, times_worth}
-use Rattle.field_flatten.proofs.Multiples.{Common, common, share_of, product_positive}
+use Rattle.field_flatten.proofs.Multiples.{common, share_of, product_positive}
 use Rattle.field_flatten.proofs.Times.{IsTimes, widened, opposite_times, plus_times, product_times, read_times, less_is, more_is, at_most_is, at_least_is, same_is}
 
 -- ---- sizes and kinds
@@ -290,7 +290,7 @@ module _ (point : List ℤ) where
         let w = worth_at point ((shape at right).term d') in
         let x : Number = product (worth (seen at point) left) (worth (seen at point) right) in
         let own : IsTimes x (d * d') (v *ℤ w) =
-            product_times (worth (seen at point) left) (worth (seen at point) right) d d' v w (terms_of left a d 1 (omega arith)) (terms_of right b d' 1 (omega arith)) in
+        product_times (worth (seen at point) left) (worth (seen at point) right) d d' v w (terms_of left a d 1 (omega arith)) (terms_of right b d' 1 (omega arith)) in
         number_node i (product_term (shape at left) (shape at right)) x (rw (is, kept) above)
         (λ e k m. let here : e ≡ (d * d') * k = m ∙ ap (λ z. z * k) (is ∙ kept) in
         let share : e / (d * d') ≡ k = ap (λ z. z / (d * d')) here ∙ share_of (d * d') k above in

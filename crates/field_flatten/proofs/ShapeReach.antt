@@ -1,8 +1,8 @@
 -- The term of an expression is no greater than its reach says, and its rule reaches no further than the limit.
 use Rattle.std.proofs.Common.{◌≡◌, ℕ, zero, suc, ◌+◌, ◌*◌, ◌/◌, ◌≤◌, ◌<◌, max, refl, sym, ap, ap₂, ◌∙◌, subst, inl, inr, List, [], ◌∷◌, map, Bool, true, false, ◌&&◌, ◌||◌, not, cond, arith, true≢false}
-use Rattle.std.specs.Prelude.{ℤ, pos, ◌*ℤ◌, nat_eq, nat_lt, unsigned_abs}
+use Rattle.std.specs.Prelude.{pos, ◌*ℤ◌, nat_eq, nat_lt, unsigned_abs}
 use Rattle.std.specs.List.{list_all}
-use Rattle.std.proofs.Math.Nat.{mul_assoc, mul_comm, add-mul, mul-le-mul_left, mul-le-mul_right, le-mul_of_pos_right}
+use Rattle.std.proofs.Math.Nat.{mul_assoc, add-mul, mul-le-mul_right}
 use Rattle.std.proofs.lemmas.Int.{ints, unsigned_abs-mul}
 use Rattle.osc_base.specs.declared.path.Path.{Path}
 use Rattle.osc_base.specs.Number.{Number}
@@ -12,7 +12,7 @@ use Rattle.box_eval.specs.declared.bounds.Pair.{Pair}
 use Rattle.box_eval.specs.FlatRules.{FlatTerm, FlatRule, times, any_of}
 use Rattle.box_eval.specs.FlatRules as Flat
 use Rattle.expr_eval.specs.declared.compare.Compare.{Compare}
-use Rattle.expr_eval.specs.Kinds.{ValueKind, is_number, is_truth, same_units}
+use Rattle.expr_eval.specs.Kinds.{is_number, is_truth, same_units}
 use Rattle.expr_eval.specs.Typed.{Typed, Info, Constant, Read, Whole, Listed, Span, Minus, Not, Sum, Times, And, Or, Implies, Relation, Within, TypedRow, End, Item, info, kind, scale, reach, items_of}
 use Rattle.expr_eval.specs.Value.{is_one}
 use Rattle.expr_eval.specs.Sizes.{Size, size, constant_size, field_size, duration_size, unit_size, joined, multiplied, is_wide}
@@ -20,11 +20,11 @@ use Rattle.expr_eval.specs.Parts.{is_scalar, parts_of}
 use Rattle.expr_eval.specs.Operators.{fit_for, fits_in, is_range_or_list}
 use Rattle.expr_eval.specs.Sound.{same_size, has_size, is_constant_of, is_per, are_truths, is_truth_info, can_join, is_sound, are_sound, each_read, each_read_of}
 use Rattle.field_flatten.specs.Seen.{has_values, have_values}
-use Rattle.field_flatten.specs.Shapes.{Layout, Shape, of_rule, of_term, constant_term, of_constant, read_term, product_term, compared, at_common, relation, in_span, in_list, shape, shapes}
-use Rattle.field_flatten.proofs.Tests.{left_of, right_of, both, contrary, two_ways, number_is, In, map_in}
-use Rattle.field_flatten.proofs.Multiples.{Common, common, share_of, product_positive, lcm_swap}
-use Rattle.field_flatten.proofs.ShapeLaw.{scale_is, law, PerLaw, per_law, read_scale, number_no_truth, units_no_truth}
-use Rattle.field_flatten.proofs.Fitting.{Fits, RuleFits, weaker, whole_fits, sum_fits, less_fits, product_fits, times_fits, truth_fits, below_fits, at_most_fits, equal_fits, differ_fits, both_fits, either_fits, not_fits, always_fits, any_fits}
+use Rattle.field_flatten.specs.Shapes.{Layout, Shape, of_rule, of_term, of_constant, read_term, product_term, compared, at_common, relation, in_span, in_list, shape, shapes}
+use Rattle.field_flatten.proofs.Tests.{left_of, right_of, two_ways, number_is, In}
+use Rattle.field_flatten.proofs.Multiples.{common, share_of, product_positive, lcm_swap}
+use Rattle.field_flatten.proofs.ShapeLaw.{scale_is, law, per_law, read_scale, number_no_truth, units_no_truth}
+use Rattle.field_flatten.proofs.Fitting.{Fits, RuleFits, whole_fits, sum_fits, less_fits, product_fits, times_fits, truth_fits, below_fits, at_most_fits, equal_fits, differ_fits, both_fits, either_fits, not_fits, always_fits, any_fits}
 
 pub reach_is : (i : Info) (s : Size) → has_size i s ≡ true → i.reach ≡ s.reach
 reach_is i s h =
@@ -249,7 +249,7 @@ module _ (ends : List Pair) (most : ℕ) (one_most : 1 ≤ most) (wide : (n : �
         kept = refl;
         terms = λ e k is above small.
             let same : reach left * (c.left * k) + reach right * (c.right * k) ≡ i.reach * k =
-                ap₂ (◌+◌) (sym (mul_assoc (reach left) c.left k)) (sym (mul_assoc (reach right) c.right k)) ∙ sym (add-mul (reach left * c.left) (reach right * c.right) k) ∙ ap (λ n. n * k) (sym reaches) in
+            ap₂ (◌+◌) (sym (mul_assoc (reach left) c.left k)) (sym (mul_assoc (reach right) c.right k)) ∙ sym (add-mul (reach left * c.left) (reach right * c.right) k) ∙ ap (λ n. n * k) (sym reaches) in
             let whole : reach left * (c.left * k) + reach right * (c.right * k) ≤ most = subst (λ n. n ≤ most) (sym same) small in
             subst (Fits ends most (Flat.Sum ((shape at left).term e) ((shape at right).term e))) same
             (sum_fits ends most ((shape at left).term e) ((shape at right).term e) (reach left * (c.left * k)) (reach right * (c.right * k))

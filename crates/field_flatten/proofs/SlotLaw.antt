@@ -1,8 +1,8 @@
 -- What a point of the box gives a slot lies between the ends of its name.
-use Rattle.std.proofs.Common.{◌≡◌, ℕ, zero, suc, ◌+◌, ◌-◌, ◌<◌, ◌≤◌, refl, sym, ap, ap₂, ◌∙◌, subst, ◌⊎◌, inl, inr, List, [], ◌∷◌, ◌++◌, Bool, true, false, ◌&&◌, not, cond, Option, Some, None, map, length, arith, true≢false}
+use Rattle.std.proofs.Common.{◌≡◌, ℕ, zero, suc, ◌+◌, ◌-◌, ◌<◌, ◌≤◌, refl, sym, ap, ap₂, ◌∙◌, subst, ◌⊎◌, inl, inr, List, [], ◌∷◌, ◌++◌, Bool, true, false, Option, Some, None, map, length, arith, true≢false}
 use Rattle.std.specs.Prelude.{ℤ, pos, ◌≤ℤ◌, nat_eq, nat_lt, option_map, find, flat_map, slice_get, unwrap_or, position}
 use Rattle.std.specs.Option.{option_map_or}
-use Rattle.std.specs.List.{list_any, list_all, range_with_len, position_or_len}
+use Rattle.std.specs.List.{list_any, range_with_len, position_or_len}
 use Rattle.std.proofs.lemmas.Int.{ints}
 use Rattle.std.proofs.lemmas.Option.{slice_get-map}
 use Rattle.osc_base.specs.declared.path.Path.{Path}
@@ -10,18 +10,17 @@ use Rattle.osc_base.specs.declared.listing.SlotName.{SlotName}
 use Rattle.osc_base.specs.Paths.{same_path}
 use Rattle.osc_base.specs.SlotNames.{same_slot}
 use Rattle.box_eval.specs.declared.bounds.Pair.{Pair}
-use Rattle.box_eval.specs.Box.{low_at, high_at, value_of, IsPointOf}
+use Rattle.box_eval.specs.Box.{IsPointOf}
 use Rattle.composition.specs.declared.spot.ChoiceSpot.{ChoiceSpot}
 use Rattle.composition.specs.declared.spot.ValueSpot.{ValueSpot}
 use Rattle.composition.specs.declared.spot.ValueRange.{ValueRange}
 use Rattle.composition.specs.declared.spot.PhaseSpot.{PhaseSpot}
-use Rattle.composition.specs.declared.setting.Setting.{Setting}
 use Rattle.composition.specs.Scenes.{Scene, choices, values, phases, vehicles}
 use Rattle.composition.specs.Slots.{ticks_of, sample_names, slot_names}
 use Rattle.composition.specs.Invariants.{value_at}
 use Rattle.field_flatten.specs.Ends.{slot_in, ends_of, range_ends, no_ends, bounds}
 use Rattle.field_flatten.specs.Points.{slot_value}
-use Rattle.field_flatten.proofs.Tests.{left_of, right_of, both, contrary, two_ways, number_is, number_self, path_is, path_self, In, in_left, in_right, in_map, in_flat_map, any_from, any_at, found_in, finds, found_none}
+use Rattle.field_flatten.proofs.Tests.{left_of, right_of, both, two_ways, number_is, number_self, path_is, path_self, In, in_left, in_right, in_map, in_flat_map, any_at, found_in, finds, found_none}
 
 -- ---- places
 
@@ -154,13 +153,13 @@ module _ (scene : Scene) (at : SlotName → ℤ) (inside : Inside scene at) wher
 
   pub start_between : (path : Path) → (pos 0 ≤ℤ at (SlotName.Start path)) × (at (SlotName.Start path) ≤ℤ pos scene.setting.ticks)
   start_between path = elim (between_or_zero (SlotName.Start path)) as (λ _. (pos 0 ≤ℤ at (SlotName.Start path)) × (at (SlotName.Start path) ≤ℤ pos scene.setting.ticks)) [
-    inl b ↦ (b.low, b.high)
+    | inl b ↦ (b.low, b.high)
     | inr z ↦ (omega (arith, ints), omega (arith, ints))
   ]
 
   pub end_between : (path : Path) → (pos 0 ≤ℤ at (SlotName.End path)) × (at (SlotName.End path) ≤ℤ pos scene.setting.ticks)
   end_between path = elim (between_or_zero (SlotName.End path)) as (λ _. (pos 0 ≤ℤ at (SlotName.End path)) × (at (SlotName.End path) ≤ℤ pos scene.setting.ticks)) [
-    inl b ↦ (b.low, b.high)
+    | inl b ↦ (b.low, b.high)
     | inr z ↦ (omega (arith, ints), omega (arith, ints))
   ]
 
@@ -170,13 +169,13 @@ module _ (scene : Scene) (at : SlotName → ℤ) (inside : Inside scene at) wher
 
   pub choice_above : (path : Path) → pos 0 ≤ℤ at (SlotName.Choice path)
   choice_above path = elim (between_or_zero (SlotName.Choice path)) as (λ _. pos 0 ≤ℤ at (SlotName.Choice path)) [
-    inl b ↦ subst (λ z. z ≤ℤ at (SlotName.Choice path)) (choice_low (find (λ (c : ChoiceSpot). same_path c.path path) (choices scene))) b.low
+    | inl b ↦ subst (λ z. z ≤ℤ at (SlotName.Choice path)) (choice_low (find (λ (c : ChoiceSpot). same_path c.path path) (choices scene))) b.low
     | inr z ↦ omega (arith, ints)
   ]
 
   pub text_between : (path : Path) (v : ValueSpot) → value_at scene path ≡ Some v → v.range ≡ ValueRange.Chars → (pos 0 ≤ℤ at (SlotName.Value path)) × (at (SlotName.Value path) ≤ℤ pos (length scene.texts - 1))
   text_between path v known chars = elim (between_or_zero (SlotName.Value path)) as (λ _. (pos 0 ≤ℤ at (SlotName.Value path)) × (at (SlotName.Value path) ≤ℤ pos (length scene.texts - 1))) [
-    inl b ↦ let is : ends_of scene (SlotName.Value path) ≡ range_ends scene.texts ValueRange.Chars = ap (λ o. option_map_or (λ (w : ValueSpot). range_ends scene.texts w.range) o no_ends) known ∙ ap (range_ends scene.texts) chars in
+    | inl b ↦ let is : ends_of scene (SlotName.Value path) ≡ range_ends scene.texts ValueRange.Chars = ap (λ o. option_map_or (λ (w : ValueSpot). range_ends scene.texts w.range) o no_ends) known ∙ ap (range_ends scene.texts) chars in
         (subst (λ e. e.low ≤ℤ at (SlotName.Value path)) is b.low, subst (λ e. at (SlotName.Value path) ≤ℤ e.high) is b.high)
     | inr z ↦ (omega (arith, ints), omega (arith, ints))
   ]

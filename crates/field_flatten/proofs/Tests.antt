@@ -1,6 +1,6 @@
 -- Tests: conjunctions, tests of lists, first entries, and paths.
-use Rattle.std.proofs.Common.{◌≡◌, refl, sym, ap, ap₂, ◌∙◌, subst, ℕ, zero, suc, ◌⊎◌, inl, inr, List, [], ◌∷◌, ◌++◌, Bool, true, false, not, ◌&&◌, ◌||◌, cond, Option, Some, None, map, arith, true≢false}
-use Rattle.std.specs.Prelude.{filter, filter_map, flat_map, find, nat_eq, bytes_eq, option_map}
+use Rattle.std.proofs.Common.{◌≡◌, refl, sym, ap, ap₂, ◌∙◌, subst, ℕ, ◌⊎◌, inl, inr, List, [], ◌∷◌, ◌++◌, Bool, true, false, not, ◌&&◌, ◌||◌, cond, Some, None, map, arith, true≢false}
+use Rattle.std.specs.Prelude.{filter, flat_map, find, nat_eq}
 use Rattle.std.specs.List.{list_any, list_all}
 use Rattle.std.proofs.lemmas.Slice.Eq.{bytes_eq-Decides}
 use Rattle.osc_base.specs.declared.path.Path.{Path}
@@ -154,7 +154,7 @@ module _ {A B : Type 0} where
   pub flat_map_in : (f : A → List B) (xs : List A) (y : B) → In y (flat_map f xs) → (x : A) × In x xs × In y (f x)
   flat_map_in f [] y i = absurd i
   flat_map_in f (x ∷ xs) y i = elim (in_either y (f x) (flat_map f xs) i) as (λ _. (z : A) × In z (x ∷ xs) × In y (f z)) [
-    inl j ↦ (x, inl refl, j)
+    | inl j ↦ (x, inl refl, j)
     | inr j ↦ let g = flat_map_in f xs y j in (g.0, inr g.1, g.2)
   ]
 

@@ -1,11 +1,11 @@
 -- A whole number is a number times a scale.
-use Rattle.std.proofs.Common.{◌≡◌, ℕ, zero, suc, ◌*◌, ◌/◌, ◌<◌, Bool, true, false, ◌&&◌, not, refl, sym, ap, ap₂, ◌∙◌, subst, arith}
+use Rattle.std.proofs.Common.{◌≡◌, ℕ, ◌*◌, ◌<◌, ◌&&◌, not, sym, ap, ap₂, ◌∙◌, subst, arith}
 use Rattle.std.specs.Prelude.{ℤ, pos, neg_ℤ, ◌+ℤ◌, ◌-ℤ◌, ◌*ℤ◌, ◌≤ℤ◌, ◌<ℤ◌, int_lt, int_le}
 use Rattle.std.proofs.Math.IntN.{pos-*ℤ-pos, *ℤ_comm, zero-*ℤ}
 use Rattle.std.proofs.lemmas.Int.{ints, by_lt_z}
-use Rattle.osc_base.specs.Number.{Number, whole, plus, product}
-use Rattle.osc_base.specs.Comparisons.{same_number, is_same, is_less, is_at_most, is_between}
-use Rattle.osc_base.proofs.Integers.{assoc, spread, swap_last, lt_times, le_times, lt_cancel, le_cancel, product_above}
+use Rattle.osc_base.specs.Number.{Number, plus, product}
+use Rattle.osc_base.specs.Comparisons.{same_number, is_same, is_less, is_at_most}
+use Rattle.osc_base.proofs.Integers.{assoc, spread, swap_last, lt_times, lt_cancel, product_above}
 use Rattle.expr_eval.specs.Value.{opposite}
 
 pub record IsTimes (x : Number) (scale : ℕ) (n : ℤ) : Type 0 where

@@ -5,10 +5,9 @@ use Rattle.std.specs.List.{list_all}
 use Rattle.osc_base.specs.LowestTerms.{lcm}
 use Rattle.osc_base.specs.Comparisons.{greatest_part}
 use Rattle.modifier_rules.specs.Relations.{position_scale}
-use Rattle.osc_base.specs.declared.path.Path.{Path}
 use Rattle.box_eval.specs.Box.{IsPointOf}
 use Rattle.box_eval.specs.declared.flat.Flat.{Flat}
-use Rattle.box_eval.specs.Rules.{Meets, IsEmpty}
+use Rattle.box_eval.specs.Rules.{Meets, IsEmpty, IsFlat}
 use Rattle.box_eval.specs.FlatRules.{holds_at, flat_rule}
 use Rattle.expr_eval.specs.Typed.{Typed, reach}
 use Rattle.expr_eval.specs.Sizes.{field_reach}
@@ -20,7 +19,7 @@ use Rattle.composition.specs.declared.spot.ValueSpot.{ValueSpot}
 use Rattle.composition.specs.Scenes.{Scene, Spot, Occurrence, ModifierSpot, Source, OfRun, OfPhase, OfValue, source, values, phases}
 use Rattle.composition.specs.declared.clause.Clause.{Clause}
 use Rattle.composition.specs.TimedRuns.{TimedRun}
-use Rattle.composition.specs.Items.{Item, items, item_holds, is_hard}
+use Rattle.composition.specs.Items.{items, item_holds, is_hard}
 use Rattle.composition.specs.Claims.{Claim, claims, IsInstance}
 use Rattle.composition.specs.Invariants.{IsScene, is_small}
 use Rattle.field_flatten.specs.Ends.{bounds}
@@ -170,3 +169,7 @@ pub record IsLimited (scene : Scene) : Type 0 where
   pub few_texts : nat_le (length scene.texts) field_reach ≡ true
   pub few_members : list_all (λ (p : PhaseSpot). nat_le (length p.members) field_reach) (phases scene) ≡ true
   pub narrow_ranges : list_all is_narrow_range scene.modifiers ≡ true
+
+-- a scene's flat form is one: its ends are a box on which each rule may be judged
+abbrev pub FlatFormsAreFlat : Type 0
+FlatFormsAreFlat = (scene : Scene) (flat : Flat) → IsExpanded scene → IsLimited scene → IsFlatOf scene flat → IsFlat flat

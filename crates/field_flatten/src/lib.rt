@@ -3,4 +3,4 @@
 
 mod laws;
 
-pub use laws::{flat_forms_are_exact, scenes_are_exact};
+pub use laws::{flat_forms_are_exact, flat_forms_are_flat, scenes_are_exact};
