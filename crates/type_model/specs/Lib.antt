@@ -7,7 +7,7 @@ pub mod Conditions
 pub mod Told
 pub mod Texts
 pub mod Units
-pub mod Declared
+pub mod DeclaredTypes
 pub mod Cycles
 pub mod HeadingFaults
 pub mod MemberFaults

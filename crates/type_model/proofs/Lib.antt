@@ -1,0 +1,3 @@
+mod BracketSteps
+mod KeySets
+mod RowSteps

@@ -1,0 +1,3 @@
+//! The faults of headings.
+
+mod brackets;
