@@ -58,3 +58,8 @@ text_more keys later text old new seen seen' written other =
 pub twice_not : (b : Bool) → not (not b) ≡ b
 twice_not true = refl
 twice_not false = refl
+
+-- the same of the keys that a set has after it took one more
+pub key_more : {K : Type 0} (eq : K → K → Bool) (test : K → Bool) (v : K) (keys later : List K) → later ≡ insert_key eq keys v →
+    ((k : K) → eq v k ≡ true → test v ≡ test k) → list_any test later ≡ (test v || list_any test keys)
+key_more eq test v keys later is alike = ap (list_any test) is ∙ inserted eq test v alike keys

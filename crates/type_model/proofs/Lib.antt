@@ -1,3 +1,5 @@
 mod BracketSteps
 mod KeySets
+mod NameKeys
+mod NameSteps
 mod RowSteps

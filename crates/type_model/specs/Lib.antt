@@ -11,3 +11,4 @@ pub mod DeclaredTypes
 pub mod Cycles
 pub mod HeadingFaults
 pub mod MemberFaults
+pub mod SeenNames

@@ -1,3 +1,4 @@
 //! The faults of headings.
 
 mod brackets;
+mod names;
