@@ -1,2 +1,12 @@
 //! Types of a program: what it declares, the members of each type, and the faults of headings and members.
 #![tactic(auto)]
+
+mod form;
+mod head;
+mod heads;
+mod type_id;
+
+pub use form::{EnumEntry, Form};
+pub use head::Head;
+pub use heads::Heads;
+pub use type_id::TypeId;
