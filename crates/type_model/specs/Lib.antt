@@ -5,6 +5,7 @@ pub mod Bounds
 pub mod Members
 pub mod Conditions
 pub mod Told
+pub mod Seen
 pub mod Texts
 pub mod Units
 pub mod DeclaredTypes
