@@ -3,3 +3,4 @@ mod KeySets
 mod NameKeys
 mod NameSteps
 mod RowSteps
+mod TreeSteps

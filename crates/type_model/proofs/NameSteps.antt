@@ -28,3 +28,15 @@ named first found old new d n is_met is met more now = λ earlier later has.
     ap (λ o. first_from first (twice_rows earlier (cons_option o (filter_map name_declared later)))) (sym is)
     ∙ ap (λ f. first_from f (twice_rows (n ∷ earlier) (filter_map name_declared later)))
     (ap (λ b. first_of first (row_fault (row n.place FaultCode.Twice b))) (sym (met ∙ has n)) ∙ sym now))
+
+-- what is left to find of declarations
+pub record NamesLeft (goal : Option Fault) (keys : List NameKey) (found : Option Fault) (left : List DeclarationTree) : Type 0 where
+  pub earlier : List DeclaredName
+  pub has : HasNames keys earlier
+  pub rest : goal ≡ first_from found (twice_rows earlier (filter_map name_declared left))
+
+pub next_name : (goal : Option Fault) (keys keys' : List NameKey) (found found' : Option Fault) (d : DeclarationTree) (left later : List DeclarationTree) → left ≡ d ∷ later →
+    Continues found keys found' keys' d → NamesLeft goal keys found left → NamesLeft goal keys' found' later
+next_name goal keys keys' found found' d left later is now l =
+    let more = now l.earlier later l.has in
+    record { earlier = more.0; has = more.1; rest = l.rest ∙ ap (λ ds. first_from found (twice_rows l.earlier (filter_map name_declared ds))) is ∙ more.2 }

@@ -13,3 +13,4 @@ pub mod Cycles
 pub mod HeadingFaults
 pub mod MemberFaults
 pub mod SeenNames
+pub mod Trees

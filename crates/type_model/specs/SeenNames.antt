@@ -1,8 +1,9 @@
 -- Declared names as the code holds them.
-use Rattle.std.specs.Prelude.{◌≡◌, List, Bool, true, false, not, ◌&&◌, option_copied, bytes_eq}
+use Rattle.std.specs.Prelude.{◌≡◌, ℕ, None, List, Bool, true, false, not, ◌&&◌, option_copied, bytes_eq}
 use Rattle.std.specs.List.{list_any}
 use Rattle.name_scope.specs.declared.ids.NameKind.{NameKind}
 use Rattle.name_scope.specs.Declaring.{DeclaredName, same_owner}
+use Rattle.type_model.specs.Members.{nowhere}
 use Rattle.type_model.specs.HeadingFaults.{is_unit_name, shares_name}
 use Rattle.type_model.specs.declared.heading_faults.names.NameDeclared.{NameDeclared}
 use Rattle.type_model.specs.declared.heading_faults.names.NameKey.{NameKey}
@@ -27,3 +28,7 @@ shares_key d k = in_space d.kind k.is_unit && (same_owner d.owner (option_copied
 -- keys are those of a list of names
 abbrev pub HasNames : List NameKey → List DeclaredName → Type 0
 HasNames keys names = (other : DeclaredName) → list_any (shares_key other) keys ≡ list_any (shares_name other) names
+
+-- the name of a basic type
+abbrev pub basic_name : List ℕ → DeclaredName
+basic_name name = record { kind = NameKind.TypeName; owner = None; name = name; place = nowhere }

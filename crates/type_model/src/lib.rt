@@ -3,6 +3,7 @@
 
 mod declarations;
 mod form;
+mod form_tests;
 mod head;
 mod heading_faults;
 mod heads;

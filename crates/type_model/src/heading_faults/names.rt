@@ -7,14 +7,23 @@ ghost use Rattle.dsl_tree.specs.FileTree.{DeclarationTree};
 ghost use Rattle.dsl_tree.specs.Views.{declaration_tree};
 ghost use Rattle.name_scope.specs.Declaring.{DeclaredName};
 ghost use Rattle.name_scope.specs.Declaring.{behaviour_name, compound_name};
-ghost use Rattle.type_model.specs.HeadingFaults.{name_declared as name_of, shares_name, twice_rows};
-ghost use Rattle.type_model.specs.SeenNames.{seen_name, key_of, shares_key, HasNames};
+ghost use Rattle.type_model.specs.HeadingFaults.{basic_names, name_declared as name_of, shares_name, twice_rows};
+ghost use Rattle.type_model.specs.SeenNames.{seen_name, key_of, basic_name, shares_key, HasNames};
+ghost use Rattle.type_model.specs.Trees.{referred};
 
 use dsl_tree::{CompoundKind, Declaration, Ident, QName};
 use indexmap::IndexSet;
 use name_scope::{NameKind, with_fault};
 use osc_base::{Fault, FaultCode, Place};
 use std::alloc::{AllocError, Global};
+
+/// The place of a name that no file declares.
+const NOWHERE: Place = Place {
+    file: 0,
+    line: 0,
+    column: 0,
+    token: 0,
+};
 
 /// A declared name, and where it stands.
 #[derive(Clone, Copy)]
@@ -23,6 +32,15 @@ pub struct NameDeclared<'a> {
     owner: Option<&'a str>,
     name: &'a str,
     place: Place,
+}
+
+impl<'a> NameDeclared<'a> {
+    /// The name of its owner.
+    pub fn owner(self) -> Option<&'a str>
+        ensures { result ≡ self.entry.owner }
+    {
+        self.owner
+    }
 }
 
 /// A name in its space: units have one of their own, and each owner has one.
@@ -58,7 +76,8 @@ fn behaviour(name: &QName) -> NameDeclared<'_>
     }
 }
 
-fn compound(kind: CompoundKind, name: &QName) -> NameDeclared<'_>
+/// The name of a type with members.
+pub fn compound(kind: CompoundKind, name: &QName) -> NameDeclared<'_>
     ensures { seen_name result ≡ compound_name kind name.now }
 {
     match kind {
@@ -99,6 +118,34 @@ pub struct NameSet<'a> {
 }
 
 impl<'a> NameSet<'a> {
+    /// The names of the basic types.
+    fn basic(alloc: Global) -> Result<NameSet<'a>, AllocError>
+        ensures { IfOk result (λ s. HasNames s.keys.keys basic_names) }
+    {
+        let mut names = NameSet {
+            keys: IndexSet::new(alloc),
+        };
+        names.meet_basic("string")?;
+        names.meet_basic("bool")?;
+        names.meet_basic("float")?;
+        names.meet_basic("uint")?;
+        names.meet_basic("int")?;
+        Ok(names)
+    }
+
+    /// Adds the name of a basic type.
+    fn meet_basic(&mut self, name: &'a str) -> Result<(), AllocError>
+        ensures { OnOk result ((other : DeclaredName) → list_any (shares_key other) self.new.keys.keys ≡ (shares_name other (basic_name name.now) || list_any (shares_key other) self.old.keys.keys)) }
+    {
+        self.meet(NameDeclared {
+            kind: NameKind::TypeName,
+            owner: None,
+            name,
+            place: NOWHERE,
+        })?;
+        Ok(())
+    }
+
     /// Adds a name. The result says whether it was declared before.
     fn meet(&mut self, name: NameDeclared<'a>) -> Result<bool, AllocError>
         ensures before { IfOk result (λ is_met. is_met ≡ list_any (shares_key (seen_name name.entry)) self.old.keys.keys) }
@@ -109,8 +156,8 @@ impl<'a> NameSet<'a> {
     }
 }
 
-/// Goes through declarations for names that were declared before.
-pub fn with_twice<'a>(
+/// A fault of the name that a declaration declares.
+fn with_twice<'a>(
     first: Option<Fault>,
     met: &mut NameSet<'a>,
     declaration: &'a Declaration,
@@ -125,4 +172,20 @@ pub fn with_twice<'a>(
         }
         None => Ok(first),
     }
+}
+
+/// Faults of names that were declared before.
+pub fn with_names(
+    alloc: Global,
+    first: Option<Fault>,
+    declarations: &[&Declaration],
+) -> Result<Option<Fault>, AllocError>
+    ensures { IfOk result (λ f. f ≡ first_from first (twice_rows basic_names (filter_map name_of (referred declarations.now)))) }
+{
+    let mut met = NameSet::basic(alloc)?;
+    let mut found = first;
+    for declaration in declarations {
+        found = with_twice(found, &mut met, declaration)?;
+    }
+    Ok(found)
 }
