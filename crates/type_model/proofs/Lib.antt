@@ -1,3 +1,4 @@
+mod BaseSteps
 mod BracketSteps
 mod KeySets
 mod NameKeys

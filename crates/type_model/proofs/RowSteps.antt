@@ -10,6 +10,10 @@ use Rattle.osc_base.proofs.FaultRows.{first_from_joined}
 pub done : (rs later : List FaultRow) (found found' goal : Option Fault) → found' ≡ first_from found rs → goal ≡ first_from found (rs ++ later) → goal ≡ first_from found' later
 done rs later found found' goal more rest = rest ∙ first_from_joined found rs later ∙ ap (λ f. first_from f later) (sym more)
 
+-- some rows, and others after them
+pub two : (rs ss : List FaultRow) (first middle last : Option Fault) → middle ≡ first_from first rs → last ≡ first_from middle ss → last ≡ first_from first (rs ++ ss)
+two rs ss first middle last one more = more ∙ ap (λ f. first_from f ss) one ∙ sym (first_from_joined first rs ss)
+
 -- what is left of a list begins with the item of a loop
 pub left_is : {X : Type 0} (xs : List X) (i : ℕ) (x : X) → i < length xs → x ≡ get_or xs i x → drop i xs ≡ x ∷ drop (i + 1) xs
 left_is xs i x less is = drop_more xs i x less ∙ ap (λ y. y ∷ drop (i + 1) xs) (sym is)

@@ -1,13 +1,13 @@
 //! The faults of types that inherit.
 
-ghost use Rattle.std.specs.Prelude.{◌≡◌, [], ◌∷◌, ◌++◌, None, false, not};
+ghost use Rattle.std.specs.Prelude.{◌≡◌, [], ◌∷◌, None, false, not};
 ghost use Rattle.std.specs.Option.{option_map_or};
 ghost use Rattle.osc_base.specs.FaultRows.{first_from};
 ghost use Rattle.dsl_tree.specs.Views.{compound_tree};
 ghost use Rattle.type_model.specs.Table.{bases, is_kind_of as is_of_kind};
 ghost use Rattle.type_model.specs.Members.{has};
 ghost use Rattle.type_model.specs.DeclaredTypes.{meant as meaning};
-ghost use Rattle.type_model.specs.HeadingFaults.{fits_base as fits, fits_owner as fits_with, heir_rows, own_owner as owner_of, value_rows};
+ghost use Rattle.type_model.specs.HeadingFaults.{fits_base as fits, fits_owner as fits_with, heir_rows, meant_row, own_owner as owner_of, value_rows};
 
 use super::names::compound;
 use super::references::{last_place, meant, with_name, with_unknown};
@@ -28,11 +28,11 @@ fn is_base_of(heads: &Heads, base: TypeId, of: TypeId) -> bool
     ensures { result ≡ has base (bases heads.now of) }
 {
     let mut at = heads.base(of);
-    for _ in 0..heads.count() {
+    for _step in 0..heads.count() {
         let Some(next) = at else {
             return false;
         };
-        if next == base {
+        if base == next {
             return true;
         }
         at = heads.base(next);
@@ -97,6 +97,20 @@ fn with_condition(
     }
 }
 
+fn with_meaning(
+    first: Option<Fault>,
+    heads: &Heads,
+    declared: &CompoundDecl,
+    heir: &Heir,
+) -> Option<Fault>
+    ensures { result ≡ first_from first (meant_row heads.now (fits heads.now (compound_tree declared.now)) heir.now.base ∷ option_map_or (λ c. value_rows heads.now c.value) heir.now.condition []) }
+{
+    let is_wrong = is_wrong_base(heads, declared, heir);
+    let place = last_place(&heir.base);
+    let first = with_fault(first, place, FaultCode::WrongKind, is_wrong);
+    with_condition(first, heads, &heir.condition)
+}
+
 fn with_base(
     first: Option<Fault>,
     heads: &Heads,
@@ -106,14 +120,7 @@ fn with_base(
     ensures { result ≡ first_from first (heir_rows heads.now (compound_tree declared.now) heir.now) }
 {
     let first = with_name(first, heads, &heir.base);
-    let is_wrong = is_wrong_base(heads, declared, heir);
-    let first = with_fault(
-        first,
-        last_place(&heir.base),
-        FaultCode::WrongKind,
-        is_wrong,
-    );
-    with_condition(first, heads, &heir.condition)
+    with_meaning(first, heads, declared, heir)
 }
 
 /// Faults of what a type inherits from.
