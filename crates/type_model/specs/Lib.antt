@@ -6,6 +6,8 @@ pub mod Members
 pub mod Conditions
 pub mod Told
 pub mod Seen
+pub mod Shown
+pub mod Kept
 pub mod Texts
 pub mod Units
 pub mod DeclaredTypes
