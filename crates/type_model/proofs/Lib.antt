@@ -1,2 +1,3 @@
 pub mod Hits
 pub mod Ends
+pub mod PlacedFiles

@@ -6,6 +6,8 @@ mod form;
 mod head;
 mod heads;
 mod kinds;
+mod own_type;
+mod placed;
 mod type_id;
 mod types;
 
