@@ -6,6 +6,9 @@ pub mod Members
 pub mod Conditions
 pub mod Told
 pub mod Seen
+pub mod Shown
+pub mod Kept
+pub mod Placing
 pub mod Texts
 pub mod Units
 pub mod DeclaredTypes
@@ -14,3 +17,4 @@ pub mod HeadingFaults
 pub mod MemberFaults
 pub mod SeenNames
 pub mod Trees
+pub mod ItemSets

@@ -1,4 +1,4 @@
-ghost use Rattle.std.specs.Prelude.{◌≡◌, ◌<◌, ◌^◌};
+ghost use Rattle.std.specs.Prelude.{◌≡◌, ◌<◌, ◌^◌, pos};
 ghost use Rattle.type_model.specs.Seen.{seen_form, kept_form};
 
 use dsl_tree::CompoundKind;
@@ -46,6 +46,13 @@ impl EnumEntry {
         ensures small { result < 2 ^ 63 }
     {
         self.number
+    }
+
+    /// Its number as one with a sign.
+    pub fn value(&self) -> i64
+        ensures { result ≡ pos self.now.number }
+    {
+        self.number as i64
     }
 }
 

@@ -2,6 +2,8 @@
 
 mod brackets;
 mod heirs;
+mod items;
 mod members;
 mod names;
 mod references;
+mod uses;

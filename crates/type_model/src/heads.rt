@@ -1,8 +1,10 @@
-ghost use Rattle.std.specs.Prelude.{◌≡◌, ◌≤◌, ◌<◌, ◌^◌, length, option_copied, option_map};
+ghost use Rattle.std.specs.Prelude.{◌≡◌, ◌≤◌, ◌<◌, ◌^◌, length, pos, option_copied, option_map};
 ghost use Rattle.type_model.specs.Seen.{seen_form};
-ghost use Rattle.type_model.specs.Table.{base, form, named, owner};
+ghost use Rattle.type_model.specs.Shown.{hit_of};
+ghost use Rattle.type_model.specs.Table.{base, enum_number, enums_with, form, named, owner};
 
-use crate::{Form, Head, TypeId};
+use crate::head::member_number;
+use crate::{EnumHit, Form, Head, TypeId};
 use std::marker::Model;
 
 /// The heads of all types. Contracts see them as the list of the heads.
@@ -62,6 +64,39 @@ impl Heads {
         let head = self.entries.get(of.0 as usize)?;
         self.named(None, head.owner()?)
     }
+
+    /// The number of the member of that name. Only an enum has one.
+    pub fn enum_number(&self, of: TypeId, name: &str) -> Option<i64>
+        ensures { result ≡ option_map pos (enum_number self.now of name.now) }
+    {
+        match self.form(of) {
+            Form::Enum(members) => member_number(members, name),
+            _ => None,
+        }
+    }
+
+    /// Which enum has a member of that name.
+    pub fn enum_with(&self, name: &str) -> EnumHit
+        ensures { result ≡ hit_of (enums_with self.now name.now) }
+    {
+        hit_among(self.entries.as_slice(), name)
+    }
+}
+
+/// Which of the heads is of an enum with a member of that name.
+fn hit_among(heads: &[Head], name: &str) -> EnumHit
+    requires { length heads.now < 2 ^ 32 }
+    ensures { result ≡ hit_of (enums_with heads.now name.now) }
+{
+    let mut hit = EnumHit::Absent;
+    let mut number: u32 = 0;
+    for head in heads {
+        if head.has_member(name) {
+            hit = hit.and(TypeId(number));
+        }
+        number += 1;
+    }
+    hit
 }
 
 /// The place of the first head of that owner and name.

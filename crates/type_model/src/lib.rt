@@ -1,16 +1,22 @@
 //! Types of a program: what it declares, the members of each type, and the faults of headings and members.
 #![tactic(auto)]
 
-mod declarations;
+mod entries;
 mod form;
 mod form_tests;
 mod head;
 mod heading_faults;
 mod heads;
+mod kinds;
+mod own_type;
+mod placed;
 mod sets;
 mod type_id;
+mod types;
 
 pub use form::{EnumEntry, Form};
 pub use head::Head;
 pub use heads::Heads;
+pub use kinds::{EnumHit, FieldType, MemberRef, TypeKind};
 pub use type_id::TypeId;
+pub use types::Types;

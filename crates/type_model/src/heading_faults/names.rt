@@ -9,8 +9,9 @@ ghost use Rattle.name_scope.specs.Declaring.{DeclaredName};
 ghost use Rattle.name_scope.specs.Declaring.{behaviour_name, compound_name};
 ghost use Rattle.type_model.specs.HeadingFaults.{basic_names, name_declared as name_of, shares_name, twice_rows};
 ghost use Rattle.type_model.specs.SeenNames.{seen_name, key_of, basic_name, shares_key, HasNames};
-ghost use Rattle.type_model.specs.Trees.{referred};
+ghost use Rattle.type_model.specs.Trees.{trees};
 
+use crate::placed::PlacedDecl;
 use dsl_tree::{CompoundKind, Declaration, Ident, QName};
 use indexmap::IndexSet;
 use name_scope::{NameKind, with_fault};
@@ -178,14 +179,14 @@ fn with_twice<'a>(
 pub fn with_names(
     alloc: Global,
     first: Option<Fault>,
-    declarations: &[&Declaration],
+    all: &[PlacedDecl<'_>],
 ) -> Result<Option<Fault>, AllocError>
-    ensures { IfOk result (λ f. f ≡ first_from first (twice_rows basic_names (filter_map name_of (referred declarations.now)))) }
+    ensures { IfOk result (λ f. f ≡ first_from first (twice_rows basic_names (filter_map name_of (trees all.now)))) }
 {
     let mut met = NameSet::basic(alloc)?;
     let mut found = first;
-    for declaration in declarations {
-        found = with_twice(found, &mut met, declaration)?;
+    for placed in all {
+        found = with_twice(found, &mut met, placed.declaration)?;
     }
     Ok(found)
 }

@@ -1,0 +1,46 @@
+-- Going through the members of an enum.
+use Rattle.std.proofs.Common.{◌≡◌, ◌∙◌, refl, sym, ap, ℕ, ◌+◌, ◌<◌, Bool, true, false, ◌||◌, List, [], ◌∷◌, ◌++◌, Option, nat_lt, take, length, get_or, append_assoc, bytes_eq, nat_eq, subst}
+use Rattle.std.specs.List.{list_any}
+use Rattle.std.specs.Option.{option_map_or}
+use Rattle.std.proofs.lemmas.List.{take_more}
+use Rattle.osc_base.specs.declared.fault.Fault.{Fault}
+use Rattle.osc_base.specs.declared.fault.FaultCode.{FaultCode}
+use Rattle.osc_base.specs.FaultRows.{FaultRow, row, row_fault, first_of, first_from}
+use Rattle.dsl_tree.specs.declared.enums.EnumItem.{EnumItem}
+use Rattle.type_model.specs.Form.{EnumMember, greatest_value}
+use Rattle.type_model.specs.DeclaredTypes.{numbered_from}
+use Rattle.type_model.specs.HeadingFaults.{item_rows, number_place, shares_item}
+use Rattle.type_model.specs.ItemSets.{has_item, HasItems, ContinuesItems}
+use Rattle.type_model.specs.declared.heading_faults.items.ItemSet.{ItemSet}
+
+pub one_item : (first found : Option Fault) (old new : ItemSet) (i : EnumItem) (number : ℕ) (is_met : Bool) →
+    number ≡ option_map_or (λ d. d.digits) i.number old.next →
+    is_met ≡ has_item old (record { name = i.name.text; number = number }) →
+    ((other : EnumMember) → has_item new other ≡ (shares_item other (record { name = i.name.text; number = number }) || has_item old other)) →
+    new.next ≡ number + 1 →
+    found ≡ first_from first (row i.name.place FaultCode.Twice is_met ∷ row (number_place i) FaultCode.TooLarge (nat_lt greatest_value number) ∷ []) →
+    ContinuesItems first old found new (i ∷ [])
+one_item first found old new i number is_met numbered met more next now = λ earlier later has.
+    let m : EnumMember = record { name = i.name.text; number = number } in
+    let all : ℕ → Option Fault = λ k. first_from first (item_rows earlier (i ∷ later) (record { name = i.name.text; number = k } ∷ numbered_from (k + 1) later)) in
+    let others : ℕ → List FaultRow = λ k. item_rows (m ∷ earlier) later (numbered_from k later) in
+    let here : Bool → Option Fault = λ b. first_of (first_of first (row_fault (row i.name.place FaultCode.Twice b))) (row_fault (row (number_place i) FaultCode.TooLarge (nat_lt greatest_value number))) in
+    (m ∷ earlier, (λ other. more other ∙ ap (λ b. shares_item other m || b) (has other)),
+    ap all (sym numbered) ∙ ap (λ b. first_from (here b) (others (number + 1))) (sym (met ∙ has m)) ∙ ap (λ f. first_from f (others (number + 1))) (sym now)
+    ∙ ap (λ k. first_from found (others k)) (sym next))
+
+pub no_items : (first : Option Fault) (met : ItemSet) → ContinuesItems first met first met []
+no_items first met = λ earlier later has. (earlier, has, refl)
+
+pub then_items : (first middle found : Option Fault) (old between new : ItemSet) (xs ys : List EnumItem) → ContinuesItems first old middle between xs →
+    ContinuesItems middle between found new ys → ContinuesItems first old found new (xs ++ ys)
+then_items first middle found old between new xs ys one other = λ earlier later has.
+    let a = one earlier (ys ++ later) has in
+    let b = other a.0 later a.1 in
+    (b.0, b.1, ap (λ is. first_from first (item_rows earlier is (numbered_from old.next is))) (append_assoc xs ys later) ∙ a.2 ∙ b.2)
+
+pub next_item : (first found found' : Option Fault) (old met met' : ItemSet) (items : List EnumItem) (n : ℕ) (i : EnumItem) → n < length items → i ≡ get_or items n i →
+    ContinuesItems found met found' met' (i ∷ []) → ContinuesItems first old found met (take n items) → ContinuesItems first old found' met' (take (n + 1) items)
+next_item first found found' old met met' items n i less is one before =
+    let e : take n items ++ i ∷ [] ≡ take (n + 1) items = ap (λ x. take n items ++ x ∷ []) is ∙ sym (take_more items n i less) in
+    subst (ContinuesItems first old found' met') e (then_items first found found' old met met' (take n items) (i ∷ []) before one)
