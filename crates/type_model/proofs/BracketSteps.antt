@@ -7,7 +7,8 @@ use Rattle.osc_base.specs.FaultRows.{FaultRow, row, first_from}
 use Rattle.dsl_tree.specs.declared.units.BasePart.{BasePart}
 use Rattle.type_model.specs.Units.{is_base_unit}
 use Rattle.type_model.specs.HeadingFaults.{bracket_rows}
-use Rattle.type_model.proofs.RowSteps.{HasTexts, done, one_text_more}
+use Rattle.type_model.specs.NameRows.{HasTexts}
+use Rattle.type_model.proofs.RowSteps.{done, one_text_more}
 
 -- what is left to find, when a set has the earlier names
 pub record Left (goal : Option Fault) (set : List (List ℕ)) (found : Option Fault) (parts : List BasePart) : Type 0 where

@@ -1,5 +1,7 @@
 -- Going through the members of an enum.
-use Rattle.std.proofs.Common.{◌≡◌, ◌∙◌, refl, sym, ap, ℕ, ◌+◌, ◌<◌, Bool, true, false, ◌||◌, List, [], ◌∷◌, ◌++◌, Option, nat_lt, take, length, get_or, append_assoc, bytes_eq, nat_eq, subst}
+use Rattle.std.proofs.Common.{◌≡◌, ◌∙◌, refl, sym, ap, ℕ, ◌+◌, ◌<◌, Bool, true, false, ◌||◌, List, [], ◌∷◌, ◌++◌, Option, nat_lt, take, length, get_or, append_assoc, append-nil, flat_map, subst}
+use Rattle.std.proofs.lemmas.List.{map-append}
+use Rattle.std.proofs.lemmas.List.Concat.{flat_map-append}
 use Rattle.std.specs.List.{list_any}
 use Rattle.std.specs.Option.{option_map_or}
 use Rattle.std.proofs.lemmas.List.{take_more}
@@ -10,7 +12,10 @@ use Rattle.dsl_tree.specs.declared.enums.EnumItem.{EnumItem}
 use Rattle.type_model.specs.Form.{EnumMember, greatest_value}
 use Rattle.type_model.specs.DeclaredTypes.{numbered_from}
 use Rattle.type_model.specs.HeadingFaults.{item_rows, number_place, shares_item}
-use Rattle.type_model.specs.ItemSets.{has_item, HasItems, ContinuesItems}
+use Rattle.type_model.specs.ItemSets.{has_item, HasItems, ContinuesItems, items_in, rows_of_items}
+use Rattle.dsl_tree.specs.Views.{declaration_tree}
+use Rattle.type_model.specs.Trees.{trees}
+use Rattle.type_model.specs.declared.placed.PlacedDecl.{PlacedDecl}
 use Rattle.type_model.specs.declared.heading_faults.items.ItemSet.{ItemSet}
 
 pub one_item : (first found : Option Fault) (old new : ItemSet) (i : EnumItem) (number : ℕ) (is_met : Bool) →
@@ -44,3 +49,25 @@ pub next_item : (first found found' : Option Fault) (old met met' : ItemSet) (it
 next_item first found found' old met met' items n i less is one before =
     let e : take n items ++ i ∷ [] ≡ take (n + 1) items = ap (λ x. take n items ++ x ∷ []) is ∙ sym (take_more items n i less) in
     subst (ContinuesItems first old found' met') e (then_items first found found' old met met' (take n items) (i ∷ []) before one)
+
+-- one extension more
+pub next_extension : (first found found' : Option Fault) (old met met' : ItemSet) (all : List PlacedDecl) (n : ℕ) (p : PlacedDecl) (items : List EnumItem) →
+    n < length all → p ≡ get_or all n p → items ≡ items_in (declaration_tree p.declaration.now) →
+    ContinuesItems found met found' met' items → ContinuesItems first old found met (flat_map items_in (trees (take n all))) →
+    ContinuesItems first old found' met' (flat_map items_in (trees (take (n + 1) all)))
+next_extension first found found' old met met' all n p items less is seen one before =
+    let earlier : List EnumItem = flat_map items_in (trees (take n all)) in
+    let e : earlier ++ items ≡ flat_map items_in (trees (take (n + 1) all)) =
+        ap (λ xs. earlier ++ xs) (seen ∙ sym (append-nil (items_in (declaration_tree p.declaration.now))))
+        ∙ sym (flat_map-append items_in (trees (take n all)) (trees (p ∷ [])))
+        ∙ ap (flat_map items_in) (sym (map-append (λ (d : PlacedDecl). declaration_tree d.declaration.now) (take n all) (p ∷ [])))
+        ∙ ap (λ x. flat_map items_in (trees (take n all ++ x ∷ []))) is
+        ∙ ap (λ xs. flat_map items_in (trees xs)) (sym (take_more all n p less)) in
+    subst (ContinuesItems first old found' met') e (then_items first found found' old met met' earlier items before one)
+
+-- all items are done
+pub all_items : (first found : Option Fault) (old new : ItemSet) (items : List EnumItem) → HasItems old [] → old.next ≡ 0 → ContinuesItems first old found new items → found ≡ first_from first (rows_of_items items)
+all_items first found old new items has zero all =
+    let done = all [] [] has in
+    sym done.2 ∙ ap (λ is. first_from first (item_rows [] is (numbered_from old.next is))) (append-nil items)
+    ∙ ap (λ k. first_from first (item_rows [] items (numbered_from k items))) zero

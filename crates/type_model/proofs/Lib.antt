@@ -5,7 +5,9 @@ pub mod Ends
 pub mod Hits
 mod ItemSteps
 mod KeySets
+mod ListForms
 mod NameKeys
 mod NameSteps
 pub mod PlacedFiles
+mod RepeatedNames
 mod RowSteps

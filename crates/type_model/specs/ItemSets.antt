@@ -2,7 +2,7 @@
 use Rattle.std.specs.Prelude.{◌≡◌, ◌||◌, Bool, List, [], ◌++◌, Option, nat_eq, bytes_eq}
 use Rattle.std.specs.List.{list_any}
 use Rattle.osc_base.specs.declared.fault.Fault.{Fault}
-use Rattle.osc_base.specs.FaultRows.{first_from}
+use Rattle.osc_base.specs.FaultRows.{FaultRow, first_from}
 use Rattle.dsl_tree.specs.declared.enums.EnumItem.{EnumItem}
 use Rattle.dsl_tree.specs.FileTree.{DeclarationTree}
 use Rattle.type_model.specs.Form.{EnumMember}
@@ -33,3 +33,7 @@ items_in (DeclarationTree.TypeDeclaration d) = []
 items_in (DeclarationTree.UnitDeclaration d) = []
 items_in (DeclarationTree.EnumDeclaration d) = []
 items_in (DeclarationTree.CompoundDeclaration d) = []
+
+-- the rows of the members of an enum
+abbrev pub rows_of_items : List EnumItem → List FaultRow
+rows_of_items items = item_rows [] items (numbered_from 0 items)

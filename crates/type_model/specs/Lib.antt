@@ -18,3 +18,4 @@ pub mod MemberFaults
 pub mod SeenNames
 pub mod Trees
 pub mod ItemSets
+pub mod NameRows

@@ -8,6 +8,7 @@ mod head;
 mod heading_faults;
 mod heads;
 mod kinds;
+mod member_faults;
 mod own_type;
 mod placed;
 mod sets;

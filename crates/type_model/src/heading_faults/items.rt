@@ -1,14 +1,13 @@
 //! The faults of the members of enums.
 
-ghost use Rattle.std.specs.Prelude.{◌≡◌, ◌||◌, ◌+◌, ◌++◌, List, [], ◌∷◌, nat_lt, flat_map, IfOk, OnOk};
-ghost use Rattle.std.specs.List.{list_any};
+ghost use Rattle.std.specs.Prelude.{◌≡◌, ◌||◌, ◌+◌, ◌++◌, [], ◌∷◌, nat_lt, flat_map, IfOk, OnOk};
 ghost use Rattle.std.specs.Option.{option_map_or};
 ghost use Rattle.osc_base.specs.FaultRows.{first_from, row};
-ghost use Rattle.dsl_tree.specs.declared.enums.EnumItem.{EnumItem as Item};
 ghost use Rattle.type_model.specs.Form.{EnumMember, greatest_value};
-ghost use Rattle.type_model.specs.DeclaredTypes.{numbered_from};
-ghost use Rattle.type_model.specs.HeadingFaults.{item_rows, number_place as place_of_number, shares_item};
-ghost use Rattle.type_model.specs.ItemSets.{has_item, HasItems, ContinuesItems, items_in};
+ghost use Rattle.type_model.specs.HeadingFaults.{number_place as place_of_number, shares_item};
+ghost use Rattle.type_model.specs.ItemSets.{has_item, HasItems, ContinuesItems, items_in, rows_of_items};
+ghost use Rattle.dsl_tree.specs.Views.{declaration_tree};
+ghost use Rattle.type_model.specs.Trees.{trees};
 
 use crate::placed::PlacedDecl;
 use crate::sets::{NumberSet, TextSet};
@@ -124,4 +123,47 @@ fn with_items<'a>(
         found = with_item(found, met, item)?;
     }
     Ok(found)
+}
+
+/// The members that an extension of an enum adds.
+fn items_added<'a>(declaration: &'a Declaration) -> &'a [EnumItem]
+    ensures { result.now ≡ items_in (declaration_tree declaration.now) }
+{
+    match declaration {
+        Declaration::EnumExtension(extension) => extension.items.as_slice(),
+        Declaration::Physical(_)
+        | Declaration::Unit(_)
+        | Declaration::Enum(_)
+        | Declaration::Compound(_)
+        | Declaration::MemberExtension(_) => &[],
+    }
+}
+
+/// Faults of the members that extensions add.
+fn with_extensions<'a>(
+    first: Option<Fault>,
+    met: &mut ItemSet<'a>,
+    extensions: &[PlacedDecl<'a>],
+) -> Result<Option<Fault>, AllocError>
+    ensures { IfOk result (λ f. ContinuesItems first met.old f met.new (flat_map items_in (trees extensions.now))) }
+{
+    let mut found = first;
+    for extension in extensions {
+        found = with_items(found, met, items_added(extension.declaration))?;
+    }
+    Ok(found)
+}
+
+/// Faults of the members of an enum: its own, and then those of its extensions.
+pub fn with_enum<'a>(
+    alloc: Global,
+    first: Option<Fault>,
+    own: &'a [EnumItem],
+    extensions: &[PlacedDecl<'a>],
+) -> Result<Option<Fault>, AllocError>
+    ensures { IfOk result (λ f. f ≡ first_from first (rows_of_items (own.entry.now ++ flat_map items_in (trees extensions.now)))) }
+{
+    let mut met = ItemSet::new(alloc);
+    let first = with_items(first, &mut met, own)?;
+    with_extensions(first, &mut met, extensions)
 }

@@ -1,0 +1,5 @@
+//! The faults of members.
+
+mod conditions;
+mod initial;
+mod names;
