@@ -1,3 +1,4 @@
 pub mod Hits
 pub mod Ends
 pub mod PlacedFiles
+pub mod NameTables

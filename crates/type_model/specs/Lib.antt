@@ -8,6 +8,7 @@ pub mod Told
 pub mod Seen
 pub mod Shown
 pub mod Kept
+pub mod Names
 pub mod Placing
 pub mod Texts
 pub mod Units

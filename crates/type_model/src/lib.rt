@@ -6,6 +6,7 @@ mod form;
 mod head;
 mod heads;
 mod kinds;
+mod names;
 mod own_type;
 mod placed;
 mod type_id;
