@@ -2,3 +2,5 @@ pub mod Hits
 pub mod Ends
 pub mod PlacedFiles
 pub mod NameTables
+pub mod Groups
+pub mod Gathering

@@ -9,6 +9,9 @@ pub mod Seen
 pub mod Shown
 pub mod Kept
 pub mod Names
+pub mod Extending
+pub mod Grouped
+pub mod Gathered
 pub mod Placing
 pub mod Texts
 pub mod Units

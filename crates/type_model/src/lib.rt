@@ -1,8 +1,10 @@
 //! Types of a program: what it declares, the members of each type, and the faults of headings and members.
 #![tactic(auto)]
 
+mod declarations;
 mod entries;
 mod form;
+mod grouping;
 mod head;
 mod heads;
 mod kinds;
