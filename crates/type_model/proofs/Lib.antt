@@ -4,3 +4,4 @@ pub mod PlacedFiles
 pub mod NameTables
 pub mod Groups
 pub mod Gathering
+pub mod Bases

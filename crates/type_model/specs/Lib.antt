@@ -12,6 +12,9 @@ pub mod Names
 pub mod Extending
 pub mod Grouped
 pub mod Gathered
+pub mod Numbering
+pub mod Exponents
+pub mod HeadsGrouped
 pub mod Placing
 pub mod Texts
 pub mod Units

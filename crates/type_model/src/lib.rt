@@ -1,14 +1,17 @@
 //! Types of a program: what it declares, the members of each type, and the faults of headings and members.
 #![tactic(auto)]
 
+mod brackets;
 mod declarations;
 mod entries;
 mod form;
 mod grouping;
 mod head;
 mod heads;
+mod heads_build;
 mod kinds;
 mod names;
+mod numbering;
 mod own_type;
 mod placed;
 mod type_id;

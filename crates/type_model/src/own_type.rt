@@ -4,10 +4,12 @@ ghost use Rattle.std.specs.Prelude.{◌≡◌, ◌++◌, map, filter_map, option
 ghost use Rattle.dsl_tree.specs.Views.{declaration_tree};
 ghost use Rattle.name_scope.specs.Declaring.{compound_name as named_compound};
 ghost use Rattle.type_model.specs.DeclaredTypes.{Placed, all_declared, basic_types, type_declared};
-ghost use Rattle.type_model.specs.Placing.{basic_name, seen_placed, seen_type};
+ghost use Rattle.type_model.specs.Seen.{kept_form};
+ghost use Rattle.type_model.specs.Placing.{basic_form, basic_name, seen_placed, seen_type};
 
+use crate::form::OwnForm;
 use crate::placed::PlacedDecl;
-use dsl_tree::{CompoundDecl, CompoundKind, Declaration, EnumDecl, PhysicalDecl, QName};
+use dsl_tree::{CompoundDecl, CompoundKind, Declaration, EnumDecl, Heir, PhysicalDecl, QName};
 use std::alloc::{AllocError, Global};
 
 /// A type that is there without a declaration.
@@ -46,6 +48,19 @@ impl BasicType {
             BasicType::Chars => "string",
         }
     }
+
+    /// What it is.
+    pub fn form(self) -> OwnForm
+        ensures { kept_form result ≡ basic_form self }
+    {
+        match self {
+            BasicType::Int => OwnForm::Int,
+            BasicType::Uint => OwnForm::Uint,
+            BasicType::Float => OwnForm::Float,
+            BasicType::Bool => OwnForm::Truth,
+            BasicType::Chars => OwnForm::Chars,
+        }
+    }
 }
 
 impl<'a> OwnType<'a> {
@@ -68,6 +83,16 @@ impl<'a> OwnType<'a> {
         match self {
             OwnType::Basic(_) | OwnType::Physical(_) | OwnType::Enum(_) => None,
             OwnType::Compound { decl, .. } => compound_owner(decl.kind, &decl.name),
+        }
+    }
+
+    /// What it inherits from, as written.
+    pub fn heir(&self) -> Option<&'a Heir>
+        ensures { option_copied result ≡ (seen_type self.now).body.heir }
+    {
+        match self {
+            OwnType::Basic(_) | OwnType::Physical(_) | OwnType::Enum(_) => None,
+            OwnType::Compound { decl, .. } => decl.heir.as_ref(),
         }
     }
 }
