@@ -11,3 +11,7 @@ mod NameSteps
 pub mod PlacedFiles
 mod RepeatedNames
 mod RowSteps
+pub mod NameTables
+pub mod Groups
+pub mod Gathering
+pub mod Bases

@@ -8,6 +8,13 @@ pub mod Told
 pub mod Seen
 pub mod Shown
 pub mod Kept
+pub mod Names
+pub mod Extending
+pub mod Grouped
+pub mod Gathered
+pub mod Numbering
+pub mod Exponents
+pub mod HeadsGrouped
 pub mod Placing
 pub mod Texts
 pub mod Units

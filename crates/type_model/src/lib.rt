@@ -1,14 +1,20 @@
 //! Types of a program: what it declares, the members of each type, and the faults of headings and members.
 #![tactic(auto)]
 
+mod brackets;
+mod declarations;
 mod entries;
 mod form;
 mod form_tests;
+mod grouping;
 mod head;
 mod heading_faults;
 mod heads;
+mod heads_build;
 mod kinds;
 mod member_faults;
+mod names;
+mod numbering;
 mod own_type;
 mod placed;
 mod sets;

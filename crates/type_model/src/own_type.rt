@@ -1,12 +1,15 @@
 //! The types of a program as they are declared.
 
-ghost use Rattle.std.specs.Prelude.{◌≡◌, ◌++◌, map, filter_map, option_map, IfOk, OnOk};
+ghost use Rattle.std.specs.Prelude.{◌≡◌, ◌++◌, map, filter_map, option_copied, option_map, IfOk, OnOk};
 ghost use Rattle.dsl_tree.specs.Views.{declaration_tree};
+ghost use Rattle.name_scope.specs.Declaring.{compound_name as named_compound};
 ghost use Rattle.type_model.specs.DeclaredTypes.{Placed, all_declared, basic_types, type_declared};
-ghost use Rattle.type_model.specs.Placing.{seen_placed, seen_type};
+ghost use Rattle.type_model.specs.Seen.{kept_form};
+ghost use Rattle.type_model.specs.Placing.{basic_form, basic_name, seen_placed, seen_type};
 
+use crate::form::OwnForm;
 use crate::placed::PlacedDecl;
-use dsl_tree::{CompoundDecl, Declaration, EnumDecl, PhysicalDecl};
+use dsl_tree::{CompoundDecl, CompoundKind, Declaration, EnumDecl, Heir, PhysicalDecl, QName};
 use std::alloc::{AllocError, Global};
 
 /// A type that is there without a declaration.
@@ -30,6 +33,86 @@ pub enum OwnType<'a> {
         index: u32,
         decl: &'a CompoundDecl,
     },
+}
+
+impl BasicType {
+    /// Its name.
+    fn name(self) -> &'static str
+        ensures { result.now ≡ basic_name self }
+    {
+        match self {
+            BasicType::Int => "int",
+            BasicType::Uint => "uint",
+            BasicType::Float => "float",
+            BasicType::Bool => "bool",
+            BasicType::Chars => "string",
+        }
+    }
+
+    /// What it is.
+    pub fn form(self) -> OwnForm
+        ensures { kept_form result ≡ basic_form self }
+    {
+        match self {
+            BasicType::Int => OwnForm::Int,
+            BasicType::Uint => OwnForm::Uint,
+            BasicType::Float => OwnForm::Float,
+            BasicType::Bool => OwnForm::Truth,
+            BasicType::Chars => OwnForm::Chars,
+        }
+    }
+}
+
+impl<'a> OwnType<'a> {
+    /// Its name. That of the behaviour `vehicle.drive` is `drive`.
+    pub fn name(&self) -> &'a str
+        ensures { result.now ≡ (seen_type self.now).head.name }
+    {
+        match self {
+            OwnType::Basic(basic) => basic.name(),
+            OwnType::Physical(decl) => decl.name.text.as_str(),
+            OwnType::Enum(decl) => decl.name.text.as_str(),
+            OwnType::Compound { decl, .. } => compound_name(decl.kind, &decl.name),
+        }
+    }
+
+    /// The name of the actor that owns it. Only a behaviour has an owner.
+    pub fn owner(&self) -> Option<&'a str>
+        ensures { option_copied result ≡ (seen_type self.now).head.owner }
+    {
+        match self {
+            OwnType::Basic(_) | OwnType::Physical(_) | OwnType::Enum(_) => None,
+            OwnType::Compound { decl, .. } => compound_owner(decl.kind, &decl.name),
+        }
+    }
+
+    /// What it inherits from, as written.
+    pub fn heir(&self) -> Option<&'a Heir>
+        ensures { option_copied result ≡ (seen_type self.now).body.heir }
+    {
+        match self {
+            OwnType::Basic(_) | OwnType::Physical(_) | OwnType::Enum(_) => None,
+            OwnType::Compound { decl, .. } => decl.heir.as_ref(),
+        }
+    }
+}
+
+fn compound_name(kind: CompoundKind, name: &QName) -> &str
+    ensures { result.now ≡ (named_compound kind name.now).name }
+{
+    match (kind, &name.second) {
+        (CompoundKind::Struct | CompoundKind::Actor, _) | (_, None) => name.first.text.as_str(),
+        (_, Some(second)) => second.text.as_str(),
+    }
+}
+
+fn compound_owner(kind: CompoundKind, name: &QName) -> Option<&str>
+    ensures { option_copied result ≡ (named_compound kind name.now).owner }
+{
+    match (kind, &name.second) {
+        (CompoundKind::Struct | CompoundKind::Actor, _) | (_, None) => None,
+        (_, Some(_)) => Some(name.first.text.as_str()),
+    }
 }
 
 /// The type that a declaration declares. Units and extensions declare none.
