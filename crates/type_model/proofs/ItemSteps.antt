@@ -1,5 +1,5 @@
 -- Going through the members of an enum.
-use Rattle.std.proofs.Common.{◌≡◌, ◌∙◌, refl, sym, ap, ℕ, ◌+◌, ◌<◌, Bool, true, false, ◌||◌, List, [], ◌∷◌, ◌++◌, Option, nat_lt, take, length, get_or, append_assoc, append-nil, flat_map, subst}
+use Rattle.std.proofs.Common.{◌≡◌, ◌∙◌, refl, sym, ap, ℕ, ◌+◌, ◌<◌, Bool, true, false, ◌||◌, List, [], ◌∷◌, ◌++◌, Option, nat_lt, take, length, get_or, append_assoc, append-nil, flat_map, nat_eq, subst}
 use Rattle.std.proofs.lemmas.List.{map-append}
 use Rattle.std.proofs.lemmas.List.Concat.{flat_map-append}
 use Rattle.std.specs.List.{list_any}
@@ -10,9 +10,16 @@ use Rattle.osc_base.specs.declared.fault.FaultCode.{FaultCode}
 use Rattle.osc_base.specs.FaultRows.{FaultRow, row, row_fault, first_of, first_from}
 use Rattle.dsl_tree.specs.declared.enums.EnumItem.{EnumItem}
 use Rattle.type_model.specs.Form.{EnumMember, greatest_value}
-use Rattle.type_model.specs.DeclaredTypes.{numbered_from}
-use Rattle.type_model.specs.HeadingFaults.{item_rows, number_place, shares_item}
-use Rattle.type_model.specs.ItemSets.{has_item, HasItems, ContinuesItems, items_in, rows_of_items}
+use Rattle.std.proofs.Common.{cond, filter, map}
+use Rattle.dsl_tree.specs.FileTree.{DeclarationTree}
+use Rattle.type_model.specs.Table.{TypeHead, is_enum}
+use Rattle.type_model.specs.Placing.{seen_placed, seen_type}
+use Rattle.type_model.specs.Extending.{extends, type_extended}
+use Rattle.type_model.specs.declared.own_type.OwnType.{OwnType}
+use Rattle.type_model.proofs.RowSteps.{done}
+use Rattle.type_model.specs.DeclaredTypes.{Placed, Declared, items_added, items_with, means, numbered_from}
+use Rattle.type_model.specs.HeadingFaults.{enum_rows_from, item_rows, number_place, shares_item}
+use Rattle.type_model.specs.ItemSets.{has_item, HasItems, ContinuesItems, items_in, rows_of_items, rows_of_type}
 use Rattle.dsl_tree.specs.Views.{declaration_tree}
 use Rattle.type_model.specs.Trees.{trees}
 use Rattle.type_model.specs.declared.placed.PlacedDecl.{PlacedDecl}
@@ -71,3 +78,45 @@ all_items first found old new items has zero all =
     let done = all [] [] has in
     sym done.2 ∙ ap (λ is. first_from first (item_rows [] is (numbered_from old.next is))) (append-nil items)
     ∙ ap (λ k. first_from first (item_rows [] items (numbered_from k items))) zero
+
+-- ---- All enums
+
+one_added : (heads : List TypeHead) (t : ℕ) (p : PlacedDecl) (qs : List PlacedDecl) (d : DeclarationTree) → d ≡ declaration_tree p.declaration.now →
+    items_added heads t d ++ flat_map items_in (trees qs) ≡ flat_map items_in (trees (cond (option_map_or (nat_eq t) (type_extended heads d) false) (p ∷ qs) qs))
+one_added heads t p qs (DeclarationTree.EnumExtension d) is = by (means heads d.name t)
+  where
+    by : (b : Bool) → cond b d.items [] ++ flat_map items_in (trees qs) ≡ flat_map items_in (trees (cond b (p ∷ qs) qs))
+    by true = ap (λ e. items_in e ++ flat_map items_in (trees qs)) is
+    by false = refl
+one_added heads t p qs (DeclarationTree.MemberExtension d) is = by (means heads d.name t)
+  where
+    by : (b : Bool) → flat_map items_in (trees qs) ≡ flat_map items_in (trees (cond b (p ∷ qs) qs))
+    by true = ap (λ e. items_in e ++ flat_map items_in (trees qs)) is
+    by false = refl
+one_added heads t p qs (DeclarationTree.TypeDeclaration d) is = refl
+one_added heads t p qs (DeclarationTree.UnitDeclaration d) is = refl
+one_added heads t p qs (DeclarationTree.EnumDeclaration d) is = refl
+one_added heads t p qs (DeclarationTree.CompoundDeclaration d) is = refl
+
+-- what all declarations add to a type is what its extensions add
+all_added : (heads : List TypeHead) (t : ℕ) (ps : List PlacedDecl) →
+    flat_map (λ (d : Placed). items_added heads t d.declaration) (map seen_placed ps) ≡ flat_map items_in (trees (filter (λ (p : PlacedDecl). extends heads t (seen_placed p)) ps))
+all_added heads t [] = refl
+all_added heads t (p ∷ ps) =
+    ap (λ is. items_added heads t (declaration_tree p.declaration.now) ++ is) (all_added heads t ps)
+    ∙ one_added heads t p (filter (λ (q : PlacedDecl). extends heads t (seen_placed q)) ps) (declaration_tree p.declaration.now) refl
+
+-- one type more
+pub next_type : (heads : List TypeHead) (placed : List PlacedDecl) (t : ℕ) (extensions : List PlacedDecl) (own : OwnType) (types later : List OwnType) (goal found found' : Option Fault) →
+    extensions ≡ filter (λ (p : PlacedDecl). extends heads t (seen_placed p)) placed → types ≡ own ∷ later →
+    found' ≡ first_from found (rows_of_type (seen_type own) extensions) →
+    goal ≡ first_from found (enum_rows_from heads (map seen_placed placed) t (map seen_type types)) →
+    goal ≡ first_from found' (enum_rows_from heads (map seen_placed placed) (t + 1) (map seen_type later))
+next_type heads placed t extensions own types later goal found found' grouped is now rest =
+    let d : Declared = seen_type own in
+    let all : List Placed = map seen_placed placed in
+    let same : items_with heads all t d.items ≡ d.items ++ flat_map items_in (trees extensions) =
+        ap (λ xs. d.items ++ xs) (all_added heads t placed ∙ ap (λ ps. flat_map items_in (trees ps)) (sym grouped)) in
+    done (rows_of_items (cond (is_enum d.head.form) (items_with heads all t d.items) [])) (enum_rows_from heads all (t + 1) (map seen_type later)) found found' goal
+    (now ∙ ap (λ xs. first_from found (rows_of_items (cond (is_enum d.head.form) xs []))) (sym same))
+    (rest ∙ ap (λ ts. first_from found (enum_rows_from heads all t (map seen_type ts))) is)

@@ -1,12 +1,15 @@
 -- The members of an enum that were met, as the code holds them.
-use Rattle.std.specs.Prelude.{◌≡◌, ◌||◌, Bool, List, [], ◌++◌, Option, nat_eq, bytes_eq}
+use Rattle.std.specs.Prelude.{◌≡◌, cond, flat_map, ◌||◌, Bool, List, [], ◌++◌, Option, nat_eq, bytes_eq}
 use Rattle.std.specs.List.{list_any}
 use Rattle.osc_base.specs.declared.fault.Fault.{Fault}
 use Rattle.osc_base.specs.FaultRows.{FaultRow, first_from}
 use Rattle.dsl_tree.specs.declared.enums.EnumItem.{EnumItem}
 use Rattle.dsl_tree.specs.FileTree.{DeclarationTree}
 use Rattle.type_model.specs.Form.{EnumMember}
-use Rattle.type_model.specs.DeclaredTypes.{numbered_from}
+use Rattle.type_model.specs.DeclaredTypes.{Declared, numbered_from}
+use Rattle.type_model.specs.Table.{is_enum}
+use Rattle.type_model.specs.Trees.{trees}
+use Rattle.type_model.specs.declared.placed.PlacedDecl.{PlacedDecl}
 use Rattle.type_model.specs.HeadingFaults.{item_rows, shares_item}
 use Rattle.type_model.specs.declared.heading_faults.items.ItemSet.{ItemSet}
 
@@ -37,3 +40,7 @@ items_in (DeclarationTree.CompoundDeclaration d) = []
 -- the rows of the members of an enum
 abbrev pub rows_of_items : List EnumItem → List FaultRow
 rows_of_items items = item_rows [] items (numbered_from 0 items)
+
+-- the rows of the members of a type with these extensions
+abbrev pub rows_of_type : Declared → List PlacedDecl → List FaultRow
+rows_of_type d extensions = rows_of_items (cond (is_enum d.head.form) (d.items ++ flat_map items_in (trees extensions)) [])

@@ -1,6 +1,7 @@
 //! The faults of headings.
 
 mod brackets;
+mod declared;
 mod heirs;
 mod items;
 mod members;
