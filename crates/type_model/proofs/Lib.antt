@@ -6,6 +6,7 @@ pub mod Hits
 mod ItemSteps
 mod KeySets
 mod ListForms
+mod NameFaultRows
 mod NameKeys
 mod NameSteps
 pub mod PlacedFiles

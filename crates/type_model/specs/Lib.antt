@@ -26,3 +26,4 @@ pub mod SeenNames
 pub mod Trees
 pub mod ItemSets
 pub mod NameRows
+pub mod NameFaults

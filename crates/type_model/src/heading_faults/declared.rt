@@ -1,17 +1,19 @@
 //! The faults of the names that all declarations use, and of the members of all enums.
 
 ghost use Rattle.std.specs.Prelude.{◌≡◌, ◌++◌, ◌<◌, [], flat_map, length, map, IfOk};
-ghost use Rattle.osc_base.specs.FaultRows.{first_from};
+ghost use Rattle.osc_base.specs.FaultRows.{first_fault, first_from};
 ghost use Rattle.dsl_tree.specs.Views.{declaration_tree};
 ghost use Rattle.type_model.specs.Placing.{seen_type};
 ghost use Rattle.type_model.specs.Trees.{trees};
 ghost use Rattle.type_model.specs.ItemSets.{rows_of_type};
+ghost use Rattle.type_model.specs.NameFaults.{rows_of_names};
 ghost use Rattle.type_model.specs.Gathered.{AreGathered, all_of, heads_of};
 ghost use Rattle.type_model.specs.DeclaredTypes.{all_declared};
 ghost use Rattle.type_model.specs.HeadingFaults.{declaration_rows, enum_rows_from, unit_rows};
 
 use super::brackets::with_brackets;
 use super::items::with_enum;
+use super::names::with_names;
 use super::uses::{with_compound, with_enum_extension, with_extension, with_unit};
 use crate::brackets::exponents;
 use crate::declarations::Declarations;
@@ -109,4 +111,19 @@ pub fn with_enums(
         number += 1;
     }
     Ok(found)
+}
+
+/// The first fault of headings, but for types that depend on themselves.
+pub fn first_name_fault(
+    alloc: Global,
+    declarations: &Declarations<'_>,
+    heads: &Heads,
+) -> Result<Option<Fault>, AllocError>
+    requires { AreGathered declarations.now }
+    ensures { IfOk result (λ f. f ≡ first_fault (rows_of_names heads.now declarations.now)) }
+{
+    let all = declarations.placed.as_slice();
+    let first = with_names(alloc, None, all)?;
+    let first = with_declarations(alloc, first, heads, all)?;
+    with_enums(alloc, first, declarations)
 }
