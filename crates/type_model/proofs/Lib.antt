@@ -3,6 +3,7 @@ mod BracketSteps
 mod Chains
 pub mod Ends
 pub mod Hits
+mod FreshNumbers
 mod ItemSteps
 mod KeySets
 mod ListForms
@@ -11,6 +12,7 @@ mod NameKeys
 mod NameSteps
 pub mod PlacedFiles
 mod RepeatedNames
+mod Rounds
 mod RowSteps
 pub mod NameTables
 pub mod Groups

@@ -27,3 +27,4 @@ pub mod Trees
 pub mod ItemSets
 pub mod NameRows
 pub mod NameFaults
+pub mod Reaching

@@ -17,6 +17,7 @@ mod names;
 mod numbering;
 mod own_type;
 mod placed;
+mod reach;
 mod sets;
 mod type_id;
 mod types;
