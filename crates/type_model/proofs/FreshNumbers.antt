@@ -54,16 +54,18 @@ pub then_fresh : (met met' met'' into into' into'' xs ys : List ℕ) → AddsFre
 then_fresh met met' met'' into into' into'' xs ys one other seen same =
     let a = one seen same in
     let b = other (seen ++ fresh seen xs) a.1 in
-    let e : fresh seen xs ++ fresh (seen ++ fresh seen xs) ys ≡ fresh seen (xs ++ ys) = sym (fresh_joined seen xs ys) in
-    (b.0 ∙ ap (λ zs. zs ++ fresh (seen ++ fresh seen xs) ys) a.0 ∙ append_assoc into (fresh seen xs) (fresh (seen ++ fresh seen xs) ys) ∙ ap (λ zs. into ++ zs) e,
-    λ n. b.1 n ∙ ap (has n) (append_assoc seen (fresh seen xs) (fresh (seen ++ fresh seen xs) ys) ∙ ap (λ zs. seen ++ zs) e))
+    let e : fresh seen xs ++ fresh (seen ++ fresh seen xs) ys ≡ fresh seen (xs ++ ys) = sym (fresh_joined seen xs ys) in (
+      b.0 ∙ ap (λ zs. zs ++ fresh (seen ++ fresh seen xs) ys) a.0 ∙ append_assoc into (fresh seen xs) (fresh (seen ++ fresh seen xs) ys) ∙ ap (λ zs. into ++ zs) e,
+      λ n. b.1 n ∙ ap (has n) (append_assoc seen (fresh seen xs) (fresh (seen ++ fresh seen xs) ys) ∙ ap (λ zs. seen ++ zs) e),
+    )
 
 -- a number was met before
 pub one_met : (met met' into : List ℕ) (x : ℕ) → true ≡ has x met → ((n : ℕ) → has n met' ≡ (nat_eq n x || has n met)) → AddsFresh met into (x ∷ []) met' into
 one_met met met' into x there more seen same =
-    let e : fresh seen (x ∷ []) ≡ [] = ap (λ b. cond b (fresh seen []) (x ∷ [])) (sym (there ∙ same x)) in
-    (sym (ap (λ zs. into ++ zs) e ∙ append-nil into),
-    λ n. more n ∙ by n (nat_eq n x) refl ∙ same n ∙ ap (has n) (sym (ap (λ zs. seen ++ zs) e ∙ append-nil seen)))
+    let e : fresh seen (x ∷ []) ≡ [] = ap (λ b. cond b (fresh seen []) (x ∷ [])) (sym (there ∙ same x)) in (
+      sym (ap (λ zs. into ++ zs) e ∙ append-nil into),
+      λ n. more n ∙ by n (nat_eq n x) refl ∙ same n ∙ ap (has n) (sym (ap (λ zs. seen ++ zs) e ∙ append-nil seen)),
+    )
   where
     by : (n : ℕ) (b : Bool) → nat_eq n x ≡ b → (b || has n met) ≡ has n met
     by n true h = there ∙ ap (λ k. has k met) (sym (nat_eq_is n x h))
@@ -72,9 +74,10 @@ one_met met met' into x there more seen same =
 -- a number wasn't
 pub one_new : (met met' into : List ℕ) (x : ℕ) → false ≡ has x met → ((n : ℕ) → has n met' ≡ (nat_eq n x || has n met)) → AddsFresh met into (x ∷ []) met' (into ++ x ∷ [])
 one_new met met' into x new more seen same =
-    let e : fresh seen (x ∷ []) ≡ x ∷ [] = ap (λ b. cond b (fresh seen []) (x ∷ [])) (sym (new ∙ same x)) in
-    (ap (λ zs. into ++ zs) (sym e),
-    λ n. more n ∙ ap (λ b. nat_eq n x || b) (same n) ∙ or_last (nat_eq n x) (has n seen) ∙ sym (list_any-append (nat_eq n) seen (x ∷ [])) ∙ ap (λ zs. has n (seen ++ zs)) (sym e))
+    let e : fresh seen (x ∷ []) ≡ x ∷ [] = ap (λ b. cond b (fresh seen []) (x ∷ [])) (sym (new ∙ same x)) in (
+      ap (λ zs. into ++ zs) (sym e),
+      λ n. more n ∙ ap (λ b. nat_eq n x || b) (same n) ∙ or_last (nat_eq n x) (has n seen) ∙ sym (list_any-append (nat_eq n) seen (x ∷ [])) ∙ ap (λ zs. has n (seen ++ zs)) (sym e),
+    )
 
 pub next_fresh : (met met' met'' into into' into'' xs : List ℕ) (i x : ℕ) → i < length xs → x ≡ get_or xs i x → AddsFresh met' into' (x ∷ []) met'' into'' →
     AddsFresh met into (take i xs) met' into' → AddsFresh met into (take (i + 1) xs) met'' into''

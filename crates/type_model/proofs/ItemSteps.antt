@@ -36,10 +36,12 @@ one_item first found old new i number is_met numbered met more next now = λ ear
     let m : EnumMember = record { name = i.name.text; number = number } in
     let all : ℕ → Option Fault = λ k. first_from first (item_rows earlier (i ∷ later) (record { name = i.name.text; number = k } ∷ numbered_from (k + 1) later)) in
     let others : ℕ → List FaultRow = λ k. item_rows (m ∷ earlier) later (numbered_from k later) in
-    let here : Bool → Option Fault = λ b. first_of (first_of first (row_fault (row i.name.place FaultCode.Twice b))) (row_fault (row (number_place i) FaultCode.TooLarge (nat_lt greatest_value number))) in
-    (m ∷ earlier, (λ other. more other ∙ ap (λ b. shares_item other m || b) (has other)),
-    ap all (sym numbered) ∙ ap (λ b. first_from (here b) (others (number + 1))) (sym (met ∙ has m)) ∙ ap (λ f. first_from f (others (number + 1))) (sym now)
-    ∙ ap (λ k. first_from found (others k)) (sym next))
+    let here : Bool → Option Fault = λ b. first_of (first_of first (row_fault (row i.name.place FaultCode.Twice b))) (row_fault (row (number_place i) FaultCode.TooLarge (nat_lt greatest_value number))) in (
+      m ∷ earlier,
+      (λ other. more other ∙ ap (λ b. shares_item other m || b) (has other)),
+      ap all (sym numbered) ∙ ap (λ b. first_from (here b) (others (number + 1))) (sym (met ∙ has m)) ∙ ap (λ f. first_from f (others (number + 1))) (sym now)
+          ∙ ap (λ k. first_from found (others k)) (sym next),
+    )
 
 pub no_items : (first : Option Fault) (met : ItemSet) → ContinuesItems first met first met []
 no_items first met = λ earlier later has. (earlier, has, refl)
@@ -65,11 +67,11 @@ pub next_extension : (first found found' : Option Fault) (old met met' : ItemSet
 next_extension first found found' old met met' all n p items less is seen one before =
     let earlier : List EnumItem = flat_map items_in (trees (take n all)) in
     let e : earlier ++ items ≡ flat_map items_in (trees (take (n + 1) all)) =
-        ap (λ xs. earlier ++ xs) (seen ∙ sym (append-nil (items_in (declaration_tree p.declaration.now))))
-        ∙ sym (flat_map-append items_in (trees (take n all)) (trees (p ∷ [])))
-        ∙ ap (flat_map items_in) (sym (map-append (λ (d : PlacedDecl). declaration_tree d.declaration.now) (take n all) (p ∷ [])))
-        ∙ ap (λ x. flat_map items_in (trees (take n all ++ x ∷ []))) is
-        ∙ ap (λ xs. flat_map items_in (trees xs)) (sym (take_more all n p less)) in
+    ap (λ xs. earlier ++ xs) (seen ∙ sym (append-nil (items_in (declaration_tree p.declaration.now))))
+    ∙ sym (flat_map-append items_in (trees (take n all)) (trees (p ∷ [])))
+    ∙ ap (flat_map items_in) (sym (map-append (λ (d : PlacedDecl). declaration_tree d.declaration.now) (take n all) (p ∷ [])))
+    ∙ ap (λ x. flat_map items_in (trees (take n all ++ x ∷ []))) is
+    ∙ ap (λ xs. flat_map items_in (trees xs)) (sym (take_more all n p less)) in
     subst (ContinuesItems first old found' met') e (then_items first found found' old met met' earlier items before one)
 
 -- all items are done
@@ -116,7 +118,7 @@ next_type heads placed t extensions own types later goal found found' grouped is
     let d : Declared = seen_type own in
     let all : List Placed = map seen_placed placed in
     let same : items_with heads all t d.items ≡ d.items ++ flat_map items_in (trees extensions) =
-        ap (λ xs. d.items ++ xs) (all_added heads t placed ∙ ap (λ ps. flat_map items_in (trees ps)) (sym grouped)) in
+    ap (λ xs. d.items ++ xs) (all_added heads t placed ∙ ap (λ ps. flat_map items_in (trees ps)) (sym grouped)) in
     done (rows_of_items (cond (is_enum d.head.form) (items_with heads all t d.items) [])) (enum_rows_from heads all (t + 1) (map seen_type later)) found found' goal
     (now ∙ ap (λ xs. first_from found (rows_of_items (cond (is_enum d.head.form) xs []))) (sym same))
     (rest ∙ ap (λ ts. first_from found (enum_rows_from heads all t (map seen_type ts))) is)

@@ -23,11 +23,13 @@ unnamed first keys d is = λ earlier later has. (earlier, has, ap (λ o. first_f
 pub named : (first found : Option Fault) (old new : List NameKey) (d : DeclarationTree) (n : DeclaredName) (is_met : Bool) → Some n ≡ name_declared d →
     is_met ≡ list_any (shares_key n) old → ((other : DeclaredName) → list_any (shares_key other) new ≡ (shares_name other n || list_any (shares_key other) old)) →
     found ≡ first_of first (row_fault (row n.place FaultCode.Twice is_met)) → Continues first old found new d
-named first found old new d n is_met is met more now = λ earlier later has.
-    (n ∷ earlier, (λ other. more other ∙ ap (λ b. shares_name other n || b) (has other)),
-    ap (λ o. first_from first (twice_rows earlier (cons_option o (filter_map name_declared later)))) (sym is)
-    ∙ ap (λ f. first_from f (twice_rows (n ∷ earlier) (filter_map name_declared later)))
-    (ap (λ b. first_of first (row_fault (row n.place FaultCode.Twice b))) (sym (met ∙ has n)) ∙ sym now))
+named first found old new d n is_met is met more now = λ earlier later has. (
+  n ∷ earlier,
+  (λ other. more other ∙ ap (λ b. shares_name other n || b) (has other)),
+  ap (λ o. first_from first (twice_rows earlier (cons_option o (filter_map name_declared later)))) (sym is)
+      ∙ ap (λ f. first_from f (twice_rows (n ∷ earlier) (filter_map name_declared later)))
+      (ap (λ b. first_of first (row_fault (row n.place FaultCode.Twice b))) (sym (met ∙ has n)) ∙ sym now),
+)
 
 -- what is left to find of declarations
 pub record NamesLeft (goal : Option Fault) (keys : List NameKey) (found : Option Fault) (left : List DeclarationTree) : Type 0 where

@@ -18,11 +18,7 @@ pub trait Steps {
 }
 
 /// Puts a type at the end, if it wasn't met before.
-fn push_fresh(
-    met: &mut NumberSet,
-    of: TypeId,
-    into: &mut Vec<TypeId>,
-) -> Result<(), AllocError>
+fn push_fresh(met: &mut NumberSet, of: TypeId, into: &mut Vec<TypeId>) -> Result<(), AllocError>
     ensures { OnOk result (AddsFresh met.old into.old.items (of ∷ []) met.new into.new.items) }
 {
     if met.meet(u128::from(of.0))? {
@@ -48,11 +44,7 @@ fn all_fresh(
 }
 
 /// The types to which one step leads from some types.
-fn all_next<S: Steps>(
-    alloc: Global,
-    steps: &S,
-    types: &[TypeId],
-) -> Result<Vec<TypeId>, AllocError>
+fn all_next<S: Steps>(alloc: Global, steps: &S, types: &[TypeId]) -> Result<Vec<TypeId>, AllocError>
     ensures { IfOk result (λ next. next.items ≡ flat_map (S.next steps.now) types.now) }
 {
     let mut next = Vec::new(alloc);

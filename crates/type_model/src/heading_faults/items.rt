@@ -58,12 +58,7 @@ fn number_after(number: u128) -> Result<u128, AllocError>
 }
 
 /// Faults of a member, that is met before or not.
-fn with_member(
-    first: Option<Fault>,
-    item: &EnumItem,
-    number: u128,
-    is_met: bool,
-) -> Option<Fault>
+fn with_member(first: Option<Fault>, item: &EnumItem, number: u128, is_met: bool) -> Option<Fault>
     ensures { result ≡ first_from first (row item.now.name.place FaultCode.Twice is_met ∷ row (place_of_number item.now) FaultCode.TooLarge (nat_lt greatest_value number) ∷ []) }
 {
     let is_large = number > GREATEST_VALUE;

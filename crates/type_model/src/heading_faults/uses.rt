@@ -4,7 +4,6 @@ ghost use Rattle.std.specs.Prelude.{◌≡◌, [], ◌∷◌, ◌++◌, ◌&&◌
 ghost use Rattle.std.specs.Option.{option_map_or};
 ghost use Rattle.osc_base.specs.FaultRows.{first_from, row};
 ghost use Rattle.dsl_tree.specs.Views.{compound_tree, member_tree};
-
 ghost use Rattle.osc_base.specs.Comparisons.{same_number};
 ghost use Rattle.units_si.specs.ExponentTests.{same_exponents};
 ghost use Rattle.type_model.specs.Table.{form, has_members, is_enum, named};

@@ -1,16 +1,16 @@
 //! The faults of conditions.
 
-ghost use Rattle.std.specs.Prelude.{◌≡◌, [], ◌∷◌, None, false, not, is_none, nat_eq};
+ghost use Rattle.std.specs.Prelude.{◌≡◌, ◌||◌, ◌∷◌, None, false, not, is_none, is_some, nat_eq};
 ghost use Rattle.std.specs.Option.{option_map_or};
 ghost use Rattle.osc_base.specs.FaultRows.{first_from, row};
 ghost use Rattle.type_model.specs.Form.{Form as FormOf};
 ghost use Rattle.type_model.specs.Seen.{seen_form};
-ghost use Rattle.type_model.specs.Table.{named, number_of};
+ghost use Rattle.type_model.specs.Table.{form, named, number_of};
 ghost use Rattle.type_model.specs.MemberFaults.{can_decide as decides, held_rows};
 
 use crate::head::member_number;
 use crate::{EnumEntry, Form, Heads, TypeId};
-use dsl_tree::{ConditionValue, Ident};
+use dsl_tree::{ConditionValue, FieldDecl, HeirCondition, Ident};
 use name_scope::with_fault;
 use osc_base::{Fault, FaultCode};
 
@@ -66,7 +66,12 @@ fn with_enum_value(
 }
 
 /// Faults of the value of a condition on a field of truth values.
-fn with_truth(first: Option<Fault>, heads: &Heads, of: TypeId, value: &ConditionValue) -> Option<Fault>
+fn with_truth(
+    first: Option<Fault>,
+    heads: &Heads,
+    of: TypeId,
+    value: &ConditionValue,
+) -> Option<Fault>
     ensures { result ≡ first_from first (held_rows heads.now of FormOf.Truth value.now) }
 {
     match value {
@@ -99,4 +104,20 @@ pub fn with_value(
         | Form::Physical(_)
         | Form::Compound(_) => first,
     }
+}
+
+/// Faults of a condition on a field of type `of`.
+pub fn with_decided(
+    first: Option<Fault>,
+    heads: &Heads,
+    of: TypeId,
+    condition: &HeirCondition,
+    field: &FieldDecl,
+) -> Option<Fault>
+    ensures { result ≡ first_from first (row condition.now.field.place FaultCode.WrongKind (not (decides (form heads.now of)) || is_some field.now.list) ∷ held_rows heads.now of (form heads.now of) condition.now.value) }
+{
+    let form = heads.form(of);
+    let is_wrong = !can_decide(form) || field.list.is_some();
+    let first = with_fault(first, condition.field.place, FaultCode::WrongKind, is_wrong);
+    with_value(first, heads, of, form, &condition.value)
 }

@@ -1,9 +1,9 @@
 //! The faults of names that a member list has twice.
 
-ghost use Rattle.std.specs.Prelude.{[], ◌∷◌, IfOk, option_to_list};
+ghost use Rattle.std.specs.Prelude.{[], ◌∷◌, flat_map, IfOk, option_to_list};
 ghost use Rattle.dsl_tree.specs.Views.{comp_tree, member_tree, phase_tree};
 ghost use Rattle.type_model.specs.MemberFaults.{labels_in, member_names};
-ghost use Rattle.type_model.specs.NameRows.{ContinuesNames};
+ghost use Rattle.type_model.specs.NameRows.{ContinuesNames, member_trees};
 
 use crate::sets::TextSet;
 use dsl_tree::{CompNode, Ident, Member, Phase};
@@ -95,4 +95,19 @@ fn with_member<'a>(
         Member::Rule(_) => Ok(first),
         Member::Do { place: _, phase } => with_phase(first, met, phase),
     }
+}
+
+/// Faults of the names and labels of some members.
+fn with_members<'a>(
+    first: Option<Fault>,
+    met: &mut TextSet<'a>,
+    members: &[&'a Member],
+) -> Result<Option<Fault>, AllocError>
+    ensures { IfOk result (λ f. ContinuesNames first met.old f met.new (flat_map member_names (member_trees members.now))) }
+{
+    let mut found = first;
+    for member in members {
+        found = with_member(found, met, member)?;
+    }
+    Ok(found)
 }
