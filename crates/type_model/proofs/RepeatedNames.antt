@@ -101,3 +101,10 @@ next_member first found found' old met met' members n m less is one before =
     ∙ ap (λ x. flat_map member_names (member_trees (take n members ++ x ∷ []))) is
     ∙ ap (λ xs. flat_map member_names (member_trees xs)) (sym (take_more members n m less)) in
     subst (ContinuesNames first old found' met') e (then_names first found found' old met met' earlier (member_names (member_tree m.now)) before one)
+
+-- all names are done
+pub all_names : (first found : Option Fault) (old new given : List (List ℕ)) (names : List Ident) → HasTexts old given → ContinuesNames first old found new names →
+    found ≡ first_from first (repeated_rows given names)
+all_names first found old new given names has all =
+    let last = all given [] has in
+    sym last.2 ∙ ap (λ is. first_from first (repeated_rows given is)) (append-nil names)

@@ -1,6 +1,7 @@
 //! The faults of headings.
 
 mod brackets;
+mod cycles;
 mod declared;
 mod heirs;
 mod items;

@@ -24,7 +24,7 @@ fn is_kind_of(heads: &Heads, base: TypeId, of: TypeId) -> bool
 }
 
 /// Whether a type inherits from `base`.
-fn is_base_of(heads: &Heads, base: TypeId, of: TypeId) -> bool
+pub fn is_base_of(heads: &Heads, base: TypeId, of: TypeId) -> bool
     ensures { result ≡ has base (bases heads.now of) }
 {
     let mut at = heads.base(of);

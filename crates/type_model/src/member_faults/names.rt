@@ -1,15 +1,18 @@
 //! The faults of names that a member list has twice.
 
-ghost use Rattle.std.specs.Prelude.{[], ◌∷◌, flat_map, IfOk, option_to_list};
+ghost use Rattle.std.specs.Prelude.{◌≡◌, [], ◌∷◌, flat_map, IfOk, option_to_list};
+ghost use Rattle.osc_base.specs.FaultRows.{first_from};
+ghost use Rattle.type_model.specs.Seen.{seen_form};
 ghost use Rattle.dsl_tree.specs.Views.{comp_tree, member_tree, phase_tree};
-ghost use Rattle.type_model.specs.MemberFaults.{labels_in, member_names};
-ghost use Rattle.type_model.specs.NameRows.{ContinuesNames, member_trees};
+ghost use Rattle.type_model.specs.MemberFaults.{labels_in, member_names, names_given, repeated_rows};
+ghost use Rattle.type_model.specs.NameRows.{ContinuesNames, HasTexts, member_trees};
 
+use crate::Form;
 use crate::sets::TextSet;
 use dsl_tree::{CompNode, Ident, Member, Phase};
 use name_scope::with_fault;
 use osc_base::{Fault, FaultCode};
-use std::alloc::AllocError;
+use std::alloc::{AllocError, Global};
 
 /// A fault of one name more.
 fn with_name<'a>(
@@ -110,4 +113,28 @@ fn with_members<'a>(
         found = with_member(found, met, member)?;
     }
     Ok(found)
+}
+
+/// The names that a type of this form has before all members.
+fn given_names<'a>(alloc: Global, form: Form<'_>) -> Result<TextSet<'a>, AllocError>
+    ensures { IfOk result (λ met. HasTexts met (names_given (seen_form form.entry))) }
+{
+    let mut met = TextSet::new(alloc);
+    if form.is_behaviour() {
+        met.meet("duration")?;
+    }
+    Ok(met)
+}
+
+/// Faults of the names and labels of the members of a type of this form.
+pub fn with_type<'a>(
+    alloc: Global,
+    first: Option<Fault>,
+    form: Form<'_>,
+    members: &[&'a Member],
+) -> Result<Option<Fault>, AllocError>
+    ensures { IfOk result (λ f. f ≡ first_from first (repeated_rows (names_given (seen_form form.entry)) (flat_map member_names (member_trees members.now)))) }
+{
+    let mut met = given_names(alloc, form)?;
+    with_members(first, &mut met, members)
 }
