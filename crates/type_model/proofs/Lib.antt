@@ -5,3 +5,4 @@ pub mod NameTables
 pub mod Groups
 pub mod Gathering
 pub mod Bases
+pub mod HeadLists
