@@ -6,3 +6,5 @@ pub mod Groups
 pub mod Gathering
 pub mod Bases
 pub mod HeadLists
+pub mod Divisors
+pub mod SoundUnits

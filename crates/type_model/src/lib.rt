@@ -2,6 +2,7 @@
 #![tactic(auto)]
 
 mod brackets;
+mod decimals;
 mod declarations;
 mod entries;
 mod form;
@@ -16,6 +17,7 @@ mod own_type;
 mod placed;
 mod type_id;
 mod types;
+mod units;
 
 pub use form::{EnumEntry, Form};
 pub use head::Head;
