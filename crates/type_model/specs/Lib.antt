@@ -16,6 +16,7 @@ pub mod Numbering
 pub mod Exponents
 pub mod HeadsGrouped
 pub mod UnitsPlaced
+pub mod Bodied
 pub mod Placing
 pub mod Texts
 pub mod Units

@@ -1,6 +1,7 @@
 //! Types of a program: what it declares, the members of each type, and the faults of headings and members.
 #![tactic(auto)]
 
+mod body;
 mod brackets;
 mod decimals;
 mod declarations;
