@@ -18,3 +18,6 @@ pub mod NameTables
 pub mod Groups
 pub mod Gathering
 pub mod Bases
+pub mod HeadLists
+pub mod Divisors
+pub mod SoundUnits

@@ -1,8 +1,10 @@
--- The exponents that brackets give.
-use Rattle.std.specs.Prelude.{List, codes}
+-- The exponents that brackets give, and the numbers of factors and offsets.
+use Rattle.std.specs.Prelude.{ℕ, Bool, List, codes}
+use Rattle.osc_base.specs.Number.{Number}
+use Rattle.osc_base.specs.LowestTerms.{decimal_number}
 use Rattle.dsl_tree.specs.declared.units.BasePart.{BasePart}
 use Rattle.units_si.specs.declared.units.Exponents.{Exponents}
-use Rattle.type_model.specs.Units.{exponent_of}
+use Rattle.type_model.specs.Units.{exponent_of, signed}
 
 -- the exponents of all eight, whether or not the brackets have a fault
 abbrev pub exponents_in : List BasePart → Exponents
@@ -16,3 +18,7 @@ exponents_in parts = record {
   cd = exponent_of parts (codes "cd");
   rad = exponent_of parts (codes "rad");
 }
+
+-- a decimal in lowest terms, with its sign
+abbrev pub signed_decimal : Bool → ℕ → ℕ → Number
+signed_decimal minus digits places = let n = decimal_number digits places in record n { numerator = signed minus n.numerator }

@@ -15,6 +15,8 @@ pub mod Gathered
 pub mod Numbering
 pub mod Exponents
 pub mod HeadsGrouped
+pub mod UnitsPlaced
+pub mod Bodied
 pub mod Placing
 pub mod Texts
 pub mod Units

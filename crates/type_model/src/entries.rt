@@ -1,10 +1,11 @@
-ghost use Rattle.std.specs.Prelude.{◌≡◌};
+ghost use Rattle.std.specs.Prelude.{◌≡◌, Some, None, cond, is_some, option_map};
+ghost use Rattle.osc_base.specs.Fraction.{value};
 ghost use Rattle.type_model.specs.Shown.{shown_field, shown_unit, unit_parts};
 
 use crate::{FieldType, TypeId};
-use osc_base::Text;
+use osc_base::{Fraction, Text};
 use std::marker::Model;
-use units_si::Unit;
+use units_si::{Exponents, Unit};
 
 /// A field of a type.
 #[derive(Drop)]
@@ -42,29 +43,39 @@ impl FieldEntry {
     }
 }
 
-/// A unit and its name.
+/// A unit and its name. It has no exponents if its brackets have a fault.
 #[derive(Drop)]
 pub struct UnitEntry {
     name: Text,
-    unit: Unit,
+    exponents: Option<Exponents>,
+    factor: Fraction,
+    offset: Fraction,
 }
 
 impl Model for UnitEntry {
-    ghost use Rattle.std.specs.Prelude.{Some};
     ghost use Rattle.osc_base.specs.Fraction.{value};
     ghost use Rattle.type_model.specs.Table.{TableUnit};
 
     ghost Value = { TableUnit };
 
-    ghost view = { λ u. record { name = u.name; exponents = Some u.unit.exponents; factor = value u.unit.factor; offset = value u.unit.offset } };
+    ghost view = { λ u. record { name = u.name; exponents = u.exponents; factor = value u.factor; offset = value u.offset } };
 }
 
 impl UnitEntry {
-    pub fn new(name: Text, unit: Unit) -> UnitEntry
-        ensures name { result.name ≡ name }
-        ensures parts { unit_parts result ≡ shown_unit unit }
+    pub fn new(
+        name: Text,
+        exponents: Option<Exponents>,
+        factor: Fraction,
+        offset: Fraction,
+    ) -> UnitEntry
+        ensures { result ≡ record { name = name; exponents = exponents; factor = value factor; offset = value offset } }
     {
-        UnitEntry { name, unit }
+        UnitEntry {
+            name,
+            exponents,
+            factor,
+            offset,
+        }
     }
 
     pub fn name(&self) -> &str
@@ -73,11 +84,15 @@ impl UnitEntry {
         self.name.as_str()
     }
 
-    /// The unit.
-    pub fn unit(&self) -> Unit
-        ensures { shown_unit result ≡ unit_parts self.now }
+    /// The unit, if it has exponents.
+    pub fn unit(&self) -> Option<Unit>
+        ensures { option_map shown_unit result ≡ cond (is_some self.now.exponents) (Some (unit_parts self.now)) None }
     {
-        self.unit
+        Some(Unit {
+            exponents: self.exponents?,
+            factor: self.factor,
+            offset: self.offset,
+        })
     }
 }
 

@@ -1,16 +1,22 @@
-ghost use Rattle.std.specs.Prelude.{◌≡◌, ◌≤◌, ◌<◌, ◌^◌, length, pos, option_copied, option_map};
+ghost use Rattle.std.specs.Prelude.{◌≡◌, ◌≤◌, ◌<◌, ◌^◌, length, pos, option_copied, option_map, IfOk};
 ghost use Rattle.type_model.specs.Seen.{seen_form};
 ghost use Rattle.type_model.specs.Shown.{hit_of};
 ghost use Rattle.type_model.specs.Table.{base, enum_number, enums_with, form, named, owner};
 
+use crate::declarations::Declarations;
 use crate::head::member_number;
+use crate::heads_build::own_heads;
+use crate::names::NameIndex;
 use crate::{EnumHit, Form, Head, TypeId};
+use name_scope::Program;
+use std::alloc::{AllocError, Global};
 use std::marker::Model;
 
 /// The heads of all types. Contracts see them as the list of the heads.
 #[derive(Drop)]
 pub struct Heads {
     entries: Vec<Head>,
+    names: NameIndex,
 }
 
 impl Model for Heads {
@@ -19,12 +25,37 @@ impl Model for Heads {
 
     ghost Value = { List TypeHead };
 
+    ghost use Rattle.type_model.specs.Grouped.{IsIndex};
+
     ghost view = { λ h. h.entries.items };
 
-    ghost invariant = { λ h. length h.entries.items < 2 ^ 32 };
+    ghost invariant = { λ h. (length h.entries.items < 2 ^ 32) × IsIndex h.names h.entries.items };
 }
 
 impl Heads {
+    ghost use Rattle.type_model.specs.DeclaredTypes.{program_of, types_of};
+    ghost use Rattle.type_model.specs.HeadsGrouped.{all_heads};
+    ghost use Rattle.type_model.specs.Gathered.{AreGathered, all_of};
+
+    /// The heads of the types of a program, with extensions and bases worked in. More types than a `u32` counts
+    /// are out of memory.
+    pub fn build(alloc: Global, program: &Program) -> Result<Heads, AllocError>
+        ensures { IfOk result (λ heads. heads ≡ (types_of (program_of program.now)).table.heads) }
+    {
+        let declarations = Declarations::of(alloc, program)?;
+        Heads::of(alloc, &declarations)
+    }
+
+    /// The heads of the types that are declared.
+    fn of(alloc: Global, declarations: &Declarations<'_>) -> Result<Heads, AllocError>
+        requires { AreGathered declarations.now }
+        ensures { IfOk result (λ heads. heads ≡ all_heads (all_of declarations.now)) }
+    {
+        let names = NameIndex::of(alloc, declarations.types.as_slice())?;
+        let entries = own_heads(alloc, declarations)?;
+        Ok(Heads { entries, names })
+    }
+
     /// How many types there are.
     pub fn count(&self) -> u32
         ensures { result ≡ length self.now }
@@ -36,7 +67,8 @@ impl Heads {
     pub fn named(&self, owner: Option<&str>, name: &str) -> Option<TypeId>
         ensures { result ≡ named self.now (option_copied owner.entry) name.now }
     {
-        place_named(self.entries.as_slice(), owner, name)
+        let place = self.names.get(owner, name)?;
+        Some(TypeId(place))
     }
 
     /// The type that a type inherits from. A number that no type has inherits from none.
@@ -97,19 +129,4 @@ fn hit_among(heads: &[Head], name: &str) -> EnumHit
         number += 1;
     }
     hit
-}
-
-/// The place of the first head of that owner and name.
-fn place_named(heads: &[Head], owner: Option<&str>, name: &str) -> Option<TypeId>
-    requires { length heads.now < 2 ^ 32 }
-    ensures { result ≡ named heads.now (option_copied owner.entry) name.now }
-{
-    let mut number: u32 = 0;
-    for head in heads {
-        if head.is_named(owner, name) {
-            return Some(TypeId(number));
-        }
-        number += 1;
-    }
-    None
 }

@@ -1,7 +1,9 @@
 //! Types of a program: what it declares, the members of each type, and the faults of headings and members.
 #![tactic(auto)]
 
+mod body;
 mod brackets;
+mod decimals;
 mod declarations;
 mod entries;
 mod form;
@@ -21,6 +23,7 @@ mod reach;
 mod sets;
 mod type_id;
 mod types;
+mod units;
 
 pub use form::{EnumEntry, Form};
 pub use head::Head;

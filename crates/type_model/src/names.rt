@@ -67,7 +67,7 @@ fn take_table(alloc: Global, owned: &mut IndexMap<String, NameTable>, owner: &st
 }
 
 /// The next place. A place that a `u32` doesn't hold counts as out of memory.
-fn next_place(place: u32) -> Result<u32, AllocError>
+pub fn next_place(place: u32) -> Result<u32, AllocError>
     ensures next { IfOk result (λ n. n ≡ place + 1) }
     ensures small { IfOk result (λ n. n < 2 ^ 32) }
 {

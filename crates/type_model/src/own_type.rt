@@ -10,6 +10,7 @@ ghost use Rattle.type_model.specs.Placing.{basic_form, basic_name, seen_placed, 
 use crate::form::OwnForm;
 use crate::placed::PlacedDecl;
 use dsl_tree::{CompoundDecl, CompoundKind, Declaration, EnumDecl, Heir, PhysicalDecl, QName};
+use osc_base::Place;
 use std::alloc::{AllocError, Global};
 
 /// A type that is there without a declaration.
@@ -86,6 +87,23 @@ impl<'a> OwnType<'a> {
         }
     }
 
+    /// Where its name stands. That of a basic type stands nowhere.
+    pub fn place(&self) -> Place
+        ensures { result ≡ (seen_type self.now).body.place }
+    {
+        match self {
+            OwnType::Basic(_) => Place {
+                file: 0,
+                line: 0,
+                column: 0,
+                token: 0,
+            },
+            OwnType::Physical(decl) => decl.name.place,
+            OwnType::Enum(decl) => decl.name.place,
+            OwnType::Compound { decl, .. } => compound_place(decl.kind, &decl.name),
+        }
+    }
+
     /// What it inherits from, as written.
     pub fn heir(&self) -> Option<&'a Heir>
         ensures { option_copied result ≡ (seen_type self.now).body.heir }
@@ -103,6 +121,15 @@ fn compound_name(kind: CompoundKind, name: &QName) -> &str
     match (kind, &name.second) {
         (CompoundKind::Struct | CompoundKind::Actor, _) | (_, None) => name.first.text.as_str(),
         (_, Some(second)) => second.text.as_str(),
+    }
+}
+
+fn compound_place(kind: CompoundKind, name: &QName) -> Place
+    ensures { result ≡ (named_compound kind name.now).place }
+{
+    match (kind, &name.second) {
+        (CompoundKind::Struct | CompoundKind::Actor, _) | (_, None) => name.first.place,
+        (_, Some(second)) => second.place,
     }
 }
 

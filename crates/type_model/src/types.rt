@@ -1,4 +1,4 @@
-ghost use Rattle.std.specs.Prelude.{◌≡◌, ℕ, ℤ, fold, List, Option, Some, None, map, length, pos, option_copied, option_map, slice_index_or};
+ghost use Rattle.std.specs.Prelude.{◌≡◌, ℕ, ℤ, bytes_eq, find, fold, List, Option, Some, None, map, length, pos, option_copied, option_map, slice_index_or};
 ghost use Rattle.std.specs.Int.{int_min, int_max};
 ghost use Rattle.type_model.specs.Bounds.{numbers_of, bounds, least_of, greatest_of};
 ghost use Rattle.type_model.specs.Table.{base, enum_members, enums_with, field_of, form, named, owner};
@@ -45,7 +45,7 @@ impl Model for Types {
       conditions = s.conditions.items;
     } };
 
-    ghost invariant = { λ s. AreKept s.heads s.numbers.items s.texts.items };
+    ghost invariant = { λ s. AreKept s.heads s.numbers.items s.units.items s.texts.items };
 }
 
 impl Types {
@@ -120,8 +120,10 @@ impl Types {
     pub fn unit(&self, name: &str) -> Option<Unit>
         ensures { option_map shown_unit result ≡ option_map unit_parts (unit_in self.now.table name.now) }
     {
-        let entry = self.units.iter().find(|u| u.name() == name)?;
-        Some(entry.unit())
+        match unit_named(self.units.as_slice(), name) {
+            Some(unit) => unit.unit(),
+            None => None,
+        }
     }
 
     /// The condition of a conditional subtype: the field that it looks at, and the number that this must have.
@@ -179,6 +181,13 @@ impl Types {
             Form::Compound(_) => (0, 0),
         }
     }
+}
+
+/// The first unit of that name.
+fn unit_named<'a>(units: &'a [UnitEntry], name: &str) -> Option<&'a UnitEntry>
+    ensures { option_copied result ≡ find (λ u. bytes_eq u.name name.now) units.now }
+{
+    units.iter().find(|u| u.name() == name)
 }
 
 /// The least and the greatest of some numbers, and 0 of none.
