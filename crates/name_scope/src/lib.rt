@@ -13,6 +13,7 @@ mod source;
 mod table;
 
 pub use ids::{DeclId, NameKind};
+pub use least::with_fault;
 pub use library::library_text;
 pub use names::{FileName, Wanted};
 pub use program::{AddStop, Program};

@@ -1,0 +1,6 @@
+//! The faults of members.
+
+mod conditions;
+mod dos;
+mod initial;
+mod names;
