@@ -8,3 +8,5 @@ pub mod Bases
 pub mod HeadLists
 pub mod Divisors
 pub mod SoundUnits
+pub mod BodyLists
+pub mod FileLists
