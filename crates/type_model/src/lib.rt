@@ -12,6 +12,7 @@ mod head;
 mod heads;
 mod heads_build;
 mod kinds;
+mod lines;
 mod names;
 mod numbering;
 mod own_type;
