@@ -21,3 +21,6 @@ pub mod Bases
 pub mod HeadLists
 pub mod Divisors
 pub mod SoundUnits
+pub mod BodyLists
+pub mod FileLists
+pub mod LineSteps

@@ -4,8 +4,8 @@ ghost use Rattle.std.specs.Prelude.{◌≡◌, ◌++◌, flat_map, map, IfOk, On
 ghost use Rattle.dsl_tree.specs.Views.{member_tree};
 ghost use Rattle.type_model.specs.DeclaredTypes.{written_from};
 ghost use Rattle.type_model.specs.Placing.{seen_type};
-ghost use Rattle.type_model.specs.Bodied.{bodies_grouped, body_grouped, members_placed, seen_body, seen_written};
-ghost use Rattle.type_model.specs.Gathered.{AreGathered};
+ghost use Rattle.type_model.specs.Bodied.{all_bodies, bodies_grouped, body_grouped, members_placed, seen_body, seen_written};
+ghost use Rattle.type_model.specs.Gathered.{AreGathered, all_of};
 
 use crate::TypeId;
 use crate::declarations::Declarations;
@@ -122,7 +122,17 @@ fn own_body<'a>(
 }
 
 /// The bodies of all types.
-pub fn own_bodies<'a>(
+pub fn bodies<'a>(
+    alloc: Global,
+    declarations: &Declarations<'a>,
+) -> Result<Vec<Body<'a>>, AllocError>
+    requires { AreGathered declarations.now }
+    ensures { IfOk result (λ bodies. map seen_body bodies.items ≡ all_bodies (all_of declarations.now)) }
+{
+    own_bodies(alloc, declarations)
+}
+
+fn own_bodies<'a>(
     alloc: Global,
     declarations: &Declarations<'a>,
 ) -> Result<Vec<Body<'a>>, AllocError>

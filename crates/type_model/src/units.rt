@@ -2,10 +2,12 @@
 
 ghost use Rattle.std.specs.Prelude.{◌≡◌, ◌++◌, flat_map, IfOk, OnOk};
 ghost use Rattle.type_model.specs.Units.{unit_of};
-ghost use Rattle.type_model.specs.UnitsPlaced.{units_placed};
+ghost use Rattle.type_model.specs.Gathered.{all_of};
+ghost use Rattle.type_model.specs.UnitsPlaced.{units_in, units_placed};
 
 use crate::brackets::exponents;
 use crate::decimals::{factor, offset};
+use crate::declarations::Declarations;
 use crate::entries::UnitEntry;
 use crate::placed::PlacedDecl;
 use dsl_tree::{Declaration, UnitDecl};
@@ -42,8 +44,14 @@ fn push_unit(
     }
 }
 
-/// The units that are declared.
-pub fn units_among(alloc: Global, placed: &[PlacedDecl<'_>]) -> Result<Vec<UnitEntry>, AllocError>
+/// The units of a program.
+pub fn units(alloc: Global, declarations: &Declarations<'_>) -> Result<Vec<UnitEntry>, AllocError>
+    ensures { IfOk result (λ units. units.items ≡ units_in (all_of declarations.now)) }
+{
+    units_among(alloc, declarations.placed.as_slice())
+}
+
+fn units_among(alloc: Global, placed: &[PlacedDecl<'_>]) -> Result<Vec<UnitEntry>, AllocError>
     ensures { IfOk result (λ units. units.items ≡ flat_map units_placed placed.now) }
 {
     let mut units = Vec::new(alloc);
