@@ -14,11 +14,8 @@ mod heading_faults;
 mod heads;
 mod heads_build;
 mod kinds;
-<<<<<<< HEAD
-mod member_faults;
-=======
 mod lines;
->>>>>>> 89827993e8583e55cb91f775c7e03e9c6256fada
+mod member_faults;
 mod names;
 mod numbering;
 mod own_type;
