@@ -10,3 +10,4 @@ pub mod Fits
 pub mod Typing
 pub mod Sound
 pub mod Means
+pub mod Seen

@@ -2,5 +2,11 @@
 #![tactic(auto)]
 
 mod compare;
+mod kind;
+mod node;
+mod size;
 
 pub use compare::Compare;
+pub use kind::ValueKind;
+pub use node::{Earlier, Info, Join, Typed};
+pub use size::Size;
