@@ -119,6 +119,7 @@ impl Size {
 }
 
 /// The greatest common divisor.
+#[tactic(auto, using(crate::proofs::Divisors::gcd_step, crate::proofs::Divisors::gcd_end))]
 fn gcd(a: u128, b: u128) -> u128
     ensures { result ≡ divisor a b }
 {
@@ -132,6 +133,7 @@ fn gcd(a: u128, b: u128) -> u128
 }
 
 /// The least common multiple. `None` when it doesn't fit.
+#[tactic(auto, using(crate::proofs::Divisors::gcd_above, crate::proofs::Divisors::lcm_is))]
 fn least_common_multiple(a: u128, b: u128) -> Option<u128>
     requires first { 0 < a }
     requires second { 0 < b }
