@@ -1,5 +1,6 @@
 -- What the program's own types stand for in the definitions.
 use Rattle.std.specs.Prelude.{ℕ, List, [], ◌∷◌, Option, Some, None, cond, option_map}
+use Rattle.osc_base.specs.declared.fault.Place.{Place}
 use Rattle.osc_base.specs.Fraction.{value}
 use Rattle.expr_eval.specs.declared.kind.ValueKind.{ValueKind}
 use Rattle.expr_eval.specs.declared.size.Size.{Size}
@@ -14,7 +15,9 @@ use Rattle.expr_eval.specs.Kinds.{Made}
 use Rattle.expr_eval.specs.Sizes as Sizes
 use Rattle.expr_eval.specs.Sizes.{is_wide}
 use Rattle.expr_eval.specs.Typed as Nodes
-use Rattle.expr_eval.specs.Typed.{row_of}
+use Rattle.expr_eval.specs.Typed.{row_of, place_of}
+use Rattle.expr_eval.specs.Parts.{unless, on_two}
+use Rattle.expr_eval.specs.Operators.{truth_at, logic_rows}
 
 -- what a phase makes; the program always knows it
 abbrev pub seen_made : Option ℕ → Made
@@ -86,3 +89,7 @@ reached = fold-Earlier Nodes.Typed Reached typed_step earlier_step
 -- a typed expression that may be missing
 abbrev pub seen_part : Option Typed → Option Nodes.Typed
 seen_part = option_map seen
+
+-- the typed form of `and` and `or`
+abbrev pub logic_typed : Join → Place → Option Nodes.Typed → Option Nodes.Typed → Option Nodes.Typed
+logic_typed join p a b = unless (logic_rows p a b) (on_two a b (λ x y. joined join (truth_at (place_of x)) x y))

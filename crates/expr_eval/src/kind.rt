@@ -1,7 +1,10 @@
 //! The kinds of expressions.
 
-ghost use Rattle.std.specs.Prelude.{◌≡◌};
+ghost use Rattle.std.specs.Prelude.{◌≡◌, ◌&&◌};
 ghost use Rattle.expr_eval.specs.Kinds.{is_number as number, is_truth as truth, same_units as of_one_unit, are_alike as alike};
+ghost use Rattle.osc_base.specs.Comparisons.{same_number};
+ghost use Rattle.units_si.specs.ExponentTests.{same_exponents};
+ghost use Rattle.expr_eval.specs.Kinds as Kinds;
 ghost use Rattle.expr_eval.specs.Seen.{seen_kind};
 
 use type_model::TypeId;
@@ -52,4 +55,88 @@ impl ValueKind {
             | ValueKind::Phase(_) => false,
         }
     }
+
+    /// Two numbers of one unit, but for its factor.
+    pub fn has_units_of(&self, other: &ValueKind) -> bool
+        ensures { result ≡ of_one_unit (seen_kind self.now) (seen_kind other.now) }
+    {
+        match self {
+            ValueKind::Number(x) => match other {
+                ValueKind::Number(y) => are_same(x, y),
+                ValueKind::Truth
+                | ValueKind::Member(_)
+                | ValueKind::Chars
+                | ValueKind::Object(_)
+                | ValueKind::Phase(_) => false,
+            },
+            ValueKind::Truth
+            | ValueKind::Member(_)
+            | ValueKind::Chars
+            | ValueKind::Object(_)
+            | ValueKind::Phase(_) => false,
+        }
+    }
+
+    /// Two kinds that `==` compares: both truth values, both numbers, both members of one enum, or both texts.
+    pub fn is_alike(&self, other: &ValueKind) -> bool
+        ensures { result ≡ alike (seen_kind self.now) (seen_kind other.now) }
+    {
+        match self {
+            ValueKind::Truth => other.is_truth(),
+            ValueKind::Number(_) => other.is_number(),
+            ValueKind::Member(of) => other.is_member_of(*of),
+            ValueKind::Chars => other.is_text(),
+            ValueKind::Object(_) | ValueKind::Phase(_) => false,
+        }
+    }
+
+    /// A text.
+    fn is_text(&self) -> bool
+        ensures { result ≡ alike Kinds.ValueKind.Chars (seen_kind self.now) }
+    {
+        match self {
+            ValueKind::Chars => true,
+            ValueKind::Truth
+            | ValueKind::Number(_)
+            | ValueKind::Member(_)
+            | ValueKind::Object(_)
+            | ValueKind::Phase(_) => false,
+        }
+    }
+
+    /// A member of the enum.
+    fn is_member_of(&self, of: TypeId) -> bool
+        ensures { result ≡ alike (Kinds.ValueKind.Member of) (seen_kind self.now) }
+    {
+        match self {
+            ValueKind::Member(other) => of == *other,
+            ValueKind::Truth
+            | ValueKind::Number(_)
+            | ValueKind::Chars
+            | ValueKind::Object(_)
+            | ValueKind::Phase(_) => false,
+        }
+    }
+}
+
+/// The same exponents.
+fn are_same(x: &Exponents, y: &Exponents) -> bool
+    ensures { result ≡ same_exponents x.now y.now }
+{
+    is_same(x.kg, y.kg)
+        && (is_same(x.m, y.m) && (is_same(x.s, y.s) && (is_same(x.a, y.a) && end_same(x, y))))
+}
+
+/// The same exponents from the fifth on.
+fn end_same(x: &Exponents, y: &Exponents) -> bool
+    ensures { result ≡ (same_number x.now.k y.now.k && (same_number x.now.mol y.now.mol && (same_number x.now.cd y.now.cd && same_number x.now.rad y.now.rad))) }
+{
+    is_same(x.k, y.k) && (is_same(x.mol, y.mol) && (is_same(x.cd, y.cd) && is_same(x.rad, y.rad)))
+}
+
+/// The same exponent.
+fn is_same(x: i8, y: i8) -> bool
+    ensures { result ≡ same_number x y }
+{
+    x == y
 }

@@ -4,7 +4,10 @@
 mod compare;
 mod kind;
 mod node;
+mod parts;
+mod rows;
 mod size;
+mod truths;
 
 pub use compare::Compare;
 pub use kind::ValueKind;

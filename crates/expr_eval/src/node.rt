@@ -1,9 +1,9 @@
 //! Typed expressions.
 
-ghost use Rattle.std.specs.Prelude.{◌≡◌, IfOk};
+ghost use Rattle.std.specs.Prelude.{◌≡◌, map, IfOk};
 ghost use Rattle.expr_eval.specs.Typed.{info as held_info};
 ghost use Rattle.expr_eval.specs.Parts.{is_scalar as one_value};
-ghost use Rattle.expr_eval.specs.Seen.{seen, seen_info};
+ghost use Rattle.expr_eval.specs.Seen.{seen, seen_info, reached};
 
 use crate::size::Size;
 use crate::{Compare, ValueKind};
@@ -131,4 +131,114 @@ impl Typed {
             | Typed::Within { .. } => true,
         }
     }
+
+    /// An equal expression.
+    #[cycle(copies)]
+    pub fn copy(&self, alloc: Global) -> Result<Typed, AllocError>
+        ensures { IfOk result (λ t. seen t ≡ seen self.now) }
+    {
+        match self {
+            Typed::Constant { info, number } => Ok(Typed::Constant {
+                info: *info,
+                number: *number,
+            }),
+            Typed::Read { info, path, per } => Ok(Typed::Read {
+                info: *info,
+                path: path.copy(alloc)?,
+                per: *per,
+            }),
+            Typed::Whole { info, path } => Ok(Typed::Whole {
+                info: *info,
+                path: path.copy(alloc)?,
+            }),
+            Typed::Listed {
+                info,
+                is_field,
+                items,
+            } => Ok(Typed::Listed {
+                info: *info,
+                is_field: *is_field,
+                items: copy_items(alloc, items.as_slice())?,
+            }),
+            Typed::Span { info, low, high } => Ok(Typed::Span {
+                info: *info,
+                low: copy_boxed(alloc, low.get())?,
+                high: copy_boxed(alloc, high.get())?,
+            }),
+            Typed::Minus { info, part } => Ok(Typed::Minus {
+                info: *info,
+                part: copy_boxed(alloc, part.get())?,
+            }),
+            Typed::Not { info, part } => Ok(Typed::Not {
+                info: *info,
+                part: copy_boxed(alloc, part.get())?,
+            }),
+            Typed::Joined {
+                info,
+                join,
+                first,
+                earlier,
+                last,
+            } => Ok(Typed::Joined {
+                info: *info,
+                join: *join,
+                first: copy_boxed(alloc, first.get())?,
+                earlier: copy_earlier(alloc, earlier.as_slice())?,
+                last: copy_boxed(alloc, last.get())?,
+            }),
+            Typed::Implies { info, left, right } => Ok(Typed::Implies {
+                info: *info,
+                left: copy_boxed(alloc, left.get())?,
+                right: copy_boxed(alloc, right.get())?,
+            }),
+            Typed::Relation {
+                info,
+                sign,
+                left,
+                right,
+            } => Ok(Typed::Relation {
+                info: *info,
+                sign: *sign,
+                left: copy_boxed(alloc, left.get())?,
+                right: copy_boxed(alloc, right.get())?,
+            }),
+            Typed::Within { info, left, right } => Ok(Typed::Within {
+                info: *info,
+                left: copy_boxed(alloc, left.get())?,
+                right: copy_boxed(alloc, right.get())?,
+            }),
+        }
+    }
+}
+
+#[cycle(copies)]
+fn copy_boxed(alloc: Global, part: &Typed) -> Result<Boxed<Typed>, AllocError>
+    ensures { IfOk result (λ t. seen t ≡ seen part.now) }
+{
+    Boxed::new(alloc, part.copy(alloc)?)
+}
+
+#[cycle(copies)]
+fn copy_items(alloc: Global, items: &[Typed]) -> Result<Row<Typed>, AllocError>
+    ensures { IfOk result (λ ts. map seen ts ≡ map seen items.now) }
+{
+    let mut copies = Row::new(alloc);
+    'items: for item in items {
+        copies.push(item.copy(alloc)?)?;
+    }
+    Ok(copies)
+}
+
+#[cycle(copies)]
+fn copy_earlier(alloc: Global, parts: &[Earlier]) -> Result<Row<Earlier>, AllocError>
+    ensures { IfOk result (λ es. map reached es ≡ map reached parts.now) }
+{
+    let mut copies = Row::new(alloc);
+    'parts: for earlier in parts {
+        copies.push(Earlier {
+            info: earlier.info,
+            part: earlier.part.copy(alloc)?,
+        })?;
+    }
+    Ok(copies)
 }
