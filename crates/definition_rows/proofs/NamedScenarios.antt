@@ -7,7 +7,7 @@ use Rattle.osc_base.specs.LowestTerms.{gcd, lcm}
 use Rattle.dsl_tree.specs.declared.compounds.CompoundKind.{CompoundKind}
 use Rattle.dsl_tree.specs.FileTree.{MemberTree, DeclarationTree, FileTree}
 use Rattle.type_model.specs.Types.{Program}
-use Rattle.type_model.specs.Declared.{types_of}
+use Rattle.type_model.specs.DeclaredTypes.{types_of}
 use Rattle.composition.specs.StaticFaults.{static_fault}
 use Rattle.definition_rows.proofs.Makers.{at, name_at, within}
 use Rattle.definition_rows.proofs.Sources.{single_value}

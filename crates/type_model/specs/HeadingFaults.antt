@@ -24,7 +24,7 @@ use Rattle.type_model.specs.Types.{Program, Written, TypeBody, Types}
 use Rattle.type_model.specs.Members.{body, has, subtypes}
 use Rattle.type_model.specs.Cycles.{fresh, reached, returns}
 use Rattle.type_model.specs.Units.{is_base_unit, exponents_of}
-use Rattle.type_model.specs.Declared.{Placed, placed, Declared, basic_types, all_declared, meant, items_with, numbered_from}
+use Rattle.type_model.specs.DeclaredTypes.{Placed, placed, Declared, basic_types, all_declared, meant, items_with, numbered_from}
 
 -- Names that are declared twice
 

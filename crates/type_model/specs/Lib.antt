@@ -5,9 +5,12 @@ pub mod Bounds
 pub mod Members
 pub mod Conditions
 pub mod Told
+pub mod Seen
+pub mod Shown
+pub mod Kept
 pub mod Texts
 pub mod Units
-pub mod Declared
+pub mod DeclaredTypes
 pub mod Cycles
 pub mod HeadingFaults
 pub mod MemberFaults

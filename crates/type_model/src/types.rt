@@ -1,0 +1,214 @@
+ghost use Rattle.std.specs.Prelude.{◌≡◌, ℕ, ℤ, fold, List, Option, Some, None, map, length, pos, option_copied, option_map, slice_index_or};
+ghost use Rattle.std.specs.Int.{int_min, int_max};
+ghost use Rattle.type_model.specs.Bounds.{numbers_of, bounds, least_of, greatest_of};
+ghost use Rattle.type_model.specs.Table.{base, enum_members, enums_with, field_of, form, named, owner};
+ghost use Rattle.type_model.specs.Table.{enum_number as number_in, unit as unit_in};
+ghost use Rattle.type_model.specs.Shown.{bare, condition_told, hit_of, kind_form, members_told, shown_field, shown_member, shown_unit, unit_parts};
+
+use crate::entries::{ConditionEntry, FieldEntry, UnitEntry};
+use crate::{EnumHit, FieldType, Form, Heads, MemberRef, TypeId, TypeKind};
+use dsl_tree::CompoundKind;
+use osc_base::{Row, Text};
+use std::marker::Model;
+use units_si::Unit;
+
+/// The greatest magnitude of what a field holds.
+const GREATEST_VALUE: i64 = 1_000_000_000;
+
+/// The types of a program. Contracts see them as what is told of the types: a table of heads, fields, units and
+/// texts, the members of each type, and the conditions of conditional subtypes.
+///
+/// A number that no type has stands for `int`.
+#[derive(Drop)]
+pub struct Types {
+    heads: Heads,
+    fields: Vec<Row<FieldEntry>>,
+    units: Vec<UnitEntry>,
+    texts: Vec<Text>,
+    members: Vec<Row<MemberRef>>,
+    conditions: Vec<Option<ConditionEntry>>,
+    numbers: Vec<Row<i64>>,
+}
+
+impl Model for Types {
+    ghost use Rattle.std.specs.Prelude.{map};
+    ghost use Rattle.type_model.specs.Told.{Told};
+
+    ghost Value = { Told };
+
+    ghost use Rattle.type_model.specs.Shown.{shown_member};
+    ghost use Rattle.type_model.specs.Kept.{AreKept};
+
+    ghost view = { λ s. record {
+      table = record { heads = s.heads; fields = s.fields.items; units = s.units.items; texts = s.texts.items };
+      members = map (map shown_member) s.members.items;
+      conditions = s.conditions.items;
+    } };
+
+    ghost invariant = { λ s. AreKept s.heads s.numbers.items s.texts.items };
+}
+
+impl Types {
+    /// How many types there are.
+    pub fn count(&self) -> u32
+        ensures { result ≡ length self.now.table.heads }
+    {
+        self.heads.count()
+    }
+
+    /// The first type of that name. Only a behaviour that is asked for with its owner has one.
+    pub fn named(&self, owner: Option<&str>, name: &str) -> Option<TypeId>
+        ensures { result ≡ named self.now.table.heads (option_copied owner.entry) name.now }
+    {
+        self.heads.named(owner, name)
+    }
+
+    /// The type that a type inherits from.
+    pub fn base(&self, of: TypeId) -> Option<TypeId>
+        ensures { result ≡ base self.now.table.heads of }
+    {
+        self.heads.base(of)
+    }
+
+    /// The actor that owns a behaviour.
+    pub fn owner(&self, of: TypeId) -> Option<TypeId>
+        ensures { result ≡ owner self.now.table.heads of }
+    {
+        self.heads.owner(of)
+    }
+
+    /// What a type is.
+    pub fn kind(&self, of: TypeId) -> TypeKind
+        ensures { kind_form result ≡ bare (form self.now.table.heads of) }
+    {
+        match self.heads.form(of) {
+            Form::Int => TypeKind::Int,
+            Form::Uint => TypeKind::Uint,
+            Form::Float => TypeKind::Float,
+            Form::Truth => TypeKind::Bool,
+            Form::Chars => TypeKind::Chars,
+            Form::Physical(Some(exponents)) => TypeKind::Physical(exponents),
+            Form::Physical(None) => unreachable!("each physical type has exponents"),
+            Form::Enum(_) => TypeKind::Enum,
+            Form::Compound(CompoundKind::Struct) => TypeKind::Struct,
+            Form::Compound(CompoundKind::Actor) => TypeKind::Actor,
+            Form::Compound(CompoundKind::Action) => TypeKind::Action,
+            Form::Compound(CompoundKind::Scenario) => TypeKind::Scenario,
+        }
+    }
+
+    /// The members of a type, in order.
+    pub fn members(&self, of: TypeId) -> &[MemberRef]
+        ensures { map shown_member result.now ≡ members_told self.now of }
+    {
+        match self.members.get(of.0 as usize) {
+            Some(members) => members.as_slice(),
+            None => &[],
+        }
+    }
+
+    /// The type of the field of that name.
+    pub fn field(&self, of: TypeId, name: &str) -> Option<FieldType>
+        ensures { result ≡ option_map shown_field (field_of self.now.table of name.now) }
+    {
+        let fields = self.fields.get(of.0 as usize)?;
+        let field = fields.as_slice().iter().find(|f| f.name() == name)?;
+        Some(field.of())
+    }
+
+    /// The unit of that name.
+    pub fn unit(&self, name: &str) -> Option<Unit>
+        ensures { option_map shown_unit result ≡ option_map unit_parts (unit_in self.now.table name.now) }
+    {
+        let entry = self.units.iter().find(|u| u.name() == name)?;
+        Some(entry.unit())
+    }
+
+    /// The condition of a conditional subtype: the field that it looks at, and the number that this must have.
+    pub fn condition(&self, of: TypeId) -> Option<(&str, i64)>
+        ensures { option_map {U = List ℕ × ℤ} (λ p. (p.0.now, p.1)) result ≡ option_map {U = List ℕ × ℤ} (λ c. (c.field, c.value)) (condition_told self.now of) }
+    {
+        match self.conditions.get(of.0 as usize)? {
+            Some(condition) => Some((condition.field(), condition.value())),
+            None => None,
+        }
+    }
+
+    /// The numbers of an enum, ascending. Other types have none.
+    pub fn numbers(&self, of: TypeId) -> &[i64]
+        ensures { result.now ≡ numbers_of (enum_members (form self.now.table.heads of)) }
+    {
+        match self.numbers.get(of.0 as usize) {
+            Some(numbers) => numbers.as_slice(),
+            None => &[],
+        }
+    }
+
+    /// The number of the member of that name. Only an enum has one.
+    pub fn enum_number(&self, of: TypeId, name: &str) -> Option<i64>
+        ensures { result ≡ option_map pos (number_in self.now.table.heads of name.now) }
+    {
+        self.heads.enum_number(of, name)
+    }
+
+    /// Which enum has a member of that name.
+    pub fn enum_with(&self, name: &str) -> EnumHit
+        ensures { result ≡ hit_of (enums_with self.now.table.heads name.now) }
+    {
+        self.heads.enum_with(name)
+    }
+
+    /// The texts that a string may hold, each once, in byte order.
+    pub fn texts(&self) -> &[Text]
+        ensures { result.now ≡ self.now.table.texts }
+    {
+        self.texts.as_slice()
+    }
+
+    /// The least and the greatest number that a field of that type may hold: of a float or physical type in
+    /// thousandths, of a string the numbers of texts, of a type with members 0.
+    pub fn bounds(&self, of: TypeId) -> (i64, i64)
+        ensures { result ≡ bounds self.now.table.texts (form self.now.table.heads of) }
+    {
+        match self.heads.form(of) {
+            Form::Int | Form::Float | Form::Physical(_) => (-GREATEST_VALUE, GREATEST_VALUE),
+            Form::Uint => (0, GREATEST_VALUE),
+            Form::Truth => (0, 1),
+            Form::Chars => (0, self.texts.len().saturating_sub(1) as i64),
+            Form::Enum(_) => ends(self.numbers(of)),
+            Form::Compound(_) => (0, 0),
+        }
+    }
+}
+
+/// The least and the greatest of some numbers, and 0 of none.
+fn ends(numbers: &[i64]) -> (i64, i64)
+    ensures { result ≡ (least_of numbers.now, greatest_of numbers.now) }
+{
+    match numbers.split_first() {
+        Some((first, later)) => (least(*first, later), greatest(*first, later)),
+        None => (0, 0),
+    }
+}
+
+/// The least of a number and those after it.
+fn least(first: i64, later: &[i64]) -> i64
+    ensures { result ≡ fold int_min first later.now }
+{
+    let mut least = first;
+    for number in later {
+        least = least.min(*number);
+    }
+    least
+}
+
+/// The greatest of a number and those after it.
+fn greatest(first: i64, later: &[i64]) -> i64
+    ensures { result ≡ fold int_max first later.now }
+{
+    let mut greatest = first;
+    for number in later {
+        greatest = greatest.max(*number);
+    }
+    greatest
+}
