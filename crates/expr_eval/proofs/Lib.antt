@@ -1,2 +1,4 @@
 pub mod Divisors
+pub mod Firsts
 pub mod SeenNodes
+pub mod Settled

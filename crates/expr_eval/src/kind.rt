@@ -123,15 +123,17 @@ impl ValueKind {
 fn are_same(x: &Exponents, y: &Exponents) -> bool
     ensures { result ≡ same_exponents x.now y.now }
 {
-    is_same(x.kg, y.kg)
-        && (is_same(x.m, y.m) && (is_same(x.s, y.s) && (is_same(x.a, y.a) && end_same(x, y))))
+    let after_mol = and_same(x.cd, y.cd, is_same(x.rad, y.rad));
+    let after_a = and_same(x.k, y.k, and_same(x.mol, y.mol, after_mol));
+    let after_m = and_same(x.s, y.s, and_same(x.a, y.a, after_a));
+    and_same(x.kg, y.kg, and_same(x.m, y.m, after_m))
 }
 
-/// The same exponents from the fifth on.
-fn end_same(x: &Exponents, y: &Exponents) -> bool
-    ensures { result ≡ (same_number x.now.k y.now.k && (same_number x.now.mol y.now.mol && (same_number x.now.cd y.now.cd && same_number x.now.rad y.now.rad))) }
+/// The same exponent, and the same after it.
+fn and_same(x: i8, y: i8, after: bool) -> bool
+    ensures { result ≡ (same_number x y && after) }
 {
-    is_same(x.k, y.k) && (is_same(x.mol, y.mol) && (is_same(x.cd, y.cd) && is_same(x.rad, y.rad)))
+    is_same(x, y) && after
 }
 
 /// The same exponent.

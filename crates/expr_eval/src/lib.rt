@@ -5,8 +5,11 @@ mod compare;
 mod kind;
 mod node;
 mod parts;
+mod relations;
 mod rows;
 mod size;
+mod spans;
+mod sums;
 mod truths;
 
 pub use compare::Compare;

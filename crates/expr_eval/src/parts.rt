@@ -9,13 +9,13 @@ ghost use Rattle.expr_eval.specs.Parts.{of_one, of_two, is_whole as whole, both_
 ghost use Rattle.expr_eval.specs.Seen.{seen, seen_part};
 
 use crate::Typed;
-use osc_base::{Fault, FaultCode, Place};
+use osc_base::{Boxed, Fault, FaultCode, Place};
 
 /// What is known of a part: its first fault, and its typed form, unless it has a fault.
 #[derive(Drop)]
 pub(crate) struct Checked {
     pub fault: Option<Fault>,
-    pub typed: Option<Typed>,
+    pub typed: Option<Boxed<Typed>>,
 }
 
 fn is_before(f: &Fault, g: &Fault) -> bool
@@ -57,48 +57,48 @@ pub(crate) fn fault_if(place: Place, code: FaultCode, holds: bool) -> Option<Fau
 }
 
 /// Something else than one value stands where one is asked for.
-pub(crate) fn is_whole(part: &Option<Typed>) -> bool
+pub(crate) fn is_whole(part: &Option<Boxed<Typed>>) -> bool
     ensures { result ≡ whole (seen_part part.now) }
 {
     match part {
-        Some(typed) => !typed.is_scalar(),
+        Some(typed) => !typed.get().is_scalar(),
         None => false,
     }
 }
 
 /// One of the parts is whole, or something else is wrong with them.
-pub(crate) fn are_whole(left: &Option<Typed>, right: &Option<Typed>, other: bool) -> bool
+pub(crate) fn are_whole(left: &Option<Boxed<Typed>>, right: &Option<Boxed<Typed>>, other: bool) -> bool
     ensures { result ≡ (whole (seen_part left.now) || (whole (seen_part right.now) || other)) }
 {
     is_whole(left) || (is_whole(right) || other)
 }
 
 /// The part is no truth value.
-pub(crate) fn is_no_truth(part: &Option<Typed>) -> bool
+pub(crate) fn is_no_truth(part: &Option<Boxed<Typed>>) -> bool
     ensures { result ≡ of_one (seen_part part.now) (λ x. not (is_truth (kind x))) }
 {
     match part {
-        Some(typed) => !typed.info().kind.is_truth(),
+        Some(typed) => !typed.get().info().kind.is_truth(),
         None => false,
     }
 }
 
 /// The part is no number.
-pub(crate) fn is_no_number(part: &Option<Typed>) -> bool
+pub(crate) fn is_no_number(part: &Option<Boxed<Typed>>) -> bool
     ensures { result ≡ of_one (seen_part part.now) (λ x. not (is_number (kind x))) }
 {
     match part {
-        Some(typed) => !typed.info().kind.is_number(),
+        Some(typed) => !typed.get().info().kind.is_number(),
         None => false,
     }
 }
 
 /// One of the parts is no truth value.
-pub(crate) fn are_no_truths(left: &Option<Typed>, right: &Option<Typed>) -> bool
+pub(crate) fn are_no_truths(left: &Option<Boxed<Typed>>, right: &Option<Boxed<Typed>>) -> bool
     ensures { result ≡ of_two (seen_part left.now) (seen_part right.now) (λ x y. not (is_truth (kind x) && is_truth (kind y))) }
 {
     match (left, right) {
-        (Some(x), Some(y)) => !(x.info().kind.is_truth() && y.info().kind.is_truth()),
+        (Some(x), Some(y)) => !(x.get().info().kind.is_truth() && y.get().info().kind.is_truth()),
         (Some(_), None) | (None, _) => false,
     }
 }
@@ -125,31 +125,31 @@ pub(crate) fn is_joined_wide(left: &Typed, right: &Typed) -> bool
 }
 
 /// One of the parts is no number.
-pub(crate) fn are_no_numbers(left: &Option<Typed>, right: &Option<Typed>) -> bool
+pub(crate) fn are_no_numbers(left: &Option<Boxed<Typed>>, right: &Option<Boxed<Typed>>) -> bool
     ensures { result ≡ of_two (seen_part left.now) (seen_part right.now) (λ x y. not (both_numbers x y)) }
 {
     match (left, right) {
-        (Some(x), Some(y)) => !are_numbers(x, y),
+        (Some(x), Some(y)) => !are_numbers(x.get(), y.get()),
         (Some(_), None) | (None, _) => false,
     }
 }
 
 /// The parts are numbers of different units.
-pub(crate) fn have_other_units(left: &Option<Typed>, right: &Option<Typed>) -> bool
+pub(crate) fn have_other_units(left: &Option<Boxed<Typed>>, right: &Option<Boxed<Typed>>) -> bool
     ensures { result ≡ of_two (seen_part left.now) (seen_part right.now) (λ x y. both_numbers x y && not (same_units (kind x) (kind y))) }
 {
     match (left, right) {
-        (Some(x), Some(y)) => differ_in_units(x, y),
+        (Some(x), Some(y)) => differ_in_units(x.get(), y.get()),
         (Some(_), None) | (None, _) => false,
     }
 }
 
 /// The sum or relation of the parts is too wide.
-pub(crate) fn are_joined_wide(left: &Option<Typed>, right: &Option<Typed>) -> bool
+pub(crate) fn are_joined_wide(left: &Option<Boxed<Typed>>, right: &Option<Boxed<Typed>>) -> bool
     ensures { result ≡ of_two (seen_part left.now) (seen_part right.now) (λ x y. is_wide (joined (size x) (size y))) }
 {
     match (left, right) {
-        (Some(x), Some(y)) => is_joined_wide(x, y),
+        (Some(x), Some(y)) => is_joined_wide(x.get(), y.get()),
         (Some(_), None) | (None, _) => false,
     }
 }

@@ -1,85 +1,91 @@
 //! Rows of parts that operators of one level join.
 
 ghost use Rattle.std.specs.Prelude.{◌≡◌, map, IfOk};
+ghost use Rattle.expr_eval.specs.declared.node.Join.{Join};
+ghost use Rattle.expr_eval.specs.Typed as Nodes;
 ghost use Rattle.expr_eval.specs.Seen.{seen, seen_info, joined, grouped, reached as reached_at};
 
 use crate::{Earlier, Info, Join, Typed};
 use osc_base::{Boxed, Row};
 use std::alloc::{AllocError, Global};
 
-/// The row `first`, `earlier` and `last` with one part more. `reached` is what the row held of itself.
-fn longer(
-    alloc: Global,
-    info: Info,
-    reached: Info,
-    join: Join,
-    first: Boxed<Typed>,
+/// What is before the last part of a row, with that part.
+fn extended(
     earlier: Row<Earlier>,
-    last: Typed,
-    part: Typed,
-) -> Result<Typed, AllocError>
-    ensures { IfOk result (λ t. seen t ≡ joined join (seen_info info) (joined join (seen_info reached) (grouped join (seen first) (map reached_at earlier)) (seen last)) (seen part)) }
+    info: &Info,
+    part: Boxed<Typed>,
+) -> Result<Row<Earlier>, AllocError>
+    ensures { IfOk result (λ es. (join : Join) (first : Nodes.Typed) → grouped join first (map reached_at es) ≡ joined join (seen_info info.now) (grouped join first (map reached_at earlier)) (seen part)) }
 {
     let mut earlier = earlier;
     earlier.push(Earlier {
-        info: reached,
-        part: last,
+        info: *info,
+        part: part.into_inner(),
     })?;
-    Ok(Typed::Joined {
-        info,
+    Ok(earlier)
+}
+
+/// A row of parts.
+fn row_of(
+    alloc: Global,
+    info: &Info,
+    join: Join,
+    first: Boxed<Typed>,
+    earlier: Row<Earlier>,
+    last: Boxed<Typed>,
+) -> Result<Boxed<Typed>, AllocError>
+    ensures { IfOk result (λ t. seen t ≡ joined join (seen_info info.now) (grouped join (seen first) (map reached_at earlier)) (seen last)) }
+{
+    let row = Typed::Joined {
+        info: *info,
         join,
         first,
         earlier,
-        last: Boxed::new(alloc, part)?,
-    })
+        last,
+    };
+    Boxed::new(alloc, row)
 }
 
-/// A row of two parts.
+/// `left` and `right`, joined.
 fn pair(
     alloc: Global,
-    info: Info,
+    info: &Info,
     join: Join,
     left: Typed,
-    right: Typed,
-) -> Result<Typed, AllocError>
-    ensures { IfOk result (λ t. seen t ≡ joined join (seen_info info) (seen left) (seen right)) }
+    right: Boxed<Typed>,
+) -> Result<Boxed<Typed>, AllocError>
+    ensures { IfOk result (λ t. seen t ≡ joined join (seen_info info.now) (seen left) (seen right)) }
 {
-    Ok(Typed::Joined {
-        info,
-        join,
-        first: Boxed::new(alloc, left)?,
-        earlier: Row::new(alloc),
-        last: Boxed::new(alloc, right)?,
-    })
+    let left = Boxed::new(alloc, left)?;
+    row_of(alloc, info, join, left, Row::new(alloc), right)
 }
 
 /// `left` and `right`, joined. A row on the left that is joined in the same way gets one part more.
 pub(crate) fn with_part(
     alloc: Global,
-    info: Info,
+    info: &Info,
     join: Join,
-    left: Typed,
-    right: Typed,
-) -> Result<Typed, AllocError>
-    ensures { IfOk result (λ t. seen t ≡ joined join (seen_info info) (seen left) (seen right)) }
+    left: Boxed<Typed>,
+    right: Boxed<Typed>,
+) -> Result<Boxed<Typed>, AllocError>
+    ensures { IfOk result (λ t. seen t ≡ joined join (seen_info info.now) (seen left) (seen right)) }
 {
-    match left {
+    match left.into_inner() {
         Typed::Joined {
             info: reached,
             join: other,
             first,
             earlier,
             last,
-        } if other == join => longer(
-            alloc,
-            info,
-            reached,
-            join,
-            first,
-            earlier,
-            last.into_inner(),
-            right,
-        ),
+        } => {
+            if other == join {
+                let earlier = extended(earlier, &reached, last)?;
+                row_of(alloc, info, join, first, earlier, right)
+            } else {
+                let left = row_of(alloc, &reached, other, first, earlier, last)?;
+                row_of(alloc, info, join, left, Row::new(alloc), right)
+            }
+        }
         left => pair(alloc, info, join, left, right),
     }
 }

@@ -24,26 +24,34 @@ pub(crate) fn truth_at(place: Place) -> Info
     }
 }
 
-fn not_fault(place: Place, part: &Option<Typed>) -> Option<Fault>
+fn not_fault(place: Place, part: &Option<Boxed<Typed>>) -> Option<Fault>
     ensures { result ≡ first_fault (not_rows place (seen_part part.now)) }
 {
     fault_if(place, FaultCode::Clash, is_whole(part) || is_no_truth(part))
 }
 
-fn not_of(alloc: Global, place: Place, part: Option<Typed>) -> Result<Option<Typed>, AllocError>
+fn not_of(
+    alloc: Global,
+    place: Place,
+    part: Option<Boxed<Typed>>,
+) -> Result<Option<Boxed<Typed>>, AllocError>
     ensures { IfOk result (λ t. seen_part t ≡ on_one (seen_part part) (λ x. Not (truth_info place) x)) }
 {
     match part {
-        Some(part) => Ok(Some(Typed::Not {
-            info: truth_at(place),
-            part: Boxed::new(alloc, part)?,
-        })),
+        Some(part) => {
+            let info = truth_at(place);
+            Ok(Some(Boxed::new(alloc, Typed::Not { info, part })?))
+        }
         None => Ok(None),
     }
 }
 
 /// `not`.
-pub(crate) fn not(alloc: Global, place: Place, part: Option<Typed>) -> Result<Checked, AllocError>
+pub(crate) fn not(
+    alloc: Global,
+    place: Place,
+    part: Option<Boxed<Typed>>,
+) -> Result<Checked, AllocError>
     ensures fault { IfOk result (λ c. c.fault ≡ first_fault (not_rows place (seen_part part))) }
     ensures typed { IfOk result (λ c. seen_part c.typed ≡ not_typed place (seen_part part)) }
 {
@@ -59,27 +67,34 @@ pub(crate) fn not(alloc: Global, place: Place, part: Option<Typed>) -> Result<Ch
     }
 }
 
-fn logic_fault(place: Place, left: &Option<Typed>, right: &Option<Typed>) -> Option<Fault>
+fn logic_fault(
+    place: Place,
+    left: &Option<Boxed<Typed>>,
+    right: &Option<Boxed<Typed>>,
+) -> Option<Fault>
     ensures { result ≡ first_fault (logic_rows place (seen_part left.now) (seen_part right.now)) }
 {
     let clash = are_whole(left, right, are_no_truths(left, right));
     fault_if(place, FaultCode::Clash, clash)
 }
 
-fn row_of(
+fn logic_of(
     alloc: Global,
     join: Join,
-    left: Option<Typed>,
-    right: Option<Typed>,
-) -> Result<Option<Typed>, AllocError>
+    left: Option<Boxed<Typed>>,
+    right: Option<Boxed<Typed>>,
+) -> Result<Option<Boxed<Typed>>, AllocError>
     ensures { IfOk result (λ t. seen_part t ≡ on_two (seen_part left) (seen_part right) (λ x y. joined join (truth_info (place_of x)) x y)) }
 {
-    match (left, right) {
-        (Some(left), Some(right)) => {
-            let info = truth_at(left.info().place);
-            Ok(Some(with_part(alloc, info, join, left, right)?))
-        }
-        (Some(_), None) | (None, _) => Ok(None),
+    match left {
+        Some(left) => match right {
+            Some(right) => {
+                let info = truth_at(left.get().info().place);
+                Ok(Some(with_part(alloc, &info, join, left, right)?))
+            }
+            None => Ok(None),
+        },
+        None => Ok(None),
     }
 }
 
@@ -88,8 +103,8 @@ pub(crate) fn logic(
     alloc: Global,
     place: Place,
     join: Join,
-    left: Option<Typed>,
-    right: Option<Typed>,
+    left: Option<Boxed<Typed>>,
+    right: Option<Boxed<Typed>>,
 ) -> Result<Checked, AllocError>
     ensures fault { IfOk result (λ c. c.fault ≡ first_fault (logic_rows place (seen_part left) (seen_part right))) }
     ensures typed { IfOk result (λ c. seen_part c.typed ≡ logic_typed join place (seen_part left) (seen_part right)) }
@@ -97,7 +112,7 @@ pub(crate) fn logic(
     match logic_fault(place, &left, &right) {
         None => Ok(Checked {
             fault: None,
-            typed: row_of(alloc, join, left, right)?,
+            typed: logic_of(alloc, join, left, right)?,
         }),
         Some(fault) => Ok(Checked {
             fault: Some(fault),
@@ -108,18 +123,20 @@ pub(crate) fn logic(
 
 fn implies_of(
     alloc: Global,
-    left: Option<Typed>,
-    right: Option<Typed>,
-) -> Result<Option<Typed>, AllocError>
+    left: Option<Boxed<Typed>>,
+    right: Option<Boxed<Typed>>,
+) -> Result<Option<Boxed<Typed>>, AllocError>
     ensures { IfOk result (λ t. seen_part t ≡ on_two (seen_part left) (seen_part right) (λ x y. Implies (truth_info (place_of x)) x y)) }
 {
-    match (left, right) {
-        (Some(left), Some(right)) => Ok(Some(Typed::Implies {
-            info: truth_at(left.info().place),
-            left: Boxed::new(alloc, left)?,
-            right: Boxed::new(alloc, right)?,
-        })),
-        (Some(_), None) | (None, _) => Ok(None),
+    match left {
+        Some(left) => match right {
+            Some(right) => {
+                let info = truth_at(left.get().info().place);
+                Ok(Some(Boxed::new(alloc, Typed::Implies { info, left, right })?))
+            }
+            None => Ok(None),
+        },
+        None => Ok(None),
     }
 }
 
@@ -127,8 +144,8 @@ fn implies_of(
 pub(crate) fn implies(
     alloc: Global,
     place: Place,
-    left: Option<Typed>,
-    right: Option<Typed>,
+    left: Option<Boxed<Typed>>,
+    right: Option<Boxed<Typed>>,
 ) -> Result<Checked, AllocError>
     ensures fault { IfOk result (λ c. c.fault ≡ first_fault (logic_rows place (seen_part left) (seen_part right))) }
     ensures typed { IfOk result (λ c. seen_part c.typed ≡ implies_typed place (seen_part left) (seen_part right)) }

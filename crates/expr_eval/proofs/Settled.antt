@@ -1,0 +1,74 @@
+-- An operator has a typed form exactly if it has no fault.
+use Rattle.std.proofs.Common.{◌≡◌, ◌∙◌, refl, sym, ap, Bool, true, false, cond, List, [], ◌∷◌, Option, Some, None, true≢false}
+use Rattle.std.specs.Prelude.{◌||◌}
+use Rattle.osc_base.specs.declared.fault.Fault.{Fault}
+use Rattle.osc_base.specs.FaultRows.{FaultRow, is_before, first_of, row_fault, first_from, first_fault}
+use Rattle.expr_eval.specs.Typed.{Typed}
+use Rattle.expr_eval.specs.Parts.{any_holds, unless}
+
+-- there is a fault
+abbrev IsKept : Option Fault → Type 0
+IsKept None = ⊥
+IsKept (Some f) = Unit {0}
+
+-- a first fault stays, or an earlier one takes its place
+still : (f : Fault) (rows : List FaultRow) → IsKept (first_from (Some f) rows)
+still f [] = tt
+still f (r ∷ rs) = by (still f rs) (still r.fault rs) r.holds
+  where
+    of_two : IsKept (first_from (Some f) rs) → IsKept (first_from (Some r.fault) rs) → (b : Bool) → IsKept (first_from (cond b (Some r.fault) (Some f)) rs)
+    of_two old new true = new
+    of_two old new false = old
+
+    by : IsKept (first_from (Some f) rs) → IsKept (first_from (Some r.fault) rs) → (b : Bool) → IsKept (first_from (first_of (Some f) (cond b (Some r.fault) None)) rs)
+    by old new true = of_two old new (is_before r.fault f)
+    by old new false = old
+
+-- no fault, if none holds
+quiet : (rows : List FaultRow) → any_holds rows ≡ false → first_fault rows ≡ None
+quiet [] h = refl
+quiet (r ∷ rs) h = by (quiet rs) r.holds h
+  where
+    by : (any_holds rs ≡ false → first_fault rs ≡ None) → (b : Bool) → (b || any_holds rs) ≡ false → first_from (cond b (Some r.fault) None) rs ≡ None
+    by later true e = absurd (true≢false e)
+    by later false e = later e
+
+-- and one, if one holds
+loud : (rows : List FaultRow) → any_holds rows ≡ true → IsKept (first_fault rows)
+loud [] h = absurd (true≢false (sym h))
+loud (r ∷ rs) h = by (loud rs) r.holds h
+  where
+    by : (any_holds rs ≡ true → IsKept (first_fault rs)) → (b : Bool) → (b || any_holds rs) ≡ true → IsKept (first_from (cond b (Some r.fault) None) rs)
+    by later true e = still r.fault rs
+    by later false e = later e
+
+pub refused : (rows : List FaultRow) (made : Option Typed) (f : Fault) → Some f ≡ first_fault rows → None ≡ unless rows made
+refused rows made f is = by (any_holds rows) refl
+  where
+    by : (b : Bool) → any_holds rows ≡ b → None ≡ cond b None made
+    by true e = refl
+    by false e = let same : Some f ≡ None = is ∙ quiet rows e in absurd (cc)
+
+pub settled : (rows : List FaultRow) (made typed : Option Typed) → None ≡ first_fault rows → typed ≡ made → typed ≡ unless rows made
+settled rows made typed is same = by (any_holds rows) refl
+  where
+    by : (b : Bool) → any_holds rows ≡ b → typed ≡ cond b None made
+    by true e = let h : IsKept (first_fault rows) = loud rows e in absurd (rw (← is) at h)
+    by false e = same
+
+-- the third of three rows doesn't hold, if there is no fault
+no_holds : (rows : List FaultRow) → None ≡ first_fault rows → any_holds rows ≡ false
+no_holds rows is = by (any_holds rows) refl
+  where
+    by : (b : Bool) → any_holds rows ≡ b → b ≡ false
+    by true e = let h : IsKept (first_fault rows) = loud rows e in absurd (rw (← is) at h)
+    by false e = refl
+
+pub no_third : (r s t : FaultRow) → None ≡ first_fault (r ∷ s ∷ t ∷ []) → t.holds ≡ false
+no_third r s t is = by r.holds s.holds t.holds (no_holds (r ∷ s ∷ t ∷ []) is)
+  where
+    by : (a b c : Bool) → (a || (b || (c || false))) ≡ false → c ≡ false
+    by a b false h = refl
+    by true b true h = h
+    by false true true h = h
+    by false false true h = h

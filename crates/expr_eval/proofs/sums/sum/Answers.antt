@@ -1,0 +1,10 @@
+use Rattle.expr_eval.specs.Operators.{sum_rows}
+use Rattle.expr_eval.specs.Seen.{seen_part}
+use Rattle.expr_eval.proofs.Settled.{refused, settled, no_third}
+use Rattle.expr_eval.proofs.sums.sum.Goals as goal
+
+pub returns-in-Some-clause-typed : goal.returns-in-Some-clause-typed
+returns-in-Some-clause-typed c = refused (sum_rows c.args.place (seen_part c.args.left) (seen_part c.args.right)) _ c.in-Some.fault c.in-Some.ensures
+
+pub returns-in_ok-sum_of-clause-typed : goal.returns-in_ok-sum_of-clause-typed
+returns-in_ok-sum_of-clause-typed c = settled (sum_rows c.args.place (seen_part c.args.left) (seen_part c.args.right)) _ _ c.in-None.ensures (c.in_ok-sum_of.ensures (no_third _ _ _ c.in-None.ensures))
