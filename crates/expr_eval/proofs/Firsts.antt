@@ -24,7 +24,7 @@ first_assoc (Some f) (Some g) (Some h) = by (is_before g f) (is_before h g) (is_
   where
     by : (first second third : Bool) → is_before g f ≡ first → is_before h g ≡ second → is_before h f ≡ third
         → first_of (cond first (Some g) (Some f)) (Some h) ≡ first_of (Some f) (cond second (Some h) (Some g))
-    by true true true p q r = rw (p, q, r) refl
+    by true true true p q r = rw (q, r) refl
     by true true false p q r = absurd (true≢false (sym (before_both f g h q p) ∙ r))
     by true false third p q r = rw (p, q) refl
     by false true third p q r = refl

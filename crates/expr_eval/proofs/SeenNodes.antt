@@ -39,3 +39,8 @@ pub row_before : (left : Typed) (info : Info) (other join : Join) (first : Typed
     → grouped join (seen first) (map reached longer) ≡ seen left
 row_before left info other join first earlier longer last is same more =
     more join (seen first) ∙ sym (ap seen is ∙ seen_joined info other first earlier last ∙ ap (λ j. joined j (seen_info info) (grouped j (seen first) (map reached earlier)) (seen last)) same)
+
+-- a list as a row, and back
+pub items_row : (items : List Nodes.Typed) → Nodes.items_of (Nodes.row_of items) ≡ items
+items_row [] = refl
+items_row (t ∷ rest) = ap (λ ts. t ∷ ts) (items_row rest)

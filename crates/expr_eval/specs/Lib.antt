@@ -11,3 +11,4 @@ pub mod Typing
 pub mod Sound
 pub mod Means
 pub mod Seen
+pub mod SeenNames

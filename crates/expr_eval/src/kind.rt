@@ -123,22 +123,26 @@ impl ValueKind {
 fn are_same(x: &Exponents, y: &Exponents) -> bool
     ensures { result ≡ same_exponents x.now y.now }
 {
-    let after_mol = and_same(x.cd, y.cd, is_same(x.rad, y.rad));
-    let after_a = and_same(x.k, y.k, and_same(x.mol, y.mol, after_mol));
-    let after_m = and_same(x.s, y.s, and_same(x.a, y.a, after_a));
-    and_same(x.kg, y.kg, and_same(x.m, y.m, after_m))
+    x.kg == y.kg && (x.m == y.m && are_same_from_s(x, y))
 }
 
-/// The same exponent, and the same after it.
-fn and_same(x: i8, y: i8, after: bool) -> bool
-    ensures { result ≡ (same_number x y && after) }
+/// The same exponents from that of `s` on.
+fn are_same_from_s(x: &Exponents, y: &Exponents) -> bool
+    ensures { result ≡ (same_number x.now.s y.now.s && (same_number x.now.a y.now.a && (same_number x.now.k y.now.k && (same_number x.now.mol y.now.mol && (same_number x.now.cd y.now.cd && same_number x.now.rad y.now.rad))))) }
 {
-    is_same(x, y) && after
+    x.s == y.s && (x.a == y.a && are_same_from_k(x, y))
 }
 
-/// The same exponent.
-fn is_same(x: i8, y: i8) -> bool
-    ensures { result ≡ same_number x y }
+/// The same exponents from that of `k` on.
+fn are_same_from_k(x: &Exponents, y: &Exponents) -> bool
+    ensures { result ≡ (same_number x.now.k y.now.k && (same_number x.now.mol y.now.mol && (same_number x.now.cd y.now.cd && same_number x.now.rad y.now.rad))) }
 {
-    x == y
+    x.k == y.k && (x.mol == y.mol && are_same_from_cd(x, y))
+}
+
+/// The same exponents from that of `cd` on.
+fn are_same_from_cd(x: &Exponents, y: &Exponents) -> bool
+    ensures { result ≡ (same_number x.now.cd y.now.cd && same_number x.now.rad y.now.rad) }
+{
+    x.cd == y.cd && x.rad == y.rad
 }

@@ -2,17 +2,21 @@
 #![tactic(auto)]
 
 mod compare;
+mod fields;
 mod kind;
 mod node;
 mod parts;
 mod relations;
 mod rows;
+mod scope;
 mod size;
 mod spans;
 mod sums;
 mod truths;
+mod within;
 
 pub use compare::Compare;
 pub use kind::ValueKind;
 pub use node::{Earlier, Info, Join, Typed};
+pub use scope::{Label, Scope};
 pub use size::Size;

@@ -2,7 +2,7 @@
 
 ghost use Rattle.std.specs.Prelude.{◌≡◌, IfOk};
 ghost use Rattle.osc_base.specs.FaultRows.{first_fault};
-ghost use Rattle.expr_eval.specs.Typed.{Span, begun_at as begun, info as info_of, kind};
+ghost use Rattle.expr_eval.specs.Typed.{Span, begun_at, kind};
 ghost use Rattle.expr_eval.specs.Sizes.{info_at, unit_size};
 ghost use Rattle.expr_eval.specs.Parts.{on_two};
 ghost use Rattle.expr_eval.specs.Operators.{part_rows, span_rows, span_typed, group_typed};
@@ -87,5 +87,96 @@ fn moved(place: Place, info: Info) -> Info
         place,
         kind: info.kind,
         size: info.size,
+    }
+}
+
+/// The node, said to begin at another place.
+fn begun(place: Place, typed: Typed) -> Typed
+    ensures { seen result ≡ begun_at place (seen typed) }
+{
+    match typed {
+        Typed::Constant { info, number } => Typed::Constant {
+            info: moved(place, info),
+            number,
+        },
+        Typed::Read { info, path, per } => Typed::Read {
+            info: moved(place, info),
+            path,
+            per,
+        },
+        Typed::Whole { info, path } => Typed::Whole {
+            info: moved(place, info),
+            path,
+        },
+        Typed::Listed {
+            info,
+            is_field,
+            items,
+        } => Typed::Listed {
+            info: moved(place, info),
+            is_field,
+            items,
+        },
+        Typed::Span { info, low, high } => Typed::Span {
+            info: moved(place, info),
+            low,
+            high,
+        },
+        Typed::Minus { info, part } => Typed::Minus {
+            info: moved(place, info),
+            part,
+        },
+        Typed::Not { info, part } => Typed::Not {
+            info: moved(place, info),
+            part,
+        },
+        Typed::Joined {
+            info,
+            join,
+            first,
+            earlier,
+            last,
+        } => Typed::Joined {
+            info: moved(place, info),
+            join,
+            first,
+            earlier,
+            last,
+        },
+        Typed::Implies { info, left, right } => Typed::Implies {
+            info: moved(place, info),
+            left,
+            right,
+        },
+        Typed::Relation {
+            info,
+            sign,
+            left,
+            right,
+        } => Typed::Relation {
+            info: moved(place, info),
+            sign,
+            left,
+            right,
+        },
+        Typed::Within { info, left, right } => Typed::Within {
+            info: moved(place, info),
+            left,
+            right,
+        },
+    }
+}
+
+/// An expression in brackets begins where its bracket does.
+pub(crate) fn group(
+    alloc: Global,
+    place: Place,
+    part: Option<Boxed<Typed>>,
+) -> Result<Option<Boxed<Typed>>, AllocError>
+    ensures { IfOk result (λ t. seen_part t ≡ group_typed place (seen_part part)) }
+{
+    match part {
+        Some(part) => Ok(Some(Boxed::new(alloc, begun(place, part.into_inner()))?)),
+        None => Ok(None),
     }
 }

@@ -1,0 +1,32 @@
+-- What the program's own scopes and meanings stand for in the definitions.
+use Rattle.std.specs.Prelude.{ℕ, cond, Option, option_map, map}
+use Rattle.osc_base.specs.declared.fault.Place.{Place}
+use Rattle.osc_base.specs.declared.path.Path.{Path}
+use Rattle.type_model.specs.declared.kinds.FieldType.{FieldType}
+use Rattle.type_model.specs.Form.{Form}
+use Rattle.type_model.specs.Table.{has_members}
+use Rattle.expr_eval.specs.declared.scope.Label.{Label}
+use Rattle.expr_eval.specs.declared.scope.Scope.{Scope}
+use Rattle.expr_eval.specs.Kinds.{kind_of}
+use Rattle.expr_eval.specs.Typed.{Typed, Whole, Read}
+use Rattle.expr_eval.specs.Sizes.{info_at, unit_size, field_size}
+use Rattle.expr_eval.specs.Scope as Scopes
+use Rattle.expr_eval.specs.Scope.{It}
+use Rattle.expr_eval.specs.Names.{per_of}
+use Rattle.expr_eval.specs.Seen.{seen_made}
+
+-- what `it` stands for; the program always knows it
+abbrev pub seen_it : FieldType → It
+seen_it f = It.Of f.of f.length
+
+-- a label
+abbrev pub seen_label : Label → Scopes.Label
+seen_label l = record { name = l.name; path = l.path; made = seen_made l.made; hidden = l.hidden }
+
+-- a scope
+abbrev pub seen_scope : Scope → Scopes.Scope
+seen_scope s = record { holder = s.holder; it = option_map seen_it s.it; labels = map seen_label s.labels }
+
+-- a field of one value or object, whose type is of that form
+abbrev pub single_in : Place → Path → ℕ → Form → Option Typed
+single_in place path t f = option_map (λ k. cond (has_members f) (Whole (info_at place k unit_size) path) (Read (info_at place k (field_size (per_of f))) path (per_of f))) (kind_of t f)
