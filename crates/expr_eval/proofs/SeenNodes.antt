@@ -1,6 +1,11 @@
 -- What the nodes of typed expressions are seen as, in terms of their parts.
 use Rattle.std.proofs.Common.{◌≡◌, List, [], ◌∷◌, ◌++◌, ◌∙◌, ap, sym, map, refl}
 use Rattle.std.proofs.lemmas.List.{map-append}
+use Rattle.std.specs.Prelude.{Bool, not}
+use Rattle.std.specs.List.{list_any}
+use Rattle.expr_eval.specs.Kinds.{are_alike}
+use Rattle.expr_eval.specs.Parts.{parts_of}
+use Rattle.expr_eval.specs.Operators.{fits_in}
 use Rattle.expr_eval.specs.declared.node.Info.{Info}
 use Rattle.expr_eval.specs.declared.node.Join.{Join}
 use Rattle.expr_eval.specs.declared.node.Earlier.{Earlier}
@@ -44,3 +49,23 @@ row_before left info other join first earlier longer last is same more =
 pub items_row : (items : List Nodes.Typed) → Nodes.items_of (Nodes.row_of items) ≡ items
 items_row [] = refl
 items_row (t ∷ rest) = ap (λ ts. t ∷ ts) (items_row rest)
+
+pub seen_listed : (info : Info) (is_field : Bool) (items : List Typed) → seen (TheViews.Listed info is_field items) ≡ Nodes.Listed (seen_info info) is_field (Nodes.row_of (map seen items))
+unfolding Rattle.expr_eval.specs.declared.node.Typed.TheViews.roll-Typed denote.Hole.Carrier.roll
+seen_listed info is_field items = fold-roll-Typed Nodes.Typed Reached typed_step earlier_step (Typed-F.Listed info is_field items)
+
+module _ (t : Typed) (info : Info) (is_field : Bool) (items shown : List Typed) (is : t ≡ TheViews.Listed info is_field items) (same : shown ≡ items) where
+  seen_as : seen t ≡ Nodes.Listed (seen_info info) is_field (Nodes.row_of (map seen items))
+  seen_as = ap seen is ∙ seen_listed info is_field items
+
+  items_are : map seen shown ≡ Nodes.items_of (Nodes.row_of (map seen items))
+  items_are = ap (map seen) same ∙ sym (items_row (map seen items))
+
+  -- a test of the items of a list
+  pub any_listed : (test : Nodes.Typed → Bool) (r : Bool) → r ≡ list_any test (map seen shown) → r ≡ list_any test (parts_of (seen t))
+  any_listed test r h = h ∙ ap (list_any test) items_are ∙ sym (ap (λ n. list_any test (parts_of n)) seen_as)
+
+  pub fits_listed : (x : Nodes.Typed) (r : Bool) → r ≡ list_any (λ y. not (are_alike (Nodes.kind x) (Nodes.kind y))) (map seen shown) → not r ≡ fits_in x (seen t)
+  fits_listed x r h =
+      ap not (h ∙ ap (list_any (λ y. not (are_alike (Nodes.kind x) (Nodes.kind y)))) items_are)
+      ∙ sym (ap (fits_in x) seen_as)

@@ -1,10 +1,15 @@
 -- An operator has a typed form exactly if it has no fault.
 use Rattle.std.proofs.Common.{◌≡◌, ◌∙◌, refl, sym, ap, Bool, true, false, cond, List, [], ◌∷◌, Option, Some, None, true≢false}
-use Rattle.std.specs.Prelude.{◌||◌}
+use Rattle.std.specs.Prelude.{◌||◌, ◌&&◌, not}
+use Rattle.osc_base.specs.declared.fault.Place.{Place}
+use Rattle.osc_base.specs.declared.fault.FaultCode.{FaultCode}
 use Rattle.osc_base.specs.declared.fault.Fault.{Fault}
-use Rattle.osc_base.specs.FaultRows.{FaultRow, is_before, first_of, row_fault, first_from, first_fault}
-use Rattle.expr_eval.specs.Typed.{Typed}
-use Rattle.expr_eval.specs.Parts.{any_holds, unless}
+use Rattle.osc_base.specs.FaultRows.{FaultRow, row, is_before, first_of, row_fault, first_from, first_fault}
+use Rattle.expr_eval.specs.Kinds.{same_units}
+use Rattle.expr_eval.specs.Typed.{Typed, kind}
+use Rattle.expr_eval.specs.Sizes.{size, joined, is_wide}
+use Rattle.expr_eval.specs.Parts.{any_holds, unless, of_two, is_whole, both_numbers}
+use Rattle.expr_eval.specs.Operators.{sum_rows}
 
 -- there is a fault
 abbrev IsKept : Option Fault → Type 0
@@ -64,7 +69,7 @@ no_holds rows is = by (any_holds rows) refl
     by true e = let h : IsKept (first_fault rows) = loud rows e in absurd (rw (← is) at h)
     by false e = refl
 
-pub no_third : (r s t : FaultRow) → None ≡ first_fault (r ∷ s ∷ t ∷ []) → t.holds ≡ false
+no_third : (r s t : FaultRow) → None ≡ first_fault (r ∷ s ∷ t ∷ []) → t.holds ≡ false
 no_third r s t is = by r.holds s.holds t.holds (no_holds (r ∷ s ∷ t ∷ []) is)
   where
     by : (a b c : Bool) → (a || (b || (c || false))) ≡ false → c ≡ false
@@ -72,3 +77,10 @@ no_third r s t is = by r.holds s.holds t.holds (no_holds (r ∷ s ∷ t ∷ []) 
     by true b true h = h
     by false true true h = h
     by false false true h = h
+
+pub sum_narrow : (p : Place) (a b : Option Typed) → None ≡ first_fault (sum_rows p a b) → of_two a b (λ x y. is_wide (joined (size x) (size y))) ≡ false
+sum_narrow p a b is = no_third
+    (row p FaultCode.Clash (is_whole a || (is_whole b || of_two a b (λ x y. not (both_numbers x y)))))
+    (row p FaultCode.UnitClash (of_two a b (λ x y. both_numbers x y && not (same_units (kind x) (kind y)))))
+    (row p FaultCode.Wide (of_two a b (λ x y. is_wide (joined (size x) (size y)))))
+    is

@@ -1,5 +1,5 @@
 -- What the program's own scopes and meanings stand for in the definitions.
-use Rattle.std.specs.Prelude.{ℕ, cond, Option, option_map, map}
+use Rattle.std.specs.Prelude.{ℕ, cond, List, Option, option_map, map, find, bytes_eq}
 use Rattle.osc_base.specs.declared.fault.Place.{Place}
 use Rattle.osc_base.specs.declared.path.Path.{Path}
 use Rattle.type_model.specs.declared.kinds.FieldType.{FieldType}
@@ -12,8 +12,10 @@ use Rattle.expr_eval.specs.Typed.{Typed, Whole, Read}
 use Rattle.expr_eval.specs.Sizes.{info_at, unit_size, field_size}
 use Rattle.expr_eval.specs.Scope as Scopes
 use Rattle.expr_eval.specs.Scope.{It}
+use Rattle.expr_eval.specs.Names as Names
 use Rattle.expr_eval.specs.Names.{per_of}
-use Rattle.expr_eval.specs.Seen.{seen_made}
+use Rattle.expr_eval.specs.Seen.{seen_made, seen_part}
+use Rattle.expr_eval.specs.declared.names.Meaning.{Meaning}
 
 -- what `it` stands for; the program always knows it
 abbrev pub seen_it : FieldType → It
@@ -30,3 +32,13 @@ seen_scope s = record { holder = s.holder; it = option_map seen_it s.it; labels 
 -- a field of one value or object, whose type is of that form
 abbrev pub single_in : Place → Path → ℕ → Form → Option Typed
 single_in place path t f = option_map (λ k. cond (has_members f) (Whole (info_at place k unit_size) path) (Read (info_at place k (field_size (per_of f))) path (per_of f))) (kind_of t f)
+
+-- what a name means
+abbrev pub seen_meaning : Meaning → Names.Meaning
+seen_meaning Meaning.Nothing = Names.Nothing
+seen_meaning Meaning.Several = Names.Several
+seen_meaning (Meaning.Something typed) = Names.Something (seen_part typed)
+
+-- the label of a name
+abbrev pub label_in : List Scopes.Label → List ℕ → Option Scopes.Label
+label_in labels name = find (λ (l : Scopes.Label). bytes_eq l.name name) labels

@@ -4,6 +4,7 @@
 mod compare;
 mod fields;
 mod kind;
+mod names;
 mod node;
 mod parts;
 mod relations;

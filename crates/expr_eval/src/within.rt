@@ -55,7 +55,6 @@ fn is_any_wide(left: &Typed, items: &[Typed]) -> bool
 }
 
 /// The value can be compared with each part of the range or list.
-#[tactic(auto, using(crate::proofs::SeenNodes::items_row))]
 fn is_fit(left: &Typed, right: &Typed) -> bool
     ensures { result ≡ fits_in (seen left.now) (seen right.now) }
 {
@@ -77,7 +76,6 @@ fn is_fit(left: &Typed, right: &Typed) -> bool
 }
 
 /// A part of the range or list has another unit.
-#[tactic(auto, using(crate::proofs::SeenNodes::items_row))]
 fn has_part_apart(left: &Typed, right: &Typed) -> bool
     ensures { result ≡ list_any (λ z. both_numbers (seen left.now) z && not (same_units (kind (seen left.now)) (kind z))) (parts_of (seen right.now)) }
 {
@@ -99,7 +97,6 @@ fn has_part_apart(left: &Typed, right: &Typed) -> bool
 }
 
 /// The relation with a part of the range or list is too wide.
-#[tactic(auto, using(crate::proofs::SeenNodes::items_row))]
 fn has_part_wide(left: &Typed, right: &Typed) -> bool
     ensures { result ≡ list_any (λ z. is_wide (joined (size (seen left.now)) (size z))) (parts_of (seen right.now)) }
 {
