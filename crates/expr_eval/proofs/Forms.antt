@@ -10,7 +10,7 @@ use Rattle.type_model.specs.Shown.{bare, hit_of}
 use Rattle.type_model.specs.Table.{Table, is_behaviour, enum_number}
 use Rattle.expr_eval.specs.Typed.{Typed}
 use Rattle.expr_eval.specs.Names.{Nothing, Several, Something, member_meant, member_at}
-use Rattle.expr_eval.specs.SeenNames.{single_in}
+use Rattle.expr_eval.specs.SeenNames.{single_in, list_in}
 
 pub single_bare : (place : Place) (path : Path) (t : ℕ) (f : Form) → single_in place path t (bare f) ≡ single_in place path t f
 single_bare place path t Form.Int = refl
@@ -21,6 +21,16 @@ single_bare place path t Form.Chars = refl
 single_bare place path t (Form.Physical exponents) = refl
 single_bare place path t (Form.Enum members) = refl
 single_bare place path t (Form.Compound kind) = refl
+
+pub list_bare : (place : Place) (path : Path) (t : ℕ) (f : Form) (count : ℕ) → list_in place path t (bare f) count ≡ list_in place path t f count
+list_bare place path t Form.Int count = refl
+list_bare place path t Form.Uint count = refl
+list_bare place path t Form.Float count = refl
+list_bare place path t Form.Truth count = refl
+list_bare place path t Form.Chars count = refl
+list_bare place path t (Form.Physical exponents) count = refl
+list_bare place path t (Form.Enum members) count = refl
+list_bare place path t (Form.Compound kind) count = refl
 
 pub behaviour_bare : (f : Form) → is_behaviour (bare f) ≡ is_behaviour f
 behaviour_bare Form.Int = refl

@@ -1,4 +1,5 @@
 pub mod Divisors
+pub mod Exponents
 pub mod Firsts
 pub mod Forms
 pub mod SeenNodes

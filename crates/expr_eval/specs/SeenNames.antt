@@ -1,5 +1,5 @@
 -- What the program's own scopes and meanings stand for in the definitions.
-use Rattle.std.specs.Prelude.{ℕ, cond, List, Option, option_map, map, find, bytes_eq}
+use Rattle.std.specs.Prelude.{ℕ, true, cond, List, Option, option_map, map, find, bytes_eq}
 use Rattle.osc_base.specs.declared.fault.Place.{Place}
 use Rattle.osc_base.specs.declared.path.Path.{Path}
 use Rattle.type_model.specs.declared.kinds.FieldType.{FieldType}
@@ -8,12 +8,12 @@ use Rattle.type_model.specs.Table.{has_members}
 use Rattle.expr_eval.specs.declared.scope.Label.{Label}
 use Rattle.expr_eval.specs.declared.scope.Scope.{Scope}
 use Rattle.expr_eval.specs.Kinds.{kind_of}
-use Rattle.expr_eval.specs.Typed.{Typed, Whole, Read}
+use Rattle.expr_eval.specs.Typed.{Typed, Whole, Read, Listed}
 use Rattle.expr_eval.specs.Sizes.{info_at, unit_size, field_size}
 use Rattle.expr_eval.specs.Scope as Scopes
 use Rattle.expr_eval.specs.Scope.{It}
 use Rattle.expr_eval.specs.Names as Names
-use Rattle.expr_eval.specs.Names.{per_of}
+use Rattle.expr_eval.specs.Names.{per_of, elements_from}
 use Rattle.expr_eval.specs.Seen.{seen_made, seen_part}
 use Rattle.expr_eval.specs.declared.names.Meaning.{Meaning}
 
@@ -42,3 +42,7 @@ seen_meaning (Meaning.Something typed) = Names.Something (seen_part typed)
 -- the label of a name
 abbrev pub label_in : List Scopes.Label → List ℕ → Option Scopes.Label
 label_in labels name = find (λ (l : Scopes.Label). bytes_eq l.name name) labels
+
+-- a list field whose elements are of that form
+abbrev pub list_in : Place → Path → ℕ → Form → ℕ → Option Typed
+list_in place path t f count = option_map (λ k. Listed (info_at place k unit_size) true (elements_from 0 count (λ p. Read (info_at place k (field_size (per_of f))) p (per_of f)) path)) (kind_of t f)

@@ -18,7 +18,7 @@ use type_model::{TypeId, TypeKind, Types};
 use units_si::Exponents;
 
 /// The exponents of a number without a unit.
-const NO_EXPONENTS: Exponents = Exponents {
+pub(crate) const NO_EXPONENTS: Exponents = Exponents {
     kg: 0,
     m: 0,
     s: 0,
@@ -30,7 +30,7 @@ const NO_EXPONENTS: Exponents = Exponents {
 };
 
 /// The kind of what a field of the type holds.
-fn kind_value(kind: TypeKind, of: TypeId) -> ValueKind
+pub(crate) fn kind_value(kind: TypeKind, of: TypeId) -> ValueKind
     ensures { Some (seen_kind result) ≡ kind_of of (kind_form kind) }
 {
     match kind {
@@ -46,7 +46,7 @@ fn kind_value(kind: TypeKind, of: TypeId) -> ValueKind
 }
 
 /// What is held in a field is counted over 1000 or over 1.
-fn per_of(kind: TypeKind) -> u32
+pub(crate) fn per_of(kind: TypeKind) -> u32
     ensures per { result ≡ counted_over (kind_form kind) }
     ensures above { 0 < result }
 {
@@ -134,7 +134,7 @@ fn with_index(alloc: Global, path: &Path, number: u32) -> Result<Path, AllocErro
     Ok(Path { steps })
 }
 
-fn element(
+pub(crate) fn element(
     alloc: Global,
     place: Place,
     path: &Path,

@@ -3,10 +3,12 @@
 
 mod compare;
 mod fields;
+mod held;
 mod kind;
 mod names;
 mod node;
 mod parts;
+mod products;
 mod relations;
 mod rows;
 mod scope;
