@@ -63,3 +63,13 @@ above_if_there n x is above = by (nat_lt n (2 ^ 128)) is
     by : (b : Bool) → Some x ≡ cond b (Some n) None → 0 < x
     by true e = grind (arith, above, e)
     by false e = absurd (cc)
+
+-- the divisor of a number above 0 and any other
+pub gcd_above_second : (a b : ℕ) → 0 < b → 0 < gcd a b
+gcd_above_second a zero above = absurd (omega arith)
+gcd_above_second a (suc b) above = rw (by_step a b) (gcd_above (suc b) (a % suc b) above)
+
+-- a number above 0 over its divisor
+pub share_above : (a b : ℕ) → 0 < b → 0 < b / gcd a b
+share_above a zero above = absurd (omega arith)
+share_above a (suc b) above = quotient_above (suc b) (gcd a (suc b)) (gcd_above_second a (suc b) above) (gcd_small a b)

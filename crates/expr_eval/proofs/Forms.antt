@@ -1,5 +1,5 @@
 -- What the answers of types say of fields and enums.
-use Rattle.std.proofs.Common.{◌≡◌, ◌∙◌, refl, sym, ap, ℕ, List, [], ◌∷◌, Option, Some, None}
+use Rattle.std.proofs.Common.{◌≡◌, ◌∙◌, refl, sym, ap, ap₂, ℕ, true, List, [], ◌∷◌, Option, Some, None}
 use Rattle.std.specs.Prelude.{ℤ, pos, option_map}
 use Rattle.dsl_tree.specs.declared.parts.Ident.{Ident}
 use Rattle.osc_base.specs.declared.fault.Place.{Place}
@@ -7,9 +7,11 @@ use Rattle.osc_base.specs.declared.path.Path.{Path}
 use Rattle.type_model.specs.Form.{Form}
 use Rattle.type_model.specs.declared.kinds.EnumHit.{EnumHit}
 use Rattle.type_model.specs.Shown.{bare, hit_of}
-use Rattle.type_model.specs.Table.{Table, is_behaviour, enum_number}
-use Rattle.expr_eval.specs.Typed.{Typed}
-use Rattle.expr_eval.specs.Names.{Nothing, Several, Something, member_meant, member_at}
+use Rattle.type_model.specs.Table.{Table, is_behaviour, is_enum, enum_number}
+use Rattle.expr_eval.specs.Kinds.{ValueKind, kind_of}
+use Rattle.expr_eval.specs.Typed.{Typed, TypedRow, Read, Listed}
+use Rattle.expr_eval.specs.Sizes.{Size, info_at, unit_size, field_size}
+use Rattle.expr_eval.specs.Names.{Nothing, Several, Something, member_meant, member_at, per_of, elements_from}
 use Rattle.expr_eval.specs.SeenNames.{single_in, list_in}
 
 pub single_bare : (place : Place) (path : Path) (t : ℕ) (f : Form) → single_in place path t (bare f) ≡ single_in place path t f
@@ -42,6 +44,16 @@ behaviour_bare (Form.Physical exponents) = refl
 behaviour_bare (Form.Enum members) = refl
 behaviour_bare (Form.Compound kind) = refl
 
+pub enum_bare : (f : Form) → is_enum (bare f) ≡ is_enum f
+enum_bare Form.Int = refl
+enum_bare Form.Uint = refl
+enum_bare Form.Float = refl
+enum_bare Form.Truth = refl
+enum_bare Form.Chars = refl
+enum_bare (Form.Physical exponents) = refl
+enum_bare (Form.Enum members) = refl
+enum_bare (Form.Compound kind) = refl
+
 -- which enum is meant by a bare name of a member
 module _ (table : Table) (i : Ident) where
   pub hit_absent : (ts : List ℕ) → hit_of ts ≡ EnumHit.Absent → Nothing ≡ member_meant table i ts
@@ -71,3 +83,14 @@ member_some f g (Some k) n h same =
 pub member_none : {X : Type 0} (f : ℕ → X) (x : Option ℕ) → None ≡ option_map pos x → None ≡ option_map f x
 member_none f None h = refl
 member_none f (Some k) h = absurd (cc)
+
+-- a list field, by its parts
+pub list_made : (place : Place) (path : Path) (t : ℕ) (f : Form) (count : ℕ) (k other : ValueKind) (s unit : Size) (per : ℕ) (rows : TypedRow)
+    → Some k ≡ kind_of t f → Some other ≡ kind_of t f → s ≡ field_size per → unit ≡ unit_size → per ≡ per_of f
+    → rows ≡ elements_from 0 count (λ p. Read (info_at place k s) p per) path
+    → Some (Listed (info_at place other unit) true rows) ≡ list_in place path t f count
+list_made place path t f count k other s unit per rows kind also sized plain counted same =
+    let one : other ≡ k = cc in
+    ap₂ (λ i r. Some (Listed i true r)) (ap₂ (info_at place) one plain)
+    (same ∙ ap₂ (λ z n. elements_from 0 count (λ p. Read (info_at place k z) p n) path) (sized ∙ ap field_size counted) counted)
+    ∙ ap (option_map (λ j. Listed (info_at place j unit_size) true (elements_from 0 count (λ p. Read (info_at place j (field_size (per_of f))) p (per_of f)) path))) kind

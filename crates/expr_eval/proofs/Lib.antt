@@ -1,6 +1,10 @@
 pub mod Divisors
+pub mod Elements
 pub mod Exponents
 pub mod Firsts
 pub mod Forms
+pub mod Indexes
+pub mod NameMeanings
+pub mod Results
 pub mod SeenNodes
 pub mod Settled

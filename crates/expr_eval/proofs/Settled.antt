@@ -5,11 +5,12 @@ use Rattle.osc_base.specs.declared.fault.Place.{Place}
 use Rattle.osc_base.specs.declared.fault.FaultCode.{FaultCode}
 use Rattle.osc_base.specs.declared.fault.Fault.{Fault}
 use Rattle.osc_base.specs.FaultRows.{FaultRow, row, is_before, first_of, row_fault, first_from, first_fault}
+use Rattle.units_si.specs.ExponentTests.{are_exponents}
 use Rattle.expr_eval.specs.Kinds.{same_units}
 use Rattle.expr_eval.specs.Typed.{Typed, kind}
-use Rattle.expr_eval.specs.Sizes.{size, joined, is_wide}
+use Rattle.expr_eval.specs.Sizes.{size, joined, multiplied, is_wide}
 use Rattle.expr_eval.specs.Parts.{any_holds, unless, of_two, is_whole, both_numbers}
-use Rattle.expr_eval.specs.Operators.{sum_rows}
+use Rattle.expr_eval.specs.Operators.{sum_rows, product_rows, product_exponents}
 
 -- there is a fault
 abbrev IsKept : Option Fault → Type 0
@@ -83,4 +84,24 @@ sum_narrow p a b is = no_third
     (row p FaultCode.Clash (is_whole a || (is_whole b || of_two a b (λ x y. not (both_numbers x y)))))
     (row p FaultCode.UnitClash (of_two a b (λ x y. both_numbers x y && not (same_units (kind x) (kind y)))))
     (row p FaultCode.Wide (of_two a b (λ x y. is_wide (joined (size x) (size y)))))
+    is
+
+product_says : (left right both ok wide : Bool) → ((left || (right || not both)) || ((both && not ok) || (wide || false))) ≡ false → not ok ≡ false
+product_says left right both true wide h = refl
+product_says true right both false wide h = h
+product_says false true both false wide h = h
+product_says false false false false wide h = h
+product_says false false true false wide h = h
+
+pub product_limits : (p : Place) (a b : Option Typed) → None ≡ first_fault (product_rows p a b) → of_two a b (λ x y. not (are_exponents (product_exponents x y))) ≡ false
+product_limits p None b is = refl
+product_limits p (Some x) None is = refl
+product_limits p (Some x) (Some y) is =
+    product_says (is_whole (Some x)) (is_whole (Some y)) (both_numbers x y) (are_exponents (product_exponents x y)) (is_wide (multiplied (size x) (size y))) (no_holds (product_rows p (Some x) (Some y)) is)
+
+pub product_narrow : (p : Place) (a b : Option Typed) → None ≡ first_fault (product_rows p a b) → of_two a b (λ x y. is_wide (multiplied (size x) (size y))) ≡ false
+product_narrow p a b is = no_third
+    (row p FaultCode.Clash (is_whole a || (is_whole b || of_two a b (λ x y. not (both_numbers x y)))))
+    (row p FaultCode.UnitClash (of_two a b (λ x y. both_numbers x y && not (are_exponents (product_exponents x y)))))
+    (row p FaultCode.Wide (of_two a b (λ x y. is_wide (multiplied (size x) (size y)))))
     is

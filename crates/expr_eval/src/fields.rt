@@ -8,7 +8,7 @@ ghost use Rattle.expr_eval.specs.Kinds.{kind_of};
 ghost use Rattle.expr_eval.specs.Typed as Nodes;
 ghost use Rattle.expr_eval.specs.Sizes.{info_at, field_size, unit_size};
 ghost use Rattle.expr_eval.specs.Names.{per_of as counted_over, single as field_single};
-ghost use Rattle.expr_eval.specs.Seen.{seen, seen_kind};
+ghost use Rattle.expr_eval.specs.Seen.{seen, seen_info, seen_kind};
 ghost use Rattle.expr_eval.specs.SeenNames.{single_in};
 
 use crate::{Info, Size, Typed, ValueKind};
@@ -90,7 +90,7 @@ fn read_at(place: Place, path: Path, kind: ValueKind, per: u32) -> Typed
 }
 
 /// A whole object.
-fn object_at(place: Place, path: Path, kind: ValueKind) -> Typed
+pub(crate) fn object_at(place: Place, path: Path, kind: ValueKind) -> Typed
     ensures { seen result ≡ Nodes.Whole (info_at place (seen_kind kind) unit_size) path }
 {
     let size = Size::unit();
@@ -134,16 +134,19 @@ fn with_index(alloc: Global, path: &Path, number: u32) -> Result<Path, AllocErro
     Ok(Path { steps })
 }
 
+/// The element of that number of the list at a path.
 pub(crate) fn element(
     alloc: Global,
-    place: Place,
+    info: &Info,
     path: &Path,
     number: u32,
-    kind: ValueKind,
     per: u32,
 ) -> Result<Typed, AllocError>
-    requires { 0 < per }
-    ensures { IfOk result (λ t. seen t ≡ Nodes.Read (info_at place (seen_kind kind) (field_size per)) (then_index path.now number) per) }
+    ensures { IfOk result (λ t. seen t ≡ Nodes.Read (seen_info info.now) (then_index path.now number) per) }
 {
-    Ok(read_at(place, with_index(alloc, path, number)?, kind, per))
+    Ok(Typed::Read {
+        info: *info,
+        path: with_index(alloc, path, number)?,
+        per,
+    })
 }

@@ -1,35 +1,32 @@
 //! What is held at paths: single values, objects and lists.
 
-ghost use Rattle.std.specs.Prelude.{◌≡◌, ◌<◌, Some, map, IfOk};
+ghost use Rattle.std.specs.Prelude.{◌≡◌, Some, map, IfOk};
 ghost use Rattle.type_model.specs.Shown.{kind_form};
 ghost use Rattle.expr_eval.specs.Typed as Nodes;
 ghost use Rattle.expr_eval.specs.Typed.{row_of};
-ghost use Rattle.expr_eval.specs.Sizes.{info_at, field_size};
 ghost use Rattle.expr_eval.specs.Names.{list_field as field_list, held_at as field_held, elements_from};
-ghost use Rattle.expr_eval.specs.Seen.{seen, seen_info, seen_kind};
+ghost use Rattle.expr_eval.specs.Seen.{seen, seen_info};
 ghost use Rattle.expr_eval.specs.SeenNames.{list_in};
 
 use crate::fields::{element, kind_value, per_of, single};
-use crate::{Info, Size, Typed, ValueKind};
+use crate::{Info, Size, Typed};
 use osc_base::{Boxed, Path, Place, Row};
 use std::alloc::{AllocError, Global};
 use type_model::{FieldType, TypeId, TypeKind, Types};
 
-/// The elements of a list field.
+/// The elements of a list field. `info` is what each holds of itself.
 fn elements(
     alloc: Global,
-    place: Place,
+    info: &Info,
     path: &Path,
     count: u32,
-    kind: ValueKind,
     per: u32,
 ) -> Result<Row<Typed>, AllocError>
-    requires { 0 < per }
-    ensures { IfOk result (λ ts. row_of (map seen ts) ≡ elements_from 0 count (λ p. Nodes.Read (info_at place (seen_kind kind) (field_size per)) p per) path.now) }
+    ensures { IfOk result (λ ts. row_of (map seen ts) ≡ elements_from 0 count (λ p. Nodes.Read (seen_info info.now) p per) path.now) }
 {
     let mut items = Row::new(alloc);
     for number in 0..count {
-        items.push(element(alloc, place, path, number, kind, per)?)?;
+        items.push(element(alloc, info, path, number, per)?)?;
     }
     Ok(items)
 }
@@ -61,11 +58,16 @@ fn list_of(
 ) -> Result<Boxed<Typed>, AllocError>
     ensures { IfOk result (λ t. Some (seen t) ≡ list_in place path.now of (kind_form kind) count) }
 {
-    let value = kind_value(kind, of);
-    let items = elements(alloc, place, path, count, value, per_of(kind))?;
+    let per = per_of(kind);
+    let held = Info {
+        place,
+        kind: kind_value(kind, of),
+        size: Size::field(per),
+    };
+    let items = elements(alloc, &held, path, count, per)?;
     let info = Info {
         place,
-        kind: value,
+        kind: kind_value(kind, of),
         size: Size::unit(),
     };
     listed(alloc, info, true, items)

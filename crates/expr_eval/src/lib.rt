@@ -2,11 +2,16 @@
 #![tactic(auto)]
 
 mod compare;
+mod dots;
 mod fields;
 mod held;
 mod kind;
+mod lists;
+mod literals;
+mod meanings;
 mod names;
 mod node;
+mod others;
 mod parts;
 mod products;
 mod relations;

@@ -4,8 +4,8 @@ ghost use Rattle.std.specs.Prelude.{◌≡◌, ◌&&◌, false, true, not, cond,
 ghost use Rattle.osc_base.specs.FaultRows.{first_fault};
 ghost use Rattle.units_si.specs.ExponentTests.{are_exponents};
 ghost use Rattle.expr_eval.specs.Sizes.{size, multiplied, is_wide};
-ghost use Rattle.expr_eval.specs.Parts.{of_two, both_numbers};
-ghost use Rattle.expr_eval.specs.Operators.{exponents_in, product_exponents as exponents_of_product, product_rows, product_of as product_node};
+ghost use Rattle.expr_eval.specs.Parts.{on_two, of_two, both_numbers};
+ghost use Rattle.expr_eval.specs.Operators.{exponents_in, product_exponents as exponents_of_product, product_rows, product_typed, product_of as product_node};
 ghost use Rattle.expr_eval.specs.Seen.{seen, seen_kind, seen_part};
 
 use crate::fields::NO_EXPONENTS;
@@ -105,5 +105,43 @@ fn product_pair(
             None => Ok(None),
         },
         None => Ok(None),
+    }
+}
+
+fn product_of(
+    alloc: Global,
+    left: Option<Boxed<Typed>>,
+    right: Option<Boxed<Typed>>,
+) -> Result<Option<Boxed<Typed>>, AllocError>
+    ensures { IfOk result (λ t. of_two (seen_part left) (seen_part right) (λ x y. not (are_exponents (exponents_of_product x y))) ≡ false → of_two (seen_part left) (seen_part right) (λ x y. is_wide (multiplied (size x) (size y))) ≡ false → seen_part t ≡ on_two (seen_part left) (seen_part right) product_node) }
+{
+    match left {
+        Some(left) => match right {
+            Some(right) => product_pair(alloc, left, right),
+            None => Ok(None),
+        },
+        None => Ok(None),
+    }
+}
+
+/// A product.
+pub(crate) fn product(
+    alloc: Global,
+    place: Place,
+    left: Option<Boxed<Typed>>,
+    right: Option<Boxed<Typed>>,
+) -> Result<Checked, AllocError>
+    ensures fault { IfOk result (λ c. c.fault ≡ first_fault (product_rows place (seen_part left) (seen_part right))) }
+    ensures typed { IfOk result (λ c. seen_part c.typed ≡ product_typed place (seen_part left) (seen_part right)) }
+{
+    match product_fault(place, &left, &right) {
+        None => Ok(Checked {
+            fault: None,
+            typed: product_of(alloc, left, right)?,
+        }),
+        Some(fault) => Ok(Checked {
+            fault: Some(fault),
+            typed: None,
+        }),
     }
 }

@@ -120,7 +120,7 @@ impl Size {
 
 /// The greatest common divisor.
 #[tactic(auto, using(crate::proofs::Divisors::gcd_step, crate::proofs::Divisors::gcd_end))]
-fn gcd(a: u128, b: u128) -> u128
+pub(crate) fn gcd(a: u128, b: u128) -> u128
     ensures { result ≡ divisor a b }
 {
     let (mut x, mut y) = (a, b);

@@ -91,7 +91,7 @@ fn moved(place: Place, info: Info) -> Info
 }
 
 /// The node, said to begin at another place.
-fn begun(place: Place, typed: Typed) -> Typed
+pub(crate) fn begun(place: Place, typed: Typed) -> Typed
     ensures { seen result ≡ begun_at place (seen typed) }
 {
     match typed {
