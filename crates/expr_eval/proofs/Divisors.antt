@@ -1,7 +1,10 @@
 -- Greatest common divisors, step by step.
-use Rattle.std.proofs.Common.{◌≡◌, ℕ, zero, suc, ◌*◌, ◌/◌, ◌%◌, ◌≤◌, ◌<◌, refl, arith}
+use Rattle.std.proofs.Common.{◌≡◌, ℕ, zero, suc, ◌*◌, ◌/◌, ◌%◌, ◌≤◌, ◌<◌, refl, arith, lit<, to_z}
+use Rattle.std.specs.Int.{w128}
+use Rattle.std.proofs.Math.Nat.{one-le-pow, pow-le-pow_right, div-le_self}
+use Rattle.std.proofs.lemmas.Int.{ints, to_z_pos}
 use Rattle.std.proofs.lemmas.Nat.{le-div}
-use Rattle.std.specs.Prelude.{◌^◌, Option, Some, None, cond, Bool, true, false, nat_lt}
+use Rattle.std.specs.Prelude.{◌^◌, ℤ, pos, ◌≤ℤ◌, Option, Some, None, cond, Bool, true, false, nat_lt}
 use Rattle.osc_base.specs.LowestTerms.{gcd_within, gcd, lcm}
 
 -- steps above the second number don't count
@@ -73,3 +76,12 @@ gcd_above_second a (suc b) above = rw (by_step a b) (gcd_above (suc b) (a % suc 
 pub share_above : (a b : ℕ) → 0 < b → 0 < b / gcd a b
 share_above a zero above = absurd (omega arith)
 share_above a (suc b) above = quotient_above (suc b) (gcd a (suc b)) (gcd_above_second a (suc b) above) (gcd_small a b)
+
+-- ten to a small power
+pub power_above : (scale places : ℕ) → scale ≡ 10 ^ places → 0 < scale
+power_above scale places is = rw is (one-le-pow places 10 (omega arith))
+
+pub share_stored : (scale g places : ℕ) → places ≤ 18 → scale ≡ 10 ^ places → 0 < scale / g → pos 1 ≤ℤ to_z w128 (scale / g)
+share_stored scale g places few is above =
+    let small : scale ≤ 10 ^ 18 = rw is (pow-le-pow_right (lit< {n = 10} tt) few) in
+    rw (to_z_pos w128 (scale / g) (omega (arith, div-le_self scale g, small))) (omega (arith, ints, above))

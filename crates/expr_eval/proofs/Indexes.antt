@@ -1,6 +1,6 @@
 -- An index is a number literal, and no other expression.
 use Rattle.std.proofs.Common.{◌≡◌, ◌∙◌, refl, sym, ap, ℕ, zero, suc, List, [], ◌∷◌, map, Option, Some, None}
-use Rattle.std.specs.Prelude.{option_map, slice_get, true}
+use Rattle.std.specs.Prelude.{option_map, slice_get, Bool, true}
 use Rattle.osc_base.specs.declared.fault.Place.{Place}
 use Rattle.dsl_tree.specs.declared.parts.Ident.{Ident}
 use Rattle.dsl_tree.specs.declared.parts.Digits.{Digits}
@@ -14,7 +14,14 @@ use Rattle.dsl_tree.specs.declared.expr.Expr.TheViews
 use Rattle.dsl_tree.specs.declared.expr.Expr.TheViews.{roll-Expr}
 use Rattle.dsl_tree.specs.ExprTree.{ExprTree}
 use Rattle.dsl_tree.specs.Views.{SuffixTree, FurtherTree, Named, At, grouped, with_suffixes, named_row, indexed_row, expr_step, suffix_step, further_step, expr_tree, suffix_tree, further_tree}
-use Rattle.expr_eval.specs.Operators.{index_of}
+use Rattle.expr_eval.specs.declared.node.Info.{Info}
+use Rattle.expr_eval.specs.declared.node.Typed.{Typed}
+use Rattle.expr_eval.specs.declared.node.Typed.TheViews as Nodes
+use Rattle.expr_eval.specs.Typed as Mirror
+use Rattle.expr_eval.specs.Typed.{row_of}
+use Rattle.expr_eval.specs.Operators.{index_of, element}
+use Rattle.expr_eval.specs.Seen.{seen, seen_info}
+use Rattle.expr_eval.proofs.SeenNodes.{seen_listed, items_row}
 
 by_kind : (Q : Expr → Type 0) → ((x : Expr-F Expr Suffix Further) → Q (roll-Expr x)) → (e : Expr) → Q e
 by_kind Q each = ind-Expr Q (λ s. Unit {0}) (λ f. Unit {0}) (λ x y is. each x) (λ x y is. tt) (λ x y is. tt)
@@ -71,3 +78,11 @@ pub item_seen : {A B : Type 0} (f : A → B) (xs : List A) (n : ℕ) → option_
 item_seen f [] n = refl
 item_seen f (x ∷ xs) zero = refl
 item_seen f (x ∷ xs) (suc n) = item_seen f xs n
+
+pub element_seen : (head : Typed) (info : Info) (is_field : Bool) (items shown : List Typed) (n : ℕ) (r : Option Typed) → head ≡ Nodes.Listed info is_field items → is_field ≡ true → shown ≡ items
+    → r ≡ slice_get shown n → option_map seen r ≡ element n (seen head)
+element_seen head info is_field items shown n r is held same found =
+    ap (option_map seen) (found ∙ ap (λ xs. slice_get xs n) same)
+    ∙ item_seen seen items n
+    ∙ ap (λ xs. slice_get xs n) (sym (items_row (map seen items)))
+    ∙ sym (ap (element n) (ap seen is ∙ seen_listed info is_field items ∙ ap (λ b. Mirror.Listed (seen_info info) b (row_of (map seen items))) held))

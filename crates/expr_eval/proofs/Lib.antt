@@ -4,7 +4,10 @@ pub mod Exponents
 pub mod Firsts
 pub mod Forms
 pub mod Indexes
+pub mod LiteralUnits
 pub mod NameMeanings
+pub mod Pairs
 pub mod Results
 pub mod SeenNodes
 pub mod Settled
+pub mod SlotValues

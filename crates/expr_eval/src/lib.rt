@@ -13,6 +13,7 @@ mod names;
 mod node;
 mod others;
 mod parts;
+mod physical;
 mod products;
 mod relations;
 mod rows;

@@ -1,6 +1,7 @@
 //! The faults and the typed form of written lists and of elements of lists.
 
-ghost use Rattle.std.specs.Prelude.{◌≡◌, Some, false, is_none, map, option_map, option_and_then, IfOk};
+ghost use Rattle.std.specs.Prelude.{◌≡◌, Some, false, is_none, map, option_copied, option_map, option_and_then, slice_get, IfOk};
+ghost use Rattle.std.specs.Option.{option_map_or};
 ghost use Rattle.osc_base.specs.FaultRows.{first_fault};
 ghost use Rattle.dsl_tree.specs.Views.{expr_tree};
 ghost use Rattle.expr_eval.specs.Typed.{row_of, place_of, begun_at};
@@ -59,16 +60,23 @@ fn index_of(index: &Expr) -> Option<u64>
     }
 }
 
+/// The item of that number.
+fn item_of(items: &[Typed], number: u64) -> Option<&Typed>
+    ensures { option_copied result ≡ slice_get items.now number }
+{
+    items.get(number as usize)
+}
+
 /// The element of a list field.
 fn element_of(head: &Typed, number: u64) -> Option<&Typed>
-    ensures { option_map (λ t. seen t.now) result ≡ element_in number (seen head.now) }
+    ensures { option_map seen (option_copied result) ≡ element_in number (seen head.now) }
 {
     match head {
         Typed::Listed {
             is_field, items, ..
         } => {
             if *is_field {
-                items.as_slice().get(number as usize)
+                item_of(items.as_slice(), number)
             } else {
                 None
             }
@@ -96,16 +104,22 @@ fn lacks(head: &Option<Boxed<Typed>>, number: u64) -> bool
     }
 }
 
+/// There is a number, and the list hasn't the element.
+fn is_missing(head: &Option<Boxed<Typed>>, number: Option<u64>) -> bool
+    ensures { result ≡ option_map_or (λ n. of_one (seen_part head.now) (λ h. is_none (element_in n h))) number false }
+{
+    match number {
+        Some(number) => lacks(head, number),
+        None => false,
+    }
+}
+
 fn index_fault(place: Place, head: &Option<Boxed<Typed>>, index: &Expr) -> Option<Fault>
     ensures { result ≡ first_fault (index_rows place (seen_part head.now) (expr_tree index.now)) }
 {
     let number = index_of(index);
-    let lacking = match number {
-        Some(number) => lacks(head, number),
-        None => false,
-    };
     let varying = fault_if(place, FaultCode::NotConstant, number.is_none());
-    let lacking = fault_if(place, FaultCode::Index, lacking);
+    let lacking = fault_if(place, FaultCode::Index, is_missing(head, number));
     least(varying, lacking)
 }
 

@@ -1,9 +1,10 @@
 //! The typed form of literals.
 
-ghost use Rattle.std.specs.Prelude.{◌≡◌, ◌≤◌, Some};
+ghost use Rattle.std.specs.Prelude.{◌≡◌, ◌≤◌, Some, bytes_eq, unwrap_or};
+ghost use Rattle.name_scope.specs.Declaring.{first_place};
 ghost use Rattle.osc_base.specs.LowestTerms.{decimal_number};
 ghost use Rattle.osc_base.specs.Fraction.{value};
-ghost use Rattle.expr_eval.specs.Operators.{constant_at as constant_node, number_typed, truth_typed};
+ghost use Rattle.expr_eval.specs.Operators.{constant_at as constant_node, number_typed, text_typed, truth_typed};
 ghost use Rattle.expr_eval.specs.Seen.{seen, seen_kind};
 
 use crate::fields::NO_EXPONENTS;
@@ -11,7 +12,8 @@ use crate::size::gcd;
 use crate::truths::truth_at;
 use crate::{Info, Size, Typed, ValueKind};
 use dsl_tree::Digits;
-use osc_base::{Fraction, Place};
+use osc_base::{Fraction, Place, Text};
+use type_model::Types;
 
 /// A constant.
 pub(crate) fn constant_at(place: Place, kind: ValueKind, number: Fraction) -> Typed
@@ -26,7 +28,6 @@ pub(crate) fn constant_at(place: Place, kind: ValueKind, number: Fraction) -> Ty
 }
 
 /// A decimal in lowest terms.
-#[tactic(auto, using(crate::proofs::Divisors::gcd_above_second, crate::proofs::Divisors::share_above))]
 pub(crate) fn decimal(digits: u64, places: u8) -> Fraction
     requires { places ≤ 18 }
     ensures { value result ≡ decimal_number digits places }
@@ -61,4 +62,29 @@ pub(crate) fn truth(place: Place, value: bool) -> Typed
         info: truth_at(place),
         number,
     }
+}
+
+/// The number of a text in the ordered list of texts, and 0 of another.
+fn text_number(texts: &[Text], text: &str) -> usize
+    ensures { result ≡ unwrap_or (first_place (bytes_eq text.now) 0 texts.now) 0 }
+{
+    let mut number: usize = 0;
+    for other in texts {
+        if text == other.as_str() {
+            return number;
+        }
+        number += 1;
+    }
+    0
+}
+
+/// A text is its number in the ordered list of texts.
+pub(crate) fn text(types: &Types, place: Place, text: &str) -> Typed
+    ensures { Some (seen result) ≡ text_typed types.now.table place text.now }
+{
+    let number = Fraction {
+        num: text_number(types.texts(), text) as i128,
+        den: 1,
+    };
+    constant_at(place, ValueKind::Chars, number)
 }

@@ -1,7 +1,8 @@
-use Rattle.expr_eval.specs.Operators.{product_exponents}
-use Rattle.expr_eval.specs.Seen.{seen}
-use Rattle.expr_eval.proofs.Results.{if_ok_more, not_false}
+use Rattle.std.proofs.Common.{ap}
+use Rattle.expr_eval.specs.Seen.{seen, seen_part}
+use Rattle.expr_eval.proofs.Pairs.{product_pair}
 use Rattle.expr_eval.proofs.products.product_of.Goals as goal
 
 pub returns-in-Some-right : goal.returns-in-Some-right
-returns-in-Some-right c = if_ok_more c.product_pair.result _ _ (λ t h p q. h (not_false _ p) q) c.product_pair.ensures
+returns-in-Some-right c = product_pair (seen_part c.args.left) (seen_part c.args.right) (seen c.in-Some.left) (seen c.in-Some-right.right) c.product_pair.result
+    (ap seen_part c.in-Some.is) (ap seen_part c.in-Some-right.is) c.product_pair.ensures
