@@ -11,3 +11,4 @@ pub mod Results
 pub mod SeenNodes
 pub mod Settled
 pub mod SlotValues
+pub mod StepFaults

@@ -92,14 +92,14 @@ module _ (f g : Fraction) (over : OverCommon f g) where
   common : ℕ
   common = lcm (unsigned_abs f.den) (unsigned_abs g.den)
 
-  pub common_is : over.common ≡ common
+  common_is : over.common ≡ common
   common_is = one_multiple (unsigned_abs f.den) (unsigned_abs g.den) over.common common over.is_common (lcm_common (unsigned_abs f.den) (unsigned_abs g.den) (den_above f))
 
-  pub left_is : over.left ≡ f.num *ℤ pos (common / unsigned_abs f.den)
+  left_is : over.left ≡ f.num *ℤ pos (common / unsigned_abs f.den)
   left_is = cancelled over.left (widened_num f over.common) f.den f.positive (over.left_same ∙ sym (widened_same f over.common over.is_common.first))
       ∙ ap (λ n. f.num *ℤ pos (n / unsigned_abs f.den)) common_is
 
-  pub right_is : over.right ≡ g.num *ℤ pos (common / unsigned_abs g.den)
+  right_is : over.right ≡ g.num *ℤ pos (common / unsigned_abs g.den)
   right_is = cancelled over.right (widened_num g over.common) g.den g.positive (over.right_same ∙ sym (widened_same g over.common over.is_common.second))
       ∙ ap (λ n. g.num *ℤ pos (n / unsigned_abs g.den)) common_is
 

@@ -12,3 +12,4 @@ pub mod Sound
 pub mod Means
 pub mod Seen
 pub mod SeenNames
+pub mod Checks

@@ -20,6 +20,7 @@ mod rows;
 mod scope;
 mod size;
 mod spans;
+mod steps;
 mod sums;
 mod truths;
 mod within;

@@ -4,13 +4,14 @@ ghost use Rattle.std.specs.Prelude.{◌≡◌, not, IfOk};
 ghost use Rattle.osc_base.specs.FaultRows.{first_fault};
 ghost use Rattle.expr_eval.specs.Typed.{Relation, place_of};
 ghost use Rattle.expr_eval.specs.Parts.{on_two, of_two};
-ghost use Rattle.expr_eval.specs.Operators.{truth_at as truth_info, fit_for, comparison_rows, comparison_typed, compare_of as sign_compare};
+ghost use Rattle.expr_eval.specs.Operators.{truth_at as truth_info, fit_for, comparison_rows, comparison_typed, compare_of as sign_compare, relation_rows, relation_typed};
 ghost use Rattle.expr_eval.specs.Seen.{seen, seen_part};
 
 use crate::parts::{
     are_joined_wide, are_numbers, are_whole, fault_if, have_other_units, least, Checked,
 };
 use crate::truths::truth_at;
+use crate::within::within;
 use crate::{Compare, Typed};
 use dsl_tree::RelationSign;
 use osc_base::{Boxed, Fault, FaultCode, Place};
@@ -118,5 +119,22 @@ pub(crate) fn comparison(
             fault: Some(fault),
             typed: None,
         }),
+    }
+}
+
+/// A relation.
+pub(crate) fn relation(
+    alloc: Global,
+    place: Place,
+    sign: RelationSign,
+    left: Option<Boxed<Typed>>,
+    right: Option<Boxed<Typed>>,
+) -> Result<Checked, AllocError>
+    ensures fault { IfOk result (λ c. c.fault ≡ first_fault (relation_rows place sign (seen_part left) (seen_part right))) }
+    ensures typed { IfOk result (λ c. seen_part c.typed ≡ relation_typed place sign (seen_part left) (seen_part right)) }
+{
+    match compare_of(sign) {
+        Some(compare) => comparison(alloc, place, compare, left, right),
+        None => within(alloc, place, left, right),
     }
 }
