@@ -10,6 +10,12 @@ pub not_false : (b : Bool) → not b ≡ false → b ≡ true
 not_false true h = refl
 not_false false h = absurd (cc)
 
-pub none_is : {X : Type 0} (o : Option X) → not (is_some o) ≡ is_none o
-none_is None = refl
-none_is (Some x) = refl
+-- what a test for nothing answers
+pub none_as : {X : Type 0} (o same : Option X) (r : Bool) → is_some o ≡ not r → o ≡ same → r ≡ is_none same
+none_as o same r is e = rw (← e) (by o r is)
+  where
+    by : (x : Option X) (b : Bool) → is_some x ≡ not b → b ≡ is_none x
+    by None true h = refl
+    by None false h = absurd (cc)
+    by (Some y) true h = absurd (cc)
+    by (Some y) false h = refl

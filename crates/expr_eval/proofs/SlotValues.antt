@@ -89,7 +89,7 @@ cancelled x y c above same =
     omega (arith, ints, up, down)
 
 module _ (f g : Fraction) (over : OverCommon f g) where
-  common : ℕ
+  abbrev common : ℕ
   common = lcm (unsigned_abs f.den) (unsigned_abs g.den)
 
   common_is : over.common ≡ common

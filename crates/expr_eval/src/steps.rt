@@ -3,19 +3,23 @@
 ghost use Rattle.std.specs.Prelude.{◌≡◌, IfOk};
 ghost use Rattle.osc_base.specs.FaultRows.{first_of};
 ghost use Rattle.dsl_tree.specs.ExprTree.{ExprTree};
+ghost use Rattle.dsl_tree.specs.Views.{expr_tree};
 ghost use Rattle.type_model.specs.Table.{Table};
 ghost use Rattle.expr_eval.specs.Scope.{Scope};
 ghost use Rattle.expr_eval.specs.Checks.{IsChecked};
 
+use crate::dots::dot;
+use crate::lists::index;
 use crate::parts::{least, Checked};
 use crate::relations::relation;
 use crate::spans::{group, span};
 use crate::sums::{minus, sum};
 use crate::truths::{implies, logic, not};
 use crate::Join;
-use dsl_tree::{Operator, RelationSign};
+use dsl_tree::{Expr, Ident, Operator, RelationSign};
 use osc_base::{Fault, Place};
 use std::alloc::{AllocError, Global};
+use type_model::Types;
 
 /// What is known of an operator, with the faults of its parts.
 pub(crate) fn with_parts(own: Checked, left: Option<Fault>, right: Option<Fault>) -> Checked
@@ -145,4 +149,44 @@ pub(crate) fn grouped(alloc: Global, place: Place, part: Checked) -> Result<Chec
         fault: part.fault,
         typed: group(alloc, place, part.typed)?,
     })
+}
+
+/// A name after the point of an expression that is known.
+pub(crate) fn pointed(
+    alloc: Global,
+    types: &Types,
+    head: Checked,
+    name: &Ident,
+) -> Result<Checked, AllocError>
+    ensures { IfOk result (λ c. (sc : Scope) (a : ExprTree) → IsChecked types.now.table sc a head → IsChecked types.now.table sc (ExprTree.Dot a name.now) c) }
+{
+    let own = dot(alloc, types, head.typed, name)?;
+    Ok(with_part(own, head.fault))
+}
+
+/// An element of an expression that is known. The index is known too.
+pub(crate) fn indexed(
+    alloc: Global,
+    place: Place,
+    head: Checked,
+    number: &Expr,
+    known: Checked,
+) -> Result<Checked, AllocError>
+    ensures { IfOk result (λ c. (table : Table) (sc : Scope) (a : ExprTree) → IsChecked table sc a head → IsChecked table sc (expr_tree number.now) known → IsChecked table sc (ExprTree.Index place a (expr_tree number.now)) c) }
+{
+    let own = index(alloc, place, head.typed, number)?;
+    Ok(with_parts(own, head.fault, known.fault))
+}
+
+/// A range that is written as a call, of parts that are known.
+pub(crate) fn range_called(
+    alloc: Global,
+    place: Place,
+    left: Checked,
+    right: Checked,
+) -> Result<Checked, AllocError>
+    ensures { IfOk result (λ c. (table : Table) (sc : Scope) (a b : ExprTree) → IsChecked table sc a left → IsChecked table sc b right → IsChecked table sc (ExprTree.RangeCall place a b) c) }
+{
+    let own = span(alloc, place, left.typed, right.typed)?;
+    Ok(with_parts(own, left.fault, right.fault))
 }

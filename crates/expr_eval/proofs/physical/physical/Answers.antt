@@ -1,6 +1,6 @@
 use Rattle.std.proofs.Common.{◌≡◌, ◌∙◌, ap}
-use Rattle.std.specs.Prelude.{not, is_some, is_none}
-use Rattle.expr_eval.proofs.Results.{none_is}
+use Rattle.std.specs.Prelude.{is_none}
+use Rattle.expr_eval.proofs.Results.{none_as}
 use Rattle.osc_base.specs.declared.fault.FaultCode.{FaultCode}
 use Rattle.osc_base.specs.FaultRows.{row, row_fault}
 use Rattle.type_model.specs.Shown.{shown_unit}
@@ -11,7 +11,7 @@ use Rattle.expr_eval.proofs.physical.physical.Goals as goal
 pub returns-in_ok-typed-in-Some-clause-fault : goal.returns-in_ok-typed-in-Some-clause-fault
 returns-in_ok-typed-in-Some-clause-fault c =
     c.fault_if-fault.ensures
-    ∙ ap (λ b. row_fault (row c.args.digits.now.place FaultCode.TooLarge b)) (c.is_none-too_large.ensures ∙ ap (λ o. not (is_some o)) c.count_in.ensures ∙ none_is (count_of c.args.digits.now (shown_unit c.in-Some.unit)))
+    ∙ ap (λ b. row_fault (row c.args.digits.now.place FaultCode.TooLarge b)) (none_as c.count_in.result (count_of c.args.digits.now (shown_unit c.in-Some.unit)) c.is_none-too_large.result c.is_none-too_large.ensures c.count_in.ensures)
     ∙ unit_faults c.args.types.now.table c.args.digits.now c.args.name.now (shown_unit c.in-Some.unit) c.in-Some.ensures
 
 pub returns-in_ok-typed-in-Some-clause-typed : goal.returns-in_ok-typed-in-Some-clause-typed
