@@ -12,7 +12,7 @@ not_false false h = absurd (cc)
 
 -- what a test for nothing answers
 pub none_as : {X : Type 0} (o same : Option X) (r : Bool) → is_some o ≡ not r → o ≡ same → r ≡ is_none same
-none_as o same r is e = rw (← e) (by o r is)
+none_as {X = X} o same r is e = rw (← e) (by o r is)
   where
     by : (x : Option X) (b : Bool) → is_some x ≡ not b → b ≡ is_none x
     by None true h = refl
