@@ -4,7 +4,7 @@ use Rattle.std.specs.Int.{w128}
 use Rattle.std.proofs.Math.Nat.{one-le-pow, pow-le-pow_right, div-le_self}
 use Rattle.std.proofs.lemmas.Int.{ints, to_z_pos}
 use Rattle.std.proofs.lemmas.Nat.{le-div}
-use Rattle.std.specs.Prelude.{◌^◌, ℤ, pos, ◌≤ℤ◌, Option, Some, None, cond, Bool, true, false, nat_lt}
+use Rattle.std.specs.Prelude.{◌^◌, pos, ◌≤ℤ◌, Some, None, cond, Bool, true, false, nat_lt}
 use Rattle.osc_base.specs.LowestTerms.{gcd_within, gcd, lcm}
 
 -- steps above the second number don't count

@@ -6,7 +6,6 @@ pub mod Forms
 pub mod Indexes
 pub mod LiteralUnits
 pub mod NameMeanings
-pub mod NoReads
 pub mod Pairs
 pub mod Results
 pub mod SeenNodes

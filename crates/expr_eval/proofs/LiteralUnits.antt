@@ -1,5 +1,5 @@
 -- Units of literals, by the answers of types.
-use Rattle.std.proofs.Common.{◌≡◌, ◌∙◌, refl, sym, ap, subst, ℕ, List, [], ◌∷◌, Bool, true, false, Option, Some, None}
+use Rattle.std.proofs.Common.{◌≡◌, refl, ap, ℕ, List, [], ◌∷◌, true, false, Option, Some, None}
 use Rattle.std.specs.Prelude.{option_map, option_and_then, is_none}
 use Rattle.std.specs.Option.{option_map_or}
 use Rattle.osc_base.specs.declared.fault.Fault.{Fault}

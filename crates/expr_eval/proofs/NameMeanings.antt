@@ -1,5 +1,5 @@
 -- What names mean, by the answers of types.
-use Rattle.std.proofs.Common.{◌≡◌, ◌∙◌, refl, sym, ap, ap₂, ℕ, List, [], ◌∷◌, Bool, Option, Some, None}
+use Rattle.std.proofs.Common.{◌≡◌, ◌∙◌, refl, ap, ap₂, ℕ, List, [], ◌∷◌, Bool, Option, Some, None}
 use Rattle.std.specs.Prelude.{option_map, ◌&&◌}
 use Rattle.std.specs.Option.{option_map_or}
 use Rattle.osc_base.specs.declared.fault.Place.{Place}

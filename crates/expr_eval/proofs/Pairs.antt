@@ -1,5 +1,5 @@
 -- What two parts make, if both are there.
-use Rattle.std.proofs.Common.{◌≡◌, Bool, true, false, not, Option, Some, IfOk, Result}
+use Rattle.std.proofs.Common.{◌≡◌, true, false, not, Option, Some, IfOk, Result}
 use Rattle.units_si.specs.ExponentTests.{are_exponents}
 use Rattle.expr_eval.specs.Typed.{Typed}
 use Rattle.expr_eval.specs.declared.node.Typed.{Typed as Node}

@@ -1,10 +1,10 @@
 -- An operator has a typed form exactly if it has no fault.
-use Rattle.std.proofs.Common.{◌≡◌, ◌∙◌, refl, sym, ap, Bool, true, false, cond, List, [], ◌∷◌, Option, Some, None, true≢false}
+use Rattle.std.proofs.Common.{◌≡◌, ◌∙◌, refl, sym, Bool, true, false, cond, List, [], ◌∷◌, Option, Some, None, true≢false}
 use Rattle.std.specs.Prelude.{◌||◌, ◌&&◌, not}
 use Rattle.osc_base.specs.declared.fault.Place.{Place}
 use Rattle.osc_base.specs.declared.fault.FaultCode.{FaultCode}
 use Rattle.osc_base.specs.declared.fault.Fault.{Fault}
-use Rattle.osc_base.specs.FaultRows.{FaultRow, row, is_before, first_of, row_fault, first_from, first_fault}
+use Rattle.osc_base.specs.FaultRows.{FaultRow, row, is_before, first_of, first_from, first_fault}
 use Rattle.units_si.specs.ExponentTests.{are_exponents}
 use Rattle.expr_eval.specs.Kinds.{same_units}
 use Rattle.expr_eval.specs.Typed.{Typed, kind}

@@ -1,17 +1,17 @@
 -- The slot value of a literal, by the calls that work it out.
-use Rattle.std.proofs.Common.{◌≡◌, ◌∙◌, refl, sym, ap, ap₂, subst, ℕ, zero, suc, ◌*◌, ◌/◌, ◌%◌, ◌^◌, ◌≤◌, ◌<◌, Bool, true, false, not, ◌&&◌, cond, Option, Some, None, true≢false, arith}
+use Rattle.std.proofs.Common.{◌≡◌, ◌∙◌, refl, sym, ap, ap₂, subst, ℕ, zero, suc, ◌/◌, ◌%◌, ◌^◌, ◌≤◌, ◌<◌, Bool, true, false, not, ◌&&◌, cond, Option, Some, None, true≢false, arith}
 use Rattle.std.specs.Prelude.{ℤ, pos, negsuc, ◌+ℤ◌, ◌*ℤ◌, ◌≤ℤ◌, ◌<ℤ◌, unsigned_abs, nat_lt, int_le, option_map, option_and_then}
-use Rattle.std.specs.Int.{IsGcd, ◌∣◌, int_div_euclid}
+use Rattle.std.specs.Int.{IsGcd, int_div_euclid}
 use Rattle.std.specs.Option.{SomeIff, MatchOption}
 use Rattle.std.proofs.lemmas.Bool.Decides.{nat_tests}
 use Rattle.std.proofs.lemmas.Int.{ints}
 use Rattle.std.proofs.lemmas.Nat.Gcd.{IsGcd-from_zero, IsGcd-from_mod, dvd_antisymm}
 use Rattle.osc_base.specs.declared.fraction.Fraction.{Fraction}
-use Rattle.osc_base.specs.Fraction.{OverCommon, AreWithin, AddsExactly, MultipliesExactly, RoundsExactly, value}
+use Rattle.osc_base.specs.Fraction.{OverCommon, AddsExactly, MultipliesExactly, RoundsExactly, value}
 use Rattle.osc_base.specs.Number.{Number, IsFloor, IsWithin, IsLeastCommonMultiple}
 use Rattle.osc_base.specs.Comparisons.{is_within}
 use Rattle.osc_base.specs.LowestTerms.{gcd_within, gcd, lcm, floor_over}
-use Rattle.osc_base.proofs.Integers.{spread, le_cancel, lt_cancel}
+use Rattle.osc_base.proofs.Integers.{le_cancel, lt_cancel}
 use Rattle.osc_base.proofs.Numbers.{floor_is}
 use Rattle.osc_base.proofs.Fractions.{widened_num, widened_same, den_above}
 use Rattle.osc_base.proofs.Multiples.{is_least_common_multiple, lowest_same}

@@ -13,4 +13,3 @@ pub mod Means
 pub mod Seen
 pub mod SeenNames
 pub mod Checks
-pub mod NoReads

@@ -8,8 +8,8 @@ ghost use Rattle.expr_eval.specs.SeenNames.{seen_meaning};
 
 use crate::fields::with_name;
 use crate::meanings::{field_meant, typed_of};
-use crate::names::{duration_at, is_behaviour, is_duration, Meaning};
-use crate::parts::{fault_if, Checked};
+use crate::names::{Meaning, duration_at, is_behaviour, is_duration};
+use crate::parts::{Checked, fault_if};
 use crate::{Typed, ValueKind};
 use dsl_tree::Ident;
 use osc_base::{Boxed, FaultCode, Path, Place, Text};

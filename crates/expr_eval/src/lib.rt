@@ -2,7 +2,6 @@
 #![tactic(auto)]
 
 mod compare;
-mod constants;
 mod dots;
 mod fields;
 mod held;

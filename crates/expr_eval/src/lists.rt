@@ -11,7 +11,7 @@ ghost use Rattle.expr_eval.specs.Seen.{seen, seen_kind, seen_part};
 
 use crate::fields::NO_EXPONENTS;
 use crate::held::listed;
-use crate::parts::{fault_if, least, Checked};
+use crate::parts::{Checked, fault_if, least};
 use crate::spans::begun;
 use crate::{Info, Size, Typed, ValueKind};
 use dsl_tree::Expr;
@@ -73,7 +73,9 @@ fn element_of(head: &Typed, number: u64) -> Option<&Typed>
 {
     match head {
         Typed::Listed {
-            is_field, items, ..
+            is_field,
+            items,
+            ..
         } => {
             if *is_field {
                 item_of(items.as_slice(), number)
@@ -124,11 +126,7 @@ fn index_fault(place: Place, head: &Option<Boxed<Typed>>, index: &Expr) -> Optio
 }
 
 /// The element, said to begin where the list does.
-fn element_at(
-    alloc: Global,
-    head: &Typed,
-    number: u64,
-) -> Result<Option<Boxed<Typed>>, AllocError>
+fn element_at(alloc: Global, head: &Typed, number: u64) -> Result<Option<Boxed<Typed>>, AllocError>
     ensures { IfOk result (λ t. seen_part t ≡ option_map (begun_at (place_of (seen head.now))) (element_in number (seen head.now))) }
 {
     match element_of(head, number) {

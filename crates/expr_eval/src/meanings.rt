@@ -12,9 +12,9 @@ ghost use Rattle.expr_eval.specs.SeenNames.{seen_scope, seen_meaning};
 
 use crate::held::held_at;
 use crate::names::{
-    duration_at, is_behaviour, is_duration, label_at, label_of, member_meant, path_of, Meaning,
+    Meaning, duration_at, is_behaviour, is_duration, label_at, label_of, member_meant, path_of,
 };
-use crate::parts::{fault_if, least, Checked};
+use crate::parts::{Checked, fault_if, least};
 use crate::{Scope, Typed};
 use dsl_tree::Ident;
 use osc_base::{Boxed, Fault, FaultCode, Path, Place};
@@ -31,9 +31,7 @@ pub(crate) fn field_meant(
 ) -> Result<Meaning, AllocError>
     ensures { IfOk result (λ m. seen_meaning m ≡ Names.Something (field_held types.now.table place path field.of field.length)) }
 {
-    Ok(Meaning::Something(Some(held_at(
-        alloc, types, place, path, field,
-    )?)))
+    Ok(Meaning::Something(Some(held_at(alloc, types, place, path, field)?)))
 }
 
 /// What a name means that is neither a field nor a label.
@@ -73,12 +71,7 @@ fn by_label(
 }
 
 /// What a name means.
-fn meaning(
-    alloc: Global,
-    types: &Types,
-    scope: &Scope,
-    name: &Ident,
-) -> Result<Meaning, AllocError>
+fn meaning(alloc: Global, types: &Types, scope: &Scope, name: &Ident) -> Result<Meaning, AllocError>
     ensures { IfOk result (λ m. seen_meaning m ≡ meant types.now.table (seen_scope scope.now) name.now) }
 {
     match types.field(scope.holder, name.text.as_str()) {

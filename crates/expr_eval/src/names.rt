@@ -133,7 +133,11 @@ fn member_of(
 }
 
 /// A bare name of a member: one enum alone has it.
-pub(crate) fn member_meant(alloc: Global, types: &Types, name: &Ident) -> Result<Meaning, AllocError>
+pub(crate) fn member_meant(
+    alloc: Global,
+    types: &Types,
+    name: &Ident,
+) -> Result<Meaning, AllocError>
     ensures { IfOk result (λ m. seen_meaning m ≡ member_found types.now.table name.now (enums_with types.now.table.heads name.now.text)) }
 {
     match types.enum_with(name.text.as_str()) {
@@ -156,7 +160,11 @@ pub(crate) fn label_of<'a>(labels: &'a [Label], name: &str) -> Option<&'a Label>
 }
 
 /// A label stands for its whole phase.
-pub(crate) fn label_at(alloc: Global, place: Place, label: &Label) -> Result<Boxed<Typed>, AllocError>
+pub(crate) fn label_at(
+    alloc: Global,
+    place: Place,
+    label: &Label,
+) -> Result<Boxed<Typed>, AllocError>
     ensures { IfOk result (λ t. seen t ≡ label_node place (seen_label label.now)) }
 {
     let info = Info {

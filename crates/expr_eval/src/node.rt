@@ -44,11 +44,21 @@ pub struct Earlier {
 #[cycle(typed_types)]
 pub enum Typed {
     /// A constant.
-    Constant { info: Info, number: Fraction },
+    Constant {
+        info: Info,
+        number: Fraction,
+    },
     /// What is held at a path, over `per`, which is 1 or 1000.
-    Read { info: Info, path: Path, per: u32 },
+    Read {
+        info: Info,
+        path: Path,
+        per: u32,
+    },
     /// A whole object or phase.
-    Whole { info: Info, path: Path },
+    Whole {
+        info: Info,
+        path: Path,
+    },
     /// The elements of a list field, or the items of a written list.
     Listed {
         info: Info,

@@ -12,7 +12,7 @@ ghost use Rattle.expr_eval.specs.SeenNames.{seen_scope};
 use crate::fields::object_at;
 use crate::held::held_at;
 use crate::names::{member_at, path_of};
-use crate::parts::{fault_if, least, Checked};
+use crate::parts::{Checked, fault_if, least};
 use crate::{Scope, Typed, ValueKind};
 use dsl_tree::Ident;
 use osc_base::{Boxed, Fault, FaultCode, Place};

@@ -67,7 +67,11 @@ pub(crate) fn is_whole(part: &Option<Boxed<Typed>>) -> bool
 }
 
 /// One of the parts is whole, or something else is wrong with them.
-pub(crate) fn are_whole(left: &Option<Boxed<Typed>>, right: &Option<Boxed<Typed>>, other: bool) -> bool
+pub(crate) fn are_whole(
+    left: &Option<Boxed<Typed>>,
+    right: &Option<Boxed<Typed>>,
+    other: bool,
+) -> bool
     ensures { result ≡ (whole (seen_part left.now) || (whole (seen_part right.now) || other)) }
 {
     is_whole(left) || (is_whole(right) || other)

@@ -11,14 +11,14 @@ ghost use Rattle.expr_eval.specs.Seen.{seen, seen_part};
 ghost use Rattle.expr_eval.specs.SeenNames.{count_of, physical_of};
 
 use crate::literals::{constant_at, decimal};
-use crate::parts::{fault_if, Checked};
+use crate::parts::{Checked, fault_if};
 use crate::size::gcd;
 use crate::{Typed, ValueKind};
 use dsl_tree::Digits;
 use osc_base::{Boxed, FaultCode, Fraction};
 use std::alloc::{AllocError, Global};
 use type_model::Types;
-use units_si::{literal, Unit};
+use units_si::{Unit, literal};
 
 /// The slot value of a literal.
 fn slot_value(number: &Fraction, unit: &Unit) -> Option<i64>

@@ -9,7 +9,7 @@ ghost use Rattle.expr_eval.specs.Operators.{exponents_in, product_exponents as e
 ghost use Rattle.expr_eval.specs.Seen.{seen, seen_kind, seen_part};
 
 use crate::fields::NO_EXPONENTS;
-use crate::parts::{are_no_numbers, are_numbers, are_whole, fault_if, least, Checked};
+use crate::parts::{Checked, are_no_numbers, are_numbers, are_whole, fault_if, least};
 use crate::rows::with_part;
 use crate::{Info, Join, Typed, ValueKind};
 use osc_base::{Boxed, Fault, FaultCode, Place};

@@ -8,7 +8,7 @@ ghost use Rattle.expr_eval.specs.Operators.{truth_at as truth_info, fit_for, com
 ghost use Rattle.expr_eval.specs.Seen.{seen, seen_part};
 
 use crate::parts::{
-    are_joined_wide, are_numbers, are_whole, fault_if, have_other_units, least, Checked,
+    Checked, are_joined_wide, are_numbers, are_whole, fault_if, have_other_units, least,
 };
 use crate::truths::truth_at;
 use crate::within::within;
@@ -45,11 +45,7 @@ fn are_fit(sign: Compare, left: &Typed, right: &Typed) -> bool
 }
 
 /// The sign doesn't compare two such values.
-fn are_unfit(
-    sign: Compare,
-    left: &Option<Boxed<Typed>>,
-    right: &Option<Boxed<Typed>>,
-) -> bool
+fn are_unfit(sign: Compare, left: &Option<Boxed<Typed>>, right: &Option<Boxed<Typed>>) -> bool
     ensures { result ≡ of_two (seen_part left.now) (seen_part right.now) (λ x y. not (fit_for sign x y)) }
 {
     match (left, right) {

@@ -8,7 +8,7 @@ ghost use Rattle.expr_eval.specs.Parts.{on_two};
 ghost use Rattle.expr_eval.specs.Operators.{part_rows, span_rows, span_typed, group_typed};
 ghost use Rattle.expr_eval.specs.Seen.{seen, seen_info, seen_part};
 
-use crate::parts::{fault_if, least, Checked};
+use crate::parts::{Checked, fault_if, least};
 use crate::{Info, Size, Typed};
 use osc_base::{Boxed, Fault, FaultCode, Place};
 use std::alloc::{AllocError, Global};

@@ -8,14 +8,14 @@ ghost use Rattle.type_model.specs.Table.{Table};
 ghost use Rattle.expr_eval.specs.Scope.{Scope};
 ghost use Rattle.expr_eval.specs.Checks.{IsChecked};
 
+use crate::Join;
 use crate::dots::dot;
 use crate::lists::index;
-use crate::parts::{least, Checked};
+use crate::parts::{Checked, least};
 use crate::relations::relation;
 use crate::spans::{group, span};
 use crate::sums::{minus, sum};
 use crate::truths::{implies, logic, not};
-use crate::Join;
 use dsl_tree::{Expr, Ident, Operator, RelationSign};
 use osc_base::{Fault, Place};
 use std::alloc::{AllocError, Global};

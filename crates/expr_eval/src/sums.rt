@@ -9,8 +9,8 @@ ghost use Rattle.expr_eval.specs.Operators.{minus_rows, minus_typed, sum_rows, s
 ghost use Rattle.expr_eval.specs.Seen.{seen, seen_part};
 
 use crate::parts::{
-    are_joined_wide, are_no_numbers, are_whole, fault_if, have_other_units, is_no_number, is_whole,
-    least, Checked,
+    Checked, are_joined_wide, are_no_numbers, are_whole, fault_if, have_other_units, is_no_number,
+    is_whole, least,
 };
 use crate::rows::with_part;
 use crate::{Info, Join, Typed};
@@ -21,7 +21,11 @@ use std::alloc::{AllocError, Global};
 fn minus_fault(place: Place, part: &Option<Boxed<Typed>>) -> Option<Fault>
     ensures { result ≡ first_fault (minus_rows place (seen_part part.now)) }
 {
-    fault_if(place, FaultCode::Clash, is_whole(part) || is_no_number(part))
+    fault_if(
+        place,
+        FaultCode::Clash,
+        is_whole(part) || is_no_number(part),
+    )
 }
 
 /// A part with the other sign, which begins at the place.
@@ -86,11 +90,7 @@ fn sum_fault(
 }
 
 /// What is added: a difference adds the opposite.
-fn added(
-    alloc: Global,
-    operator: Operator,
-    part: Boxed<Typed>,
-) -> Result<Boxed<Typed>, AllocError>
+fn added(alloc: Global, operator: Operator, part: Boxed<Typed>) -> Result<Boxed<Typed>, AllocError>
     ensures { IfOk result (λ t. seen t ≡ added_part operator (seen part)) }
 {
     match operator {

@@ -7,7 +7,7 @@ ghost use Rattle.expr_eval.specs.Parts.{on_one, on_two};
 ghost use Rattle.expr_eval.specs.Operators.{truth_at as truth_info, not_rows, not_typed, logic_rows, implies_typed};
 ghost use Rattle.expr_eval.specs.Seen.{seen, seen_info, seen_part, joined, logic_typed};
 
-use crate::parts::{are_no_truths, are_whole, fault_if, is_no_truth, is_whole, Checked};
+use crate::parts::{Checked, are_no_truths, are_whole, fault_if, is_no_truth, is_whole};
 use crate::rows::with_part;
 use crate::{Info, Join, Size, Typed, ValueKind};
 use osc_base::{Boxed, Fault, FaultCode, Place};

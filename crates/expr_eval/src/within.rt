@@ -10,11 +10,11 @@ ghost use Rattle.expr_eval.specs.Parts.{on_two, of_one, of_two, both_numbers, pa
 ghost use Rattle.expr_eval.specs.Operators.{truth_at as truth_info, fits_in, is_range_or_list as range_or_list, within_rows, within_typed};
 ghost use Rattle.expr_eval.specs.Seen.{seen, seen_part};
 
+use crate::Typed;
 use crate::parts::{
-    are_numbers, differ_in_units, fault_if, is_joined_wide, is_whole, least, Checked,
+    Checked, are_numbers, differ_in_units, fault_if, is_joined_wide, is_whole, least,
 };
 use crate::truths::truth_at;
-use crate::Typed;
 use osc_base::{Boxed, Fault, FaultCode, Place};
 use std::alloc::{AllocError, Global};
 

@@ -1,8 +1,8 @@
-use Rattle.std.proofs.Common.{◌≡◌, ◌∙◌, ap, ap₂, subst}
+use Rattle.std.proofs.Common.{◌≡◌, ◌∙◌, ap, subst}
 use Rattle.std.specs.Prelude.{IfOk}
 use Rattle.osc_base.specs.Paths.{then_name}
 use Rattle.expr_eval.specs.SeenNames.{seen_meaning}
-use Rattle.expr_eval.proofs.NameMeanings.{member_found, member_lost}
+use Rattle.expr_eval.proofs.NameMeanings.{member_found}
 use Rattle.expr_eval.proofs.dots.member_of_object.Goals as goal
 
 pub returns-in_ok-path-in-Some : goal.returns-in_ok-path-in-Some

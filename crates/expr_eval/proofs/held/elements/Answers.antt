@@ -1,6 +1,5 @@
-use Rattle.std.proofs.Common.{◌≡◌, ◌∙◌, ◌++◌, ◌∷◌, ◌-◌, [], ap, map}
+use Rattle.std.proofs.Common.{◌∙◌, ◌++◌, ◌∷◌, ◌-◌, [], ap, map}
 use Rattle.std.proofs.lemmas.List.{map-append}
-use Rattle.osc_base.specs.declared.path.Path.{Path}
 use Rattle.expr_eval.specs.Typed as Nodes
 use Rattle.expr_eval.specs.Typed.{row_of, items_of}
 use Rattle.expr_eval.specs.Names.{elements_from}

@@ -1,4 +1,3 @@
-use Rattle.std.proofs.Common.{◌≡◌, ◌∙◌, ap}
 use Rattle.std.specs.Prelude.{option_copied}
 use Rattle.expr_eval.proofs.Indexes.{element_seen}
 use Rattle.expr_eval.proofs.lists.element_of.Goals as goal

@@ -1,4 +1,4 @@
-use Rattle.std.proofs.Common.{◌≡◌, ◌<◌, ◌∙◌, sym, ap, subst, ◌/◌}
+use Rattle.std.proofs.Common.{◌<◌, ◌∙◌, sym, ap, subst, ◌/◌}
 use Rattle.std.specs.Prelude.{◌^◌}
 use Rattle.expr_eval.proofs.Divisors.{gcd_above_second, share_above, power_above, share_stored}
 use Rattle.expr_eval.proofs.literals.decimal.Goals as goal

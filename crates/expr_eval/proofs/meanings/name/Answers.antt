@@ -1,5 +1,4 @@
-use Rattle.std.proofs.Common.{◌≡◌, ◌∙◌, ap, Some, None}
-use Rattle.osc_base.specs.FaultRows.{first_fault}
+use Rattle.std.proofs.Common.{◌∙◌, ap, Some, None}
 use Rattle.expr_eval.specs.Names.{meaning, typed_meaning, name_rows}
 use Rattle.expr_eval.specs.SeenNames.{seen_scope, seen_meaning}
 use Rattle.expr_eval.proofs.NameMeanings.{name_faults}

@@ -1,4 +1,4 @@
-use Rattle.std.proofs.Common.{◌∙◌, sym}
+use Rattle.std.proofs.Common.{sym}
 use Rattle.type_model.specs.Table.{enums_with}
 use Rattle.expr_eval.proofs.Forms.{hit_absent, hit_several, hit_one}
 use Rattle.expr_eval.proofs.names.member_meant.Goals as goal

@@ -1,4 +1,4 @@
-use Rattle.std.proofs.Common.{◌≡◌, ◌∙◌, ap, ap₂, false}
+use Rattle.std.proofs.Common.{◌∙◌, ap, ap₂, false}
 use Rattle.expr_eval.proofs.Results.{none_as}
 use Rattle.std.specs.Prelude.{is_none}
 use Rattle.std.specs.Option.{option_map_or}

@@ -1,4 +1,4 @@
-use Rattle.std.proofs.Common.{◌≡◌, ◌<◌, ◌/◌, refl, sym, subst, arith}
+use Rattle.std.proofs.Common.{◌<◌, ◌/◌, refl, sym, subst, arith}
 use Rattle.expr_eval.proofs.Divisors.{gcd_above_second, share_above, share_stored}
 use Rattle.expr_eval.proofs.physical.thousandths.Goals as goal
 

@@ -1,4 +1,4 @@
-use Rattle.std.proofs.Common.{◌∙◌, ap}
+use Rattle.std.proofs.Common.{ap}
 use Rattle.expr_eval.specs.Operators.{product_exponents}
 use Rattle.expr_eval.specs.Seen.{seen}
 use Rattle.expr_eval.proofs.Exponents.{within_limits}

@@ -1,4 +1,4 @@
-use Rattle.std.proofs.Common.{◌≡◌, rules, ◌∙◌, sym, subst, map}
+use Rattle.std.proofs.Common.{◌≡◌, rules, ◌∙◌, sym, subst}
 use Rattle.std.specs.Prelude.{IfOk}
 use Rattle.expr_eval.specs.Seen.{seen, seen_info, joined}
 use Rattle.expr_eval.proofs.SeenNodes.{row_before}

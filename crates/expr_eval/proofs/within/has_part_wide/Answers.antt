@@ -1,4 +1,3 @@
-use Rattle.expr_eval.specs.Seen.{seen}
 use Rattle.expr_eval.proofs.SeenNodes.{any_listed}
 use Rattle.expr_eval.proofs.within.has_part_wide.Goals as goal
 

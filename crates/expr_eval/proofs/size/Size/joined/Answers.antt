@@ -1,4 +1,3 @@
-use Rattle.std.proofs.Common.{sym, ◌∙◌}
 use Rattle.expr_eval.proofs.Divisors.{lcm_above, above_if_there}
 use Rattle.expr_eval.proofs.size.Size.joined.Goals as goal
 
