@@ -12,3 +12,4 @@ pub mod SeenNodes
 pub mod Settled
 pub mod SlotValues
 pub mod StepFaults
+pub mod NoReads

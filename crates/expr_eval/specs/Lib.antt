@@ -13,3 +13,4 @@ pub mod Means
 pub mod Seen
 pub mod SeenNames
 pub mod Checks
+pub mod NoReads

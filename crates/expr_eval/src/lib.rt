@@ -2,6 +2,7 @@
 #![tactic(auto)]
 
 mod compare;
+mod constants;
 mod dots;
 mod fields;
 mod held;
