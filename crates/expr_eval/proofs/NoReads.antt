@@ -1,5 +1,5 @@
 -- Expressions that read no path, by their parts.
-use Rattle.std.proofs.Common.{◌≡◌, ◌∙◌, refl, sym, ap, ap₂, ℕ, List, [], ◌∷◌, ◌++◌, Bool, true, false, ◌&&◌, length, map, nat_eq, suc, arith}
+use Rattle.std.proofs.Common.{◌≡◌, ◌∙◌, refl, sym, ap, ℕ, List, [], ◌∷◌, ◌++◌, Bool, true, false, ◌&&◌, length, map, nat_eq, suc, arith}
 use Rattle.std.proofs.lemmas.Bool.Decides.{nat_tests}
 use Rattle.std.specs.List.{list_all}
 use Rattle.osc_base.specs.declared.path.Path.{Path}
@@ -12,7 +12,7 @@ use Rattle.expr_eval.specs.Typed as Nodes
 use Rattle.expr_eval.specs.Typed.{Item, reads}
 use Rattle.expr_eval.specs.Operators.{is_constant}
 use Rattle.expr_eval.specs.Seen.{Reached, seen, seen_info, reached, joined, grouped}
-use Rattle.expr_eval.specs.NoReads.{constant_row, constant_part}
+use Rattle.expr_eval.specs.NoReads.{constant_part}
 use Rattle.expr_eval.proofs.SeenNodes.{seen_joined}
 
 some_not : (n : ℕ) → nat_eq (suc n) 0 ≡ false

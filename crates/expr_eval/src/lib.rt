@@ -16,6 +16,7 @@ mod others;
 mod parts;
 mod physical;
 mod products;
+mod quotients;
 mod relations;
 mod rows;
 mod scope;

@@ -1,4 +1,4 @@
-use Rattle.std.proofs.Common.{◌≡◌, ◌∙◌, ap, refl, map}
+use Rattle.std.proofs.Common.{◌∙◌, ap, refl, map}
 use Rattle.std.specs.List.{list_all}
 use Rattle.expr_eval.specs.Operators.{is_constant}
 use Rattle.expr_eval.specs.Seen.{seen, reached}
