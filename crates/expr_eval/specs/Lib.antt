@@ -10,3 +10,7 @@ pub mod Fits
 pub mod Typing
 pub mod Sound
 pub mod Means
+pub mod Seen
+pub mod SeenNames
+pub mod Checks
+pub mod NoReads
