@@ -4,6 +4,7 @@ mod Chains
 pub mod Ends
 pub mod Hits
 mod FreshNumbers
+mod HeadNames
 mod ItemSteps
 mod KeySets
 mod ListForms
