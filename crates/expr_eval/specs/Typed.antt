@@ -43,6 +43,11 @@ abbrev pub items_of : TypedRow → List Typed
 items_of End = []
 items_of (Item item others) = item ∷ items_of others
 
+-- a list as a row
+abbrev pub row_of : List Typed → TypedRow
+row_of [] = End
+row_of (item ∷ others) = Item item (row_of others)
+
 -- what a node holds of itself
 abbrev pub info : Typed → Info
 info (Constant i number) = i
