@@ -10,14 +10,14 @@ use Rattle.dsl_tree.specs.declared.phases.CompKind.{CompKind}
 use Rattle.dsl_tree.specs.declared.phases.InvokeHead.{InvokeHead}
 use Rattle.dsl_tree.specs.ExprTree.{ExprTree}
 use Rattle.dsl_tree.specs.PhaseTree.{PhaseTree, Comp, Invoke, Wait, PhaseRow, End, Phase}
-use Rattle.type_model.specs.Table.{TypeHead, head, form, bases, named, is_actor, is_behaviour}
-use Rattle.type_model.specs.Types.{Types, Field, Do}
-use Rattle.type_model.specs.Members.{fields, field, the_do}
-use Rattle.expr_eval.specs.Kinds.{Made, object_type}
-use Rattle.expr_eval.specs.Typed.{Typed, kind}
-use Rattle.expr_eval.specs.Scope.{It, Label, Scope}
-use Rattle.expr_eval.specs.Names.{is_duration}
-use Rattle.expr_eval.specs.Typing.{typed}
+use Rattle.type_heads.specs.Table.{TypeHead, head, form, bases, named, is_actor, is_behaviour}
+use Rattle.type_heads.specs.Types.{Types, Field, Do}
+use Rattle.type_heads.specs.Members.{fields, field, the_do}
+use Rattle.expr_nodes.specs.Kinds.{Made, object_type}
+use Rattle.expr_nodes.specs.Typed.{Typed, kind}
+use Rattle.expr_nodes.specs.Scope.{It, Label, Scope}
+use Rattle.expr_nodes.specs.Names.{is_duration}
+use Rattle.expr_nodes.specs.Typing.{typed}
 
 -- Phases
 

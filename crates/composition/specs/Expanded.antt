@@ -2,9 +2,9 @@
 use Rattle.std.specs.Prelude.{ℕ, ◌&&◌, Bool, false, List, [], ◌∷◌, ◌++◌, None, map, codes, is_some, option_map}
 use Rattle.std.specs.Option.{option_map_or}
 use Rattle.osc_base.specs.declared.path.Path.{Path}
-use Rattle.type_model.specs.Table.{named, is_kind_of}
-use Rattle.type_model.specs.Types.{Types}
-use Rattle.expr_eval.specs.Typed.{moved}
+use Rattle.type_heads.specs.Table.{named, is_kind_of}
+use Rattle.type_heads.specs.Types.{Types}
+use Rattle.expr_nodes.specs.Typed.{moved}
 use Rattle.composition.specs.declared.guard.Guard.{Guard}
 use Rattle.composition.specs.declared.setting.Setting.{Setting}
 use Rattle.composition.specs.Scenes.{Content, Spot, Binding, Occurrence, ModifierSpot, Scene}

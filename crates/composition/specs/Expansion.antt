@@ -9,13 +9,13 @@ use Rattle.dsl_tree.specs.declared.phases.CompKind.{CompKind}
 use Rattle.dsl_tree.specs.declared.phases.InvokeHead.{InvokeHead}
 use Rattle.dsl_tree.specs.ExprTree.{ExprTree}
 use Rattle.dsl_tree.specs.PhaseTree.{ArgumentTree, ModifierTree, PartTree, PhaseTree, Comp, Invoke, Wait, phases_of}
-use Rattle.type_model.specs.Table.{form, owner, is_object}
-use Rattle.type_model.specs.Types.{Types, Field, Do}
-use Rattle.type_model.specs.Members.{fields, field_type, list_length, the_do}
-use Rattle.expr_eval.specs.Typed.{Typed, Whole, Span}
-use Rattle.expr_eval.specs.Names.{duration_at}
-use Rattle.expr_eval.specs.Scope.{It}
-use Rattle.expr_eval.specs.Typing.{first}
+use Rattle.type_heads.specs.Table.{form, owner, is_object}
+use Rattle.type_heads.specs.Types.{Types, Field, Do}
+use Rattle.type_heads.specs.Members.{fields, field_type, list_length, the_do}
+use Rattle.expr_nodes.specs.Typed.{Typed, Whole, Span}
+use Rattle.expr_nodes.specs.Names.{duration_at}
+use Rattle.expr_nodes.specs.Scope.{It}
+use Rattle.expr_nodes.specs.Typing.{first}
 use Rattle.composition.specs.declared.guard.Guard.{Guard}
 use Rattle.composition.specs.declared.spot.ValueRange.{ValueRange}
 use Rattle.composition.specs.declared.spot.PhaseKind.{PhaseKind}

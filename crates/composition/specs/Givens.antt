@@ -16,16 +16,16 @@ use Rattle.dsl_tree.specs.declared.compounds.HeirCondition.{HeirCondition}
 use Rattle.dsl_tree.specs.ExprTree.{ExprTree, items_of}
 use Rattle.dsl_tree.specs.PhaseTree.{RuleTree}
 use Rattle.dsl_tree.specs.FileTree.{MemberTree}
-use Rattle.type_model.specs.Table.{bases}
-use Rattle.type_model.specs.Types.{Types, Member, Field}
-use Rattle.type_model.specs.Members.{heir_condition, members, field, field_type, fields_declared, list_length}
-use Rattle.type_model.specs.Conditions.{Condition}
+use Rattle.type_heads.specs.Table.{bases}
+use Rattle.type_heads.specs.Types.{Types, Member, Field}
+use Rattle.type_heads.specs.Members.{heir_condition, members, field, field_type, fields_declared, list_length}
+use Rattle.type_heads.specs.Conditions.{Condition}
 use Rattle.cond_inherit.specs.Conditions.{conditions}
-use Rattle.expr_eval.specs.declared.compare.Compare.{Compare}
-use Rattle.expr_eval.specs.Typed.{Typed, Read, Span, Relation, Within, moved}
-use Rattle.expr_eval.specs.Scope.{It, Scope}
-use Rattle.expr_eval.specs.Operators.{truth_at}
-use Rattle.expr_eval.specs.Typing.{typed, first, is_path}
+use Rattle.expr_nodes.specs.declared.compare.Compare.{Compare}
+use Rattle.expr_nodes.specs.Typed.{Typed, Read, Span, Relation, Within, moved}
+use Rattle.expr_nodes.specs.Scope.{It, Scope}
+use Rattle.expr_nodes.specs.Operators.{truth_at}
+use Rattle.expr_nodes.specs.Typing.{typed, first, is_path}
 use Rattle.composition.specs.declared.guard.Guard.{Guard}
 use Rattle.composition.specs.Calls.{scope_at}
 use Rattle.composition.specs.Tokens.{tokens, value_tokens}

@@ -6,11 +6,11 @@ use Rattle.osc_base.specs.declared.path.Path.{Path}
 use Rattle.osc_base.specs.declared.mark.Strength.{Strength}
 use Rattle.osc_base.specs.declared.modifier.Kind.{Kind}
 use Rattle.osc_base.specs.Paths.{same_path}
-use Rattle.expr_eval.specs.Kinds.{is_number, is_truth}
-use Rattle.expr_eval.specs.Typed.{Typed, Info, kind}
-use Rattle.expr_eval.specs.Parts.{is_scalar}
-use Rattle.expr_eval.specs.Sizes.{field_reach, field_size, duration_reach, duration_scale, duration_size}
-use Rattle.expr_eval.specs.Sound.{has_size, is_sound, each_read}
+use Rattle.expr_nodes.specs.Kinds.{is_number, is_truth}
+use Rattle.expr_nodes.specs.Typed.{Typed, Info, kind}
+use Rattle.expr_nodes.specs.Parts.{is_scalar}
+use Rattle.expr_nodes.specs.Sizes.{field_reach, field_size, duration_reach, duration_scale, duration_size}
+use Rattle.expr_nodes.specs.Sound.{has_size, is_sound, each_read}
 use Rattle.composition.specs.declared.guard.Guard.{Guard}
 use Rattle.composition.specs.declared.setting.Setting.{Setting}
 use Rattle.composition.specs.declared.spot.ChoiceSpot.{ChoiceSpot}

@@ -11,8 +11,8 @@ use Rattle.osc_base.specs.Number.{Number, whole}
 use Rattle.osc_base.specs.Paths.{same_path}
 use Rattle.osc_base.specs.Modifiers.{holds_of, is_moment}
 use Rattle.keep_rules.specs.Overriding.{overriders}
-use Rattle.expr_eval.specs.Typed.{Typed}
-use Rattle.expr_eval.specs.Value.{value}
+use Rattle.expr_nodes.specs.Typed.{Typed}
+use Rattle.expr_nodes.specs.Value.{value}
 use Rattle.composition.specs.declared.spot.ValueRange.{ValueRange}
 use Rattle.composition.specs.declared.spot.PhaseSpot.{PhaseSpot}
 use Rattle.composition.specs.TimedRuns.{TimedRun, choice_in, held_in, span_in, sample_in}

@@ -2,8 +2,8 @@
 use Rattle.std.specs.Prelude.{ℕ, Bool, false, List, Option, Some, option_map, option_and_then, position, bytes_eq, ℤ, pos, ◌-ℤ◌, ◌*ℤ◌}
 use Rattle.std.specs.Option.{option_map_or}
 use Rattle.osc_base.specs.declared.path.Path.{Path}
-use Rattle.expr_eval.specs.Typed.{Typed}
-use Rattle.expr_eval.specs.Value.{value, is_one}
+use Rattle.expr_nodes.specs.Typed.{Typed}
+use Rattle.expr_nodes.specs.Value.{value, is_one}
 use Rattle.composition.specs.declared.run.Held.{Held}
 use Rattle.composition.specs.TimedRuns.{TimedRun, held_in, span_in}
 use Rattle.composition.specs.Scenes.{Scene, Source, OfRun, OfPhase, OfValue, source}

@@ -8,7 +8,7 @@ use Rattle.osc_base.specs.declared.mark.Mark.{Mark}
 use Rattle.osc_base.specs.declared.modifier.Kind.{Kind}
 use Rattle.osc_base.specs.declared.modifier.Moment.{Moment}
 use Rattle.osc_base.specs.Paths.{path_of, root, same_path, then_name, then_do, timed_part}
-use Rattle.expr_eval.specs.Typed.{Typed}
+use Rattle.expr_nodes.specs.Typed.{Typed}
 use Rattle.composition.specs.declared.guard.Guard.{Guard}
 use Rattle.composition.specs.declared.spot.ChoiceSpot.{ChoiceSpot}
 use Rattle.composition.specs.declared.spot.ValueSpot.{ValueSpot}

@@ -7,7 +7,7 @@ use Rattle.osc_base.specs.declared.mark.Strength.{Strength}
 use Rattle.osc_base.specs.declared.mark.Mark.{Mark}
 use Rattle.osc_base.specs.Paths.{same_path}
 use Rattle.osc_base.specs.Comparisons.{same_number}
-use Rattle.expr_eval.specs.Typed.{Typed, reads}
+use Rattle.expr_nodes.specs.Typed.{Typed, reads}
 use Rattle.composition.specs.declared.guard.Guard.{Guard}
 use Rattle.composition.specs.declared.run.Held.{Held}
 use Rattle.composition.specs.TimedRuns.{TimedRun, choice_in, held_in}

@@ -12,18 +12,18 @@ use Rattle.dsl_tree.specs.declared.phases.CompKind.{CompKind}
 use Rattle.dsl_tree.specs.ExprTree.{ExprTree, items_of}
 use Rattle.dsl_tree.specs.PhaseTree.{RuleTree, ArgumentTree, ModifierTree, PartTree, PhaseTree, Comp, Invoke, Wait}
 use Rattle.dsl_tree.specs.FileTree.{FieldTree, MemberTree}
-use Rattle.type_model.specs.Table.{Table, TypeHead, form, named, is_kind_of, is_object, is_scenario, all_types}
-use Rattle.type_model.specs.Types.{Written, Do, Types}
-use Rattle.type_model.specs.Members.{body, list_length, declared_type, field_type, the_do}
-use Rattle.type_model.specs.Cycles.{returns}
-use Rattle.expr_eval.specs.Kinds.{ValueKind, plain, no_exponents, kind_of, object_type, is_truth}
-use Rattle.expr_eval.specs.Typed.{Typed, kind}
-use Rattle.expr_eval.specs.Scope.{It, Scope}
-use Rattle.expr_eval.specs.Sizes.{Size, field_size}
-use Rattle.expr_eval.specs.Parts.{of_one}
-use Rattle.expr_eval.specs.Names.{per_of, is_label, is_duration}
-use Rattle.expr_eval.specs.Fits.{argument_fit_rows, initial_fit_rows, duration_fit_rows, modifier_fit_rows, constraint_rows, is_read}
-use Rattle.expr_eval.specs.Typing.{typed, expr_rows, first, is_path}
+use Rattle.type_heads.specs.Table.{Table, TypeHead, form, named, is_kind_of, is_object, is_scenario, all_types}
+use Rattle.type_heads.specs.Types.{Written, Do, Types}
+use Rattle.type_heads.specs.Members.{body, list_length, declared_type, field_type, the_do}
+use Rattle.type_heads.specs.Cycles.{returns}
+use Rattle.expr_nodes.specs.Kinds.{ValueKind, plain, no_exponents, kind_of, object_type, is_truth}
+use Rattle.expr_nodes.specs.Typed.{Typed, kind}
+use Rattle.expr_nodes.specs.Scope.{It, Scope}
+use Rattle.expr_nodes.specs.Sizes.{Size, field_size}
+use Rattle.expr_nodes.specs.Parts.{of_one}
+use Rattle.expr_nodes.specs.Names.{per_of, is_label, is_duration}
+use Rattle.expr_nodes.specs.Fits.{argument_fit_rows, initial_fit_rows, duration_fit_rows, modifier_fit_rows, constraint_rows, is_read}
+use Rattle.expr_nodes.specs.Typing.{typed, expr_rows, first, is_path}
 use Rattle.composition.specs.Calls.{Turn, PhaseHere, phases_in, Callee, callee, actor_type, owned_behaviour, behaviour_named, without_labels, invoked, scope_at, Assigned, assigned}
 use Rattle.composition.specs.ModifierLines.{ModifierForm, is_modifier, modifier_form}
 use Rattle.composition.specs.Expanded.{is_vehicle}

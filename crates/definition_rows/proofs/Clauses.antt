@@ -2,7 +2,7 @@
 use Rattle.std.specs.Prelude.{◌≡◌, refl, ℕ, [], ◌∷◌, codes}
 use Rattle.osc_base.specs.LowestTerms.{gcd, lcm}
 use Rattle.osc_base.specs.Paths.{path_of}
-use Rattle.type_model.specs.DeclaredTypes.{types_of}
+use Rattle.type_heads.specs.DeclaredTypes.{types_of}
 use Rattle.composition.specs.declared.clause.Clause.{Clause}
 use Rattle.composition.specs.TimedRuns.{TimedRun}
 use Rattle.definition_rows.proofs.Makers.{at, within, name, member, root, ego, whole, part, number, span, sample, trace, limits, values_only, checked, is_instance, fails, fails_at}

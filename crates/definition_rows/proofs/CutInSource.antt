@@ -6,7 +6,7 @@ use Rattle.dsl_tree.specs.declared.compounds.CompoundKind.{CompoundKind}
 use Rattle.dsl_tree.specs.ExprTree.{ExprTree}
 use Rattle.dsl_tree.specs.PhaseTree.{PartTree, PhaseTree, PhaseRow}
 use Rattle.dsl_tree.specs.FileTree.{MemberTree, DeclarationTree, FileTree}
-use Rattle.type_model.specs.Types.{Program}
+use Rattle.type_heads.specs.Types.{Program}
 use Rattle.definition_rows.proofs.Makers.{at, name_at, digits_at}
 use Rattle.definition_rows.proofs.VehicleSources.{library}
 

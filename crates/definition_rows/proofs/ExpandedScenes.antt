@@ -2,7 +2,7 @@
 use Rattle.std.specs.Prelude.{◌≡◌, refl, ◌&&◌, Bool, true, Some}
 use Rattle.std.specs.List.{list_all}
 use Rattle.osc_base.specs.LowestTerms.{gcd, lcm}
-use Rattle.type_model.specs.DeclaredTypes.{types_of}
+use Rattle.type_heads.specs.DeclaredTypes.{types_of}
 use Rattle.composition.specs.declared.spot.ValueSpot.{ValueSpot}
 use Rattle.composition.specs.Scenes.{Scene, Spot, Occurrence, ModifierSpot, source, values, phases}
 use Rattle.composition.specs.Expanded.{scene}

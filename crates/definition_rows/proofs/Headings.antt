@@ -5,7 +5,7 @@ use Rattle.osc_base.specs.LowestTerms.{gcd, lcm}
 use Rattle.dsl_tree.specs.declared.compounds.CompoundKind.{CompoundKind}
 use Rattle.dsl_tree.specs.declared.compounds.ConditionValue.{ConditionValue}
 use Rattle.dsl_tree.specs.FileTree.{DeclarationTree}
-use Rattle.type_model.specs.DeclaredTypes.{types_of}
+use Rattle.type_heads.specs.DeclaredTypes.{types_of}
 use Rattle.definition_rows.proofs.Terms.{p, name, digits, signed, alone, owned, inherits_if, field, compound, item, enum, fault, judged}
 
 -- A member of an enum has the number after the one before it, which its enum has already.

@@ -10,7 +10,7 @@ use Rattle.dsl_tree.specs.declared.compounds.CompoundKind.{CompoundKind}
 use Rattle.dsl_tree.specs.ExprTree.{ExprTree, row_of}
 use Rattle.dsl_tree.specs.PhaseTree.{RuleTree, ArgumentTree, PhaseTree}
 use Rattle.dsl_tree.specs.FileTree.{MemberTree, DeclarationTree}
-use Rattle.type_model.specs.DeclaredTypes.{types_of}
+use Rattle.type_heads.specs.DeclaredTypes.{types_of}
 use Rattle.definition_rows.proofs.Terms.{p, name, digits, alone, field, list_field, compound, argument, fault, judged}
 
 -- `x`, in that line and column, with that number of a token

@@ -8,8 +8,8 @@ use Rattle.osc_base.specs.Paths.{path_of}
 use Rattle.dsl_tree.specs.declared.parts.Ident.{Ident}
 use Rattle.dsl_tree.specs.declared.parts.Digits.{Digits}
 use Rattle.dsl_tree.specs.declared.parts.Signed.{Signed}
-use Rattle.type_model.specs.Types.{Program}
-use Rattle.type_model.specs.DeclaredTypes.{types_of}
+use Rattle.type_heads.specs.Types.{Program}
+use Rattle.type_heads.specs.DeclaredTypes.{types_of}
 use Rattle.composition.specs.declared.clause.Clause.{Clause}
 use Rattle.composition.specs.declared.setting.Setting.{Setting}
 use Rattle.composition.specs.declared.run.Choice.{Choice}

@@ -7,7 +7,7 @@ use Rattle.dsl_tree.specs.declared.compounds.ConditionValue.{ConditionValue}
 use Rattle.dsl_tree.specs.ExprTree.{ExprTree}
 use Rattle.dsl_tree.specs.PhaseTree.{PhaseTree}
 use Rattle.dsl_tree.specs.FileTree.{MemberTree, DeclarationTree}
-use Rattle.type_model.specs.DeclaredTypes.{types_of}
+use Rattle.type_heads.specs.DeclaredTypes.{types_of}
 use Rattle.definition_rows.proofs.Terms.{p, name, digits, alone, inherits, inherits_if, field, list_field, compound, item, enum, fault, judged}
 
 -- A member list has each name once.

@@ -6,8 +6,8 @@ use Rattle.osc_base.specs.declared.fault.FaultCode.{FaultCode}
 use Rattle.osc_base.specs.LowestTerms.{gcd, lcm}
 use Rattle.dsl_tree.specs.declared.compounds.CompoundKind.{CompoundKind}
 use Rattle.dsl_tree.specs.FileTree.{MemberTree, DeclarationTree, FileTree}
-use Rattle.type_model.specs.Types.{Program}
-use Rattle.type_model.specs.DeclaredTypes.{types_of}
+use Rattle.type_heads.specs.Types.{Program}
+use Rattle.type_heads.specs.DeclaredTypes.{types_of}
 use Rattle.composition.specs.StaticFaults.{static_fault}
 use Rattle.definition_rows.proofs.Makers.{at, name_at, within}
 use Rattle.definition_rows.proofs.Sources.{single_value}

@@ -5,7 +5,7 @@ use Rattle.osc_base.specs.declared.listing.SlotName.{SlotName}
 use Rattle.osc_base.specs.declared.listing.RuleName.{RuleName}
 use Rattle.osc_base.specs.LowestTerms.{gcd, lcm}
 use Rattle.osc_base.specs.Paths.{path_of, then_name}
-use Rattle.type_model.specs.DeclaredTypes.{types_of}
+use Rattle.type_heads.specs.DeclaredTypes.{types_of}
 use Rattle.keep_rules.specs.Overriding.{overriders}
 use Rattle.box_eval.specs.Box.{pair}
 use Rattle.box_eval.specs.FlatRules.{Whole, Slot, Less, Times, AtMost, Equal, Both}

@@ -10,7 +10,7 @@ use Rattle.dsl_tree.specs.declared.compounds.ConditionValue.{ConditionValue}
 use Rattle.dsl_tree.specs.ExprTree.{ExprTree, row_of}
 use Rattle.dsl_tree.specs.PhaseTree.{RuleTree, PhaseTree}
 use Rattle.dsl_tree.specs.FileTree.{MemberTree, DeclarationTree, FileTree}
-use Rattle.type_model.specs.Types.{Program}
+use Rattle.type_heads.specs.Types.{Program}
 use Rattle.definition_rows.proofs.Makers.{at, name_at, digits_at}
 
 -- One value, which a constraint fixes.

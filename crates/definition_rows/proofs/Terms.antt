@@ -14,8 +14,8 @@ use Rattle.dsl_tree.specs.declared.compounds.Heir.{Heir}
 use Rattle.dsl_tree.specs.ExprTree.{ExprTree}
 use Rattle.dsl_tree.specs.PhaseTree.{RuleTree, ArgumentTree}
 use Rattle.dsl_tree.specs.FileTree.{MemberTree, DeclarationTree}
-use Rattle.type_model.specs.Types.{Program}
-use Rattle.type_model.specs.DeclaredTypes.{types_of}
+use Rattle.type_heads.specs.Types.{Program}
+use Rattle.type_heads.specs.DeclaredTypes.{types_of}
 use Rattle.composition.specs.StaticFaults.{declaration_fault}
 
 -- the line, the column and the number of a token

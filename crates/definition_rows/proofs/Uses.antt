@@ -11,7 +11,7 @@ use Rattle.dsl_tree.specs.declared.compounds.CompoundKind.{CompoundKind}
 use Rattle.dsl_tree.specs.ExprTree.{ExprTree, row_of}
 use Rattle.dsl_tree.specs.PhaseTree.{RuleTree, PhaseTree, PhaseRow}
 use Rattle.dsl_tree.specs.FileTree.{MemberTree, DeclarationTree}
-use Rattle.type_model.specs.DeclaredTypes.{types_of}
+use Rattle.type_heads.specs.DeclaredTypes.{types_of}
 use Rattle.definition_rows.proofs.Terms.{p, name, digits, signed, alone, owned, inherits, field, list_field, compound, item, enum, argument, fault, judged}
 
 -- Names are those of the type in whose text they stand, so a struct doesn't see the fields of a scenario.

@@ -8,7 +8,7 @@ use Rattle.dsl_tree.specs.declared.compounds.CompoundKind.{CompoundKind}
 use Rattle.dsl_tree.specs.ExprTree.{ExprTree}
 use Rattle.dsl_tree.specs.PhaseTree.{RuleTree, PartTree, PhaseTree, PhaseRow}
 use Rattle.dsl_tree.specs.FileTree.{MemberTree, DeclarationTree, FileTree}
-use Rattle.type_model.specs.Types.{Program}
+use Rattle.type_heads.specs.Types.{Program}
 use Rattle.definition_rows.proofs.Makers.{at, name_at, digits_at, signed_at}
 
 -- the library of `osc.standard`, as file 1

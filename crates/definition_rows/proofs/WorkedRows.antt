@@ -4,7 +4,7 @@ use Rattle.std.specs.List.{range_with_len}
 use Rattle.osc_base.specs.declared.sample.Sample.{Sample}
 use Rattle.osc_base.specs.LowestTerms.{gcd, lcm}
 use Rattle.osc_base.specs.Paths.{path_of, then_do}
-use Rattle.type_model.specs.DeclaredTypes.{types_of}
+use Rattle.type_heads.specs.DeclaredTypes.{types_of}
 use Rattle.box_eval.specs.FlatRules.{holds_at}
 use Rattle.composition.specs.declared.clause.Clause.{Clause}
 use Rattle.composition.specs.declared.setting.Setting.{Setting}

@@ -1,9 +1,9 @@
 -- What is kept of types beside the table.
 use Rattle.std.specs.Prelude.{◌≡◌, ℕ, ℤ, ◌<◌, ◌^◌, Bool, true, false, List, None, map, length, is_some, find, bytes_eq}
 use Rattle.std.specs.Option.{option_map_or}
-use Rattle.type_model.specs.Form.{Form}
-use Rattle.type_model.specs.Bounds.{numbers_of}
-use Rattle.type_model.specs.Table.{TypeHead, TableUnit, form, enum_members}
+use Rattle.type_heads.specs.Form.{Form}
+use Rattle.type_heads.specs.Bounds.{numbers_of}
+use Rattle.type_heads.specs.Table.{TypeHead, TableUnit, form, enum_members}
 
 -- a physical type has exponents: its brackets have no fault
 abbrev pub is_sound : Form → Bool

@@ -1,12 +1,12 @@
 ghost use Rattle.std.specs.Prelude.{◌≡◌, ℕ, ℤ, bytes_eq, find, fold, List, Option, Some, None, map, length, pos, option_copied, option_map, slice_index_or};
 ghost use Rattle.std.specs.Int.{int_min, int_max};
-ghost use Rattle.type_model.specs.Bounds.{numbers_of, bounds, least_of, greatest_of};
-ghost use Rattle.type_model.specs.Table.{base, enum_members, enums_with, field_of, form, named, owner};
-ghost use Rattle.type_model.specs.Table.{enum_number as number_in, unit as unit_in};
-ghost use Rattle.type_model.specs.Shown.{bare, condition_told, hit_of, kind_form, members_told, shown_field, shown_member, shown_unit, unit_parts};
+ghost use Rattle.type_heads.specs.Bounds.{numbers_of, bounds, least_of, greatest_of};
+ghost use Rattle.type_heads.specs.Table.{base, enum_members, enums_with, field_of, form, named, owner};
+ghost use Rattle.type_heads.specs.Table.{enum_number as number_in, unit as unit_in};
+ghost use Rattle.type_heads.specs.Shown.{bare, condition_told, hit_of, kind_form, members_told, shown_field, shown_member, shown_unit, unit_parts};
 
-use crate::entries::{ConditionEntry, FieldEntry, UnitEntry};
-use crate::{EnumHit, FieldType, Form, Heads, MemberRef, TypeId, TypeKind};
+use type_heads::{ConditionEntry, FieldEntry, UnitEntry};
+use type_heads::{EnumHit, FieldType, Form, Heads, MemberRef, TypeId, TypeKind};
 use dsl_tree::CompoundKind;
 use osc_base::{Row, Text};
 use std::marker::Model;
@@ -32,11 +32,11 @@ pub struct Types {
 
 impl Model for Types {
     ghost use Rattle.std.specs.Prelude.{map};
-    ghost use Rattle.type_model.specs.Told.{Told};
+    ghost use Rattle.type_heads.specs.Told.{Told};
 
     ghost Value = { Told };
 
-    ghost use Rattle.type_model.specs.Shown.{shown_member};
+    ghost use Rattle.type_heads.specs.Shown.{shown_member};
     ghost use Rattle.type_model.specs.Kept.{AreKept};
 
     ghost view = { λ s. record {

@@ -1,0 +1,13 @@
+-- What is known of an expression: its first fault, and its typed form.
+use Rattle.std.specs.Prelude.{◌≡◌}
+use Rattle.osc_base.specs.FaultRows.{first_fault}
+use Rattle.dsl_tree.specs.ExprTree.{ExprTree}
+use Rattle.type_heads.specs.Table.{Table}
+use Rattle.expr_nodes.specs.declared.parts.Checked.{Checked}
+use Rattle.expr_nodes.specs.Scope.{Scope}
+use Rattle.expr_nodes.specs.Typing.{typed, expr_rows}
+use Rattle.expr_nodes.specs.Seen.{seen_part}
+
+-- this is known of an expression in a scope
+abbrev pub IsChecked : Table → Scope → ExprTree → Checked → Type 0
+IsChecked table sc e c = (c.fault ≡ first_fault (expr_rows table sc e)) × (seen_part c.typed ≡ typed table sc e)

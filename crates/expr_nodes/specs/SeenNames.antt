@@ -1,0 +1,62 @@
+-- What the program's own scopes and meanings stand for in the definitions.
+use Rattle.std.specs.Prelude.{ℕ, ℤ, true, cond, List, Option, option_map, option_and_then, map, find, bytes_eq}
+use Rattle.osc_base.specs.declared.fault.Place.{Place}
+use Rattle.osc_base.specs.declared.path.Path.{Path}
+use Rattle.type_heads.specs.declared.kinds.FieldType.{FieldType}
+use Rattle.osc_base.specs.LowestTerms.{lowest}
+use Rattle.dsl_tree.specs.declared.parts.Digits.{Digits}
+use Rattle.units_si.specs.Literals.{literal_count}
+use Rattle.type_heads.specs.Shown.{UnitParts}
+use Rattle.type_heads.specs.Units.{digits_number}
+use Rattle.type_heads.specs.Form.{Form}
+use Rattle.type_heads.specs.Table.{has_members}
+use Rattle.expr_nodes.specs.declared.scope.Label.{Label}
+use Rattle.expr_nodes.specs.declared.scope.Scope.{Scope}
+use Rattle.expr_nodes.specs.Kinds.{ValueKind, kind_of}
+use Rattle.expr_nodes.specs.Operators.{constant_at}
+use Rattle.expr_nodes.specs.Typed.{Typed, Whole, Read, Listed}
+use Rattle.expr_nodes.specs.Sizes.{info_at, unit_size, field_size}
+use Rattle.expr_nodes.specs.Scope as Scopes
+use Rattle.expr_nodes.specs.Scope.{It}
+use Rattle.expr_nodes.specs.Names as Names
+use Rattle.expr_nodes.specs.Names.{per_of, elements_from}
+use Rattle.expr_nodes.specs.Seen.{seen_made, seen_part}
+use Rattle.expr_nodes.specs.declared.names.Meaning.{Meaning}
+
+-- what `it` stands for; the program always knows it
+abbrev pub seen_it : FieldType → It
+seen_it f = It.Of f.of f.length
+
+-- a label
+abbrev pub seen_label : Label → Scopes.Label
+seen_label l = record { name = l.name; path = l.path; made = seen_made l.made; hidden = l.hidden }
+
+-- a scope
+abbrev pub seen_scope : Scope → Scopes.Scope
+seen_scope s = record { holder = s.holder; it = option_map seen_it s.it; labels = map seen_label s.labels }
+
+-- a field of one value or object, whose type is of that form
+abbrev pub single_in : Place → Path → ℕ → Form → Option Typed
+single_in place path t f = option_map (λ k. cond (has_members f) (Whole (info_at place k unit_size) path) (Read (info_at place k (field_size (per_of f))) path (per_of f))) (kind_of t f)
+
+-- what a name means
+abbrev pub seen_meaning : Meaning → Names.Meaning
+seen_meaning Meaning.Nothing = Names.Nothing
+seen_meaning Meaning.Several = Names.Several
+seen_meaning (Meaning.Something typed) = Names.Something (seen_part typed)
+
+-- the label of a name
+abbrev pub label_in : List Scopes.Label → List ℕ → Option Scopes.Label
+label_in labels name = find (λ (l : Scopes.Label). bytes_eq l.name name) labels
+
+-- a list field whose elements are of that form
+abbrev pub list_in : Place → Path → ℕ → Form → ℕ → Option Typed
+list_in place path t f count = option_map (λ k. Listed (info_at place k unit_size) true (elements_from 0 count (λ p. Read (info_at place k (field_size (per_of f))) p (per_of f)) path)) (kind_of t f)
+
+-- a number in a unit, in thousandths of the base unit
+abbrev pub count_of : Digits → UnitParts → Option ℤ
+count_of d u = literal_count (digits_number d) u.factor u.offset
+
+-- the typed form of a number in a unit
+abbrev pub physical_of : Digits → UnitParts → Option Typed
+physical_of d u = option_and_then (λ x. option_map (λ n. constant_at d.place (ValueKind.Number x) (lowest n 1000)) (count_of d u)) u.exponents

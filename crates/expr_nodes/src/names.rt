@@ -1,0 +1,177 @@
+//! What names mean: fields, labels, durations and members of enums.
+
+ghost use Rattle.std.specs.Prelude.{◌≡◌, map, option_map, IfOk};
+ghost use Rattle.osc_base.specs.Number.{whole};
+ghost use Rattle.osc_base.specs.Paths.{root, then_name};
+ghost use Rattle.type_heads.specs.Table.{enums_with, form, is_behaviour as of_behaviour, enum_number};
+ghost use Rattle.type_heads.specs.Shown.{kind_form};
+ghost use Rattle.expr_nodes.specs.Kinds as Kinds;
+ghost use Rattle.expr_nodes.specs.Typed as Nodes;
+ghost use Rattle.expr_nodes.specs.Sizes.{info_at, constant_size};
+ghost use Rattle.expr_nodes.specs.Names.{is_duration as named_duration, duration_at as duration_read, label_at as label_node, member_meant as member_found, member_at as member_node};
+ghost use Rattle.expr_nodes.specs.Seen.{seen};
+ghost use Rattle.expr_nodes.specs.SeenNames.{seen_label, seen_meaning, label_in};
+
+use crate::fields::with_name;
+use crate::scope::Label;
+use crate::{Info, Size, Typed, ValueKind};
+use dsl_tree::Ident;
+use osc_base::{Boxed, Fraction, Path, Place, Row, Text};
+use std::alloc::{AllocError, Global};
+use type_model::{EnumHit, TypeId, TypeKind, Types};
+use units_si::Exponents;
+
+/// The kind of a duration.
+const SECONDS: Exponents = Exponents {
+    kg: 0,
+    m: 0,
+    s: 1,
+    a: 0,
+    k: 0,
+    mol: 0,
+    cd: 0,
+    rad: 0,
+};
+
+/// What a name means: nothing, a member of several enums, or something, which may have no kind.
+#[derive(Drop)]
+pub(crate) enum Meaning {
+    Nothing,
+    Several,
+    Something(Option<Boxed<Typed>>),
+}
+
+/// The name is `duration`.
+pub(crate) fn is_duration(name: &str) -> bool
+    ensures { result ≡ named_duration name.now }
+{
+    name == "duration"
+}
+
+/// The type is an action or a scenario.
+pub(crate) fn is_behaviour(types: &Types, of: TypeId) -> bool
+    ensures { result ≡ of_behaviour (form types.now.table.heads of) }
+{
+    is_behaviour_kind(types.kind(of))
+}
+
+fn is_behaviour_kind(kind: TypeKind) -> bool
+    ensures { result ≡ of_behaviour (kind_form kind) }
+{
+    match kind {
+        TypeKind::Action | TypeKind::Scenario => true,
+        TypeKind::Int
+        | TypeKind::Uint
+        | TypeKind::Float
+        | TypeKind::Bool
+        | TypeKind::Chars
+        | TypeKind::Physical(_)
+        | TypeKind::Enum
+        | TypeKind::Struct
+        | TypeKind::Actor => false,
+    }
+}
+
+/// A duration that is read at a path.
+pub(crate) fn duration_at(place: Place, path: Path) -> Typed
+    ensures { seen result ≡ duration_read place path }
+{
+    let info = Info {
+        place,
+        kind: ValueKind::Number(SECONDS),
+        size: Size::duration(),
+    };
+    Typed::Read {
+        info,
+        path,
+        per: 1000,
+    }
+}
+
+/// The path of one name.
+pub(crate) fn path_of(alloc: Global, name: &str) -> Result<Path, AllocError>
+    ensures { IfOk result (λ p. p ≡ then_name root name.now) }
+{
+    let name = Text::copy(alloc, name)?;
+    with_name(
+        Path {
+            steps: Row::new(alloc),
+        },
+        name,
+    )
+}
+
+/// A member of the enum, with that number.
+pub(crate) fn member_at(place: Place, of: TypeId, number: i64) -> Typed
+    ensures { seen result ≡ Nodes.Constant (info_at place (Kinds.ValueKind.Member of) (constant_size (whole number))) (whole number) }
+{
+    let number = Fraction {
+        num: i128::from(number),
+        den: 1,
+    };
+    let info = Info {
+        place,
+        kind: ValueKind::Member(of),
+        size: Size::constant(&number),
+    };
+    Typed::Constant { info, number }
+}
+
+/// The member of that name of the enum.
+fn member_of(
+    alloc: Global,
+    types: &Types,
+    of: TypeId,
+    name: &Ident,
+) -> Result<Option<Boxed<Typed>>, AllocError>
+    ensures { IfOk result (λ m. option_map seen m ≡ option_map (member_node name.now.place of) (enum_number types.now.table.heads of name.now.text)) }
+{
+    match types.enum_number(of, name.text.as_str()) {
+        Some(number) => Ok(Some(Boxed::new(alloc, member_at(name.place, of, number))?)),
+        None => Ok(None),
+    }
+}
+
+/// A bare name of a member: one enum alone has it.
+pub(crate) fn member_meant(
+    alloc: Global,
+    types: &Types,
+    name: &Ident,
+) -> Result<Meaning, AllocError>
+    ensures { IfOk result (λ m. seen_meaning m ≡ member_found types.now.table name.now (enums_with types.now.table.heads name.now.text)) }
+{
+    match types.enum_with(name.text.as_str()) {
+        EnumHit::Absent => Ok(Meaning::Nothing),
+        EnumHit::Several => Ok(Meaning::Several),
+        EnumHit::One(of) => Ok(Meaning::Something(member_of(alloc, types, of, name)?)),
+    }
+}
+
+/// The label of that name.
+pub(crate) fn label_of<'a>(labels: &'a [Label], name: &str) -> Option<&'a Label>
+    ensures { option_map (λ l. seen_label l.now) result ≡ label_in (map seen_label labels.now) name.now }
+{
+    for label in labels {
+        if label.name.as_str() == name {
+            return Some(label);
+        }
+    }
+    None
+}
+
+/// A label stands for its whole phase.
+pub(crate) fn label_at(
+    alloc: Global,
+    place: Place,
+    label: &Label,
+) -> Result<Boxed<Typed>, AllocError>
+    ensures { IfOk result (λ t. seen t ≡ label_node place (seen_label label.now)) }
+{
+    let info = Info {
+        place,
+        kind: ValueKind::Phase(label.made),
+        size: Size::unit(),
+    };
+    let path = label.path.copy(alloc)?;
+    Boxed::new(alloc, Typed::Whole { info, path })
+}

@@ -1,0 +1,49 @@
+//! The tests that quotients ask of their parts.
+
+ghost use Rattle.std.specs.Prelude.{◌≡◌, ◌&&◌, not, cond, Some, None};
+ghost use Rattle.units_si.specs.ExponentTests.{are_exponents};
+ghost use Rattle.expr_nodes.specs.Parts.{of_one, of_two, both_numbers};
+ghost use Rattle.expr_nodes.specs.Operators.{is_constant as constant, quotient_exponents as exponents_of_quotient};
+ghost use Rattle.expr_nodes.specs.Seen.{seen, seen_part};
+
+use crate::Typed;
+use crate::constants::is_constant;
+use crate::parts::are_numbers;
+use crate::products::exponents_of;
+use osc_base::Boxed;
+use units_si::Exponents;
+
+/// A quotient subtracts exponents. `None` when one leaves its limits.
+pub(crate) fn quotient_exponents(left: &Typed, right: &Typed) -> Option<Exponents>
+    ensures { result ≡ cond (are_exponents (exponents_of_quotient (seen left.now) (seen right.now))) (Some (exponents_of_quotient (seen left.now) (seen right.now))) None }
+{
+    let left = exponents_of(&left.info().kind);
+    let right = exponents_of(&right.info().kind);
+    left.minus(&right)
+}
+
+fn is_past_limits(left: &Typed, right: &Typed) -> bool
+    ensures { result ≡ (both_numbers (seen left.now) (seen right.now) && not (are_exponents (exponents_of_quotient (seen left.now) (seen right.now)))) }
+{
+    are_numbers(left, right) && quotient_exponents(left, right).is_none()
+}
+
+/// The parts are numbers, and an exponent of their quotient leaves its limits.
+pub(crate) fn are_past_limits(left: &Option<Boxed<Typed>>, right: &Option<Boxed<Typed>>) -> bool
+    ensures { result ≡ of_two (seen_part left.now) (seen_part right.now) (λ x y. both_numbers x y && not (are_exponents (exponents_of_quotient x y))) }
+{
+    match (left, right) {
+        (Some(x), Some(y)) => is_past_limits(x.get(), y.get()),
+        (Some(_), None) | (None, _) => false,
+    }
+}
+
+/// The divisor reads a path.
+pub(crate) fn is_varying(divisor: &Option<Boxed<Typed>>) -> bool
+    ensures { result ≡ of_one (seen_part divisor.now) (λ y. not (constant y)) }
+{
+    match divisor {
+        Some(divisor) => !is_constant(divisor.get()),
+        None => false,
+    }
+}

@@ -1,0 +1,5 @@
+use Rattle.type_heads.specs.Gathered.{heads_of}
+use Rattle.type_heads.proofs.declarations.Declarations.named.Goals as goal
+
+pub returns : goal.returns
+returns c = c.type_named.ensures (heads_of c.args.self.now) c.requires.same_names

@@ -1,0 +1,82 @@
+//! The numbers of factors and offsets.
+
+ghost use Rattle.std.specs.Prelude.{◌≡◌, ◌≤◌, pos, IfOk};
+ghost use Rattle.std.specs.Option.{option_map_or};
+ghost use Rattle.osc_base.specs.LowestTerms.{gcd as divisor};
+ghost use Rattle.osc_base.specs.Number.{whole};
+ghost use Rattle.osc_base.specs.Fraction.{value};
+ghost use Rattle.type_heads.specs.Exponents.{signed_decimal};
+ghost use Rattle.type_heads.specs.Units.{signed, signed_number};
+
+use dsl_tree::Signed;
+use osc_base::Fraction;
+use std::alloc::AllocError;
+
+/// The greatest common divisor.
+#[tactic(auto, using(crate::proofs::Divisors::gcd_step, crate::proofs::Divisors::gcd_end))]
+fn gcd(a: u128, b: u128) -> u128
+    ensures { result ≡ divisor a b }
+{
+    let (mut x, mut y) = (a, b);
+    while y != 0 {
+        let rest = x % y;
+        x = y;
+        y = rest;
+    }
+    x
+}
+
+/// A numerator with its sign.
+fn with_sign(minus: bool, top: u64) -> i128
+    ensures { result ≡ signed minus (pos top) }
+{
+    let top = i128::from(top);
+    if minus { -top } else { top }
+}
+
+/// A decimal in lowest terms, with its sign.
+#[tactic(auto, using(crate::proofs::Divisors::gcd_above_second, crate::proofs::Divisors::share_above))]
+fn decimal(minus: bool, digits: u64, places: u8) -> Fraction
+    requires { places ≤ 18 }
+    ensures { value result ≡ signed_decimal minus digits places }
+{
+    let digits = u128::from(digits);
+    let scale = 10u128.pow(u32::from(places));
+    let divisor = gcd(digits, scale);
+    Fraction {
+        num: with_sign(minus, (digits / divisor) as u64),
+        den: (scale / divisor) as i128,
+    }
+}
+
+/// The number that is written. One with more than 18 places counts as out of memory; those of a source have at
+/// most 18.
+fn written(number: Signed) -> Result<Fraction, AllocError>
+    ensures { IfOk result (λ f. value f ≡ signed_number number) }
+{
+    let digits = number.number;
+    if digits.places > 18 {
+        return Err(AllocError);
+    }
+    Ok(decimal(number.minus, digits.digits, digits.places))
+}
+
+/// The factor of a unit, 1 if none is written.
+pub fn factor(number: Option<Signed>) -> Result<Fraction, AllocError>
+    ensures { IfOk result (λ f. value f ≡ option_map_or signed_number number (whole (pos 1))) }
+{
+    match number {
+        Some(number) => written(number),
+        None => Ok(Fraction { num: 1, den: 1 }),
+    }
+}
+
+/// The offset of a unit, 0 if none is written.
+pub fn offset(number: Option<Signed>) -> Result<Fraction, AllocError>
+    ensures { IfOk result (λ f. value f ≡ option_map_or signed_number number (whole (pos 0))) }
+{
+    match number {
+        Some(number) => written(number),
+        None => Ok(Fraction { num: 0, den: 1 }),
+    }
+}

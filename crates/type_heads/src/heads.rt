@@ -1,0 +1,132 @@
+ghost use Rattle.std.specs.Prelude.{◌≡◌, ◌≤◌, ◌<◌, ◌^◌, length, pos, option_copied, option_map, IfOk};
+ghost use Rattle.type_heads.specs.Seen.{seen_form};
+ghost use Rattle.type_heads.specs.Shown.{hit_of};
+ghost use Rattle.type_heads.specs.Table.{base, enum_number, enums_with, form, named, owner};
+
+use crate::declarations::Declarations;
+use crate::head::member_number;
+use crate::heads_build::own_heads;
+use crate::names::NameIndex;
+use crate::{EnumHit, Form, Head, TypeId};
+use name_scope::Program;
+use std::alloc::{AllocError, Global};
+use std::marker::Model;
+
+/// The heads of all types. Contracts see them as the list of the heads.
+#[derive(Drop)]
+pub struct Heads {
+    entries: Vec<Head>,
+    names: NameIndex,
+}
+
+impl Model for Heads {
+    ghost use Rattle.std.specs.Prelude.{◌<◌, ◌^◌, List, length};
+    ghost use Rattle.type_heads.specs.Table.{TypeHead};
+
+    ghost Value = { List TypeHead };
+
+    ghost use Rattle.type_heads.specs.Grouped.{IsIndex};
+
+    ghost view = { λ h. h.entries.items };
+
+    ghost invariant = { λ h. (length h.entries.items < 2 ^ 32) × IsIndex h.names h.entries.items };
+}
+
+impl Heads {
+    ghost use Rattle.type_heads.specs.DeclaredTypes.{program_of, types_of};
+    ghost use Rattle.type_heads.specs.HeadsGrouped.{all_heads};
+    ghost use Rattle.type_heads.specs.Gathered.{AreGathered, all_of};
+
+    /// The heads of the types of a program, with extensions and bases worked in. More types than a `u32` counts
+    /// are out of memory.
+    pub fn build(alloc: Global, program: &Program) -> Result<Heads, AllocError>
+        ensures { IfOk result (λ heads. heads ≡ (types_of (program_of program.now)).table.heads) }
+    {
+        let declarations = Declarations::of(alloc, program)?;
+        Heads::of(alloc, &declarations)
+    }
+
+    /// The heads of the types that are declared.
+    fn of(alloc: Global, declarations: &Declarations<'_>) -> Result<Heads, AllocError>
+        requires { AreGathered declarations.now }
+        ensures { IfOk result (λ heads. heads ≡ all_heads (all_of declarations.now)) }
+    {
+        let names = NameIndex::of(alloc, declarations.types.as_slice())?;
+        let entries = own_heads(alloc, declarations)?;
+        Ok(Heads { entries, names })
+    }
+
+    /// How many types there are.
+    pub fn count(&self) -> u32
+        ensures { result ≡ length self.now }
+    {
+        self.entries.len() as u32
+    }
+
+    /// The first type of that name. Only a behaviour that is asked for with its owner has one.
+    pub fn named(&self, owner: Option<&str>, name: &str) -> Option<TypeId>
+        ensures { result ≡ named self.now (option_copied owner.entry) name.now }
+    {
+        let place = self.names.get(owner, name)?;
+        Some(TypeId(place))
+    }
+
+    /// The type that a type inherits from. A number that no type has inherits from none.
+    pub fn base(&self, of: TypeId) -> Option<TypeId>
+        ensures { result ≡ base self.now of }
+    {
+        let head = self.entries.get(of.0 as usize)?;
+        head.base()
+    }
+
+    /// What a type is. A number that no type has stands for `int`.
+    pub fn form(&self, of: TypeId) -> Form<'_>
+        ensures { seen_form result ≡ form self.now of }
+    {
+        match self.entries.get(of.0 as usize) {
+            Some(head) => head.form(),
+            None => Form::Int,
+        }
+    }
+
+    /// The actor that owns a behaviour.
+    pub fn owner(&self, of: TypeId) -> Option<TypeId>
+        ensures { result ≡ owner self.now of }
+    {
+        let head = self.entries.get(of.0 as usize)?;
+        self.named(None, head.owner()?)
+    }
+
+    /// The number of the member of that name. Only an enum has one.
+    pub fn enum_number(&self, of: TypeId, name: &str) -> Option<i64>
+        ensures { result ≡ option_map pos (enum_number self.now of name.now) }
+    {
+        match self.form(of) {
+            Form::Enum(members) => member_number(members, name),
+            _ => None,
+        }
+    }
+
+    /// Which enum has a member of that name.
+    pub fn enum_with(&self, name: &str) -> EnumHit
+        ensures { result ≡ hit_of (enums_with self.now name.now) }
+    {
+        hit_among(self.entries.as_slice(), name)
+    }
+}
+
+/// Which of the heads is of an enum with a member of that name.
+fn hit_among(heads: &[Head], name: &str) -> EnumHit
+    requires { length heads.now < 2 ^ 32 }
+    ensures { result ≡ hit_of (enums_with heads.now name.now) }
+{
+    let mut hit = EnumHit::Absent;
+    let mut number: u32 = 0;
+    for head in heads {
+        if head.has_member(name) {
+            hit = hit.and(TypeId(number));
+        }
+        number += 1;
+    }
+    hit
+}

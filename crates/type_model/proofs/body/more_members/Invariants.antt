@@ -1,7 +1,0 @@
-use Rattle.std.proofs.Common.{◌≡◌, ◌++◌, map, drop}
-use Rattle.std.specs.Prelude.{flat_map}
-use Rattle.type_model.specs.Bodied.{members_placed, seen_written}
-use Rattle.type_model.proofs.body.more_members.Given as goal
-
-abbrev pub invariant-loop-placed : goal.invariant-loop-placed
-invariant-loop-placed l = map seen_written l.written.items ++ flat_map members_placed (drop l.placed-index l.extensions) ≡ flat_map members_placed l.extensions

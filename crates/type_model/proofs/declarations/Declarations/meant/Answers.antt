@@ -1,5 +1,0 @@
-use Rattle.type_model.specs.Gathered.{heads_of}
-use Rattle.type_model.proofs.declarations.Declarations.meant.Goals as goal
-
-pub returns : goal.returns
-returns c = c.type_meant.ensures (heads_of c.args.self.now) c.requires.same_names

@@ -1,7 +1,0 @@
-use Rattle.std.proofs.Common.{◌≡◌, ◌++◌, List, drop}
-use Rattle.dsl_tree.specs.declared.enums.EnumItem.{EnumItem}
-use Rattle.type_model.specs.Numbering.{with_items}
-use Rattle.type_model.proofs.numbering.Numbering.push_all.Given as goal
-
-abbrev pub invariant-loop-item : goal.invariant-loop-item
-invariant-loop-item l = (more : List EnumItem) → with_items l.self (drop l.item-index l.items ++ more) ≡ with_items l.fn.self (l.items ++ more)

@@ -1,9 +1,0 @@
-use Rattle.std.proofs.Common.{◌≡◌, ◌++◌, List, drop}
-use Rattle.std.specs.Prelude.{flat_map}
-use Rattle.dsl_tree.specs.declared.enums.EnumItem.{EnumItem}
-use Rattle.type_model.specs.Numbering.{with_items, items_placed}
-use Rattle.type_model.proofs.numbering.Numbering.push_extensions.Given as goal
-
-abbrev pub invariant-loop-placed : goal.invariant-loop-placed
-invariant-loop-placed l = (more : List EnumItem) →
-    with_items l.self (flat_map items_placed (drop l.placed-index l.extensions) ++ more) ≡ with_items l.fn.self (flat_map items_placed l.extensions ++ more)
