@@ -5,11 +5,13 @@ ghost use Rattle.type_heads.specs.Table.{base, enum_members, enums_with, field_o
 ghost use Rattle.type_heads.specs.Table.{enum_number as number_in, unit as unit_in};
 ghost use Rattle.type_heads.specs.Shown.{bare, condition_told, hit_of, kind_form, members_told, shown_field, shown_member, shown_unit, unit_parts};
 
-use type_heads::{ConditionEntry, FieldEntry, UnitEntry};
-use type_heads::{EnumHit, FieldType, Form, Heads, MemberRef, TypeId, TypeKind};
 use dsl_tree::CompoundKind;
 use osc_base::{Row, Text};
 use std::marker::Model;
+use type_heads::{
+    ConditionEntry, EnumHit, FieldEntry, FieldType, Form, Heads, MemberRef, TypeId, TypeKind,
+    UnitEntry,
+};
 use units_si::Unit;
 
 /// The greatest magnitude of what a field holds.
