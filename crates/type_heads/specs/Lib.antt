@@ -23,9 +23,3 @@ pub mod DeclaredTypes
 pub mod Cycles
 pub mod HeadingFaults
 pub mod MemberFaults
-pub mod SeenNames
-pub mod Trees
-pub mod ItemSets
-pub mod NameRows
-pub mod NameFaults
-pub mod Reaching

@@ -1,4 +1,4 @@
-//! Types of a program: what it declares, the members of each type, and the faults of headings and members.
+//! Types of a program: what it declares, and the members of each type as written.
 #![tactic(auto)]
 
 mod body;
@@ -10,24 +10,25 @@ mod form;
 mod form_tests;
 mod grouping;
 mod head;
-mod heading_faults;
 mod heads;
 mod heads_build;
 mod kinds;
 mod lines;
-mod member_faults;
 mod names;
 mod numbering;
 mod own_type;
 mod placed;
-mod reach;
-mod sets;
 mod type_id;
 mod units;
 
+pub use body::{Body, WrittenMember, bodies};
+pub use brackets::exponents;
+pub use declarations::Declarations;
 pub use entries::{ConditionEntry, FieldEntry, UnitEntry};
 pub use form::{EnumEntry, Form};
-pub use head::Head;
+pub use head::{Head, member_number};
 pub use heads::Heads;
 pub use kinds::{EnumHit, FieldType, MemberRef, TypeKind};
+pub use own_type::OwnType;
+pub use placed::PlacedDecl;
 pub use type_id::TypeId;

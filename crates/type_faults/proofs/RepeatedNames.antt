@@ -1,0 +1,110 @@
+-- Going through the names of members.
+use Rattle.std.proofs.Common.{map, flat_map, option_to_list}
+use Rattle.dsl_tree.specs.declared.phases.CompNode.{CompNode}
+use Rattle.dsl_tree.specs.declared.phases.Phase.{Phase}
+use Rattle.dsl_tree.specs.declared.phases.Phase.TheOpen.{Phase-F}
+use Rattle.dsl_tree.specs.declared.phases.Phase.TheFolds.{fold-roll-Phase, fold-roll-CompNode}
+use Rattle.dsl_tree.specs.declared.phases.Phase.TheViews as PhaseViews
+use Rattle.std.proofs.lemmas.List.{map-append}
+use Rattle.std.proofs.lemmas.List.Concat.{flat_map-append}
+use Rattle.dsl_tree.specs.PhaseTree.{PhaseTree, row_of}
+use Rattle.dsl_tree.specs.Views.{argument_tree, comp_step, comp_tree, member_tree, phase_step, phase_tree}
+use Rattle.type_heads.specs.MemberFaults.{labels_among, labels_in, member_names}
+use Rattle.std.proofs.Common.{◌≡◌, ◌∙◌, refl, sym, ap, ℕ, ◌+◌, ◌<◌, Bool, ◌||◌, List, [], ◌∷◌, ◌++◌, Option, take, length, get_or, append_assoc, append-nil, bytes_eq, subst}
+use Rattle.std.specs.List.{list_any}
+use Rattle.std.proofs.lemmas.List.{take_more}
+use Rattle.osc_base.specs.declared.fault.Fault.{Fault}
+use Rattle.osc_base.specs.declared.fault.FaultCode.{FaultCode}
+use Rattle.osc_base.specs.FaultRows.{row, row_fault, first_of, first_from}
+use Rattle.dsl_tree.specs.declared.parts.Ident.{Ident}
+use Rattle.type_heads.specs.MemberFaults.{repeated_rows}
+use Rattle.type_faults.specs.NameRows.{HasTexts, ContinuesNames, member_trees}
+use Rattle.std.proofs.Common.{Bor}
+use Rattle.dsl_tree.specs.declared.compounds.Member.{Member}
+use Rattle.type_faults.proofs.RowSteps.{one_text_more}
+
+pub one_name : (first found : Option Fault) (old new : List (List ℕ)) (i : Ident) (is_met : Bool) →
+    is_met ≡ list_any (bytes_eq i.text) old →
+    ((other : List ℕ) → list_any (bytes_eq other) new ≡ (bytes_eq other i.text || list_any (bytes_eq other) old)) →
+    found ≡ first_of first (row_fault (row i.place FaultCode.Twice is_met)) → ContinuesNames first old found new (i ∷ [])
+one_name first found old new i is_met met more now = λ earlier later has. (
+  i.text ∷ earlier,
+  one_text_more old new earlier i.text has more,
+  ap (λ b. first_from (first_of first (row_fault (row i.place FaultCode.Twice b))) (repeated_rows (i.text ∷ earlier) later)) (sym (met ∙ has i.text))
+      ∙ ap (λ f. first_from f (repeated_rows (i.text ∷ earlier) later)) (sym now),
+)
+
+pub no_names : (first : Option Fault) (met : List (List ℕ)) → ContinuesNames first met first met []
+no_names first met = λ earlier later has. (earlier, has, refl)
+
+pub then_names : (first middle found : Option Fault) (old between new : List (List ℕ)) (xs ys : List Ident) → ContinuesNames first old middle between xs →
+    ContinuesNames middle between found new ys → ContinuesNames first old found new (xs ++ ys)
+then_names first middle found old between new xs ys one other = λ earlier later has.
+    let a = one earlier (ys ++ later) has in
+    let b = other a.0 later a.1 in
+    (b.0, b.1, ap (λ is. first_from first (repeated_rows earlier is)) (append_assoc xs ys later) ∙ a.2 ∙ b.2)
+
+pub next_name : (first found found' : Option Fault) (old met met' : List (List ℕ)) (names : List Ident) (n : ℕ) (i : Ident) → n < length names → i ≡ get_or names n i →
+    ContinuesNames found met found' met' (i ∷ []) → ContinuesNames first old found met (take n names) → ContinuesNames first old found' met' (take (n + 1) names)
+next_name first found found' old met met' names n i less is one before =
+    let e : take n names ++ i ∷ [] ≡ take (n + 1) names = ap (λ x. take n names ++ x ∷ []) is ∙ sym (take_more names n i less) in
+    subst (ContinuesNames first old found' met') e (then_names first found found' old met met' (take n names) (i ∷ []) before one)
+
+-- Labels
+
+labels_of_row : (ps : List PhaseTree) → labels_among (row_of ps) ≡ flat_map labels_in ps
+labels_of_row [] = refl
+labels_of_row (p ∷ ps) = ap (λ is. labels_in p ++ is) (labels_of_row ps)
+
+seen_members : (c : CompNode) → comp_tree c ≡ PhaseTree.Comp c.label c.place c.kind (map argument_tree c.arguments) (row_of (map phase_tree c.members))
+unfolding denote.Hole.Carrier.roll
+seen_members c = fold-roll-CompNode PhaseTree PhaseTree phase_step comp_step (record { label = c.label; place = c.place; kind = c.kind; arguments = c.arguments; members = c.members })
+
+pub labels_of_comp : (c : CompNode) → labels_in (comp_tree c) ≡ option_to_list c.label ++ flat_map labels_in (map phase_tree c.members)
+labels_of_comp c = ap labels_in (seen_members c) ∙ ap (λ is. option_to_list c.label ++ is) (labels_of_row (map phase_tree c.members))
+
+pub phase_of_comp : (c : CompNode) → comp_tree c ≡ phase_tree (PhaseViews.Comp c)
+unfolding Rattle.dsl_tree.specs.declared.phases.Phase.TheViews.roll-Phase denote.Hole.Carrier.roll
+phase_of_comp c = sym (fold-roll-Phase PhaseTree PhaseTree phase_step comp_step (Phase-F.Comp c))
+
+-- one phase more
+pub next_phase : (first found found' : Option Fault) (old met met' : List (List ℕ)) (label : List Ident) (phases items : List Phase) (n : ℕ) (p : Phase) →
+    items ≡ phases → n < length items → p ≡ get_or items n p →
+    ContinuesNames found met found' met' (labels_in (phase_tree p)) →
+    ContinuesNames first old found met (label ++ flat_map labels_in (map phase_tree (take n phases))) →
+    ContinuesNames first old found' met' (label ++ flat_map labels_in (map phase_tree (take (n + 1) phases)))
+next_phase first found found' old met met' label phases items n p same less is one before =
+    let less' : n < length phases = subst (λ xs. n < length xs) same less in
+    let is' : p ≡ get_or phases n p = is ∙ ap (λ xs. get_or xs n p) same in
+    let earlier : List Ident = flat_map labels_in (map phase_tree (take n phases)) in
+    let e : earlier ++ labels_in (phase_tree p) ≡ flat_map labels_in (map phase_tree (take (n + 1) phases)) =
+    ap (λ xs. earlier ++ xs) (sym (append-nil (labels_in (phase_tree p))))
+    ∙ sym (flat_map-append labels_in (map phase_tree (take n phases)) (map phase_tree (p ∷ [])))
+    ∙ ap (flat_map labels_in) (sym (map-append phase_tree (take n phases) (p ∷ [])))
+    ∙ ap (λ x. flat_map labels_in (map phase_tree (take n phases ++ x ∷ []))) is'
+    ∙ ap (λ xs. flat_map labels_in (map phase_tree xs)) (sym (take_more phases n p less')) in
+    subst (ContinuesNames first old found' met') (append_assoc label earlier (labels_in (phase_tree p)) ∙ ap (λ xs. label ++ xs) e)
+    (then_names first found found' old met met' (label ++ earlier) (labels_in (phase_tree p)) before one)
+
+-- one member more
+pub next_member : (first found found' : Option Fault) (old met met' : List (List ℕ)) (members : List (Bor Member)) (n : ℕ) (m : Bor Member) →
+    n < length members → m ≡ get_or members n m →
+    ContinuesNames found met found' met' (member_names (member_tree m.now)) →
+    ContinuesNames first old found met (flat_map member_names (member_trees (take n members))) →
+    ContinuesNames first old found' met' (flat_map member_names (member_trees (take (n + 1) members)))
+next_member first found found' old met met' members n m less is one before =
+    let earlier : List Ident = flat_map member_names (member_trees (take n members)) in
+    let e : earlier ++ member_names (member_tree m.now) ≡ flat_map member_names (member_trees (take (n + 1) members)) =
+    ap (λ xs. earlier ++ xs) (sym (append-nil (member_names (member_tree m.now))))
+    ∙ sym (flat_map-append member_names (member_trees (take n members)) (member_trees (m ∷ [])))
+    ∙ ap (flat_map member_names) (sym (map-append (λ (x : Bor Member). member_tree x.now) (take n members) (m ∷ [])))
+    ∙ ap (λ x. flat_map member_names (member_trees (take n members ++ x ∷ []))) is
+    ∙ ap (λ xs. flat_map member_names (member_trees xs)) (sym (take_more members n m less)) in
+    subst (ContinuesNames first old found' met') e (then_names first found found' old met met' earlier (member_names (member_tree m.now)) before one)
+
+-- all names are done
+pub all_names : (first found : Option Fault) (old new given : List (List ℕ)) (names : List Ident) → HasTexts old given → ContinuesNames first old found new names →
+    found ≡ first_from first (repeated_rows given names)
+all_names first found old new given names has all =
+    let last = all given [] has in
+    sym last.2 ∙ ap (λ is. first_from first (repeated_rows given is)) (append-nil names)

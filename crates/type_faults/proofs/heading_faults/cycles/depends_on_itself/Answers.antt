@@ -1,0 +1,14 @@
+use Rattle.std.proofs.Common.{◌≡◌, ◌∙◌, ◌||◌, ap, sym, length}
+use Rattle.type_heads.specs.Table.{bases}
+use Rattle.type_heads.specs.Members.{has}
+use Rattle.type_heads.specs.Cycles.{returns as leads}
+use Rattle.type_faults.proofs.RowSteps.{if_ok}
+use Rattle.type_faults.proofs.heading_faults.cycles.depends_on_itself.Goals as goal
+
+pub returns : goal.returns
+returns g c =
+    if_ok (λ b. b ≡ leads c.count.result (g.S.Steps.next c.args.steps.now) c.args.of)
+    (λ b. b ≡ (has c.args.of (bases c.args.heads.now c.args.of) || leads (length c.args.heads.now) (g.S.Steps.next c.args.steps.now) c.args.of))
+    (λ b is. is ∙ ap (λ n. leads n (g.S.Steps.next c.args.steps.now) c.args.of) c.count.ensures
+    ∙ ap (λ t. t || leads (length c.args.heads.now) (g.S.Steps.next c.args.steps.now) c.args.of) (sym (sym c.is_base_of.ensures ∙ c.if-is_base_of.false)))
+    c.leads_back.result c.leads_back.ensures

@@ -1,0 +1,17 @@
+use Rattle.std.proofs.Common.{◌≡◌, None}
+use Rattle.osc_base.specs.FaultRows.{first_fault, first_from}
+use Rattle.type_heads.specs.DeclaredTypes.{all_declared}
+use Rattle.type_heads.specs.Gathered.{all_of, heads_of}
+use Rattle.type_faults.specs.NameFaults.{rows_of_names}
+use Rattle.type_heads.specs.HeadingFaults.{basic_names, declaration_rows, enum_rows_from, name_declared, twice_rows}
+use Rattle.type_faults.proofs.NameFaultRows.{joined}
+use Rattle.type_faults.proofs.RowSteps.{if_ok}
+use Rattle.type_faults.proofs.heading_faults.declared.first_name_fault.Goals as goal
+
+pub returns : goal.returns
+returns c =
+    let enums = enum_rows_from (heads_of c.args.declarations.now) (all_of c.args.declarations.now) 0 (all_declared (all_of c.args.declarations.now)) in
+    if_ok (λ f. f ≡ first_from c.in_ok-first-2.first enums) (λ f. f ≡ first_fault (rows_of_names c.args.heads.now c.args.declarations.now))
+    (λ f more. joined (twice_rows basic_names) name_declared (declaration_rows c.args.heads.now) enums c.as_slice-all.result.now c.args.declarations.now.placed.items
+    None c.in_ok-first.first c.in_ok-first-2.first f c.as_slice-all.ensures.value c.in_ok-first.ensures c.in_ok-first-2.ensures more)
+    c.with_enums.result c.with_enums.ensures

@@ -1,0 +1,10 @@
+use Rattle.std.proofs.Common.{◌≡◌, drop, flat_map}
+use Rattle.osc_base.specs.FaultRows.{first_from}
+use Rattle.type_heads.specs.HeadingFaults.{declaration_rows}
+use Rattle.type_faults.specs.Trees.{trees}
+use Rattle.type_faults.proofs.heading_faults.declared.with_declarations.Given as goal
+
+abbrev pub invariant-loop-placed : goal.invariant-loop-placed
+invariant-loop-placed l =
+    first_from l.fn.first (flat_map (declaration_rows l.heads) (trees l.all))
+    ≡ first_from l.found (flat_map (declaration_rows l.heads) (trees (drop l.placed-index l.all)))

@@ -1,0 +1,10 @@
+use Rattle.std.proofs.Common.{◌≡◌, drop, flat_map, map}
+use Rattle.osc_base.specs.FaultRows.{first_from}
+use Rattle.dsl_tree.specs.Views.{member_tree}
+use Rattle.type_heads.specs.HeadingFaults.{member_rows}
+use Rattle.type_faults.proofs.heading_faults.members.with_members.Given as goal
+
+abbrev pub invariant-loop-member : goal.invariant-loop-member
+invariant-loop-member l =
+    first_from l.fn.first (flat_map (member_rows l.heads) (map member_tree l.members))
+    ≡ first_from l.found (flat_map (member_rows l.heads) (map member_tree (drop l.member-index l.members)))

@@ -1,0 +1,10 @@
+use Rattle.std.proofs.Common.{drop, filter_map}
+use Rattle.osc_base.specs.FaultRows.{first_from}
+use Rattle.type_heads.specs.HeadingFaults.{basic_names, name_declared, twice_rows}
+use Rattle.type_faults.specs.Trees.{trees}
+use Rattle.type_faults.proofs.NameSteps.{NamesLeft}
+use Rattle.type_faults.proofs.heading_faults.names.with_names.Given as goal
+
+abbrev pub invariant-loop-placed : goal.invariant-loop-placed
+invariant-loop-placed l = NamesLeft (first_from l.fn.first (twice_rows basic_names (filter_map name_declared (trees l.all)))) l.met.keys.keys l.found
+    (trees (drop l.placed-index l.all))

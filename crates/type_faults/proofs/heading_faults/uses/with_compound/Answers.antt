@@ -1,0 +1,17 @@
+use Rattle.std.proofs.Common.{◌∙◌, ap, [], ◌++◌, flat_map, map}
+use Rattle.std.specs.Option.{option_map_or}
+use Rattle.osc_base.specs.FaultRows.{first_from}
+use Rattle.dsl_tree.specs.declared.parts.Ident.{Ident}
+use Rattle.dsl_tree.specs.Views.{compound_tree, member_tree}
+use Rattle.type_heads.specs.HeadingFaults.{heir_rows, member_rows, owner_rows}
+use Rattle.type_faults.proofs.RowSteps.{two}
+use Rattle.type_faults.proofs.heading_faults.uses.with_compound.Goals as goal
+
+pub returns : goal.returns
+returns c =
+    two
+    (option_map_or (λ (second : Ident). owner_rows c.args.heads.now c.args.declared.now.name.first) c.args.declared.now.name.second []
+    ++ option_map_or (heir_rows c.args.heads.now (compound_tree c.args.declared.now)) c.args.declared.now.heir [])
+    (flat_map (member_rows c.args.heads.now) (map member_tree c.args.declared.now.members))
+    c.args.first c.with_heading-first.result c.with_members.result c.with_heading-first.ensures
+    (c.with_members.ensures ∙ ap (λ ms. first_from c.with_heading-first.result (flat_map (member_rows c.args.heads.now) (map member_tree ms))) c.as_slice.ensures)

@@ -1,0 +1,13 @@
+use Rattle.std.proofs.Common.{[]}
+use Rattle.std.specs.Option.{option_map_or}
+use Rattle.dsl_tree.specs.declared.parts.Ident.{Ident}
+use Rattle.dsl_tree.specs.Views.{compound_tree}
+use Rattle.type_heads.specs.HeadingFaults.{heir_rows, owner_rows}
+use Rattle.type_faults.proofs.RowSteps.{two}
+use Rattle.type_faults.proofs.heading_faults.uses.with_heading.Goals as goal
+
+pub returns : goal.returns
+returns c =
+    two (option_map_or (λ (second : Ident). owner_rows c.args.heads.now c.args.declared.now.name.first) c.args.declared.now.name.second [])
+    (option_map_or (heir_rows c.args.heads.now (compound_tree c.args.declared.now)) c.args.declared.now.heir [])
+    c.args.first c.with_own_owner-first.result c.with_heir.result c.with_own_owner-first.ensures c.with_heir.ensures

@@ -1,0 +1,11 @@
+use Rattle.std.proofs.Common.{take_all, subst}
+use Rattle.type_faults.specs.NameRows.{ContinuesNames}
+use Rattle.type_faults.proofs.RepeatedNames.{next_name}
+use Rattle.type_faults.proofs.member_faults.names.with_names.Goals as goal
+
+pub loop-name-preserved : goal.loop-name-preserved
+loop-name-preserved c = next_name c.args.first c.loop-name.found c.in_ok-found.found c.args.met.now c.loop-name.met c.with_name.new.met c.args.names.now c.loop-name.name-index c.name-item.result
+    c.loop-name-test.true c.name-item.is c.in_ok-found.ensures c.loop-name.invariant
+
+pub returns : goal.returns
+returns c = subst (ContinuesNames c.args.first c.args.met.now c.loop-name.found c.loop-name.met) (take_all c.loop-name.name-index c.args.names.now c.loop-name-test.false) c.loop-name.invariant

@@ -1,0 +1,75 @@
+//! The faults of initial values.
+
+ghost use Rattle.std.specs.Prelude.{◌≡◌, ◌&&◌, [], ◌∷◌, None, Some, false, not, is_some, option_map};
+ghost use Rattle.std.specs.Option.{option_map_or};
+ghost use Rattle.osc_base.specs.FaultRows.{first_from, row};
+ghost use Rattle.dsl_tree.specs.Views.{expr_tree, field_tree, member_tree};
+ghost use Rattle.type_heads.specs.Table.{form, is_object, named};
+ghost use Rattle.type_heads.specs.MemberFaults.{first_name_place as place_of_first, initial_rows, is_list_of as makes_list};
+
+use dsl_tree::{Expr, FieldDecl, Ident, Member};
+use name_scope::with_fault;
+use osc_base::{Fault, FaultCode, Place};
+use type_heads::Heads;
+
+/// The most elements of a list.
+const MOST_ELEMENTS: usize = 64;
+
+/// The place of the first name, or else the one given.
+fn first_name_place(names: &[Ident], place: Place) -> Place
+    ensures { result ≡ place_of_first names.now place }
+{
+    match names.first() {
+        Some(name) => name.place,
+        None => place,
+    }
+}
+
+/// Whether it is a list constructor that isn't too long.
+fn is_list(initial: &Expr) -> bool
+    ensures { result ≡ makes_list (Some (expr_tree initial.now)) }
+{
+    match initial {
+        Expr::Listed { place: _, items } => items.as_slice().len() <= MOST_ELEMENTS,
+        _ => false,
+    }
+}
+
+fn is_list_of(initial: &Option<Expr>) -> bool
+    ensures { result ≡ makes_list (option_map expr_tree initial.now) }
+{
+    match initial {
+        Some(initial) => is_list(initial),
+        None => false,
+    }
+}
+
+fn is_of_object(heads: &Heads, field: &FieldDecl) -> bool
+    ensures { result ≡ option_map_or (λ t. is_object (form heads.now t)) (named heads.now None field.now.of.text) false }
+{
+    match heads.named(None, field.of.text.as_str()) {
+        Some(of) => heads.form(of).is_object(),
+        None => false,
+    }
+}
+
+fn with_field(first: Option<Fault>, heads: &Heads, field: &FieldDecl) -> Option<Fault>
+    ensures { result ≡ first_from first (row (place_of_first field.now.names field.now.of.place) FaultCode.WrongKind (is_some field.now.initial && option_map_or (λ t. is_object (form heads.now t)) (named heads.now None field.now.of.text) false) ∷ row field.now.of.place FaultCode.BadArgument (is_some field.now.list && not (makes_list (option_map expr_tree field.now.initial))) ∷ []) }
+{
+    let of = field.of.place;
+    let place = first_name_place(field.names.as_slice(), of);
+    let has_value = field.initial.is_some() && is_of_object(heads, field);
+    let first = with_fault(first, place, FaultCode::WrongKind, has_value);
+    let is_unlisted = field.list.is_some() && !is_list_of(&field.initial);
+    with_fault(first, of, FaultCode::BadArgument, is_unlisted)
+}
+
+/// Faults of the initial value of a member.
+pub fn with_initial(first: Option<Fault>, heads: &Heads, member: &Member) -> Option<Fault>
+    ensures { result ≡ first_from first (initial_rows heads.now (member_tree member.now)) }
+{
+    match member {
+        Member::Field(field) => with_field(first, heads, field),
+        Member::Rule(_) | Member::Do { place: _, phase: _ } => first,
+    }
+}
