@@ -47,7 +47,7 @@ impl Heads {
     }
 
     /// The heads of the types that are declared.
-    fn of(alloc: Global, declarations: &Declarations<'_>) -> Result<Heads, AllocError>
+    pub fn of(alloc: Global, declarations: &Declarations<'_>) -> Result<Heads, AllocError>
         requires { AreGathered declarations.now }
         ensures { IfOk result (λ heads. heads ≡ all_heads (all_of declarations.now)) }
     {

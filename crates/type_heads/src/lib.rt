@@ -26,8 +26,11 @@ mod type_id;
 mod units;
 
 pub use entries::{ConditionEntry, FieldEntry, UnitEntry};
+pub use body::{Body, WrittenMember, bodies};
+pub use declarations::Declarations;
 pub use form::{EnumEntry, Form};
 pub use head::Head;
 pub use heads::Heads;
 pub use kinds::{EnumHit, FieldType, MemberRef, TypeKind};
 pub use type_id::TypeId;
+pub use units::unit_entries;
