@@ -1,0 +1,9 @@
+//! The texts of the strings in a program.
+#![tactic(auto)]
+
+mod declared;
+mod exprs;
+mod phases;
+
+pub use declared::push_declaration;
+pub use exprs::push_texts_in;
