@@ -1,2 +1,3 @@
+mod OrderedTexts
 mod PhaseLaws
 mod StringLaws

@@ -4,6 +4,8 @@
 mod declared;
 mod exprs;
 mod phases;
+mod sorted;
 
 pub use declared::push_declaration;
 pub use exprs::push_texts_in;
+pub use sorted::ordered;
