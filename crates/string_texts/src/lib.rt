@@ -4,8 +4,10 @@
 mod declared;
 mod exprs;
 mod phases;
+mod program;
 mod sorted;
 
 pub use declared::push_declaration;
 pub use exprs::push_texts_in;
+pub use program::texts;
 pub use sorted::ordered;

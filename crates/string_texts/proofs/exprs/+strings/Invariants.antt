@@ -1,4 +1,4 @@
-use Rattle.std.proofs.Common.{◌≡◌, ◌++◌, List, ℕ, map, take, Bor}
+use Rattle.std.proofs.Common.{◌≡◌, ◌++◌, map, take}
 use Rattle.string_texts.specs.Strings.{joined, expr_strings, suffix_strings, further_strings}
 use Rattle.string_texts.proofs.exprs.+strings.Given as goal
 

@@ -1,4 +1,4 @@
-use Rattle.std.proofs.Common.{◌∙◌, ◌++◌, ap, map, sym, List, ℕ}
+use Rattle.std.proofs.Common.{◌∙◌, ◌++◌, ap, map, sym}
 use Rattle.string_texts.proofs.StringLaws.{strings_are}
 use Rattle.string_texts.proofs.exprs.push_texts_in.Goals as goal
 
