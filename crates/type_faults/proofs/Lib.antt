@@ -13,3 +13,7 @@ mod RepeatedNames
 mod Rounds
 mod RowSteps
 pub mod Ranked
+mod Passed
+mod HeldSteps
+mod TypeNumbers
+mod HeadingRows

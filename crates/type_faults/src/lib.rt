@@ -2,6 +2,12 @@
 #![tactic(auto)]
 
 mod heading_faults;
+mod headings;
 mod member_faults;
+mod passing;
+mod ranks;
 mod reach;
+mod returning;
 mod sets;
+
+pub use headings::first_heading_fault;
