@@ -17,3 +17,4 @@ mod Passed
 mod HeldSteps
 mod TypeNumbers
 mod HeadingRows
+mod FoundFields

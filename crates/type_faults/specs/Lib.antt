@@ -7,3 +7,4 @@ pub mod Reaching
 pub mod Ranking
 pub mod Holding
 pub mod Passing
+pub mod ListedRows

@@ -2,5 +2,6 @@
 
 mod conditions;
 mod dos;
+mod fields;
 mod initial;
 mod names;

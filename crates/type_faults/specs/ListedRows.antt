@@ -1,0 +1,23 @@
+-- The members of types in the lists that the code holds, and the fields found there.
+use Rattle.std.specs.Prelude.{ℕ, List, [], Option, None, map}
+use Rattle.dsl_tree.specs.Views.{field_tree}
+use Rattle.dsl_tree.specs.FileTree.{FieldTree}
+use Rattle.type_heads.specs.Table.{TypeHead}
+use Rattle.type_heads.specs.Types.{TypeBody, Member, Field, Types}
+use Rattle.type_faults.specs.declared.member_faults.fields.FieldHit.{FieldHit}
+
+-- types with these heads, bodies and members, as far as the faults of members look at them
+abbrev pub types_with : List TypeHead → List TypeBody → List (List Member) → Types
+types_with heads bodies members = record { bodies = bodies; library = None; members = members; table = record { heads = heads; fields = []; units = []; texts = [] } }
+
+-- what the faults of conditions look at in a field
+pub record FoundField : Type 0 where
+  pub tree : FieldTree
+  pub under : List ℕ
+
+abbrev pub found_field : Field → FoundField
+found_field f = record { tree = f.tree; under = f.under }
+
+-- a field that was found
+abbrev pub seen_hit : FieldHit → FoundField
+seen_hit h = record { tree = field_tree h.field.now; under = h.under.now }
