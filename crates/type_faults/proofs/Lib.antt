@@ -18,3 +18,4 @@ mod HeldSteps
 mod TypeNumbers
 mod HeadingRows
 mod FoundFields
+mod ConditionSteps

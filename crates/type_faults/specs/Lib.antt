@@ -8,3 +8,4 @@ pub mod Ranking
 pub mod Holding
 pub mod Passing
 pub mod ListedRows
+pub mod ConditionRows

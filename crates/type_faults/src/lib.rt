@@ -4,6 +4,7 @@
 mod heading_faults;
 mod headings;
 mod member_faults;
+mod members;
 mod passing;
 mod ranks;
 mod reach;
@@ -11,3 +12,4 @@ mod returning;
 mod sets;
 
 pub use headings::first_heading_fault;
+pub use members::first_member_fault;
