@@ -13,3 +13,9 @@ mod RepeatedNames
 mod Rounds
 mod RowSteps
 pub mod Ranked
+mod Passed
+mod HeldSteps
+mod TypeNumbers
+mod HeadingRows
+mod FoundFields
+mod ConditionSteps

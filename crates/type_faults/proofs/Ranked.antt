@@ -6,7 +6,8 @@ use Rattle.std.proofs.lemmas.Bool.Decides.{nat_tests}
 use Rattle.std.proofs.lemmas.List.Folds.{list_all-append}
 use Rattle.type_heads.specs.Members.{has}
 use Rattle.type_heads.specs.Cycles.{fresh, reached, returns}
-use Rattle.type_faults.specs.Ranking.{rank, is_level, level_from, falls}
+use Rattle.type_faults.specs.Ranking.{rank, is_level, level_from, falls, AreNext, IsShown}
+use Rattle.type_faults.specs.declared.returning.Ranking.{Ranking}
 
 pub both : (a b : Bool) → a ≡ true → b ≡ true → (a && b) ≡ true
 both true true h k = refl
@@ -130,3 +131,10 @@ falling_never_back step count ranks next t size same level less fall =
     stays x h =
         let l : x < count = grind (arith, nat_tests, left_of (nat_lt x count) (nat_lt (rank ranks x) (rank ranks t)) h) in
         all_level_below count ranks (rank ranks t) x (step x) (right_of (nat_lt x count) (nat_lt (rank ranks x) (rank ranks t)) h) (at x l)
+
+pub ranking_shows : (step : ℕ → List ℕ) (count : ℕ) (r : Ranking) → AreNext count step r.next.items → level_from (length r.next.items) r.ranks.items 0 r.next.items ≡ true → IsShown count step r
+ranking_shows step count r next level t shown =
+    let few : t < length r.next.items = grind (arith, nat_tests, left_of (nat_lt t (length r.next.items)) (falls r.ranks.items t (slice_index_or r.next.items t [])) shown) in
+    let less : t < count = omega (arith, next.0, few) in
+    falling_never_back step count r.ranks.items r.next.items t next.0 next.1 (ap (λ n. level_from n r.ranks.items 0 r.next.items) (sym next.0) ∙ level) less
+    (ap (falls r.ranks.items t) (sym (next.1 t less)) ∙ right_of (nat_lt t (length r.next.items)) (falls r.ranks.items t (slice_index_or r.next.items t [])) shown)

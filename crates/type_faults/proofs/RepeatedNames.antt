@@ -9,7 +9,7 @@ use Rattle.std.proofs.lemmas.List.{map-append}
 use Rattle.std.proofs.lemmas.List.Concat.{flat_map-append}
 use Rattle.dsl_tree.specs.PhaseTree.{PhaseTree, row_of}
 use Rattle.dsl_tree.specs.Views.{argument_tree, comp_step, comp_tree, member_tree, phase_step, phase_tree}
-use Rattle.type_heads.specs.MemberFaults.{labels_among, labels_in, member_names}
+use Rattle.type_heads.specs.MemberFaults.{labels_among, labels_in, member_names, names_among}
 use Rattle.std.proofs.Common.{◌≡◌, ◌∙◌, refl, sym, ap, ℕ, ◌+◌, ◌<◌, Bool, ◌||◌, List, [], ◌∷◌, ◌++◌, Option, take, length, get_or, append_assoc, append-nil, bytes_eq, subst}
 use Rattle.std.specs.List.{list_any}
 use Rattle.std.proofs.lemmas.List.{take_more}
@@ -19,8 +19,8 @@ use Rattle.osc_base.specs.FaultRows.{row, row_fault, first_of, first_from}
 use Rattle.dsl_tree.specs.declared.parts.Ident.{Ident}
 use Rattle.type_heads.specs.MemberFaults.{repeated_rows}
 use Rattle.type_faults.specs.NameRows.{HasTexts, ContinuesNames, member_trees}
-use Rattle.std.proofs.Common.{Bor}
-use Rattle.dsl_tree.specs.declared.compounds.Member.{Member}
+use Rattle.type_members.specs.declared.listed.ListedMember.{ListedMember}
+use Rattle.type_members.specs.Listed.{seen_listed}
 use Rattle.type_faults.proofs.RowSteps.{one_text_more}
 
 pub one_name : (first found : Option Fault) (old new : List (List ℕ)) (i : Ident) (is_met : Bool) →
@@ -87,20 +87,20 @@ next_phase first found found' old met met' label phases items n p same less is o
     (then_names first found found' old met met' (label ++ earlier) (labels_in (phase_tree p)) before one)
 
 -- one member more
-pub next_member : (first found found' : Option Fault) (old met met' : List (List ℕ)) (members : List (Bor Member)) (n : ℕ) (m : Bor Member) →
+pub next_member : (first found found' : Option Fault) (old met met' : List (List ℕ)) (members : List ListedMember) (n : ℕ) (m : ListedMember) →
     n < length members → m ≡ get_or members n m →
-    ContinuesNames found met found' met' (member_names (member_tree m.now)) →
+    ContinuesNames found met found' met' (member_names (member_tree m.written.member.now)) →
     ContinuesNames first old found met (flat_map member_names (member_trees (take n members))) →
     ContinuesNames first old found' met' (flat_map member_names (member_trees (take (n + 1) members)))
 next_member first found found' old met met' members n m less is one before =
     let earlier : List Ident = flat_map member_names (member_trees (take n members)) in
-    let e : earlier ++ member_names (member_tree m.now) ≡ flat_map member_names (member_trees (take (n + 1) members)) =
-    ap (λ xs. earlier ++ xs) (sym (append-nil (member_names (member_tree m.now))))
+    let e : earlier ++ member_names (member_tree m.written.member.now) ≡ flat_map member_names (member_trees (take (n + 1) members)) =
+    ap (λ xs. earlier ++ xs) (sym (append-nil (member_names (member_tree m.written.member.now))))
     ∙ sym (flat_map-append member_names (member_trees (take n members)) (member_trees (m ∷ [])))
-    ∙ ap (flat_map member_names) (sym (map-append (λ (x : Bor Member). member_tree x.now) (take n members) (m ∷ [])))
+    ∙ ap (flat_map member_names) (sym (map-append (λ (x : ListedMember). member_tree x.written.member.now) (take n members) (m ∷ [])))
     ∙ ap (λ x. flat_map member_names (member_trees (take n members ++ x ∷ []))) is
     ∙ ap (λ xs. flat_map member_names (member_trees xs)) (sym (take_more members n m less)) in
-    subst (ContinuesNames first old found' met') e (then_names first found found' old met met' earlier (member_names (member_tree m.now)) before one)
+    subst (ContinuesNames first old found' met') e (then_names first found found' old met met' earlier (member_names (member_tree m.written.member.now)) before one)
 
 -- all names are done
 pub all_names : (first found : Option Fault) (old new given : List (List ℕ)) (names : List Ident) → HasTexts old given → ContinuesNames first old found new names →
@@ -108,3 +108,8 @@ pub all_names : (first found : Option Fault) (old new given : List (List ℕ)) (
 all_names first found old new given names has all =
     let last = all given [] has in
     sym last.2 ∙ ap (λ is. first_from first (repeated_rows given is)) (append-nil names)
+
+-- the names of a list of members
+pub names_listed : (ms : List ListedMember) → flat_map member_names (member_trees ms) ≡ names_among (map seen_listed ms)
+names_listed [] = refl
+names_listed (m ∷ ms) = ap (λ is. member_names (member_tree m.written.member.now) ++ is) (names_listed ms)

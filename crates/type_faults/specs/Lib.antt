@@ -5,3 +5,7 @@ pub mod NameRows
 pub mod NameFaults
 pub mod Reaching
 pub mod Ranking
+pub mod Holding
+pub mod Passing
+pub mod ListedRows
+pub mod ConditionRows

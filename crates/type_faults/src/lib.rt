@@ -2,6 +2,14 @@
 #![tactic(auto)]
 
 mod heading_faults;
+mod headings;
 mod member_faults;
+mod members;
+mod passing;
+mod ranks;
 mod reach;
+mod returning;
 mod sets;
+
+pub use headings::first_heading_fault;
+pub use members::first_member_fault;

@@ -1,6 +1,13 @@
 //! The faults of members.
 
 mod conditions;
+mod declared;
+mod depends;
+mod depends_on;
 mod dos;
+mod fields;
 mod initial;
 mod names;
+
+pub use declared::with_types;
+pub use depends_on::DependsOn;

@@ -29,7 +29,7 @@ fn push_fresh(met: &mut NumberSet, of: TypeId, into: &mut Vec<TypeId>) -> Result
 }
 
 /// Those of some types that weren't met before, each once.
-fn all_fresh(
+pub fn all_fresh(
     alloc: Global,
     met: &mut NumberSet,
     types: &[TypeId],
@@ -54,7 +54,7 @@ fn all_next<S: Steps>(alloc: Global, steps: &S, types: &[TypeId]) -> Result<Vec<
     Ok(next)
 }
 
-fn push_types(into: &mut Vec<TypeId>, types: &[TypeId]) -> Result<(), AllocError>
+pub fn push_types(into: &mut Vec<TypeId>, types: &[TypeId]) -> Result<(), AllocError>
     ensures { OnOk result (into.new.items ≡ into.old.items ++ types.now) }
 {
     for of in types {
@@ -64,7 +64,7 @@ fn push_types(into: &mut Vec<TypeId>, types: &[TypeId]) -> Result<(), AllocError
 }
 
 /// All that is reached in so many rounds from some types, that are met already, those among them.
-fn reached<S: Steps>(
+pub fn reached<S: Steps>(
     alloc: Global,
     steps: &S,
     rounds: u64,

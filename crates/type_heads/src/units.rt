@@ -45,7 +45,10 @@ fn push_unit(
 }
 
 /// The units of a program.
-pub fn unit_entries(alloc: Global, declarations: &Declarations<'_>) -> Result<Vec<UnitEntry>, AllocError>
+pub fn unit_entries(
+    alloc: Global,
+    declarations: &Declarations<'_>,
+) -> Result<Vec<UnitEntry>, AllocError>
     ensures { IfOk result (λ units. units.items ≡ units_in (all_of declarations.now)) }
 {
     units_among(alloc, declarations.placed.as_slice())

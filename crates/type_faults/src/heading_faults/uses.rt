@@ -17,8 +17,8 @@ use super::references::{last_place, meant, with_name, with_owner, with_unknown};
 use dsl_tree::{CompoundDecl, EnumExtension, Ident, MemberExtension, QName, UnitDecl};
 use name_scope::with_fault;
 use osc_base::{Fault, FaultCode};
-use units_si::Exponents;
 use type_heads::{Form, Heads};
+use units_si::Exponents;
 
 /// Faults of the owner of a declared behaviour.
 fn with_own_owner(first: Option<Fault>, heads: &Heads, name: &QName) -> Option<Fault>

@@ -1,8 +1,9 @@
 //! The faults of initial values.
 
-ghost use Rattle.std.specs.Prelude.{◌≡◌, ◌&&◌, [], ◌∷◌, None, Some, false, not, is_some, option_map};
+ghost use Rattle.std.specs.Prelude.{◌≡◌, ◌&&◌, [], ◌∷◌, None, Some, false, flat_map, map, not, is_some, option_map};
 ghost use Rattle.std.specs.Option.{option_map_or};
 ghost use Rattle.osc_base.specs.FaultRows.{first_from, row};
+ghost use Rattle.type_members.specs.Listed.{seen_listed};
 ghost use Rattle.dsl_tree.specs.Views.{expr_tree, field_tree, member_tree};
 ghost use Rattle.type_heads.specs.Table.{form, is_object, named};
 ghost use Rattle.type_heads.specs.MemberFaults.{first_name_place as place_of_first, initial_rows, is_list_of as makes_list};
@@ -11,6 +12,7 @@ use dsl_tree::{Expr, FieldDecl, Ident, Member};
 use name_scope::with_fault;
 use osc_base::{Fault, FaultCode, Place};
 use type_heads::Heads;
+use type_members::ListedMember;
 
 /// The most elements of a list.
 const MOST_ELEMENTS: usize = 64;
@@ -65,11 +67,26 @@ fn with_field(first: Option<Fault>, heads: &Heads, field: &FieldDecl) -> Option<
 }
 
 /// Faults of the initial value of a member.
-pub fn with_initial(first: Option<Fault>, heads: &Heads, member: &Member) -> Option<Fault>
+fn with_initial(first: Option<Fault>, heads: &Heads, member: &Member) -> Option<Fault>
     ensures { result ≡ first_from first (initial_rows heads.now (member_tree member.now)) }
 {
     match member {
         Member::Field(field) => with_field(first, heads, field),
         Member::Rule(_) | Member::Do { place: _, phase: _ } => first,
     }
+}
+
+/// Faults of the initial values of members.
+pub fn with_initials(
+    first: Option<Fault>,
+    heads: &Heads,
+    members: &[ListedMember<'_>],
+) -> Option<Fault>
+    ensures { result ≡ first_from first (flat_map (λ m. initial_rows heads.now m.written.member) (map seen_listed members.now)) }
+{
+    let mut found = first;
+    for listed in members {
+        found = with_initial(found, heads, listed.written.member);
+    }
+    found
 }

@@ -1,10 +1,11 @@
 //! The faults of names that a member list has twice.
 
-ghost use Rattle.std.specs.Prelude.{◌≡◌, [], ◌∷◌, flat_map, IfOk, option_to_list};
+ghost use Rattle.std.specs.Prelude.{◌≡◌, [], ◌∷◌, flat_map, map, IfOk, option_to_list};
+ghost use Rattle.type_members.specs.Listed.{seen_listed};
 ghost use Rattle.osc_base.specs.FaultRows.{first_from};
 ghost use Rattle.type_heads.specs.Seen.{seen_form};
 ghost use Rattle.dsl_tree.specs.Views.{comp_tree, member_tree, phase_tree};
-ghost use Rattle.type_heads.specs.MemberFaults.{labels_in, member_names, names_given, repeated_rows};
+ghost use Rattle.type_heads.specs.MemberFaults.{labels_in, member_names, names_among, names_given, repeated_rows};
 ghost use Rattle.type_faults.specs.NameRows.{ContinuesNames, HasTexts, member_trees};
 
 use crate::sets::TextSet;
@@ -13,6 +14,7 @@ use name_scope::with_fault;
 use osc_base::{Fault, FaultCode};
 use std::alloc::{AllocError, Global};
 use type_heads::Form;
+use type_members::ListedMember;
 
 /// A fault of one name more.
 fn with_name<'a>(
@@ -104,13 +106,13 @@ fn with_member<'a>(
 fn with_members<'a>(
     first: Option<Fault>,
     met: &mut TextSet<'a>,
-    members: &[&'a Member],
+    members: &[ListedMember<'a>],
 ) -> Result<Option<Fault>, AllocError>
     ensures { IfOk result (λ f. ContinuesNames first met.old f met.new (flat_map member_names (member_trees members.now))) }
 {
     let mut found = first;
-    for member in members {
-        found = with_member(found, met, member)?;
+    for listed in members {
+        found = with_member(found, met, listed.written.member)?;
     }
     Ok(found)
 }
@@ -127,13 +129,13 @@ fn given_names<'a>(alloc: Global, form: Form<'_>) -> Result<TextSet<'a>, AllocEr
 }
 
 /// Faults of the names and labels of the members of a type of this form.
-pub fn with_type<'a>(
+pub fn with_all_names<'a>(
     alloc: Global,
     first: Option<Fault>,
     form: Form<'_>,
-    members: &[&'a Member],
+    members: &[ListedMember<'a>],
 ) -> Result<Option<Fault>, AllocError>
-    ensures { IfOk result (λ f. f ≡ first_from first (repeated_rows (names_given (seen_form form.entry)) (flat_map member_names (member_trees members.now)))) }
+    ensures { IfOk result (λ f. f ≡ first_from first (repeated_rows (names_given (seen_form form.entry)) (names_among (map seen_listed members.now)))) }
 {
     let mut met = given_names(alloc, form)?;
     with_members(first, &mut met, members)

@@ -1,0 +1,41 @@
+use Rattle.std.proofs.Common.{◌∙◌, ◌+◌, ◌<◌, ◌≤◌, ap, sym, subst, drop, flat_map, length, map, arith}
+use Rattle.osc_base.specs.declared.fault.FaultCode.{FaultCode}
+use Rattle.osc_base.specs.FaultRows.{FaultRow, first_from, row}
+use Rattle.type_heads.specs.Bodied.{seen_body}
+use Rattle.type_heads.specs.Cycles.{returns as leads}
+use Rattle.type_heads.specs.Members.{do_declared, field}
+use Rattle.type_heads.specs.MemberFaults.{condition_rows, depends_on, do_rows, initial_rows, names_among, names_given, repeated_rows, type_rows}
+use Rattle.type_heads.specs.Table.{all_types, base, form, numbers_from}
+use Rattle.type_heads.specs.Types.{Member, Types}
+use Rattle.type_members.specs.Listed.{lists_of, seen_listed}
+use Rattle.type_faults.specs.ConditionRows.{found_rows}
+use Rattle.type_faults.specs.ListedRows.{found_field, types_with}
+use Rattle.type_faults.specs.Ranking.{IsShown}
+use Rattle.type_faults.proofs.RowSteps.{done, two}
+use Rattle.type_faults.proofs.TypeNumbers.{next_number, no_number}
+use Rattle.type_faults.proofs.member_faults.declared.with_types.Goals as goal
+
+pub with_type-requires-clause-shown : goal.with_type-requires-clause-shown
+with_type-requires-clause-shown c =
+    let d = c.args.depends.now in
+    subst (λ n. IsShown n (depends_on (types_with d.heads.now (map seen_body d.bodies.now) (lists_of d.lists.now))) c.in_ok-ranking.ranking) c.count-count.ensures c.in_ok-ranking.ensures
+
+pub loop-number-preserved : goal.loop-number-preserved
+loop-number-preserved c =
+    let d = c.args.depends.now in
+    let heads = d.heads.now in
+    let ts = types_with heads (map seen_body d.bodies.now) (lists_of d.lists.now) in
+    let n = c.loop-number.number in
+    let less : n < length heads = omega (arith, c.count-count.ensures, c.loop-number-test.true) in
+    done (type_rows ts n) (flat_map (type_rows ts) (numbers_from (n + 1) (drop (n + 1) heads))) c.loop-number.found c.in_ok-found.found
+    (first_from c.args.first (flat_map (type_rows ts) (all_types heads))) c.in_ok-found.ensures
+    (c.loop-number.invariant ∙ ap (λ ns. first_from c.loop-number.found (flat_map (type_rows ts) ns)) (next_number heads n n less))
+
+pub returns : goal.returns
+returns c =
+    let d = c.args.depends.now in
+    let heads = d.heads.now in
+    let ts = types_with heads (map seen_body d.bodies.now) (lists_of d.lists.now) in
+    let n = c.loop-number.number in
+    let more : length heads ≤ n = omega (arith, c.count-count.ensures, c.loop-number-test.false) in
+    sym (c.loop-number.invariant ∙ ap (λ ns. first_from c.loop-number.found (flat_map (type_rows ts) ns)) (no_number heads n n more))

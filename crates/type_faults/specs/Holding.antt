@@ -1,0 +1,10 @@
+-- The types of the fields that members declare.
+use Rattle.std.specs.Prelude.{ℕ, List, flat_map}
+use Rattle.dsl_tree.specs.FileTree.{MemberTree}
+use Rattle.type_heads.specs.Table.{TypeHead}
+use Rattle.type_heads.specs.Types.{Written, TypeBody}
+use Rattle.type_heads.specs.HeadingFaults.{field_types}
+
+-- the types of the fields among members
+abbrev pub fields_of : List TypeHead → List Written → List ℕ
+fields_of heads ws = flat_map (λ (w : Written). field_types heads w w.member) ws

@@ -1,0 +1,36 @@
+-- The members of types in the lists that the code holds, and the fields found there.
+use Rattle.std.specs.Prelude.{ℕ, List, [], Option, None, bytes_eq, find, map, option_and_then, slice_index_or}
+use Rattle.std.specs.Option.{option_map_or}
+use Rattle.dsl_tree.specs.declared.compounds.HeirCondition.{HeirCondition}
+use Rattle.dsl_tree.specs.Views.{field_tree}
+use Rattle.dsl_tree.specs.FileTree.{FieldTree}
+use Rattle.type_heads.specs.Table.{TypeHead, base}
+use Rattle.type_heads.specs.Members.{fields_among, heir_condition}
+use Rattle.type_heads.specs.Types.{TypeBody, Member, Field, Types}
+use Rattle.type_faults.specs.declared.member_faults.fields.FieldHit.{FieldHit}
+
+-- types with these heads, bodies and members, as far as the faults of members look at them
+abbrev pub types_with : List TypeHead → List TypeBody → List (List Member) → Types
+types_with heads bodies members = record { bodies = bodies; library = None; members = members; table = record { heads = heads; fields = []; units = []; texts = [] } }
+
+-- what the faults of conditions look at in a field
+pub record FoundField : Type 0 where
+  pub tree : FieldTree
+  pub under : List ℕ
+
+abbrev pub found_field : Field → FoundField
+found_field f = record { tree = f.tree; under = f.under }
+
+-- a field that was found
+abbrev pub seen_hit : FieldHit → FoundField
+seen_hit h = record { tree = field_tree h.field.now; under = h.under.now }
+
+-- the conditional subtypes that the field of a condition is under
+abbrev pub under_in : List TypeHead → List (List Member) → ℕ → HeirCondition → List ℕ
+under_in heads members t c =
+    option_map_or (λ (f : Field). f.under)
+    (option_and_then (λ b. find (λ (f : Field). bytes_eq f.name.text c.field.text) (fields_among (slice_index_or members b []))) (base heads t)) []
+
+-- those that the field of a type's condition is under
+abbrev pub field_under : List TypeHead → List TypeBody → List (List Member) → ℕ → List ℕ
+field_under heads bodies members t = option_map_or (under_in heads members t) (heir_condition bodies t) []
