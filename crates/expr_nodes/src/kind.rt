@@ -10,6 +10,17 @@ ghost use Rattle.expr_nodes.specs.Seen.{seen_kind};
 use type_model::TypeId;
 use units_si::Exponents;
 
+/// What a phase makes.
+#[derive(Debug, Clone, Copy, PartialEq, Eq)]
+pub enum Made {
+    /// No object.
+    Nothing,
+    /// What its invocation would tell, which isn't resolved.
+    Unknown,
+    /// An object of the type.
+    Makes(TypeId),
+}
+
 /// What an expression stands for.
 #[derive(Debug, Clone, Copy, PartialEq, Eq)]
 pub enum ValueKind {
@@ -23,8 +34,8 @@ pub enum ValueKind {
     Chars,
     /// A whole object of the type.
     Object(TypeId),
-    /// A whole phase, with the type of the object that it makes, if it makes one.
-    Phase(Option<TypeId>),
+    /// A whole phase.
+    Phase(Made),
 }
 
 impl ValueKind {

@@ -28,7 +28,7 @@ mod truths;
 mod within;
 
 pub use compare::Compare;
-pub use kind::ValueKind;
+pub use kind::{Made, ValueKind};
 pub use node::{Earlier, Info, Join, Typed};
-pub use scope::{Label, Scope};
+pub use scope::{It, Label, Scope};
 pub use size::Size;
