@@ -1,7 +1,7 @@
 //! The kinds of expressions.
 
 ghost use Rattle.std.specs.Prelude.{◌≡◌, ◌&&◌};
-ghost use Rattle.expr_nodes.specs.Kinds.{is_number as number, is_truth as truth, same_units as of_one_unit, are_alike as alike};
+ghost use Rattle.expr_nodes.specs.Kinds.{object_type as type_of_object, is_number as number, is_truth as truth, same_units as of_one_unit, are_alike as alike};
 ghost use Rattle.osc_base.specs.Comparisons.{same_number};
 ghost use Rattle.units_si.specs.ExponentTests.{same_exponents};
 ghost use Rattle.expr_nodes.specs.Kinds as Kinds;
@@ -50,6 +50,20 @@ impl ValueKind {
             | ValueKind::Chars
             | ValueKind::Object(_)
             | ValueKind::Phase(_) => false,
+        }
+    }
+
+    /// The type of a whole object.
+    pub fn object_type(&self) -> Option<TypeId>
+        ensures { result ≡ type_of_object (seen_kind self.now) }
+    {
+        match self {
+            ValueKind::Object(of) => Some(*of),
+            ValueKind::Truth
+            | ValueKind::Number(_)
+            | ValueKind::Member(_)
+            | ValueKind::Chars
+            | ValueKind::Phase(_) => None,
         }
     }
 

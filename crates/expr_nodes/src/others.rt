@@ -38,12 +38,7 @@ fn it_at(
 }
 
 /// `it`.
-pub(crate) fn it(
-    alloc: Global,
-    types: &Types,
-    scope: &Scope,
-    place: Place,
-) -> Result<Checked, AllocError>
+pub fn it(alloc: Global, types: &Types, scope: &Scope, place: Place) -> Result<Checked, AllocError>
     ensures fault { IfOk result (λ c. c.fault ≡ first_fault (it_rows (seen_scope scope.now) place)) }
     ensures typed { IfOk result (λ c. seen_part c.typed ≡ it_typed types.now.table (seen_scope scope.now) place) }
 {
@@ -60,7 +55,7 @@ pub(crate) fn it(
 }
 
 /// `actor`.
-pub(crate) fn actor(
+pub fn actor(
     alloc: Global,
     types: &Types,
     scope: &Scope,
@@ -179,7 +174,7 @@ fn enum_typed(
 }
 
 /// A member with its enum before it.
-pub(crate) fn enum_name(
+pub fn enum_name(
     alloc: Global,
     types: &Types,
     of: &Ident,
