@@ -1,1 +1,2 @@
--- Definitions of whole expressions.
+pub mod Narrow
+pub mod TypeAnswers

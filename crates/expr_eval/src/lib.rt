@@ -2,6 +2,8 @@
 #![tactic(auto)]
 
 mod checks;
+mod typing;
 
 pub use checks::checked;
 pub use expr_nodes::parts::Checked;
+pub use typing::{TypeStop, type_of};

@@ -1,6 +1,6 @@
 //! The typed form of literals.
 
-ghost use Rattle.std.specs.Prelude.{◌≡◌, ◌≤◌, Some, bytes_eq, unwrap_or};
+ghost use Rattle.std.specs.Prelude.{◌≡◌, ◌≤◌, ◌^◌, Some, bytes_eq, unsigned_abs, unwrap_or};
 ghost use Rattle.name_scope.specs.Declaring.{first_place};
 ghost use Rattle.osc_base.specs.LowestTerms.{decimal_number};
 ghost use Rattle.osc_base.specs.Fraction.{value};
@@ -17,6 +17,8 @@ use type_model::Types;
 
 /// A constant.
 pub fn constant_at(place: Place, kind: ValueKind, number: Fraction) -> Typed
+    requires top { unsigned_abs number.num ≤ 2 ^ 120 }
+    requires bottom { unsigned_abs number.den ≤ 2 ^ 120 }
     ensures { seen result ≡ constant_node place (seen_kind kind) (value number) }
 {
     let info = Info {
@@ -30,7 +32,9 @@ pub fn constant_at(place: Place, kind: ValueKind, number: Fraction) -> Typed
 /// A decimal in lowest terms.
 pub(crate) fn decimal(digits: u64, places: u8) -> Fraction
     requires { places ≤ 18 }
-    ensures { value result ≡ decimal_number digits places }
+    ensures value { value result ≡ decimal_number digits places }
+    ensures top { unsigned_abs result.num ≤ 2 ^ 120 }
+    ensures bottom { unsigned_abs result.den ≤ 2 ^ 120 }
 {
     let digits = u128::from(digits);
     let scale = 10u128.pow(u32::from(places));

@@ -20,12 +20,14 @@ const DURATION_REACH: u128 = 60_000;
 /// Durations count thousandths of a second.
 const DURATION_SCALE: u128 = 1000;
 
-/// A scale, which is at least 1, and a reach.
+/// A scale, which is at least 1, and a reach. Neither passes 2^120.
 #[derive(Debug, Clone, Copy)]
 pub struct Size {
     pub scale: u128,
     pub reach: u128,
     ghost positive: { 0 < scale },
+    ghost small_scale: { scale ≤ 2 ^ 120 },
+    ghost small_reach: { reach ≤ 2 ^ 120 },
 }
 
 impl Size {
@@ -61,6 +63,8 @@ impl Size {
 
     /// The size of a constant in lowest terms.
     pub fn constant(number: &Fraction) -> Size
+        requires top { unsigned_abs number.now.num ≤ 2 ^ 120 }
+        requires bottom { unsigned_abs number.now.den ≤ 2 ^ 120 }
         ensures { seen_size result ≡ constant_size (value number.now) }
     {
         Size {
