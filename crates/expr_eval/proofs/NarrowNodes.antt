@@ -1,5 +1,5 @@
 -- The sizes of the program's own nodes are within the limit, so their constants are.
-use Rattle.std.proofs.Common.{◌≡◌, ◌∙◌, refl, sym, ap, subst, ℕ, ◌≤◌, ◌^◌, List, [], ◌∷◌, map, Bool, true, false, ◌&&◌, not, arith}
+use Rattle.std.proofs.Common.{◌≡◌, ◌∙◌, refl, ap, subst, ℕ, ◌≤◌, ◌^◌, List, [], ◌∷◌, map, true, false, not, arith}
 use Rattle.std.proofs.lemmas.Bool.Decides.{nat_tests}
 use Rattle.expr_nodes.specs.declared.node.Info.{Info}
 use Rattle.expr_nodes.specs.declared.node.Join.{Join}
@@ -9,7 +9,7 @@ use Rattle.expr_nodes.specs.declared.node.Typed.TheOpen.{Typed-F, Earlier-F}
 use Rattle.expr_nodes.specs.declared.node.Typed.TheFolds.{fold-roll-Typed, fold-roll-Earlier, ind-Typed, map-Typed, map-Earlier}
 use Rattle.expr_nodes.specs.declared.node.Typed.TheViews.{roll-Typed, roll-Earlier}
 use Rattle.expr_nodes.specs.Typed as Nodes
-use Rattle.expr_nodes.specs.Sizes.{Size, is_wide}
+use Rattle.expr_nodes.specs.Sizes.{is_wide}
 use Rattle.expr_nodes.specs.Seen.{Reached, typed_step, earlier_step, seen, reached, seen_info, joined, grouped}
 use Rattle.expr_eval.specs.Narrow.{is_narrow, are_narrow}
 use Rattle.expr_eval.proofs.Sizes.{both, is_not}

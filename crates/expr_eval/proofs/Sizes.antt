@@ -1,13 +1,13 @@
 -- Tests of sizes and kinds.
-use Rattle.std.proofs.Common.{◌≡◌, ◌∙◌, refl, sym, ap, ap₂, ℕ, ◌*◌, ◌≤◌, ◌<◌, Bool, true, false, ◌&&◌, not, nat_eq, true≢false, arith}
-use Rattle.std.specs.Prelude.{◌||◌, ℤ, pos, ◌≤ℤ◌, int_le, unsigned_abs}
+use Rattle.std.proofs.Common.{◌≡◌, ◌∙◌, refl, ap, ℕ, Bool, true, false, ◌&&◌, not, nat_eq, true≢false, arith}
+use Rattle.std.specs.Prelude.{◌||◌, ℤ}
 use Rattle.std.proofs.lemmas.Bool.Decides.{nat_tests}
 use Rattle.std.proofs.lemmas.Int.{ints}
 use Rattle.osc_base.specs.Comparisons.{same_number}
 use Rattle.units_si.specs.declared.units.Exponents.{Exponents}
 use Rattle.units_si.specs.ExponentTests.{same_exponents}
-use Rattle.expr_nodes.specs.Kinds.{ValueKind, is_number, is_truth, same_units}
-use Rattle.expr_nodes.specs.Typed.{Typed, Info}
+use Rattle.expr_nodes.specs.Kinds.{ValueKind, is_number, same_units}
+use Rattle.expr_nodes.specs.Typed.{Info}
 use Rattle.expr_nodes.specs.Sizes.{Size, is_wide}
 use Rattle.expr_nodes.specs.Sound.{same_size, has_size}
 

@@ -1,5 +1,5 @@
 -- The typed form of an expression is sound.
-use Rattle.std.proofs.Common.{◌≡◌, ◌∙◌, refl, sym, ap, subst, ℕ, zero, suc, Bool, true, false, ◌&&◌, cond, List, [], ◌∷◌, Option, Some, None, true≢false}
+use Rattle.std.proofs.Common.{◌≡◌, ◌∙◌, refl, sym, ap, subst, ℕ, zero, suc, Bool, true, false, ◌&&◌, cond, Option, Some, None}
 use Rattle.std.specs.Prelude.{◌||◌, not, slice_get, option_map, option_and_then}
 use Rattle.osc_base.specs.declared.fault.Place.{Place}
 use Rattle.dsl_tree.specs.declared.expr.Operator.{Operator}
@@ -9,15 +9,15 @@ use Rattle.type_heads.specs.Table.{Table}
 use Rattle.type_heads.specs.Table as Tables
 use Rattle.expr_nodes.specs.Scope.{Scope}
 use Rattle.expr_nodes.specs.Typed.{Typed, Constant, Read, Whole, Listed, Span, Minus, Not, Sum, Times, And, Or, Implies, Relation, Within, TypedRow, End, Item, items_of, begun_at, place_of}
-use Rattle.expr_nodes.specs.Parts.{unless, is_scalar}
+use Rattle.expr_nodes.specs.Parts.{is_scalar}
 use Rattle.expr_nodes.specs.Sizes.{info_at, unit_size}
 use Rattle.expr_nodes.specs.Names.{enum_named}
-use Rattle.expr_nodes.specs.Operators.{part_rows, item_typed, row_kind, list_typed, index_of, element, index_typed, factor_typed}
+use Rattle.expr_nodes.specs.Operators.{item_typed, row_kind, list_typed, index_of, element, factor_typed}
 use Rattle.expr_nodes.specs.Sound.{is_sound, are_sound}
 use Rattle.expr_nodes.specs.Typing.{typed, typed_row}
-use Rattle.expr_eval.specs.Narrow.{is_narrow, are_narrow, is_list_field}
-use Rattle.expr_eval.proofs.Sizes.{left_of, right_of, both, not_not}
-use Rattle.expr_eval.proofs.SoundNodes.{Good, is_asked, asked, only, not_good, and_good, or_good, implies_good, minus_good, sum_good, product_good, relation_good, span_good, group_good, begun_sound, begun_asked}
+use Rattle.expr_eval.specs.Narrow.{is_narrow, are_narrow}
+use Rattle.expr_eval.proofs.Sizes.{left_of, right_of, both}
+use Rattle.expr_eval.proofs.SoundNodes.{Good, is_asked, asked, only, not_good, and_good, or_good, implies_good, minus_good, sum_good, product_good, relation_good, span_good, group_good, begun_sound}
 use Rattle.expr_eval.proofs.SoundLeaves.{name_good, it_good, actor_good, enum_name_good, dot_good, number_good, truth_good, text_good, physical_good}
 use Rattle.expr_eval.proofs.SoundQuotients.{quotient_good}
 

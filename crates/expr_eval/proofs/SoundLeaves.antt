@@ -1,10 +1,9 @@
 -- The typed forms of names and literals are sound.
 use Rattle.std.proofs.Common.{◌≡◌, ◌∙◌, refl, sym, ap, subst, ℕ, zero, suc, ◌+◌, ◌/◌, ◌%◌, ◌<◌, ◌≤◌, ◌^◌, Bool, true, false, ◌&&◌, not, cond, List, [], ◌∷◌, Option, Some, None, nat_eq, true≢false, arith}
-use Rattle.std.specs.Prelude.{ℤ, pos, negsuc, neg_ℤ, ◌≤ℤ◌, ◌||◌, int_le, unsigned_abs, option_map, option_and_then, unwrap_or, bytes_eq, codes}
+use Rattle.std.specs.Prelude.{ℤ, pos, negsuc, neg_ℤ, ◌||◌, int_le, unsigned_abs, option_map, option_and_then, unwrap_or, bytes_eq, codes}
 use Rattle.std.specs.Option.{option_map_or}
 use Rattle.std.specs.Int.{IsGcd}
 use Rattle.std.proofs.Math.Nat.{one-le-pow}
-use Rattle.std.proofs.lemmas.Bool.Decides.{nat_tests}
 use Rattle.std.proofs.lemmas.Int.{ints}
 use Rattle.std.proofs.lemmas.Nat.Gcd.{IsGcd-from_zero, IsGcd-from_mod, same_from_IsGcd}
 use Rattle.osc_base.specs.declared.fault.Place.{Place}
@@ -22,16 +21,15 @@ use Rattle.name_scope.specs.Declaring.{first_place}
 use Rattle.type_heads.specs.Form.{Form}
 use Rattle.type_heads.specs.Table.{Table, TableField, TableUnit, form, field_of, enum_number, enums_with, is_behaviour, unit}
 use Rattle.expr_nodes.specs.Kinds.{ValueKind, Made, is_truth, plain}
-use Rattle.expr_nodes.specs.Typed.{Typed, Constant, Read, Whole, Listed, Span, Minus, Not, Sum, Times, And, Or, Implies, Relation, Within, TypedRow, End, Item}
+use Rattle.expr_nodes.specs.Typed.{Typed, Constant, Read, Whole, Listed, Span, Minus, Not, Sum, Times, And, Or, Implies, Relation, Within}
 use Rattle.expr_nodes.specs.Sizes.{info_at, constant_size, unit_size, is_wide}
 use Rattle.expr_nodes.specs.Parts.{is_scalar, any_holds, unless}
 use Rattle.expr_nodes.specs.Scope.{It, Label, Scope}
 use Rattle.expr_nodes.specs.Operators.{constant_at, number_typed, truth_typed, text_typed, physical_typed, count_in}
-use Rattle.expr_nodes.specs.Names.{elements_from, held_at, Meaning, Nothing, Several, Something, typed_meaning, member_at, member_meant, meaning_by_duration, meaning_by_label, meaning_by_field, meaning, label_named, name_rows, name_typed, it_at, dot_typed, field_meant, after_point, member_of_object, member_made, member_of_whole, duration_if, is_duration}
+use Rattle.expr_nodes.specs.Names.{elements_from, held_at, Meaning, typed_meaning, member_at, member_meant, meaning_by_duration, meaning_by_label, meaning_by_field, meaning, label_named, name_rows, name_typed, it_at, dot_typed, field_meant, after_point, member_of_object, member_made, member_of_whole, duration_if, is_duration}
 use Rattle.expr_nodes.specs.SeenNames.{single_in, list_in}
-use Rattle.expr_nodes.specs.Sound.{is_sound, are_sound, is_lowest, is_constant_of}
+use Rattle.expr_nodes.specs.Sound.{is_sound, are_sound, is_lowest}
 use Rattle.expr_nodes.proofs.Divisors.{gcd_above_second, share_above, gcd_step, gcd_end}
-use Rattle.expr_eval.specs.Narrow.{is_narrow}
 use Rattle.expr_eval.proofs.Sizes.{both, nat_self, own_size}
 use Rattle.expr_eval.proofs.SoundNodes.{Good, is_asked, only}
 

@@ -1,8 +1,7 @@
 -- The typed form of a quotient is sound.
-use Rattle.std.proofs.Common.{◌≡◌, ◌∙◌, refl, sym, ap, ap₂, subst, ℕ, zero, suc, ◌*◌, ◌/◌, ◌<◌, ◌≤◌, ◌^◌, max, Bool, true, false, ◌&&◌, not, Option, Some, None, nat_eq, true≢false, arith}
-use Rattle.std.specs.Prelude.{ℤ, pos, negsuc, neg_ℤ, ◌||◌, int_le, unsigned_abs, nat_lt}
+use Rattle.std.proofs.Common.{◌≡◌, ◌∙◌, refl, sym, ap, ap₂, subst, ℕ, zero, suc, ◌*◌, ◌/◌, ◌<◌, ◌≤◌, ◌^◌, max, Bool, true, false, ◌&&◌, not, Option, nat_eq, true≢false, arith}
+use Rattle.std.specs.Prelude.{ℤ, pos, negsuc, ◌||◌, int_le, unsigned_abs}
 use Rattle.std.specs.Ordering.{int_eq}
-use Rattle.std.specs.Int.{IsGcd}
 use Rattle.std.proofs.lemmas.Bool.Decides.{nat_tests}
 use Rattle.std.proofs.lemmas.Int.{ints}
 use Rattle.std.proofs.lemmas.Nat.Gcd.{IsGcd-swap, same_from_IsGcd}
@@ -16,7 +15,7 @@ use Rattle.expr_nodes.specs.Typed.{Typed, kind, place_of}
 use Rattle.expr_nodes.specs.Value.{worth}
 use Rattle.expr_nodes.specs.Sizes.{Size, size, info_at, constant_size, multiplied, divided, is_wide}
 use Rattle.expr_nodes.specs.Parts.{is_scalar, both_numbers}
-use Rattle.expr_nodes.specs.Operators.{quotient_rows, quotient_typed, quotient_exponents, is_constant, constant_value, is_zero, can_divide, signed_like, reciprocal, reciprocal_exponents, reciprocal_of, product_of, product_exponents}
+use Rattle.expr_nodes.specs.Operators.{quotient_rows, quotient_typed, quotient_exponents, is_constant, constant_value, is_zero, signed_like, reciprocal, reciprocal_exponents, reciprocal_of, product_of, product_exponents}
 use Rattle.expr_nodes.specs.Sound.{is_sound, is_lowest}
 use Rattle.expr_nodes.proofs.Divisors.{gcd_above}
 use Rattle.expr_eval.specs.Narrow.{is_narrow}

@@ -1,5 +1,5 @@
 -- Typed expressions whose constants don't pass the limit.
-use Rattle.std.specs.Prelude.{Bool, true, false, not, ◌&&◌, ◌||◌}
+use Rattle.std.specs.Prelude.{Bool, true, false, not, ◌&&◌}
 use Rattle.expr_nodes.specs.Typed.{Typed, Constant, Read, Whole, Listed, Span, Minus, Not, Sum, Times, And, Or, Implies, Relation, Within, TypedRow, End, Item}
 use Rattle.expr_nodes.specs.Sizes.{is_wide}
 
