@@ -1,3 +1,6 @@
+pub mod ItemRows
+pub mod Rows
+pub mod Passing
 pub mod Sizes
 pub mod SoundNodes
 pub mod SoundLeaves

@@ -2,6 +2,10 @@
 #![tactic(auto)]
 
 mod checks;
+mod items;
+mod leaves;
+mod pairs;
+mod quotients;
 mod typing;
 
 pub use checks::checked;
