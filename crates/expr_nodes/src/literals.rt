@@ -1,6 +1,6 @@
 //! The typed form of literals.
 
-ghost use Rattle.std.specs.Prelude.{◌≡◌, ◌≤◌, Some, bytes_eq, unwrap_or};
+ghost use Rattle.std.specs.Prelude.{◌≡◌, ◌≤◌, ◌^◌, Some, bytes_eq, unsigned_abs, unwrap_or};
 ghost use Rattle.name_scope.specs.Declaring.{first_place};
 ghost use Rattle.osc_base.specs.LowestTerms.{decimal_number};
 ghost use Rattle.osc_base.specs.Fraction.{value};
@@ -16,7 +16,9 @@ use osc_base::{Fraction, Place, Text};
 use type_model::Types;
 
 /// A constant.
-pub(crate) fn constant_at(place: Place, kind: ValueKind, number: Fraction) -> Typed
+pub fn constant_at(place: Place, kind: ValueKind, number: Fraction) -> Typed
+    requires top { unsigned_abs number.num ≤ 2 ^ 120 }
+    requires bottom { unsigned_abs number.den ≤ 2 ^ 120 }
     ensures { seen result ≡ constant_node place (seen_kind kind) (value number) }
 {
     let info = Info {
@@ -30,7 +32,9 @@ pub(crate) fn constant_at(place: Place, kind: ValueKind, number: Fraction) -> Ty
 /// A decimal in lowest terms.
 pub(crate) fn decimal(digits: u64, places: u8) -> Fraction
     requires { places ≤ 18 }
-    ensures { value result ≡ decimal_number digits places }
+    ensures value { value result ≡ decimal_number digits places }
+    ensures top { unsigned_abs result.num ≤ 2 ^ 120 }
+    ensures bottom { unsigned_abs result.den ≤ 2 ^ 120 }
 {
     let digits = u128::from(digits);
     let scale = 10u128.pow(u32::from(places));
@@ -42,7 +46,7 @@ pub(crate) fn decimal(digits: u64, places: u8) -> Fraction
 }
 
 /// A number without a unit.
-pub(crate) fn number(digits: &Digits) -> Typed
+pub fn number(digits: &Digits) -> Typed
     requires { digits.now.places ≤ 18 }
     ensures { Some (seen result) ≡ number_typed digits.now }
 {
@@ -51,7 +55,7 @@ pub(crate) fn number(digits: &Digits) -> Typed
 }
 
 /// `true` or `false`.
-pub(crate) fn truth(place: Place, value: bool) -> Typed
+pub fn truth(place: Place, value: bool) -> Typed
     ensures { Some (seen result) ≡ truth_typed place value }
 {
     let number = Fraction {
@@ -79,7 +83,7 @@ fn text_number(texts: &[Text], text: &str) -> usize
 }
 
 /// A text is its number in the ordered list of texts.
-pub(crate) fn text(types: &Types, place: Place, text: &str) -> Typed
+pub fn text(types: &Types, place: Place, text: &str) -> Typed
     ensures { Some (seen result) ≡ text_typed types.now.table place text.now }
 {
     let number = Fraction {

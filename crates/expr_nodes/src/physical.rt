@@ -1,6 +1,6 @@
 //! Numbers with a unit.
 
-ghost use Rattle.std.specs.Prelude.{◌≡◌, ◌≤◌, option_map, IfOk};
+ghost use Rattle.std.specs.Prelude.{◌≡◌, ◌≤◌, ◌^◌, unsigned_abs, option_map, IfOk};
 ghost use Rattle.osc_base.specs.Fraction.{value};
 ghost use Rattle.osc_base.specs.FaultRows.{first_fault};
 ghost use Rattle.osc_base.specs.LowestTerms.{lowest};
@@ -37,7 +37,9 @@ fn count_in(digits: &Digits, unit: &Unit) -> Option<i64>
 
 /// A number of thousandths, in lowest terms.
 fn thousandths(count: i64) -> Fraction
-    ensures { value result ≡ lowest count 1000 }
+    ensures value { value result ≡ lowest count 1000 }
+    ensures top { unsigned_abs result.num ≤ 2 ^ 120 }
+    ensures bottom { unsigned_abs result.den ≤ 2 ^ 120 }
 {
     let magnitude = u128::from(count.unsigned_abs());
     let divisor = gcd(magnitude, 1000);
@@ -76,7 +78,7 @@ fn physical_part(
 }
 
 /// A number with a unit.
-pub(crate) fn physical(
+pub fn physical(
     alloc: Global,
     types: &Types,
     digits: &Digits,

@@ -1,0 +1,10 @@
+pub mod ItemRows
+pub mod Rows
+pub mod Passing
+pub mod Sizes
+pub mod SoundNodes
+pub mod SoundLeaves
+pub mod SoundQuotients
+pub mod SoundLaw
+pub mod NarrowNodes
+pub mod TypedForms

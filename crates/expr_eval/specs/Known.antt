@@ -1,0 +1,11 @@
+-- What is known of an expression, as one word. It is opaque, so that no search opens the tree of an expression.
+use Rattle.dsl_tree.specs.declared.expr.Expr.{Expr}
+use Rattle.dsl_tree.specs.Views.{expr_tree}
+use Rattle.type_heads.specs.Table.{Table}
+use Rattle.expr_nodes.specs.declared.parts.Checked.{Checked}
+use Rattle.expr_nodes.specs.Scope.{Scope}
+use Rattle.expr_nodes.specs.Checks.{IsChecked}
+
+-- this is known of an expression in a scope
+unfoldable pub IsWalked : Table → Scope → Expr → Checked → Type 0
+IsWalked table sc e c = IsChecked table sc (expr_tree e) c

@@ -1,0 +1,5 @@
+pub mod NodePairs
+pub mod ItemChecks
+pub mod Narrow
+pub mod TypeAnswers
+pub mod Known
