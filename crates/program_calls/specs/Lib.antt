@@ -1,0 +1,6 @@
+pub mod PlacedPhases
+pub mod Fews
+pub mod SeenModifiers
+pub mod NameExprs
+pub mod SeenCallees
+pub mod SeenLabels
