@@ -1,4 +1,4 @@
-//! Calls in the `do` of a scenario: its phases, what each invocation invokes, its labels, and where its arguments go.
+//! The `do` of a scenario: its phases, the scopes of its expressions, paths to actors, and the forms of modifiers.
 #![tactic(auto)]
 
 mod actors;
