@@ -1,0 +1,23 @@
+//! The `do` of a scenario: its phases, the scopes of its expressions, paths to actors, and the forms of modifiers.
+#![tactic(auto)]
+
+mod actors;
+mod callees;
+mod few;
+mod first_tokens;
+mod kinds;
+mod label_paths;
+mod modifier_forms;
+mod name_exprs;
+mod phases;
+mod scopes;
+
+pub use actors::{actor_checked, actor_type};
+pub use callees::{Callee, actor_of, behaviour_named, callee_of};
+pub use first_tokens::first_place;
+pub use kinds::{is_drive, is_kind_of, is_vehicle};
+pub use label_paths::begins_with_label;
+pub use modifier_forms::{ModifierForm, is_modifier, modifier_form};
+pub use name_exprs::{head_name, name_of};
+pub use phases::{PhasePlace, PlacedPhase, Turn, phases_in};
+pub use scopes::{PhaseLabel, labels_from, scope_at};
