@@ -1,6 +1,7 @@
 //! Whether phases are arranged.
 
-ghost use Rattle.std.specs.Prelude.{◌≡◌};
+ghost use Rattle.std.specs.Prelude.{◌≡◌, int_lt};
+ghost use Rattle.std.specs.List.{list_all};
 ghost use Rattle.composition.specs.Arrangement.{same_span as equal_spans, follow as are_followed};
 ghost use Rattle.composition.specs.Items.{times_of};
 ghost use Rattle.run_entries.specs.SeenRuns.{seen_run};
@@ -49,4 +50,18 @@ pub fn follow(run: &Entries<'_>, from: i64, to: i64, phases: &[Path]) -> bool
         rest = later;
     }
     tick == to
+}
+
+/// All phases have the span of the whole.
+pub fn share_span(run: &Entries<'_>, whole: &Path, phases: &[Path]) -> bool
+    ensures { result ≡ list_all (λ m. equal_spans (times_of (seen_run run.now)) m whole.now) phases.now }
+{
+    phases.iter().all(|phase| same_span(run, phase, whole))
+}
+
+/// The phase takes a tick at least.
+pub fn takes_time(run: &Entries<'_>, phase: &Path) -> bool
+    ensures { result ≡ int_lt ((times_of (seen_run run.now)).start phase.now) ((times_of (seen_run run.now)).end phase.now) }
+{
+    start_of(run, phase) < end_of(run, phase)
 }

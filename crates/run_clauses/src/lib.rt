@@ -3,6 +3,8 @@
 
 mod arrangement;
 mod bounds;
+mod movement;
 
-pub use arrangement::{follow, same_span};
+pub use arrangement::{follow, same_span, share_span, takes_time};
 pub use bounds::{choice_in_range, sample_in_range, span_in_range};
+pub use movement::keeps_lane;
