@@ -7,4 +7,4 @@ mod movement;
 
 pub use arrangement::{follow, same_span, share_span, takes_time};
 pub use bounds::{choice_in_range, sample_in_range, span_in_range};
-pub use movement::keeps_lane;
+pub use movement::{is_gentle, is_step, keeps_lane, moves_on};
