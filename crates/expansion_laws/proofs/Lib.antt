@@ -1,0 +1,5 @@
+pub mod NodeLists
+pub mod WorkSteps
+pub mod SceneCounts
+pub mod Passing
+pub mod LaidScenes

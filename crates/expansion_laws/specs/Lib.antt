@@ -1,0 +1,5 @@
+pub mod Nodes
+pub mod Works
+pub mod WorkNodes
+pub mod Counts
+pub mod Laid
