@@ -1,0 +1,91 @@
+-- The laws, from their lemmas.
+use Rattle.std.proofs.Common.{◌≡◌, ℕ, ◌<◌, ◌≤◌, ◌^◌, refl, ◌∙◌, Bool, true, false, ◌&&◌, length, arith}
+use Rattle.std.specs.Prelude.{nat_lt}
+use Rattle.std.specs.List.{list_all}
+use Rattle.type_heads.specs.Types.{Program}
+use Rattle.type_heads.specs.DeclaredTypes.{types_of}
+use Rattle.composition.specs.declared.setting.Setting.{Setting}
+use Rattle.composition.specs.Slots.{slot_names}
+use Rattle.composition.specs.Items.{items}
+use Rattle.composition.specs.Expanded.{scene}
+use Rattle.composition.specs.SceneFaults.{object_count, most_slots, most_rules}
+use Rattle.composition.specs.Invariants.{are_texts}
+use Rattle.dsl_tree.specs.FileTree.{DeclarationTree, MemberTree}
+use Rattle.type_heads.specs.DeclaredTypes.{Placed, placed}
+use Rattle.field_flatten.proofs.Tests.{left_of, all_at, all_from}
+use Rattle.scene_laws.specs.Premises.{is_formed, is_written, is_spelled, is_spelled_program}
+use Rattle.scene_laws.specs.SceneLaws.{ScenesHaveRanges, ScenesAreFew, TypedAreSound, ConditionsAreGrounded, ConditionsAreSmall}
+use Rattle.scene_laws.proofs.FaultRows.{no_left, no_right, no_faults}
+use Rattle.scene_laws.proofs.LowestTerms.{below}
+use Rattle.scene_laws.proofs.IsSound.{scalar_values}
+use Rattle.scene_laws.proofs.TypedSound.{typed_good}
+use Rattle.scene_laws.proofs.MovedPaths.{sound_moved, values_moved}
+use Rattle.scene_laws.proofs.Grounded.{all_occurrences_grounded, all_modifiers_grounded, all_occurrences_small, all_modifiers_small}
+use Rattle.scene_laws.proofs.OrderedTexts.{program_texts}
+use Rattle.scene_laws.proofs.EnumHeads.{program_enums}
+use Rattle.scene_laws.proofs.Ranges.{all_ranges, all_ordered}
+use Rattle.scene_laws.proofs.WrittenMembers.{AllMembers, all_members, members_pass}
+use Rattle.scene_laws.proofs.FullPhases.{choices_full}
+
+-- a test of members that each written member passes
+pub declarations_pass : (test : MemberTree → Bool) → ((m : MemberTree) → is_written m ≡ true → test m ≡ true) → (p : Program) → is_spelled_program p ≡ true → list_all (λ (d : Placed). members_pass test d.declaration) (placed p) ≡ true
+declarations_pass test f p h = all_from (λ (d : Placed). members_pass test d.declaration) (placed p) (λ d i. by d.declaration (all_at (λ (d : Placed). is_spelled d.declaration) (placed p) h d i))
+  where
+    by : (d : DeclarationTree) → is_spelled d ≡ true → members_pass test d ≡ true
+    by (DeclarationTree.CompoundDeclaration d) s = all_from test d.members (λ m i. f m (all_at is_written d.members s m i))
+    by (DeclarationTree.MemberExtension d) s = all_from test d.members (λ m i. f m (all_at is_written d.members s m i))
+    by (DeclarationTree.TypeDeclaration d) s = refl
+    by (DeclarationTree.UnitDeclaration d) s = refl
+    by (DeclarationTree.EnumDeclaration d) s = refl
+    by (DeclarationTree.EnumExtension d) s = refl
+
+pub all_formed : (p : Program) → is_spelled_program p ≡ true → AllMembers is_formed (types_of p)
+all_formed p h = all_members is_formed p (declarations_pass is_formed (λ m w. left_of (is_formed m) _ w) p h)
+
+texts_are : (p : Program) (t : ℕ) (setting : Setting) → (are_texts (scene (types_of p) t setting).texts && nat_lt 0 (length (scene (types_of p) t setting).texts)) ≡ true
+unfolding types_of
+texts_are p t setting = program_texts p.files
+
+pub scenes_have_ranges : ScenesHaveRanges
+scenes_have_ranges p t setting written none =
+    let faults = no_faults p (types_of p) none in
+    let enums = program_enums p written faults.headings in
+    record {
+      ranges = all_ranges (types_of p) enums t setting;
+      enums_ordered = all_ordered (types_of p) enums t setting;
+      choices_full = choices_full (types_of p) (all_formed p written) t setting;
+      texts = texts_are p t setting;
+    }
+
+few : (n most : ℕ) → nat_lt most n ≡ false → most < 2 ^ 32 → nat_lt n (2 ^ 32) ≡ true
+few n most h l = less n (2 ^ 32) (step n most (2 ^ 32) (below most n h) l)
+  where
+    less : (a b : ℕ) → a < b → nat_lt a b ≡ true
+    less a b p = grind arith
+
+    step : (a b c : ℕ) → a ≤ b → b < c → a < c
+    step a b c p q = omega (arith, p, q)
+
+pub scenes_are_few : ScenesAreFew
+scenes_are_few ts t setting h =
+    let sc = scene ts t setting in
+    let slots = no_right (nat_lt most_slots (object_count sc)) _ h in
+    let rules = no_right (nat_lt most_slots (length (slot_names sc))) _ slots in
+    record {
+      few_slots = few (length (slot_names sc)) most_slots (no_left (nat_lt most_slots (length (slot_names sc))) _ slots) (omega arith);
+      few_rules = few (length (items sc)) most_rules (no_left (nat_lt most_rules (length (items sc))) _ rules) (omega arith);
+    }
+
+pub typed_are_sound : TypedAreSound
+typed_are_sound table sc e t small short is =
+    let good = typed_good table small sc e short t is in
+    record {
+      sound = λ to. sound_moved to t ∙ good.sound;
+      values = λ to scalar. values_moved to t ∙ scalar_values t scalar good.stands;
+    }
+
+pub conditions_are_grounded : ConditionsAreGrounded
+conditions_are_grounded scene spots held = record { occurrences_grounded = all_occurrences_grounded scene spots held; modifiers_grounded = all_modifiers_grounded scene spots }
+
+pub conditions_are_small : ConditionsAreSmall
+conditions_are_small scene spots under = record { occurrences_small = all_occurrences_small scene spots under; modifiers_small = all_modifiers_small scene spots }

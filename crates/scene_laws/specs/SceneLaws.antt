@@ -1,0 +1,78 @@
+-- What the scenes of a program without faults of declarations have.
+use Rattle.std.specs.Prelude.{◌≡◌, ℕ, ◌^◌, ◌&&◌, true, false, [], Some, None, length, nat_lt}
+use Rattle.std.specs.List.{list_all}
+use Rattle.osc_base.specs.declared.path.Path.{Path}
+use Rattle.dsl_tree.specs.ExprTree.{ExprTree}
+use Rattle.type_heads.specs.Table.{Table}
+use Rattle.type_heads.specs.Types.{Program, Types}
+use Rattle.type_heads.specs.DeclaredTypes.{types_of}
+use Rattle.expr_nodes.specs.Typed.{Typed, moved}
+use Rattle.expr_nodes.specs.Scope.{Scope}
+use Rattle.expr_nodes.specs.Typing.{typed}
+use Rattle.expr_nodes.specs.Parts.{is_scalar}
+use Rattle.expr_nodes.specs.Sound.{is_sound}
+use Rattle.composition.specs.declared.setting.Setting.{Setting}
+use Rattle.composition.specs.declared.spot.ChoiceSpot.{ChoiceSpot}
+use Rattle.composition.specs.declared.spot.ValueSpot.{ValueSpot}
+use Rattle.composition.specs.Scenes.{Scene, Spot, Occurrence, ModifierSpot, choices, values}
+use Rattle.composition.specs.There.{presence, modifier_presence}
+use Rattle.composition.specs.Slots.{slot_names}
+use Rattle.composition.specs.Items.{items}
+use Rattle.composition.specs.Expanded.{scene}
+use Rattle.composition.specs.SceneFaults.{is_too_large}
+use Rattle.composition.specs.StaticFaults.{declaration_fault}
+use Rattle.composition.specs.Invariants.{are_texts, are_grounded, is_range}
+use Rattle.field_flatten.specs.Seen.{has_values}
+use Rattle.field_flatten.specs.Exactness.{is_ordered_range, are_small_guards}
+use Rattle.scene_laws.specs.Premises.{IsSmallTable, are_short, are_held, is_spelled_program}
+
+-- The values of a scene hold a number, enums in order, each `one_of` has a member, and the texts are distinct.
+pub record HasRanges (scene : Scene) : Type 0 where
+  pub ranges : list_all (λ (v : ValueSpot). is_range v.range) (values scene) ≡ true
+  pub enums_ordered : list_all (λ (v : ValueSpot). is_ordered_range v.range) (values scene) ≡ true
+  pub choices_full : list_all (λ (c : ChoiceSpot). nat_lt 0 c.members) (choices scene) ≡ true
+  pub texts : (are_texts scene.texts && nat_lt 0 (length scene.texts)) ≡ true
+
+-- a scene with few slots and few rules
+pub record IsFew (scene : Scene) : Type 0 where
+  pub few_slots : nat_lt (length (slot_names scene)) (2 ^ 32) ≡ true
+  pub few_rules : nat_lt (length (items scene)) (2 ^ 32) ≡ true
+
+-- a sound expression, of values if it is one; so it stays when its paths are replaced
+pub record IsSoundTyped (t : Typed) : Type 0 where
+  pub sound : (to : Path → Path) → is_sound (moved to t) ≡ true
+  pub values : (to : Path → Path) → is_scalar t ≡ true → has_values (moved to t) ≡ true
+
+-- the conditions of constraints and modifiers are grounded
+pub record IsGrounded (scene : Scene) : Type 0 where
+  pub occurrences_grounded : list_all (λ (o : Occurrence). are_grounded scene [] (presence scene o)) scene.occurrences ≡ true
+  pub modifiers_grounded : list_all (λ (m : ModifierSpot). are_grounded scene [] (modifier_presence scene m)) scene.modifiers ≡ true
+
+-- the conditions of constraints and modifiers ask for small numbers
+pub record HasSmallConditions (scene : Scene) : Type 0 where
+  pub occurrences_small : list_all (λ (o : Occurrence). are_small_guards (presence scene o)) scene.occurrences ≡ true
+  pub modifiers_small : list_all (λ (m : ModifierSpot). are_small_guards (modifier_presence scene m)) scene.modifiers ≡ true
+
+-- ---- the laws
+
+-- of each type of a program whose trees are as the grammar has them, without a fault of headings, members and uses
+abbrev pub ScenesHaveRanges : Type 0
+ScenesHaveRanges = (p : Program) (t : ℕ) (setting : Setting) → is_spelled_program p ≡ true → declaration_fault p (types_of p) ≡ None → HasRanges (scene (types_of p) t setting)
+
+-- of each scenario that isn't too large
+abbrev pub ScenesAreFew : Type 0
+ScenesAreFew = (ts : Types) (t : ℕ) (setting : Setting) → is_too_large ts t setting ≡ false → IsFew (scene ts t setting)
+
+-- of the typed form of each expression with short numbers, over a table with few texts
+abbrev pub TypedAreSound : Type 0
+TypedAreSound = (table : Table) (sc : Scope) (e : ExprTree) (t : Typed) → IsSmallTable table → are_short e ≡ true → typed table sc e ≡ Some t → IsSoundTyped t
+
+-- of each scene whose spots have grounded conditions, and whose constraints' own conditions are grounded behind those of their holders
+abbrev pub ConditionsAreGrounded : Type 0
+ConditionsAreGrounded =
+    (scene : Scene) → list_all (λ (s : Spot). are_grounded scene [] s.guards) scene.spots ≡ true → list_all (are_held scene) scene.occurrences ≡ true → IsGrounded scene
+
+-- of each scene whose spots and constraints have conditions that ask for small numbers
+abbrev pub ConditionsAreSmall : Type 0
+ConditionsAreSmall =
+    (scene : Scene) → list_all (λ (s : Spot). are_small_guards s.guards) scene.spots ≡ true → list_all (λ (o : Occurrence). are_small_guards o.under) scene.occurrences ≡ true → HasSmallConditions scene
