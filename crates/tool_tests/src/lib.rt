@@ -6,4 +6,6 @@ mod answers;
 #[cfg(test)]
 mod runs;
 #[cfg(test)]
+mod texts;
+#[cfg(test)]
 mod trees;
