@@ -8,3 +8,4 @@ pub mod SoundQuotients
 pub mod SoundLaw
 pub mod NarrowNodes
 pub mod TypedForms
+pub mod DivisorLaws

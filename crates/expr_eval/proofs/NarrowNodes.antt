@@ -9,7 +9,7 @@ use Rattle.expr_nodes.specs.declared.node.Typed.TheOpen.{Typed-F, Earlier-F}
 use Rattle.expr_nodes.specs.declared.node.Typed.TheFolds.{fold-roll-Typed, fold-roll-Earlier, ind-Typed, map-Typed, map-Earlier}
 use Rattle.expr_nodes.specs.declared.node.Typed.TheViews.{roll-Typed, roll-Earlier}
 use Rattle.expr_nodes.specs.Typed as Nodes
-use Rattle.expr_nodes.specs.Sizes.{is_wide}
+use Rattle.expr_nodes.specs.Sizes.{size, is_wide}
 use Rattle.expr_nodes.specs.Seen.{Reached, typed_step, earlier_step, seen, reached, seen_info, joined, grouped}
 use Rattle.expr_eval.specs.Narrow.{is_narrow, are_narrow}
 use Rattle.expr_eval.proofs.Sizes.{both, is_not}
@@ -77,3 +77,36 @@ pub all_narrow : (t : Typed) → is_narrow (seen t) ≡ true
 all_narrow = ind-Typed OfTyped OfEarlier
     (λ x y is. subst (λ v. OfTyped (roll-Typed v)) is (typed_proof y))
     (λ x y is. subst (λ v. OfEarlier (roll-Earlier v)) is (earlier_proof y))
+
+-- ---- the size of a node
+
+small : (i : Info) → is_wide (record { scale = i.size.scale; reach = i.size.reach }) ≡ false
+small i = narrow i.size.scale i.size.reach i.size.small_scale i.size.small_reach
+  where
+    narrow : (s r : ℕ) → s ≤ 2 ^ 120 → r ≤ 2 ^ 120 → is_wide (record { scale = s; reach = r }) ≡ false
+    narrow s r p q = grind (arith, nat_tests)
+
+joined_small : (join : Join) (i : Nodes.Info) (a b : Nodes.Typed) → is_wide (record { scale = i.scale; reach = i.reach }) ≡ false → is_wide (size (joined join i a b)) ≡ false
+joined_small Join.Sum i a b h = h
+joined_small Join.Times i a b h = h
+joined_small Join.And i a b h = h
+joined_small Join.Or i a b h = h
+
+size_case : (x : Typed-F Typed Earlier) → is_wide (size (typed_step (map-Typed Typed Earlier Nodes.Typed Reached seen reached x))) ≡ false
+size_case (Typed-F.Constant info number) = small info
+size_case (Typed-F.Read info path per) = small info
+size_case (Typed-F.Whole info path) = small info
+size_case (Typed-F.Listed info is_field items) = small info
+size_case (Typed-F.Span info low high) = small info
+size_case (Typed-F.Minus info part) = small info
+size_case (Typed-F.Not info part) = small info
+size_case (Typed-F.Joined info join first earlier last) = joined_small join (seen_info info) _ _ (small info)
+size_case (Typed-F.Implies info left right) = small info
+size_case (Typed-F.Relation info sign left right) = small info
+size_case (Typed-F.Within info left right) = small info
+
+-- no node of the program is too wide
+pub size_small : (t : Typed) → is_wide (size (seen t)) ≡ false
+size_small = ind-Typed (λ t. is_wide (size (seen t)) ≡ false) (λ e. Unit {0})
+    (λ x y is. ap (λ t. is_wide (size t)) (fold-roll-Typed Nodes.Typed Reached typed_step earlier_step x) ∙ size_case x)
+    (λ x y is. tt)

@@ -81,14 +81,15 @@ reciprocal_narrow x v b is narrow h =
 
 -- ---- what the rows of a quotient say
 
-pub record Divides (fit constant nil wide : Bool) : Type 0 where
+pub record Divides (fit units constant nil wide : Bool) : Type 0 where
   pub fits : fit ≡ true
+  pub apart : units ≡ false
   pub is_constant : constant ≡ true
   pub some : nil ≡ false
   pub narrow : wide ≡ false
 
 pub quotient_says : (l r fit units constant nil wide : Bool)
-    → ((l || (r || not fit)) || (units || (not constant || ((constant && nil) || (((constant && not nil) && wide) || false))))) ≡ false → Divides fit constant nil wide
+    → ((l || (r || not fit)) || (units || (not constant || ((constant && nil) || (((constant && not nil) && wide) || false))))) ≡ false → Divides fit units constant nil wide
 quotient_says true r fit units constant nil wide h = absurd (true≢false h)
 quotient_says false true fit units constant nil wide h = absurd (true≢false h)
 quotient_says false false false units constant nil wide h = absurd (true≢false h)
@@ -96,7 +97,7 @@ quotient_says false false true true constant nil wide h = absurd (true≢false h
 quotient_says false false true false false nil wide h = absurd (true≢false h)
 quotient_says false false true false true true wide h = absurd (true≢false h)
 quotient_says false false true false true false true h = absurd (true≢false h)
-quotient_says false false true false true false false h = record { fits = refl; is_constant = refl; some = refl; narrow = refl }
+quotient_says false false true false true false false h = record { fits = refl; apart = refl; is_constant = refl; some = refl; narrow = refl }
 
 pub quotient_good : (p : Place) (a b : Option Typed) → Good a → Good b → Good (quotient_typed p a b)
 quotient_good p a b first second t is here =

@@ -3,3 +3,4 @@ pub mod ItemChecks
 pub mod Narrow
 pub mod TypeAnswers
 pub mod Known
+pub mod DivisorValues

@@ -2,6 +2,7 @@
 #![tactic(auto)]
 
 mod checks;
+mod divisor;
 mod items;
 mod leaves;
 mod pairs;

@@ -1,23 +1,253 @@
 //! Products and quotients.
 
-ghost use Rattle.std.specs.Prelude.{◌≡◌, IfOk};
-ghost use Rattle.osc_base.specs.FaultRows.{first_fault};
+ghost use Rattle.std.specs.Prelude.{◌≡◌, ◌&&◌, ◌<◌, ◌≤◌, ◌^◌, ◌-ℤ◌, ◌∷◌, [], true, false, not, Some, IfOk, unsigned_abs};
+ghost use Rattle.osc_base.specs.declared.fault.Place.{Place};
+ghost use Rattle.osc_base.specs.declared.fault.FaultCode.{FaultCode};
+ghost use Rattle.osc_base.specs.FaultRows.{first_fault, row};
+ghost use Rattle.osc_base.specs.Fraction.{value};
+ghost use Rattle.osc_base.specs.LowestTerms.{lowest as lowest_terms};
 ghost use Rattle.dsl_tree.specs.ExprTree.{ExprTree};
+ghost use Rattle.units_si.specs.Units.{each};
+ghost use Rattle.units_si.specs.ExponentTests.{are_exponents};
 ghost use Rattle.type_heads.specs.Table.{Table};
+ghost use Rattle.expr_nodes.specs.Kinds as Kinds;
+ghost use Rattle.expr_nodes.specs.Kinds.{no_exponents};
 ghost use Rattle.expr_nodes.specs.Scope.{Scope};
-ghost use Rattle.expr_nodes.specs.Operators.{quotient_rows, quotient_typed, factor_rows, factor_typed};
-ghost use Rattle.expr_nodes.specs.Seen.{seen_part};
+ghost use Rattle.expr_nodes.specs.Sizes.{size, divided, is_wide};
+ghost use Rattle.expr_nodes.specs.Parts.{on_two};
+ghost use Rattle.expr_nodes.specs.Operators.{is_zero as zero, constant_at as constant_node, constant_value as value_of_constant, exponents_in, reciprocal as one_over, reciprocal_of, product_of, quotient_exponents, quotient_rows, quotient_typed, factor_rows, factor_typed};
+ghost use Rattle.expr_nodes.specs.Seen.{seen, seen_kind, seen_part};
 ghost use Rattle.expr_nodes.specs.Checks.{IsChecked};
+ghost use Rattle.expr_eval.specs.DivisorValues.{seen_divisor, divisor_value, is_zero_value, is_wide_by};
 
+use crate::divisor::Divisor;
 use dsl_tree::Operator;
-use expr_nodes::Typed;
-use expr_nodes::parts::Checked;
-use expr_nodes::products::product;
+use expr_nodes::constants::is_constant;
+use expr_nodes::literals::constant_at;
+use expr_nodes::parts::{Checked, are_no_numbers, are_whole, fault_if, least};
+use expr_nodes::products::{exponents_of, product, product_pair};
+use expr_nodes::quotients::{are_past_limits, is_varying};
+use expr_nodes::size::gcd;
 use expr_nodes::steps::with_parts;
-use osc_base::{Boxed, Place};
+use expr_nodes::{Typed, ValueKind};
+use osc_base::{Boxed, Fault, FaultCode, Fraction, Place};
 use std::alloc::{AllocError, Global};
+use units_si::Exponents;
 
-/// A quotient. It counts as out of memory until quotients are typed.
+/// The greatest part of a constant, 2^120.
+const MOST: u128 = 0x100_0000_0000_0000_0000_0000_0000_0000;
+
+/// The exponents of a number without a unit.
+const NO_EXPONENTS: Exponents = Exponents {
+    kg: 0,
+    m: 0,
+    s: 0,
+    a: 0,
+    k: 0,
+    mol: 0,
+    cd: 0,
+    rad: 0,
+};
+
+/// The denominator, which is above 0.
+fn bottom_of(number: &Fraction) -> u128
+    ensures value { result ≡ unsigned_abs number.now.den }
+    ensures above { 0 < result }
+{
+    number.den.unsigned_abs()
+}
+
+/// A number in lowest terms. One whose parts pass 2^120 counts as out of memory; the constants of a source don't.
+fn lowest(number: &Fraction) -> Result<Divisor, AllocError>
+    ensures { IfOk result (λ d. value d.number ≡ lowest_terms number.now.num (unsigned_abs number.now.den)) }
+{
+    let top = number.num.unsigned_abs();
+    let bottom = bottom_of(number);
+    if top > MOST || bottom > MOST {
+        return Err(AllocError);
+    }
+    let divisor = gcd(top, bottom);
+    let shared = (top / divisor) as i128;
+    let number = Fraction {
+        num: if number.num < 0 { -shared } else { shared },
+        den: (bottom / divisor) as i128,
+    };
+    Ok(Divisor { number })
+}
+
+/// The value of a constant. Another constant than a literal counts as out of memory for now.
+fn constant_value(divisor: &Typed) -> Result<Divisor, AllocError>
+    ensures { IfOk result (λ d. value d.number ≡ value_of_constant (seen divisor.now)) }
+{
+    match divisor {
+        Typed::Constant { number, .. } => lowest(number),
+        Typed::Read { .. }
+        | Typed::Whole { .. }
+        | Typed::Listed { .. }
+        | Typed::Span { .. }
+        | Typed::Minus { .. }
+        | Typed::Not { .. }
+        | Typed::Joined { .. }
+        | Typed::Implies { .. }
+        | Typed::Relation { .. }
+        | Typed::Within { .. } => Err(AllocError),
+    }
+}
+
+/// The value of a divisor, if it is there and constant.
+fn divisor_of(right: &Option<Boxed<Typed>>) -> Result<Option<Divisor>, AllocError>
+    ensures { IfOk result (λ d. seen_divisor d ≡ divisor_value (seen_part right.now)) }
+{
+    match right {
+        Some(divisor) => {
+            if is_constant(divisor.get()) {
+                Ok(Some(constant_value(divisor.get())?))
+            } else {
+                Ok(None)
+            }
+        }
+        None => Ok(None),
+    }
+}
+
+/// The divisor is 0.
+fn is_zero(divisor: &Option<Divisor>) -> bool
+    ensures { result ≡ is_zero_value (seen_divisor divisor.now) }
+{
+    match divisor {
+        Some(divisor) => divisor.number.num == 0,
+        None => false,
+    }
+}
+
+/// The quotient by a number other than 0 is too wide.
+fn is_wide_over(left: &Typed, divisor: &Divisor) -> bool
+    ensures { result ≡ (not (zero (value divisor.now.number)) && is_wide (divided (size (seen left.now)) (value divisor.now.number))) }
+{
+    divisor.number.num != 0 && left.info().size.divided(&divisor.number).is_none()
+}
+
+fn are_wide_over(left: &Option<Boxed<Typed>>, divisor: &Option<Divisor>) -> bool
+    ensures { result ≡ is_wide_by (seen_part left.now) (seen_divisor divisor.now) }
+{
+    match (left, divisor) {
+        (Some(left), Some(divisor)) => is_wide_over(left.get(), divisor),
+        (Some(_), None) | (None, _) => false,
+    }
+}
+
+/// The first of the faults of a quotient.
+fn first_of_five(
+    place: Place,
+    clash: bool,
+    units: bool,
+    varying: bool,
+    zero: bool,
+    wide: bool,
+) -> Option<Fault>
+    ensures { result ≡ first_fault (row place FaultCode.Clash clash ∷ row place FaultCode.UnitClash units ∷ row place FaultCode.NotConstant varying ∷ row place FaultCode.ZeroDivisor zero ∷ row place FaultCode.Wide wide ∷ []) }
+{
+    let clash = fault_if(place, FaultCode::Clash, clash);
+    let units = fault_if(place, FaultCode::UnitClash, units);
+    let varying = fault_if(place, FaultCode::NotConstant, varying);
+    let zero = fault_if(place, FaultCode::ZeroDivisor, zero);
+    let wide = fault_if(place, FaultCode::Wide, wide);
+    least(least(least(least(clash, units), varying), zero), wide)
+}
+
+fn quotient_fault(
+    place: Place,
+    left: &Option<Boxed<Typed>>,
+    right: &Option<Boxed<Typed>>,
+    divisor: &Option<Divisor>,
+) -> Option<Fault>
+    ensures { seen_divisor divisor.now ≡ divisor_value (seen_part right.now) → result ≡ first_fault (quotient_rows place (seen_part left.now) (seen_part right.now)) }
+{
+    let other = are_no_numbers(left, right);
+    let clash = are_whole(left, right, other);
+    let units = are_past_limits(left, right);
+    let varying = is_varying(right);
+    let zero = is_zero(divisor);
+    let wide = are_wide_over(left, divisor);
+    first_of_five(place, clash, units, varying, zero, wide)
+}
+
+/// One over a divisor other than 0.
+fn reciprocal(divisor: &Divisor) -> Divisor
+    requires { 0 < unsigned_abs divisor.now.number.num }
+    ensures { value result.number ≡ one_over (value divisor.now.number) }
+{
+    let number = divisor.number;
+    let number = Fraction {
+        num: if number.num < 0 {
+            -number.den
+        } else {
+            number.den
+        },
+        den: number.num.unsigned_abs() as i128,
+    };
+    Divisor { number }
+}
+
+/// One over a divisor other than 0, as a constant. It counts as out of memory if an exponent leaves its limits; those of
+/// a source don't.
+fn reciprocal_at(
+    alloc: Global,
+    place: Place,
+    kind: &ValueKind,
+    divisor: &Divisor,
+) -> Result<Boxed<Typed>, AllocError>
+    requires { 0 < unsigned_abs divisor.now.number.num }
+    ensures { IfOk result (λ t. seen t ≡ constant_node place (Kinds.ValueKind.Number (each (λ a b. a -ℤ b) no_exponents (exponents_in (seen_kind kind.now)))) (one_over (value divisor.now.number))) }
+{
+    match NO_EXPONENTS.minus(&exponents_of(kind)) {
+        Some(exponents) => {
+            let kind = ValueKind::Number(exponents);
+            let number = reciprocal(divisor).number;
+            Boxed::new(alloc, constant_at(place, kind, number))
+        }
+        None => Err(AllocError),
+    }
+}
+
+/// The quotient, unless the divisor is 0, its exponents leave their limits, or it is too wide.
+fn quotient_pair(
+    alloc: Global,
+    left: Boxed<Typed>,
+    right: &Typed,
+    divisor: &Divisor,
+) -> Result<Option<Boxed<Typed>>, AllocError>
+    ensures { IfOk result (λ t. value divisor.now.number ≡ value_of_constant (seen right.now) → zero (value divisor.now.number) ≡ false → are_exponents (quotient_exponents (seen left) (seen right.now)) ≡ true → is_wide (divided (size (seen left)) (value divisor.now.number)) ≡ false → seen_part t ≡ Some (product_of (seen left) (reciprocal_of (seen right.now)))) }
+{
+    if divisor.number.num == 0 {
+        return Ok(None);
+    }
+    let held = right.info();
+    let over = reciprocal_at(alloc, held.place, &held.kind, divisor)?;
+    product_pair(alloc, left, over)
+}
+/// The quotient of what is known, if there is one.
+fn quotient_of(
+    alloc: Global,
+    left: Option<Boxed<Typed>>,
+    right: &Option<Boxed<Typed>>,
+    divisor: &Option<Divisor>,
+) -> Result<Option<Boxed<Typed>>, AllocError>
+    ensures { IfOk result (λ t. (p : Place) → seen_divisor divisor.now ≡ divisor_value (seen_part right.now) → None ≡ first_fault (quotient_rows p (seen_part left) (seen_part right.now)) → seen_part t ≡ on_two (seen_part left) (seen_part right.now) (λ x y. product_of x (reciprocal_of y))) }
+{
+    match left {
+        Some(left) => match right {
+            Some(right) => match divisor {
+                Some(divisor) => quotient_pair(alloc, left, right.get(), divisor),
+                None => Ok(None),
+            },
+            None => Ok(None),
+        },
+        None => Ok(None),
+    }
+}
+
+/// A quotient.
 fn quotient(
     alloc: Global,
     place: Place,
@@ -27,7 +257,17 @@ fn quotient(
     ensures fault { IfOk result (λ c. c.fault ≡ first_fault (quotient_rows place (seen_part left) (seen_part right))) }
     ensures typed { IfOk result (λ c. seen_part c.typed ≡ quotient_typed place (seen_part left) (seen_part right)) }
 {
-    Err(AllocError)
+    let divisor = divisor_of(&right)?;
+    match quotient_fault(place, &left, &right, &divisor) {
+        None => Ok(Checked {
+            fault: None,
+            typed: quotient_of(alloc, left, &right, &divisor)?,
+        }),
+        Some(fault) => Ok(Checked {
+            fault: Some(fault),
+            typed: None,
+        }),
+    }
 }
 
 /// A product or quotient.
