@@ -1,0 +1,3 @@
+mod OrderedTexts
+mod PhaseLaws
+mod StringLaws

@@ -1,0 +1,4 @@
+pub mod Strings
+pub mod PhaseStrings
+pub mod DeclaredStrings
+pub mod Ordered
