@@ -1,5 +1,5 @@
 -- Going from a type to its bases.
-use Rattle.std.proofs.Common.{◌≡◌, ◌∙◌, refl, sym, ap, ℕ, zero, suc, ◌+◌, ◌-◌, ◌<◌, ◌≤◌, Bool, true, false, ◌||◌, List, Option, Some, None, nat_eq, arith}
+use Rattle.std.proofs.Common.{◌≡◌, ◌∙◌, refl, ap, ℕ, zero, suc, ◌+◌, ◌-◌, ◌<◌, Bool, false, ◌||◌, List, Some, None, nat_eq, arith}
 use Rattle.type_heads.specs.Table.{TypeHead, base, line_within}
 use Rattle.type_heads.specs.Members.{has}
 

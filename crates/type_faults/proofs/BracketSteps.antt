@@ -1,5 +1,5 @@
 -- Going through the base units in brackets.
-use Rattle.std.proofs.Common.{◌≡◌, ◌∙◌, refl, sym, ap, ℕ, Bool, not, List, [], ◌∷◌, Option, ◌||◌, bytes_eq}
+use Rattle.std.proofs.Common.{◌≡◌, ◌∙◌, ap, ℕ, Bool, not, List, [], ◌∷◌, Option, ◌||◌, bytes_eq}
 use Rattle.std.specs.List.{list_any}
 use Rattle.osc_base.specs.declared.fault.Fault.{Fault}
 use Rattle.osc_base.specs.declared.fault.FaultCode.{FaultCode}

@@ -1,6 +1,6 @@
 -- Fields that are found by their names.
-use Rattle.std.proofs.Common.{◌≡◌, ◌∙◌, refl, sym, ap, ℕ, ◌+◌, ◌<◌, ◌≤◌, Bool, ◌||◌, true, false, cond, List, [], ◌∷◌, ◌++◌, Option, Some, None, bytes_eq, drop, length, get_or, map}
-use Rattle.std.specs.Prelude.{find, option_map, option_and_then}
+use Rattle.std.proofs.Common.{◌≡◌, ◌∙◌, refl, ap, ℕ, Bool, ◌||◌, true, false, cond, List, [], ◌∷◌, Option, Some, None, bytes_eq, map}
+use Rattle.std.specs.Prelude.{find, option_map}
 use Rattle.std.specs.Option.{option_or}
 use Rattle.std.specs.List.{list_any}
 use Rattle.std.proofs.lemmas.List.Folds.{find-append}
@@ -8,7 +8,7 @@ use Rattle.dsl_tree.specs.declared.parts.Ident.{Ident}
 use Rattle.dsl_tree.specs.FileTree.{FieldTree}
 use Rattle.type_heads.specs.Types.{Field, Member}
 use Rattle.type_heads.specs.Members.{fields_among, fields_declared}
-use Rattle.type_faults.specs.ListedRows.{FoundField, found_field}
+use Rattle.type_faults.specs.ListedRows.{found_field}
 
 -- the field that a declaration of names declares
 pub found_named : (names : List Ident) (tree : FieldTree) (holder : ℕ) (under : List ℕ) (name : List ℕ) →

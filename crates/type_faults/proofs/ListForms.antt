@@ -1,8 +1,7 @@
 -- Which expressions are list constructors.
-use Rattle.std.proofs.Common.{◌≡◌, ◌∙◌, refl, sym, ap, suc, Bool, false, not, List, [], ◌∷◌, Option, Some, map, length, nat_lt, nat_le, ℕ, arith}
+use Rattle.std.proofs.Common.{◌≡◌, ◌∙◌, refl, ap, suc, Bool, false, not, List, [], ◌∷◌, Some, map, length, nat_lt, nat_le, ℕ, arith}
 use Rattle.std.proofs.lemmas.Bool.Decides.{nat_tests}
 use Rattle.osc_base.specs.declared.fault.Place.{Place}
-use Rattle.dsl_tree.specs.declared.parts.Ident.{Ident}
 use Rattle.dsl_tree.specs.declared.expr.Operator.{Operator}
 use Rattle.dsl_tree.specs.declared.expr.Expr.{Expr}
 use Rattle.dsl_tree.specs.declared.expr.Suffix.{Suffix}

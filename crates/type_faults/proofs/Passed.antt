@@ -5,8 +5,8 @@ use Rattle.std.proofs.lemmas.Bool.Decides.{nat_tests}
 use Rattle.osc_base.specs.declared.fault.Place.{Place}
 use Rattle.osc_base.specs.declared.fault.FaultCode.{FaultCode}
 use Rattle.osc_base.specs.declared.fault.Fault.{Fault}
-use Rattle.osc_base.specs.FaultRows.{first_of, row, row_fault, is_before}
-use Rattle.type_faults.specs.Passing.{is_after, is_past}
+use Rattle.osc_base.specs.FaultRows.{first_of, row, row_fault}
+use Rattle.type_faults.specs.Passing.{is_past}
 
 not_before : (a b n m : ℕ) (c : Bool) → (nat_lt b a || (nat_eq b a && nat_lt m n)) ≡ true → (nat_lt a b || (nat_eq a b && (nat_lt n m || (nat_eq n m && c)))) ≡ false
 not_before a b n m c h = grind (arith, nat_tests)

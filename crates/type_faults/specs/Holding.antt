@@ -1,8 +1,7 @@
 -- The types of the fields that members declare.
 use Rattle.std.specs.Prelude.{ℕ, List, flat_map}
-use Rattle.dsl_tree.specs.FileTree.{MemberTree}
 use Rattle.type_heads.specs.Table.{TypeHead}
-use Rattle.type_heads.specs.Types.{Written, TypeBody}
+use Rattle.type_heads.specs.Types.{Written}
 use Rattle.type_heads.specs.HeadingFaults.{field_types}
 
 -- the types of the fields among members

@@ -1,5 +1,5 @@
 -- The members of types in the lists that the code holds, and the fields found there.
-use Rattle.std.specs.Prelude.{ℕ, List, [], Option, None, bytes_eq, find, map, option_and_then, slice_index_or}
+use Rattle.std.specs.Prelude.{ℕ, List, [], None, bytes_eq, find, option_and_then, slice_index_or}
 use Rattle.std.specs.Option.{option_map_or}
 use Rattle.dsl_tree.specs.declared.compounds.HeirCondition.{HeirCondition}
 use Rattle.dsl_tree.specs.Views.{field_tree}

@@ -1,5 +1,4 @@
-use Rattle.std.proofs.Common.{◌≡◌, ◌∙◌, [], ap}
-use Rattle.type_heads.specs.Cycles.{fresh}
+use Rattle.std.proofs.Common.{[]}
 use Rattle.type_faults.specs.Reaching.{AddsFresh, HasNumbers}
 use Rattle.type_faults.proofs.RowSteps.{if_ok}
 use Rattle.type_faults.proofs.Rounds.{first_met}

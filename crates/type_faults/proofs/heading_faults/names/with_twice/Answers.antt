@@ -1,4 +1,3 @@
-use Rattle.std.proofs.Common.{◌∙◌, sym, ap, option_map}
 use Rattle.dsl_tree.specs.Views.{declaration_tree}
 use Rattle.type_faults.specs.SeenNames.{seen_name}
 use Rattle.type_faults.proofs.NameSteps.{named, unnamed}

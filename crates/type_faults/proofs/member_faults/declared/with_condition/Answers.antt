@@ -1,17 +1,8 @@
 use Rattle.std.proofs.Common.{◌∙◌, ap, map}
-use Rattle.osc_base.specs.declared.fault.FaultCode.{FaultCode}
-use Rattle.osc_base.specs.FaultRows.{FaultRow, first_from, row}
+use Rattle.osc_base.specs.FaultRows.{first_from}
 use Rattle.type_heads.specs.Bodied.{seen_body}
-use Rattle.type_heads.specs.Cycles.{returns as leads}
-use Rattle.type_heads.specs.Members.{do_declared, field}
-use Rattle.type_heads.specs.MemberFaults.{condition_rows, depends_on, do_rows, initial_rows, names_among, names_given, repeated_rows, type_rows}
-use Rattle.type_heads.specs.Table.{all_types, base, form, numbers_from}
-use Rattle.type_heads.specs.Types.{Member, Types}
-use Rattle.type_members.specs.Listed.{lists_of, seen_listed}
-use Rattle.type_faults.specs.ConditionRows.{found_rows}
-use Rattle.type_faults.specs.ListedRows.{found_field, types_with}
-use Rattle.type_faults.specs.Ranking.{IsShown}
-use Rattle.type_faults.proofs.RowSteps.{done, two}
+use Rattle.type_members.specs.Listed.{lists_of}
+use Rattle.type_faults.specs.ListedRows.{types_with}
 use Rattle.type_faults.proofs.ConditionSteps.{no_condition, some_condition}
 use Rattle.type_faults.proofs.member_faults.declared.with_condition.Goals as goal
 

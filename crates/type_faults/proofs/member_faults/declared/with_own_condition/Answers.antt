@@ -1,18 +1,17 @@
 use Rattle.std.proofs.Common.{◌∙◌, [], ◌∷◌, ap, sym, length, map, subst}
 use Rattle.std.specs.Prelude.{option_and_then, option_map}
 use Rattle.osc_base.specs.declared.fault.FaultCode.{FaultCode}
-use Rattle.osc_base.specs.FaultRows.{FaultRow, first_from, row}
+use Rattle.osc_base.specs.FaultRows.{first_from, row}
 use Rattle.type_heads.specs.Bodied.{seen_body}
 use Rattle.type_heads.specs.Cycles.{returns as leads}
-use Rattle.type_heads.specs.Members.{do_declared, field}
-use Rattle.type_heads.specs.MemberFaults.{condition_rows, depends_on, do_rows, initial_rows, names_among, names_given, repeated_rows, type_rows}
-use Rattle.type_heads.specs.Table.{all_types, base, form, numbers_from}
-use Rattle.type_heads.specs.Types.{Member, Types}
-use Rattle.type_members.specs.Listed.{lists_of, seen_listed}
+use Rattle.type_heads.specs.Members.{field}
+use Rattle.type_heads.specs.MemberFaults.{depends_on}
+use Rattle.type_heads.specs.Table.{base}
+use Rattle.type_members.specs.Listed.{lists_of}
 use Rattle.type_faults.specs.ConditionRows.{found_rows}
 use Rattle.type_faults.specs.ListedRows.{found_field, types_with}
 use Rattle.type_faults.specs.Ranking.{IsShown}
-use Rattle.type_faults.proofs.RowSteps.{done, two}
+use Rattle.type_faults.proofs.RowSteps.{two}
 use Rattle.type_faults.proofs.member_faults.declared.with_own_condition.Goals as goal
 
 pub with_return-requires : goal.with_return-requires

@@ -1,4 +1,4 @@
-use Rattle.std.proofs.Common.{◌≡◌, ◌∙◌, ◌+◌, ap, sym, List, Option, bytes_eq, drop, map}
+use Rattle.std.proofs.Common.{◌∙◌, ◌+◌, ap, sym, List, Option, bytes_eq, drop, map}
 use Rattle.std.specs.Prelude.{find, option_map}
 use Rattle.std.specs.Option.{option_or}
 use Rattle.type_heads.specs.Types.{Field, Member}

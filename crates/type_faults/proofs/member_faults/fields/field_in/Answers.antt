@@ -1,4 +1,4 @@
-use Rattle.std.proofs.Common.{◌≡◌, ◌∙◌, ap, sym, ℕ, List, Option, Some, None, cond, bytes_eq}
+use Rattle.std.proofs.Common.{◌∙◌, ap, sym, ℕ, List, Some, None, cond, bytes_eq}
 use Rattle.std.specs.Prelude.{find, option_map}
 use Rattle.std.specs.List.{list_any}
 use Rattle.dsl_tree.specs.declared.parts.Ident.{Ident}

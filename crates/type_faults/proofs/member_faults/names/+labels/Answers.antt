@@ -1,6 +1,6 @@
 use Rattle.dsl_tree.specs.declared.parts.Ident.{Ident}
 use Rattle.dsl_tree.specs.declared.phases.Phase.{Phase}
-use Rattle.std.proofs.Common.{List, ◌∙◌, ◌++◌, sym, ap, subst, IfOk, option_to_list, map, flat_map, take_all, append-nil, length, ◌≤◌, ◌<◌}
+use Rattle.std.proofs.Common.{List, ◌∙◌, ◌++◌, sym, ap, subst, IfOk, option_to_list, map, flat_map, take_all, append-nil, length, ◌≤◌}
 use Rattle.dsl_tree.specs.Views.{phase_tree}
 use Rattle.dsl_tree.proofs.SeenPhases.{seen_invoke, seen_wait}
 use Rattle.type_heads.specs.MemberFaults.{labels_in}

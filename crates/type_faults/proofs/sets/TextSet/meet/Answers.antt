@@ -1,4 +1,4 @@
-use Rattle.std.proofs.Common.{◌≡◌, ◌∙◌, refl, ap, not, Bool, true, false}
+use Rattle.std.proofs.Common.{◌∙◌, refl, ap, not}
 use Rattle.std.specs.List.{list_any}
 use Rattle.std.specs.Str.{bytes_eq}
 use Rattle.type_faults.proofs.KeySets.{any_now, text_more, twice_not}
