@@ -6,6 +6,4 @@ mod answers;
 #[cfg(test)]
 mod runs;
 #[cfg(test)]
-mod texts;
-#[cfg(test)]
 mod trees;
