@@ -23,7 +23,7 @@ pub struct Path {
 
 impl Step {
     /// An equal step.
-    fn copy(&self, alloc: Global) -> Result<Step, AllocError>
+    pub fn copy(&self, alloc: Global) -> Result<Step, AllocError>
         ensures { IfOk result (λ s. s ≡ self.now) }
     {
         match self {
