@@ -6,3 +6,4 @@ pub mod Multiples
 pub mod Numbers
 pub mod Rows
 pub mod PathEquality
+pub mod PathReading

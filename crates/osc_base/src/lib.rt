@@ -12,6 +12,7 @@ mod listing;
 mod mark;
 mod modifier;
 mod path;
+mod path_read;
 mod row;
 mod sample;
 mod stop;

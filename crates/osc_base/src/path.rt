@@ -2,7 +2,6 @@ ghost use Rattle.std.specs.Prelude.{◌≡◌, ◌++◌, flat_map, IfOk, OnOk};
 ghost use Rattle.std.specs.String.{string_bytes};
 ghost use Rattle.osc_base.specs.Path.{path_text, first_step_text, later_step_text};
 ghost use Rattle.osc_base.specs.Paths.{same_path};
-ghost use Rattle.osc_base.specs.declared.path.Path.{Path};
 
 use crate::{Row, Text};
 use std::alloc::{AllocError, Global};
@@ -24,7 +23,7 @@ pub struct Path {
 
 impl Step {
     /// An equal step.
-    fn copy(&self, alloc: Global) -> Result<Step, AllocError>
+    pub fn copy(&self, alloc: Global) -> Result<Step, AllocError>
         ensures { IfOk result (λ s. s ≡ self.now) }
     {
         match self {
