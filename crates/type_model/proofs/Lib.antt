@@ -1,2 +1,6 @@
 mod Ends
 mod SoundUnits
+mod Quiet
+mod SoundForms
+mod TypeParts
+mod Stops
