@@ -4,3 +4,4 @@ mod Quiet
 mod SoundForms
 mod TypeParts
 mod Stops
+mod LastNumbers
