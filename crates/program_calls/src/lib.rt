@@ -18,6 +18,6 @@ pub use first_tokens::first_place;
 pub use kinds::{is_drive, is_kind_of, is_vehicle};
 pub use label_paths::begins_with_label;
 pub use modifier_forms::{ModifierForm, is_modifier, modifier_form};
-pub use name_exprs::{head_name, name_of};
+pub use name_exprs::{head_name, is_path, name_of};
 pub use phases::{PhasePlace, PlacedPhase, Turn, phases_in};
 pub use scopes::{PhaseLabel, labels_from, scope_at};
