@@ -1,0 +1,7 @@
+mod ArgumentSteps
+mod BareForms
+mod ExprKinds
+mod FieldSteps
+mod PathSteps
+mod RowSteps
+mod RuleSteps
