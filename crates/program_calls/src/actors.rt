@@ -1,20 +1,20 @@
 //! The actor whose behaviour an invocation calls, and what it calls.
 
 ghost use Rattle.std.specs.Prelude.{◌≡◌, IfOk};
-ghost use Rattle.composition.specs.Calls.{actor_type as actor_in};
+ghost use Rattle.composition.specs.Calls.{actor_type as actor_in, without_labels as scope_without};
 ghost use Rattle.expr_nodes.specs.Checks.{IsChecked};
 ghost use Rattle.expr_nodes.specs.Seen.{seen_part};
 ghost use Rattle.expr_nodes.specs.SeenNames.{seen_scope};
-ghost use Rattle.program_calls.specs.SeenCallees.{actor_tree, head_tree};
+ghost use Rattle.program_calls.specs.SeenCallees.{actor_tree, called_in, head_tree, seen_callee};
 
-use crate::callees::actor_of;
+use crate::callees::{Callee, actor_of, behaviour_named, owned_behaviour};
 use dsl_tree::{Ident, InvokeHead};
 use expr_nodes::meanings::name;
 use expr_nodes::others::actor;
 use expr_nodes::parts::Checked;
 use expr_nodes::steps::pointed;
 use expr_nodes::{Scope, Typed};
-use osc_base::Boxed;
+use osc_base::{Boxed, Row};
 use std::alloc::{AllocError, Global};
 use type_model::{TypeId, Types};
 
@@ -57,5 +57,39 @@ pub fn actor_type(types: &Types, typed: &Option<Boxed<Typed>>) -> Option<TypeId>
     match typed {
         Some(typed) => actor_of(types, typed.get().info().kind.object_type()?),
         None => None,
+    }
+}
+
+/// The scope of a type's text without its labels, in which the paths to actors are read.
+fn without_labels(alloc: Global, holder: TypeId) -> Scope
+    ensures { seen_scope result ≡ scope_without holder }
+{
+    Scope {
+        holder,
+        it: None,
+        labels: Row::new(alloc),
+    }
+}
+
+/// The action or scenario that is called in the text of a type.
+pub fn called(
+    alloc: Global,
+    types: &Types,
+    holder: TypeId,
+    callee: Callee<'_>,
+) -> Result<Option<TypeId>, AllocError>
+    ensures { IfOk result (λ of. of ≡ called_in types.now.table holder (seen_callee callee.entry)) }
+{
+    match callee {
+        Callee::Alone(name) => Ok(behaviour_named(types, name.text.as_str())),
+        Callee::Owned { head, names, name } => {
+            let scope = without_labels(alloc, holder);
+            let path = actor_checked(alloc, types, &scope, head, names)?;
+            match actor_type(types, &path.typed) {
+                Some(actor) => Ok(owned_behaviour(types, name.text.as_str(), actor)),
+                None => Ok(None),
+            }
+        }
+        Callee::NoName(_) => Ok(None),
     }
 }

@@ -3,7 +3,7 @@
 ghost use Rattle.std.specs.Prelude.{◌≡◌, None, Some, cond};
 ghost use Rattle.type_heads.specs.Shown.{kind_form};
 ghost use Rattle.type_heads.specs.Table.{form, is_actor as of_actor, is_behaviour as of_behaviour};
-ghost use Rattle.composition.specs.Calls.{behaviour_named as behaviour_of, callee as called};
+ghost use Rattle.composition.specs.Calls.{behaviour_named as behaviour_of, callee as called, owned_behaviour as owned_by};
 ghost use Rattle.program_calls.specs.SeenCallees.{seen_callee};
 
 use dsl_tree::{Ident, InvokeHead};
@@ -92,4 +92,22 @@ pub fn behaviour_named(types: &Types, name: &str) -> Option<TypeId>
     } else {
         None
     }
+}
+
+/// The behaviour of that name that the actor or the nearest of its bases owns.
+pub fn owned_behaviour(types: &Types, name: &str, actor: TypeId) -> Option<TypeId>
+    ensures { result ≡ owned_by types.now.table.heads name.now actor }
+{
+    let mut at = Some(actor);
+    let mut steps = u64::from(types.count()) + 1;
+    while steps > 0
+        && let Some(owner) = at
+    {
+        if let Some(found) = types.named(Some(types.name(owner)), name) {
+            return Some(found);
+        }
+        at = types.base(owner);
+        steps -= 1;
+    }
+    None
 }

@@ -4,13 +4,15 @@
 mod actors;
 mod callees;
 mod few;
+mod labels;
 mod modifier_forms;
 mod name_exprs;
 mod phases;
 mod scopes;
 
-pub use actors::{actor_checked, actor_type};
-pub use callees::{Callee, actor_of, behaviour_named, callee_of};
+pub use actors::{actor_checked, actor_type, called};
+pub use callees::{Callee, actor_of, behaviour_named, callee_of, owned_behaviour};
+pub use labels::{invoked, phase_labels};
 pub use modifier_forms::{ModifierForm, is_modifier, modifier_form};
 pub use name_exprs::name_of;
 pub use phases::{PhasePlace, PlacedPhase, Turn, phases_in};
