@@ -1,6 +1,10 @@
 mod CalleeNames
+mod FirstTokens
+mod HeadNameForms
+mod LabelPaths
 mod ModifierFews
 mod NameForms
+mod PathForms
 mod PhaseLabels
 mod PhaseLists
 mod StepRows

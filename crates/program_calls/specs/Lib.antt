@@ -4,3 +4,4 @@ pub mod SeenModifiers
 pub mod NameExprs
 pub mod SeenCallees
 pub mod SeenLabels
+pub mod LibraryTypes

@@ -4,6 +4,9 @@
 mod actors;
 mod callees;
 mod few;
+mod first_tokens;
+mod kinds;
+mod label_paths;
 mod labels;
 mod modifier_forms;
 mod name_exprs;
@@ -12,8 +15,11 @@ mod scopes;
 
 pub use actors::{actor_checked, actor_type, called};
 pub use callees::{Callee, actor_of, behaviour_named, callee_of, owned_behaviour};
+pub use first_tokens::first_place;
+pub use kinds::{is_drive, is_kind_of, is_vehicle};
+pub use label_paths::begins_with_label;
 pub use labels::{invoked, phase_labels};
 pub use modifier_forms::{ModifierForm, is_modifier, modifier_form};
-pub use name_exprs::name_of;
+pub use name_exprs::{head_name, name_of};
 pub use phases::{PhasePlace, PlacedPhase, Turn, phases_in};
 pub use scopes::{PhaseLabel, labels_from, scope_at};
