@@ -5,7 +5,6 @@ ghost use Rattle.osc_base.specs.Paths.{same_path};
 ghost use Rattle.composition.specs.SeenParts.{scene_of, seen_occurrence, seen_modifier, seen_spot};
 ghost use Rattle.composition.specs.SeenScenes.{seen_scene};
 ghost use Rattle.composition.specs.SeenSources.{first_read, is_root_timed, seen_source};
-ghost use Rattle.composition.specs.Homes.{home_of};
 ghost use Rattle.composition.specs.Scenes.{choices as all_choices, values as all_values, phases as all_phases, vehicles as all_vehicles, guards as all_guards, source as source_at};
 
 use crate::part::{Binding, ModifierSpot, Occurrence, Spot};
@@ -40,6 +39,7 @@ impl Scene {
         let value_index = PathIndex::of(alloc, values.as_slice())?;
         let phase_index = PathIndex::of(alloc, phases.as_slice())?;
         let phase_duration_index = PathIndex::of_durations(alloc, phases.as_slice())?;
+        let binding_index = PathIndex::of(alloc, bindings.as_slice())?;
         Ok(Scene {
             spots,
             bindings,
@@ -57,16 +57,8 @@ impl Scene {
             value_index,
             phase_index,
             phase_duration_index,
+            binding_index,
         })
-    }
-
-    /// The home of a path. `None` if the scene has no such path.
-    pub fn home(&self, alloc: Global, path: &Path) -> Result<Option<Path>, AllocError>
-        ensures { IfOk result (λ h. h ≡ home_of (seen_scene self.now) path.now) }
-    {
-        let _ = alloc;
-        let _ = path;
-        Err(AllocError)
     }
 
     /// The conditions under which what is read at the path is there, outermost first.
