@@ -2,6 +2,7 @@ mod OneFault
 mod FaultAnswers
 pub mod ValueReads
 mod GenerateMatches
+mod CheckMatches
 mod FirstWords
 mod TopicWords
 mod Worked

@@ -14,23 +14,27 @@ general_help = lined (
     ∷ []
     ∷ codes "Usage:"
     ∷ codes "  osc generate FILE SCENARIO [OPTIONS]"
+    ∷ codes "  osc check FILE SCENARIO RUN [OPTIONS]"
     ∷ codes "  osc explain [CODE]"
     ∷ codes "  osc help"
     ∷ codes "  osc --version"
     ∷ []
     ∷ codes "Commands:"
     ∷ codes "  generate   writes a run of a scenario; for its options: osc generate --help"
+    ∷ codes "  check      writes whether a run is one of a scenario: osc check --help"
     ∷ codes "  explain    writes what a code means, for example 201, or lists all codes"
     ∷ codes "  help       writes this text; so do --help and -h"
     ∷ codes "  --version  writes the version; so does -V"
     ∷ []
     ∷ codes "Statuses, and what osc writes to standard output:"
     ∷ codes "  0  success: what was asked for"
+    ∷ codes "  1  the run is no instance: no CLAUSE PATH, or no CLAUSE PATH FILE:LINE:COLUMN"
     ∷ codes "  3  the source is refused: fault CODE FILE:LINE:COLUMN"
     ∷ codes "     (an imported file that isn't there is fault 301)"
     ∷ codes "  4  the words are refused: words"
-    ∷ codes "  6  the main file isn't there: missing FILE"
-    ∷ codes "     a file is longer than 1048576 bytes: long FILE"
+    ∷ codes "  5  the run file is no run: text json, or text POINTER"
+    ∷ codes "  6  the main file or the run file isn't there: missing FILE"
+    ∷ codes "     a file is too long, 1048576 bytes, of a run 16777216: long FILE"
     ∷ codes "     a file can't be read: shelf FILE"
     ∷ codes "  7  standard output failed: a prefix of the text, or nothing"
     ∷ codes "  8  out of memory: nothing"
@@ -69,6 +73,35 @@ generate_help = lined (
     ∷ []
     ∷ codes "Today osc generates runs of scenarios whose fields are ranged whole numbers."
     ∷ codes "It checks the options, and they don't change the run yet."
+    ∷ []
+    ∷ codes "For the statuses: osc help"
+    ∷ [])
+
+-- the words and options of `check`
+unfoldable pub check_help : List ℕ
+check_help = lined (
+    codes "osc check reads a source file and a run, and writes whether the run is an"
+    ∷ codes "instance of a scenario of the source."
+    ∷ []
+    ∷ codes "Usage:"
+    ∷ codes "  osc check FILE SCENARIO RUN [OPTIONS]"
+    ∷ []
+    ∷ codes "Words:"
+    ∷ codes "  FILE       the source file"
+    ∷ codes "  SCENARIO   the name of the scenario: NAME or ACTOR.NAME"
+    ∷ codes "  RUN        the file of the run, as osc generate writes it"
+    ∷ []
+    ∷ codes "Options, each at most once, as --ticks N or --ticks=N:"
+    ∷ codes "  --ticks N  the last tick that a run may have, of 0.1 seconds each:"
+    ∷ codes "             1 to 600, default 100"
+    ∷ codes "  --lanes N  the lanes of the road: 1 to 8, default 3"
+    ∷ codes "  --road N   the length of the road in metres: 1 to 10000, default 1000"
+    ∷ codes "  -h, --help writes this text"
+    ∷ []
+    ∷ codes "After --, each word is FILE, SCENARIO or RUN, even if it begins with -."
+    ∷ []
+    ∷ codes "It writes yes if the run is an instance. Else it writes no, what fails first,"
+    ∷ codes "and where."
     ∷ []
     ∷ codes "For the statuses: osc help"
     ∷ [])
