@@ -1,6 +1,7 @@
 mod OneFault
 mod FaultAnswers
 pub mod ValueReads
+mod Matched
 mod GenerateMatches
 mod CheckMatches
 mod FirstWords
