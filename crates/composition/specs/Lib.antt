@@ -2,6 +2,9 @@ pub mod Instance
 pub mod Calls
 pub mod TimedRuns
 pub mod Scenes
+pub mod SeenParts
+pub mod SeenScenes
+pub mod SeenSources
 pub mod There
 pub mod Numbers
 pub mod Arrangement

@@ -4,12 +4,21 @@
 
 mod clause;
 mod guard;
+mod part;
+mod paths;
+mod queries;
 mod run;
+mod scene;
 mod setting;
+mod sorts;
+mod source;
 mod spot;
 
 pub use clause::Clause;
 pub use guard::Guard;
+pub use part::{Binding, Content, ModifierSpot, Occurrence, Spot};
 pub use run::{Choice, Held, Run, Span, Trace, Value};
+pub use scene::Scene;
 pub use setting::Setting;
+pub use source::Source;
 pub use spot::{ChoiceSpot, PhaseKind, PhaseSpot, ValueRange, ValueSpot};

@@ -1,1 +1,3 @@
 pub mod Overriding
+pub mod TargetRows
+pub mod TargetLists

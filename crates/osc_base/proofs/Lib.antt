@@ -5,3 +5,4 @@ pub mod Integers
 pub mod Multiples
 pub mod Numbers
 pub mod Rows
+pub mod PathEquality

@@ -7,6 +7,7 @@ pub mod FaultRows
 pub mod LowestTerms
 pub mod Comparisons
 pub mod Paths
+pub mod PathTexts
 pub mod Modifiers
 pub mod SlotNames
 pub mod Stops

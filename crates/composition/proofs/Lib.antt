@@ -1,0 +1,2 @@
+pub mod SpotSorts
+pub mod Sources

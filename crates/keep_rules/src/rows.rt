@@ -1,0 +1,64 @@
+//! The numbers of the marks with each target.
+
+ghost use Rattle.std.specs.Prelude.{◌≡◌, ◌++◌, ◌∷◌, [], cond, OnOk};
+ghost use Rattle.osc_base.specs.declared.path.Path.{Path};
+ghost use Rattle.osc_base.specs.Paths.{same_path};
+ghost use Rattle.keep_rules.specs.TargetRows.{row_at};
+
+use indexmap::IndexMap;
+use osc_base::{Path, Row};
+use std::alloc::{AllocError, Global};
+
+/// The numbers of the marks with each target, ascending.
+#[derive(Drop)]
+pub(crate) struct TargetRows {
+    rows: IndexMap<Path, Row<u32>>,
+}
+
+impl TargetRows {
+    /// No marks.
+    pub(crate) fn new(alloc: Global) -> TargetRows
+        ensures { (path : Path) → row_at result path ≡ [] }
+    {
+        TargetRows {
+            rows: IndexMap::new(alloc),
+        }
+    }
+
+    /// The numbers of the marks with this target.
+    pub(crate) fn get(&self, target: &Path) -> &[u32]
+        ensures { result.now ≡ row_at self.now target.now }
+    {
+        match self.rows.get(target) {
+            Some(row) => row.as_slice(),
+            None => &[],
+        }
+    }
+
+    /// Takes out the numbers of the marks with this target.
+    fn take(&mut self, alloc: Global, target: &Path) -> Row<u32>
+        ensures was { result ≡ row_at self.old target.now }
+        ensures others { (path : Path) → row_at self.new path ≡ cond (same_path target.now path) [] (row_at self.old path) }
+    {
+        match self.rows.swap_remove(target) {
+            Some(row) => row,
+            None => Row::new(alloc),
+        }
+    }
+
+    /// Puts a number at the end of those with this target. If it runs out of memory, they are lost.
+    pub(crate) fn push(
+        &mut self,
+        alloc: Global,
+        target: &Path,
+        number: u32,
+    ) -> Result<(), AllocError>
+        ensures { OnOk result ((path : Path) → row_at self.new path ≡ row_at self.old path ++ cond (same_path target.now path) (number ∷ []) []) }
+    {
+        let key = target.copy(alloc)?;
+        let mut row = self.take(alloc, target);
+        row.push(number)?;
+        self.rows.insert(key, row)?;
+        Ok(())
+    }
+}

@@ -1,0 +1,6 @@
+//! Looking things up by their paths.
+#![tactic(auto)]
+
+mod index;
+
+pub use index::{HasPath, PathIndex, duration_of, found, found_timed};
