@@ -1,7 +1,8 @@
 -- What the program's own types stand for in the definitions.
-use Rattle.std.specs.Prelude.{ℕ, List, [], ◌∷◌, Option, Some, None, cond, option_map}
+use Rattle.std.specs.Prelude.{List, [], ◌∷◌, Option, Some, None, cond, option_map}
 use Rattle.osc_base.specs.declared.fault.Place.{Place}
 use Rattle.osc_base.specs.Fraction.{value}
+use Rattle.expr_nodes.specs.declared.kind.Made.{Made}
 use Rattle.expr_nodes.specs.declared.kind.ValueKind.{ValueKind}
 use Rattle.expr_nodes.specs.declared.size.Size.{Size}
 use Rattle.expr_nodes.specs.declared.node.Info.{Info}
@@ -11,7 +12,6 @@ use Rattle.expr_nodes.specs.declared.node.Typed.{Typed}
 use Rattle.expr_nodes.specs.declared.node.Typed.TheOpen.{Typed-F, Earlier-F}
 use Rattle.expr_nodes.specs.declared.node.Typed.TheFolds.{fold-Typed, fold-Earlier}
 use Rattle.expr_nodes.specs.Kinds as Kinds
-use Rattle.expr_nodes.specs.Kinds.{Made}
 use Rattle.expr_nodes.specs.Sizes as Sizes
 use Rattle.expr_nodes.specs.Sizes.{is_wide}
 use Rattle.expr_nodes.specs.Typed as Nodes
@@ -19,10 +19,11 @@ use Rattle.expr_nodes.specs.Typed.{row_of, place_of}
 use Rattle.expr_nodes.specs.Parts.{unless, on_two}
 use Rattle.expr_nodes.specs.Operators.{truth_at, logic_rows}
 
--- what a phase makes; the program always knows it
-abbrev pub seen_made : Option ℕ → Made
-seen_made None = Made.Nothing
-seen_made (Some t) = Made.Makes t
+-- what a phase makes
+abbrev pub seen_made : Made → Kinds.Made
+seen_made Made.Nothing = Kinds.Made.Nothing
+seen_made Made.Unknown = Kinds.Made.Unknown
+seen_made (Made.Makes t) = Kinds.Made.Makes t
 
 -- a kind
 abbrev pub seen_kind : ValueKind → Kinds.ValueKind

@@ -2,7 +2,6 @@
 use Rattle.std.specs.Prelude.{ℕ, ℤ, true, cond, List, Option, option_map, option_and_then, map, find, bytes_eq}
 use Rattle.osc_base.specs.declared.fault.Place.{Place}
 use Rattle.osc_base.specs.declared.path.Path.{Path}
-use Rattle.type_heads.specs.declared.kinds.FieldType.{FieldType}
 use Rattle.osc_base.specs.LowestTerms.{lowest}
 use Rattle.dsl_tree.specs.declared.parts.Digits.{Digits}
 use Rattle.units_si.specs.Literals.{literal_count}
@@ -10,6 +9,7 @@ use Rattle.type_heads.specs.Shown.{UnitParts}
 use Rattle.type_heads.specs.Units.{digits_number}
 use Rattle.type_heads.specs.Form.{Form}
 use Rattle.type_heads.specs.Table.{has_members}
+use Rattle.expr_nodes.specs.declared.scope.It.{It}
 use Rattle.expr_nodes.specs.declared.scope.Label.{Label}
 use Rattle.expr_nodes.specs.declared.scope.Scope.{Scope}
 use Rattle.expr_nodes.specs.Kinds.{ValueKind, kind_of}
@@ -17,15 +17,15 @@ use Rattle.expr_nodes.specs.Operators.{constant_at}
 use Rattle.expr_nodes.specs.Typed.{Typed, Whole, Read, Listed}
 use Rattle.expr_nodes.specs.Sizes.{info_at, unit_size, field_size}
 use Rattle.expr_nodes.specs.Scope as Scopes
-use Rattle.expr_nodes.specs.Scope.{It}
 use Rattle.expr_nodes.specs.Names as Names
 use Rattle.expr_nodes.specs.Names.{per_of, elements_from}
 use Rattle.expr_nodes.specs.Seen.{seen_made, seen_part}
 use Rattle.expr_nodes.specs.declared.names.Meaning.{Meaning}
 
--- what `it` stands for; the program always knows it
-abbrev pub seen_it : FieldType → It
-seen_it f = It.Of f.of f.length
+-- what `it` stands for
+abbrev pub seen_it : It → Scopes.It
+seen_it (It.Of f) = Scopes.It.Of f.of f.length
+seen_it It.Unresolved = Scopes.It.Unresolved
 
 -- a label
 abbrev pub seen_label : Label → Scopes.Label

@@ -12,7 +12,7 @@ use crate::{Earlier, Typed};
 /// The expression reads no path.
 #[cycle(constants)]
 #[tactic(auto, using(crate::proofs::NoReads::constant_both))]
-pub(crate) fn is_constant(typed: &Typed) -> bool
+pub fn is_constant(typed: &Typed) -> bool
     ensures { result ≡ constant (seen typed.now) }
 {
     match typed {

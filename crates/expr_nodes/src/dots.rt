@@ -10,7 +10,7 @@ use crate::fields::with_name;
 use crate::meanings::{field_meant, typed_of};
 use crate::names::{Meaning, duration_at, is_behaviour, is_duration};
 use crate::parts::{Checked, fault_if};
-use crate::{Typed, ValueKind};
+use crate::{Made, Typed, ValueKind};
 use dsl_tree::Ident;
 use osc_base::{Boxed, FaultCode, Path, Place, Text};
 use std::alloc::{AllocError, Global};
@@ -58,14 +58,15 @@ fn member_made(
     types: &Types,
     place: Place,
     path: Path,
-    made: Option<TypeId>,
+    made: Made,
     name: &str,
 ) -> Result<Meaning, AllocError>
     ensures { IfOk result (λ m. seen_meaning m ≡ made_member types.now.table place path name.now (seen_made made)) }
 {
     match made {
-        Some(of) => member_of_object(alloc, types, place, path, of, name),
-        None => Ok(Meaning::Nothing),
+        Made::Makes(of) => member_of_object(alloc, types, place, path, of, name),
+        Made::Unknown => Ok(Meaning::Something(None)),
+        Made::Nothing => Ok(Meaning::Nothing),
     }
 }
 
@@ -75,7 +76,7 @@ fn member_of_phase(
     types: &Types,
     place: Place,
     path: Path,
-    made: Option<TypeId>,
+    made: Made,
     name: &str,
 ) -> Result<Meaning, AllocError>
     ensures { IfOk result (λ m. seen_meaning m ≡ phase_member types.now.table place path (seen_made made) name.now) }

@@ -1,7 +1,7 @@
 //! The kinds of expressions.
 
 ghost use Rattle.std.specs.Prelude.{◌≡◌, ◌&&◌};
-ghost use Rattle.expr_nodes.specs.Kinds.{is_number as number, is_truth as truth, same_units as of_one_unit, are_alike as alike};
+ghost use Rattle.expr_nodes.specs.Kinds.{object_type as type_of_object, is_number as number, is_truth as truth, same_units as of_one_unit, are_alike as alike};
 ghost use Rattle.osc_base.specs.Comparisons.{same_number};
 ghost use Rattle.units_si.specs.ExponentTests.{same_exponents};
 ghost use Rattle.expr_nodes.specs.Kinds as Kinds;
@@ -9,6 +9,17 @@ ghost use Rattle.expr_nodes.specs.Seen.{seen_kind};
 
 use type_model::TypeId;
 use units_si::Exponents;
+
+/// What a phase makes.
+#[derive(Debug, Clone, Copy, PartialEq, Eq)]
+pub enum Made {
+    /// No object.
+    Nothing,
+    /// What its invocation would tell, which isn't resolved.
+    Unknown,
+    /// An object of the type.
+    Makes(TypeId),
+}
 
 /// What an expression stands for.
 #[derive(Debug, Clone, Copy, PartialEq, Eq)]
@@ -23,8 +34,8 @@ pub enum ValueKind {
     Chars,
     /// A whole object of the type.
     Object(TypeId),
-    /// A whole phase, with the type of the object that it makes, if it makes one.
-    Phase(Option<TypeId>),
+    /// A whole phase.
+    Phase(Made),
 }
 
 impl ValueKind {
@@ -39,6 +50,20 @@ impl ValueKind {
             | ValueKind::Chars
             | ValueKind::Object(_)
             | ValueKind::Phase(_) => false,
+        }
+    }
+
+    /// The type of a whole object.
+    pub fn object_type(&self) -> Option<TypeId>
+        ensures { result ≡ type_of_object (seen_kind self.now) }
+    {
+        match self {
+            ValueKind::Object(of) => Some(*of),
+            ValueKind::Truth
+            | ValueKind::Number(_)
+            | ValueKind::Member(_)
+            | ValueKind::Chars
+            | ValueKind::Phase(_) => None,
         }
     }
 

@@ -2,33 +2,33 @@
 #![tactic(auto)]
 
 mod compare;
-mod constants;
+pub mod constants;
 mod dots;
 mod fields;
 mod held;
 mod kind;
-mod lists;
-mod literals;
-mod meanings;
+pub mod lists;
+pub mod literals;
+pub mod meanings;
 mod names;
 mod node;
-mod others;
-mod parts;
-mod physical;
-mod products;
-mod quotients;
+pub mod others;
+pub mod parts;
+pub mod physical;
+pub mod products;
+pub mod quotients;
 mod relations;
 mod rows;
 mod scope;
-mod size;
-mod spans;
-mod steps;
+pub mod size;
+pub mod spans;
+pub mod steps;
 mod sums;
 mod truths;
 mod within;
 
 pub use compare::Compare;
-pub use kind::ValueKind;
+pub use kind::{Made, ValueKind};
 pub use node::{Earlier, Info, Join, Typed};
-pub use scope::{Label, Scope};
+pub use scope::{It, Label, Scope};
 pub use size::Size;

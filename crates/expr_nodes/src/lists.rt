@@ -29,11 +29,7 @@ fn row_kind(items: &[Typed]) -> ValueKind
 }
 
 /// A written list.
-pub(crate) fn list(
-    alloc: Global,
-    place: Place,
-    items: Row<Typed>,
-) -> Result<Boxed<Typed>, AllocError>
+pub fn list(alloc: Global, place: Place, items: Row<Typed>) -> Result<Boxed<Typed>, AllocError>
     ensures { IfOk result (λ t. Some (seen t) ≡ list_typed place (Some (row_of (map seen items)))) }
 {
     let info = Info {

@@ -16,7 +16,7 @@ use osc_base::{Fraction, Place, Text};
 use type_model::Types;
 
 /// A constant.
-pub(crate) fn constant_at(place: Place, kind: ValueKind, number: Fraction) -> Typed
+pub fn constant_at(place: Place, kind: ValueKind, number: Fraction) -> Typed
     ensures { seen result ≡ constant_node place (seen_kind kind) (value number) }
 {
     let info = Info {
@@ -42,7 +42,7 @@ pub(crate) fn decimal(digits: u64, places: u8) -> Fraction
 }
 
 /// A number without a unit.
-pub(crate) fn number(digits: &Digits) -> Typed
+pub fn number(digits: &Digits) -> Typed
     requires { digits.now.places ≤ 18 }
     ensures { Some (seen result) ≡ number_typed digits.now }
 {
@@ -51,7 +51,7 @@ pub(crate) fn number(digits: &Digits) -> Typed
 }
 
 /// `true` or `false`.
-pub(crate) fn truth(place: Place, value: bool) -> Typed
+pub fn truth(place: Place, value: bool) -> Typed
     ensures { Some (seen result) ≡ truth_typed place value }
 {
     let number = Fraction {
@@ -79,7 +79,7 @@ fn text_number(texts: &[Text], text: &str) -> usize
 }
 
 /// A text is its number in the ordered list of texts.
-pub(crate) fn text(types: &Types, place: Place, text: &str) -> Typed
+pub fn text(types: &Types, place: Place, text: &str) -> Typed
     ensures { Some (seen result) ≡ text_typed types.now.table place text.now }
 {
     let number = Fraction {

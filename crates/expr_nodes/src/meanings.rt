@@ -125,7 +125,7 @@ fn is_hidden(types: &Types, scope: &Scope, name: &str) -> bool
 }
 
 /// A name.
-pub(crate) fn name(
+pub fn name(
     alloc: Global,
     types: &Types,
     scope: &Scope,

@@ -3,6 +3,7 @@
 ghost use Rattle.std.specs.Prelude.{◌≡◌, map, IfOk};
 ghost use Rattle.expr_nodes.specs.Typed.{info as held_info};
 ghost use Rattle.expr_nodes.specs.Parts.{is_scalar as one_value};
+ghost use Rattle.expr_nodes.specs.Fits.{is_read as read_value};
 ghost use Rattle.expr_nodes.specs.Seen.{seen, seen_info, reached};
 
 use crate::size::Size;
@@ -139,6 +140,25 @@ impl Typed {
             | Typed::Implies { .. }
             | Typed::Relation { .. }
             | Typed::Within { .. } => true,
+        }
+    }
+
+    /// One value that is read at a path.
+    pub fn is_read(&self) -> bool
+        ensures { result ≡ read_value (seen self.now) }
+    {
+        match self {
+            Typed::Read { .. } => true,
+            Typed::Constant { .. }
+            | Typed::Whole { .. }
+            | Typed::Listed { .. }
+            | Typed::Span { .. }
+            | Typed::Minus { .. }
+            | Typed::Not { .. }
+            | Typed::Joined { .. }
+            | Typed::Implies { .. }
+            | Typed::Relation { .. }
+            | Typed::Within { .. } => false,
         }
     }
 

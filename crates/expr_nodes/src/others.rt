@@ -5,39 +5,48 @@ ghost use Rattle.std.specs.Option.{option_map_or};
 ghost use Rattle.osc_base.specs.FaultRows.{first_fault};
 ghost use Rattle.type_heads.specs.Shown.{kind_form};
 ghost use Rattle.type_heads.specs.Table.{enum_number, form, is_enum as of_enum};
-ghost use Rattle.expr_nodes.specs.Names.{it_rows, it_typed, actor_rows, actor_typed, member_at as member_node, enum_named as named_enum, enum_name_rows, enum_name_typed};
+ghost use Rattle.expr_nodes.specs.Names.{it_rows, it_typed, it_at as it_node, actor_rows, actor_typed, member_at as member_node, enum_named as named_enum, enum_name_rows, enum_name_typed};
 ghost use Rattle.expr_nodes.specs.Seen.{seen, seen_part};
-ghost use Rattle.expr_nodes.specs.SeenNames.{seen_scope};
+ghost use Rattle.expr_nodes.specs.SeenNames.{seen_it, seen_scope};
 
 use crate::fields::object_at;
 use crate::held::held_at;
 use crate::names::{member_at, path_of};
 use crate::parts::{Checked, fault_if, least};
-use crate::{Scope, Typed, ValueKind};
+use crate::{It, Scope, Typed, ValueKind};
 use dsl_tree::Ident;
 use osc_base::{Boxed, Fault, FaultCode, Place};
 use std::alloc::{AllocError, Global};
 use type_model::{TypeId, TypeKind, Types};
 
-/// `it`.
-pub(crate) fn it(
+/// What `it` stands for, at its path.
+fn it_at(
     alloc: Global,
     types: &Types,
-    scope: &Scope,
     place: Place,
-) -> Result<Checked, AllocError>
+    it: It,
+) -> Result<Option<Boxed<Typed>>, AllocError>
+    ensures { IfOk result (λ t. seen_part t ≡ it_node types.now.table place (seen_it it)) }
+{
+    match it {
+        It::Of(field) => {
+            let path = path_of(alloc, "it")?;
+            Ok(Some(held_at(alloc, types, place, path, field)?))
+        }
+        It::Unresolved => Ok(None),
+    }
+}
+
+/// `it`.
+pub fn it(alloc: Global, types: &Types, scope: &Scope, place: Place) -> Result<Checked, AllocError>
     ensures fault { IfOk result (λ c. c.fault ≡ first_fault (it_rows (seen_scope scope.now) place)) }
     ensures typed { IfOk result (λ c. seen_part c.typed ≡ it_typed types.now.table (seen_scope scope.now) place) }
 {
     match scope.it {
-        Some(field) => {
-            let path = path_of(alloc, "it")?;
-            let typed = held_at(alloc, types, place, path, field)?;
-            Ok(Checked {
-                fault: None,
-                typed: Some(typed),
-            })
-        }
+        Some(it) => Ok(Checked {
+            fault: None,
+            typed: it_at(alloc, types, place, it)?,
+        }),
         None => Ok(Checked {
             fault: fault_if(place, FaultCode::Unknown, true),
             typed: None,
@@ -46,7 +55,7 @@ pub(crate) fn it(
 }
 
 /// `actor`.
-pub(crate) fn actor(
+pub fn actor(
     alloc: Global,
     types: &Types,
     scope: &Scope,
@@ -165,7 +174,7 @@ fn enum_typed(
 }
 
 /// A member with its enum before it.
-pub(crate) fn enum_name(
+pub fn enum_name(
     alloc: Global,
     types: &Types,
     of: &Ident,

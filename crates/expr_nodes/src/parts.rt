@@ -13,7 +13,7 @@ use osc_base::{Boxed, Fault, FaultCode, Place};
 
 /// What is known of a part: its first fault, and its typed form, unless it has a fault.
 #[derive(Drop)]
-pub(crate) struct Checked {
+pub struct Checked {
     pub fault: Option<Fault>,
     pub typed: Option<Boxed<Typed>>,
 }
@@ -29,7 +29,7 @@ fn is_before(f: &Fault, g: &Fault) -> bool
 }
 
 /// The first of two faults that may be there.
-pub(crate) fn least(first: Option<Fault>, second: Option<Fault>) -> Option<Fault>
+pub fn least(first: Option<Fault>, second: Option<Fault>) -> Option<Fault>
     ensures { result ≡ first_of first second }
 {
     match (first, second) {
@@ -46,7 +46,7 @@ pub(crate) fn least(first: Option<Fault>, second: Option<Fault>) -> Option<Fault
 }
 
 /// The fault, if it is there.
-pub(crate) fn fault_if(place: Place, code: FaultCode, holds: bool) -> Option<Fault>
+pub fn fault_if(place: Place, code: FaultCode, holds: bool) -> Option<Fault>
     ensures { result ≡ row_fault (row place code holds) }
 {
     if holds {
@@ -67,18 +67,14 @@ pub(crate) fn is_whole(part: &Option<Boxed<Typed>>) -> bool
 }
 
 /// One of the parts is whole, or something else is wrong with them.
-pub(crate) fn are_whole(
-    left: &Option<Boxed<Typed>>,
-    right: &Option<Boxed<Typed>>,
-    other: bool,
-) -> bool
+pub fn are_whole(left: &Option<Boxed<Typed>>, right: &Option<Boxed<Typed>>, other: bool) -> bool
     ensures { result ≡ (whole (seen_part left.now) || (whole (seen_part right.now) || other)) }
 {
     is_whole(left) || (is_whole(right) || other)
 }
 
 /// The part is no truth value.
-pub(crate) fn is_no_truth(part: &Option<Boxed<Typed>>) -> bool
+pub fn is_no_truth(part: &Option<Boxed<Typed>>) -> bool
     ensures { result ≡ of_one (seen_part part.now) (λ x. not (is_truth (kind x))) }
 {
     match part {
@@ -129,7 +125,7 @@ pub(crate) fn is_joined_wide(left: &Typed, right: &Typed) -> bool
 }
 
 /// One of the parts is no number.
-pub(crate) fn are_no_numbers(left: &Option<Boxed<Typed>>, right: &Option<Boxed<Typed>>) -> bool
+pub fn are_no_numbers(left: &Option<Boxed<Typed>>, right: &Option<Boxed<Typed>>) -> bool
     ensures { result ≡ of_two (seen_part left.now) (seen_part right.now) (λ x y. not (both_numbers x y)) }
 {
     match (left, right) {

@@ -76,7 +76,7 @@ fn physical_part(
 }
 
 /// A number with a unit.
-pub(crate) fn physical(
+pub fn physical(
     alloc: Global,
     types: &Types,
     digits: &Digits,

@@ -17,7 +17,7 @@ use std::alloc::{AllocError, Global};
 use units_si::Exponents;
 
 /// The exponents of a number.
-pub(crate) fn exponents_of(kind: &ValueKind) -> Exponents
+pub fn exponents_of(kind: &ValueKind) -> Exponents
     ensures { result ≡ exponents_in (seen_kind kind.now) }
 {
     match kind {
@@ -84,7 +84,7 @@ fn product_fault(
 }
 
 /// The product. `None` when its exponents leave their limits, or it is too wide.
-fn product_pair(
+pub fn product_pair(
     alloc: Global,
     left: Boxed<Typed>,
     right: Boxed<Typed>,
@@ -125,7 +125,7 @@ fn product_of(
 }
 
 /// A product.
-pub(crate) fn product(
+pub fn product(
     alloc: Global,
     place: Place,
     left: Option<Boxed<Typed>>,

@@ -14,7 +14,7 @@ use osc_base::Boxed;
 use units_si::Exponents;
 
 /// A quotient subtracts exponents. `None` when one leaves its limits.
-pub(crate) fn quotient_exponents(left: &Typed, right: &Typed) -> Option<Exponents>
+pub fn quotient_exponents(left: &Typed, right: &Typed) -> Option<Exponents>
     ensures { result ≡ cond (are_exponents (exponents_of_quotient (seen left.now) (seen right.now))) (Some (exponents_of_quotient (seen left.now) (seen right.now))) None }
 {
     let left = exponents_of(&left.info().kind);
@@ -29,7 +29,7 @@ fn is_past_limits(left: &Typed, right: &Typed) -> bool
 }
 
 /// The parts are numbers, and an exponent of their quotient leaves its limits.
-pub(crate) fn are_past_limits(left: &Option<Boxed<Typed>>, right: &Option<Boxed<Typed>>) -> bool
+pub fn are_past_limits(left: &Option<Boxed<Typed>>, right: &Option<Boxed<Typed>>) -> bool
     ensures { result ≡ of_two (seen_part left.now) (seen_part right.now) (λ x y. both_numbers x y && not (are_exponents (exponents_of_quotient x y))) }
 {
     match (left, right) {
@@ -39,7 +39,7 @@ pub(crate) fn are_past_limits(left: &Option<Boxed<Typed>>, right: &Option<Boxed<
 }
 
 /// The divisor reads a path.
-pub(crate) fn is_varying(divisor: &Option<Boxed<Typed>>) -> bool
+pub fn is_varying(divisor: &Option<Boxed<Typed>>) -> bool
     ensures { result ≡ of_one (seen_part divisor.now) (λ y. not (constant y)) }
 {
     match divisor {

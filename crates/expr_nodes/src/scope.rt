@@ -1,16 +1,26 @@
 //! Where an expression stands: what its names mean.
 
+use crate::Made;
 use osc_base::{Path, Row, Text};
 use type_model::{FieldType, TypeId};
 
-/// A label of a phase, the phase's path from the object, and the type of the object that it makes, if it makes one.
+/// What `it` stands for.
+#[derive(Debug, Clone, Copy)]
+pub enum It {
+    /// A field or an invoked object, with its type.
+    Of(FieldType),
+    /// An object of an invocation that isn't resolved.
+    Unresolved,
+}
+
+/// A label of a phase, the phase's path from the object, and what it makes.
 ///
 /// It is hidden if it stands in a member of a `one_of` outside which the expression stands.
 #[derive(Drop)]
 pub struct Label {
     pub name: Text,
     pub path: Path,
-    pub made: Option<TypeId>,
+    pub made: Made,
     pub hidden: bool,
 }
 
@@ -19,6 +29,6 @@ pub struct Label {
 #[derive(Drop)]
 pub struct Scope {
     pub holder: TypeId,
-    pub it: Option<FieldType>,
+    pub it: Option<It>,
     pub labels: Row<Label>,
 }

@@ -32,14 +32,14 @@ impl Size {
     ghost use Rattle.expr_nodes.specs.Seen.{seen_size, fitting};
 
     /// The size of a truth value that is no field, of an object, a range and a list.
-    pub(crate) fn unit() -> Size
+    pub fn unit() -> Size
         ensures { seen_size result ≡ unit_size }
     {
         Size { scale: 1, reach: 1 }
     }
 
     /// The size of what a field holds, counted over `per`.
-    pub(crate) fn field(per: u32) -> Size
+    pub fn field(per: u32) -> Size
         requires { 0 < per }
         ensures { seen_size result ≡ field_size per }
     {
@@ -50,7 +50,7 @@ impl Size {
     }
 
     /// The size of a duration.
-    pub(crate) fn duration() -> Size
+    pub fn duration() -> Size
         ensures { seen_size result ≡ duration_size }
     {
         Size {
@@ -60,7 +60,7 @@ impl Size {
     }
 
     /// The size of a constant in lowest terms.
-    pub(crate) fn constant(number: &Fraction) -> Size
+    pub fn constant(number: &Fraction) -> Size
         ensures { seen_size result ≡ constant_size (value number.now) }
     {
         Size {
@@ -70,7 +70,7 @@ impl Size {
     }
 
     /// The size of a sum or relation. `None` when it passes 2^120.
-    pub(crate) fn joined(&self, other: &Size) -> Option<Size>
+    pub fn joined(&self, other: &Size) -> Option<Size>
         ensures { option_map seen_size result ≡ fitting (joining (seen_size self.now) (seen_size other.now)) }
     {
         let common = least_common_multiple(self.scale, other.scale)?;
@@ -80,7 +80,7 @@ impl Size {
     }
 
     /// The size of a product. `None` when it passes 2^120.
-    pub(crate) fn multiplied(&self, other: &Size) -> Option<Size>
+    pub fn multiplied(&self, other: &Size) -> Option<Size>
         ensures { option_map seen_size result ≡ fitting (product (seen_size self.now) (seen_size other.now)) }
     {
         let scale = self.scale.checked_mul(other.scale)?;
@@ -89,7 +89,7 @@ impl Size {
     }
 
     /// The size of a quotient by a number other than 0. `None` when it passes 2^120.
-    pub(crate) fn divided(&self, by: &Fraction) -> Option<Size>
+    pub fn divided(&self, by: &Fraction) -> Option<Size>
         requires { 0 < unsigned_abs by.now.num }
         ensures { option_map seen_size result ≡ fitting (quotient (seen_size self.now) (value by.now)) }
     {
@@ -120,7 +120,7 @@ impl Size {
 
 /// The greatest common divisor.
 #[tactic(auto, using(crate::proofs::Divisors::gcd_step, crate::proofs::Divisors::gcd_end))]
-pub(crate) fn gcd(a: u128, b: u128) -> u128
+pub fn gcd(a: u128, b: u128) -> u128
     ensures { result ≡ divisor a b }
 {
     let (mut x, mut y) = (a, b);

@@ -14,7 +14,7 @@ use osc_base::{Boxed, Fault, FaultCode, Place};
 use std::alloc::{AllocError, Global};
 
 /// The fault of a part of a range or list: it is one value.
-pub(crate) fn part_fault(part: &Option<Boxed<Typed>>) -> Option<Fault>
+pub fn part_fault(part: &Option<Boxed<Typed>>) -> Option<Fault>
     ensures { result ≡ first_fault (part_rows (seen_part part.now)) }
 {
     match part {

@@ -22,7 +22,7 @@ use std::alloc::{AllocError, Global};
 use type_model::Types;
 
 /// What is known of an operator, with the faults of its parts.
-pub(crate) fn with_parts(own: Checked, left: Option<Fault>, right: Option<Fault>) -> Checked
+pub fn with_parts(own: Checked, left: Option<Fault>, right: Option<Fault>) -> Checked
     ensures fault { result.fault ≡ first_of (first_of own.fault left) right }
     ensures typed { result.typed ≡ own.typed }
 {
@@ -44,7 +44,7 @@ pub(crate) fn with_part(own: Checked, part: Option<Fault>) -> Checked
 }
 
 /// `=>`, of parts that are known.
-pub(crate) fn implied(
+pub fn implied(
     alloc: Global,
     place: Place,
     left: Checked,
@@ -57,7 +57,7 @@ pub(crate) fn implied(
 }
 
 /// `or`, of parts that are known.
-pub(crate) fn disjoined(
+pub fn disjoined(
     alloc: Global,
     place: Place,
     operator: Operator,
@@ -71,7 +71,7 @@ pub(crate) fn disjoined(
 }
 
 /// `and`, of parts that are known.
-pub(crate) fn conjoined(
+pub fn conjoined(
     alloc: Global,
     place: Place,
     operator: Operator,
@@ -85,7 +85,7 @@ pub(crate) fn conjoined(
 }
 
 /// A relation, of parts that are known.
-pub(crate) fn related(
+pub fn related(
     alloc: Global,
     place: Place,
     sign: RelationSign,
@@ -99,7 +99,7 @@ pub(crate) fn related(
 }
 
 /// A sum or difference, of parts that are known.
-pub(crate) fn summed(
+pub fn summed(
     alloc: Global,
     place: Place,
     operator: Operator,
@@ -113,7 +113,7 @@ pub(crate) fn summed(
 }
 
 /// A range, of parts that are known.
-pub(crate) fn spanned(
+pub fn spanned(
     alloc: Global,
     place: Place,
     left: Checked,
@@ -126,7 +126,7 @@ pub(crate) fn spanned(
 }
 
 /// `not`, of a part that is known.
-pub(crate) fn negated(alloc: Global, place: Place, part: Checked) -> Result<Checked, AllocError>
+pub fn negated(alloc: Global, place: Place, part: Checked) -> Result<Checked, AllocError>
     ensures { IfOk result (λ c. (table : Table) (sc : Scope) (a : ExprTree) → IsChecked table sc a part → IsChecked table sc (ExprTree.Not place a) c) }
 {
     let own = not(alloc, place, part.typed)?;
@@ -134,7 +134,7 @@ pub(crate) fn negated(alloc: Global, place: Place, part: Checked) -> Result<Chec
 }
 
 /// A minus, of a part that is known.
-pub(crate) fn opposed(alloc: Global, place: Place, part: Checked) -> Result<Checked, AllocError>
+pub fn opposed(alloc: Global, place: Place, part: Checked) -> Result<Checked, AllocError>
     ensures { IfOk result (λ c. (table : Table) (sc : Scope) (a : ExprTree) → IsChecked table sc a part → IsChecked table sc (ExprTree.Minus place a) c) }
 {
     let own = minus(alloc, place, part.typed)?;
@@ -142,7 +142,7 @@ pub(crate) fn opposed(alloc: Global, place: Place, part: Checked) -> Result<Chec
 }
 
 /// An expression in brackets, whose inner one is known.
-pub(crate) fn grouped(alloc: Global, place: Place, part: Checked) -> Result<Checked, AllocError>
+pub fn grouped(alloc: Global, place: Place, part: Checked) -> Result<Checked, AllocError>
     ensures { IfOk result (λ c. (table : Table) (sc : Scope) (a : ExprTree) → IsChecked table sc a part → IsChecked table sc (ExprTree.Group place a) c) }
 {
     Ok(Checked {
@@ -152,7 +152,7 @@ pub(crate) fn grouped(alloc: Global, place: Place, part: Checked) -> Result<Chec
 }
 
 /// A name after the point of an expression that is known.
-pub(crate) fn pointed(
+pub fn pointed(
     alloc: Global,
     types: &Types,
     head: Checked,
@@ -165,7 +165,7 @@ pub(crate) fn pointed(
 }
 
 /// An element of an expression that is known. The index is known too.
-pub(crate) fn indexed(
+pub fn indexed(
     alloc: Global,
     place: Place,
     head: Checked,
@@ -179,7 +179,7 @@ pub(crate) fn indexed(
 }
 
 /// A range that is written as a call, of parts that are known.
-pub(crate) fn range_called(
+pub fn range_called(
     alloc: Global,
     place: Place,
     left: Checked,

@@ -1,0 +1,6 @@
+mod CalleeNames
+mod ModifierFews
+mod NameForms
+mod PhaseLabels
+mod PhaseLists
+mod StepRows

@@ -1,0 +1,11 @@
+use Rattle.std.proofs.Common.{◌≡◌, drop, filter_map, map}
+use Rattle.dsl_tree.specs.Views.{argument_tree}
+use Rattle.composition.specs.ModifierLines.{unnamed_value}
+use Rattle.program_calls.specs.declared.few.Few.{Few}
+use Rattle.program_calls.specs.Fews.{few_from, few_map}
+use Rattle.program_calls.specs.SeenModifiers.{seen_value}
+use Rattle.program_calls.proofs.modifier_forms.values_of.Given as goal
+
+abbrev pub invariant-loop-argument : goal.invariant-loop-argument
+invariant-loop-argument l = few_from (few_map seen_value l.found) (filter_map unnamed_value (map argument_tree (drop l.argument-index l.arguments)))
+    ≡ few_from Few.Absent (filter_map unnamed_value (map argument_tree l.arguments))
