@@ -6,9 +6,8 @@ use Rattle.osc_base.specs.declared.path.Step.TheVariants.{Name}
 use Rattle.osc_base.specs.Paths.{path_of, same_step}
 use Rattle.expr_nodes.specs.Typed.{moved}
 use Rattle.expr_nodes.specs.Seen.{Reached}
-use Rattle.composition.specs.Scenes.{Binding}
+use Rattle.composition.specs.SeenParts.{seen_binding}
 use Rattle.composition.specs.Homes.{home}
-use Rattle.scene_texts.specs.declared.homes.Bound.{Bound}
 use Rattle.scene_texts.specs.declared.homes.Moves.{Moves}
 
 -- the steps of a text's path, given the object in which the text stands and what `it` is
@@ -20,13 +19,9 @@ steps_under object it (first ∷ later) = cond (same_step first (Name (codes "it
 abbrev pub path_under : Path → Path → Path → Path
 path_under object it path = path_of (steps_under object it path.steps)
 
--- a binding of the program as the definitions have it
-abbrev pub seen_bound : Bound → Binding
-seen_bound b = record { at = b.at; home = b.home }
-
 -- the home of a path of the text
 abbrev pub moved_path : Moves → Path → Path
-moved_path m path = home (map seen_bound m.homes.now) (path_under m.object.now m.it.now path)
+moved_path m path = home (map seen_binding m.homes.now) (path_under m.object.now m.it.now path)
 
 -- a part of a row with each path that it reads changed
 abbrev pub moved_part : (Path → Path) → Reached → Reached

@@ -4,30 +4,25 @@ ghost use Rattle.std.specs.Prelude.{◌≡◌, codes, map, IfOk};
 ghost use Rattle.osc_base.specs.Paths.{path_of, same_step};
 ghost use Rattle.osc_base.specs.declared.path.Step.TheVariants.{Name};
 ghost use Rattle.composition.specs.Homes.{home as home_by};
-ghost use Rattle.scene_texts.specs.Moving.{moved_path, path_under, seen_bound};
+ghost use Rattle.composition.specs.SeenParts.{seen_binding};
+ghost use Rattle.scene_texts.specs.Moving.{moved_path, path_under};
 
 use crate::paths::{after, joined};
+use composition::Binding;
 use osc_base::{Path, Step};
 use std::alloc::{AllocError, Global};
-
-/// A parameter is another name of what stands at its home.
-#[derive(Drop)]
-pub struct Bound {
-    pub at: Path,
-    pub home: Path,
-}
 
 /// The object in whose members a text stands, what `it` is in the text, and the homes of parameters.
 #[derive(Clone, Copy)]
 pub struct Moves<'a> {
     pub object: &'a Path,
     pub it: &'a Path,
-    pub homes: &'a [Bound],
+    pub homes: &'a [Binding],
 }
 
 /// Where what the path of these steps leads to stands by itself: a prefix that is bound is replaced by its home.
-pub fn home(alloc: Global, homes: &[Bound], steps: &[Step]) -> Result<Path, AllocError>
-    ensures { IfOk result (λ p. p ≡ home_by (map seen_bound homes.now) (path_of steps.now)) }
+pub fn home(alloc: Global, homes: &[Binding], steps: &[Step]) -> Result<Path, AllocError>
+    ensures { IfOk result (λ p. p ≡ home_by (map seen_binding homes.now) (path_of steps.now)) }
 {
     let mut rest = homes;
     while let [bound, others @ ..] = rest {

@@ -10,7 +10,7 @@ mod token_counts;
 
 pub use counts::{add, times};
 pub use expressions::moved;
-pub use homes::{Bound, Moves, home};
+pub use homes::{Moves, home};
 pub use paths::{
     from_object, joined, same_path, then_do, then_duration, then_index, then_member, then_name,
 };
