@@ -1,0 +1,4 @@
+pub mod Turning
+pub mod WalkSteps
+pub mod OverlapKinds
+pub mod SpotTotals

@@ -1,0 +1,4 @@
+pub mod SeenWorks
+pub mod Walks
+pub mod OverlapWords
+pub mod SeenCounts
