@@ -1,0 +1,2 @@
+pub mod SeenWorks
+pub mod Walks
