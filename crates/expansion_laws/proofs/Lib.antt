@@ -3,3 +3,4 @@ pub mod WorkSteps
 pub mod SceneCounts
 pub mod Passing
 pub mod LaidScenes
+pub mod ScenarioFaults
