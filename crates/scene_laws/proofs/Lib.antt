@@ -28,3 +28,4 @@ pub mod Acyclic
 pub mod HeldTypes
 pub mod PlacedObjects
 pub mod MemberPhases
+pub mod VehicleLimits

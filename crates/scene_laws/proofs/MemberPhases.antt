@@ -27,9 +27,9 @@ use Rattle.composition.specs.There.{same_guard}
 use Rattle.composition.specs.Expansion.{Expansion, Maker, Calling, from_object, calling, argument_named, overlap_kind, composition_kind, invocation, phase_part, expand_within, own_actor, expansion}
 use Rattle.composition.specs.Expanded.{spot, spots_of, spots_in, scene}
 use Rattle.composition.specs.Invariants.{same_guards, is_member, are_choices, are_members}
-use Rattle.field_flatten.proofs.Tests.{left_of, both, In, in_left, in_right, in_either, in_map, map_in, all_from, any_from, path_self, number_self}
+use Rattle.field_flatten.proofs.Tests.{left_of, both, In, in_left, in_right, in_either, in_map, map_in, all_at, all_from, any_from, path_self, number_self}
 use Rattle.field_flatten.proofs.Presence.{same_number_self}
-use Rattle.scene_laws.specs.Premises.{is_free}
+use Rattle.scene_laws.specs.Premises.{is_free, is_resolved, Resolves}
 use Rattle.scene_laws.proofs.Picked.{of_option, filter_map_in}
 use Rattle.scene_laws.proofs.EachSpot.{invoked_kind, invoked_members, call_bindings, each_spot}
 use Rattle.scene_laws.proofs.FieldNames.{Pairs, NamesDiffer}
@@ -117,7 +117,7 @@ guard_same : (g : Guard) → same_guard g g ≡ true
 guard_same (Guard.Choice phase member) = both (nat_eq member member) (same_path phase phase) (number_self member) (path_self phase)
 guard_same (Guard.Value path value) = both (same_number value value) (same_path path path) (same_number_self value) (path_self path)
 
-guards_same : (gs : List Guard) → same_guards gs gs ≡ true
+pub guards_same : (gs : List Guard) → same_guards gs gs ≡ true
 guards_same [] = refl
 guards_same (g ∷ gs) = both (same_guard g g) (same_guards gs gs) (guard_same g) (guards_same gs)
 
@@ -183,10 +183,15 @@ range_within a (suc n) k (inr i) = let r = range_within (a + 1) n k i in (less a
     more : (a n k : ℕ) → k < (a + 1) + n → k < a + suc n
     more a n k h = omega (arith, h)
 
--- each invocation of a program is of something
-abbrev pub Resolves : Types → Type 0
-Resolves ts = (t : ℕ) (d : Do) → the_do ts t ≡ Some d → (p : PhaseHere) → In p (phases_in d.phase) → (label : Option Ident) (head : InvokeHead) (names : List Ident) (arguments : List ArgumentTree) (parts : List PartTree)
+-- what an invocation of a `do` is of
+resolved : (ts : Types) → Resolves ts → (t : ℕ) (d : Do) → the_do ts t ≡ Some d → (p : PhaseHere) → In p (phases_in d.phase) → (label : Option Ident) (head : InvokeHead) (names : List Ident) (arguments : List ArgumentTree) (parts : List PartTree)
     → p.phase ≡ Invoke label head names arguments parts → (of : ℕ) × (invoked ts d.holder head names ≡ Some of)
+resolved ts f t d is p i label head names arguments parts e =
+    by (invoked ts d.holder head names) refl (subst (λ z. is_resolved ts d.holder z ≡ true) e (all_at (λ (p : PhaseHere). is_resolved ts d.holder p.phase) (phases_in d.phase) (f t d is) p i))
+  where
+    by : (o : Option ℕ) → invoked ts d.holder head names ≡ o → is_some o ≡ true → (of : ℕ) × (o ≡ Some of)
+    by None g h = absurd (true≢false (sym h))
+    by (Some of) g h = (of, refl)
 
 module _ (ts : Types) (a : IsAcyclic ts) (names : (t : ℕ) → Pairs NamesDiffer (fields ts t)) (free : (t : ℕ) (f : Field) → In f (fields ts t) → is_free f.name.text ≡ true) (resolves : Resolves ts) (whole : ℕ) (setting : Setting) where
   abbrev all : List Spot
@@ -228,7 +233,7 @@ module _ (ts : Types) (a : IsAcyclic ts) (names : (t : ℕ) → Pairs NamesDiffe
             (PhaseKind.Wait, [], phase_in ts a all path t conditions bindings placed d is p i part.0 (subst (λ z. In part.0 (phase_part (λ q of c b. expand_within placed.steps ts q of c b []) ts (calling bindings path conditions d p) z)) (sym e) part.1)
             (spot (calling bindings path conditions d p).path (calling bindings path conditions d p).guards (Content.Phase PhaseKind.Wait [])) part.2)
         by (Invoke label head names arguments parts) e =
-            let r = resolves t d is p i label head names arguments parts e in
+            let r = resolved ts resolves t d is p i label head names arguments parts e in
             (invoked_kind ts (is_some (the_do ts r.0)), invoked_members ts (calling bindings path conditions d p).path (is_some (the_do ts r.0)),
             phase_in ts a all path t conditions bindings placed d is p i (invocation (λ q of c b. expand_within placed.steps ts q of c b []) ts (calling bindings path conditions d p) head names arguments parts r.0)
                 (subst (λ z. In (invocation (λ q of c b. expand_within placed.steps ts q of c b []) ts (calling bindings path conditions d p) head names arguments parts r.0) (phase_part (λ q of c b. expand_within placed.steps ts q of c b []) ts (calling bindings path conditions d p) z)) (sym e)

@@ -7,13 +7,19 @@ use Rattle.dsl_tree.specs.ExprTree.{ExprTree, Implies, Or, And, Not, Relation, S
 use Rattle.dsl_tree.specs.PhaseTree as Phases
 use Rattle.dsl_tree.specs.PhaseTree.{PhaseTree, PhaseRow, phases_of}
 use Rattle.dsl_tree.specs.FileTree.{MemberTree, DeclarationTree}
-use Rattle.type_heads.specs.Table.{Table, enum_number}
-use Rattle.type_heads.specs.Types.{Program}
+use Rattle.type_heads.specs.Table.{Table, form, enum_number}
+use Rattle.type_heads.specs.Types.{Program, Types, Field, Do}
+use Rattle.type_heads.specs.Members.{field, field_type, list_length, the_do}
 use Rattle.type_heads.specs.Texts.{member_exprs}
 use Rattle.type_heads.specs.DeclaredTypes.{Placed, placed}
 use Rattle.expr_nodes.specs.Sizes.{field_reach}
+use Rattle.cond_inherit.specs.Conditions.{conditions}
+use Rattle.composition.specs.declared.spot.ValueRange.{ValueRange}
+use Rattle.composition.specs.Calls.{PhaseHere, phases_in, invoked}
+use Rattle.composition.specs.Ranges.{range_of}
+use Rattle.composition.specs.Expanded.{is_vehicle}
 use Rattle.composition.specs.Scenes.{Scene, Occurrence, guards}
-use Rattle.composition.specs.Invariants.{are_grounded}
+use Rattle.composition.specs.Invariants.{are_grounded, is_numeric}
 
 -- a number of at most 18 digits
 abbrev pub is_short : Digits → Bool
@@ -97,3 +103,32 @@ pub record IsSmallTable (table : Table) : Type 0 where
 -- the conditions that a constraint's member is under are grounded behind those of the constraint's holder
 abbrev pub are_held : Scene → Occurrence → Bool
 are_held scene o = are_grounded scene [] (guards scene o.holder ++ o.under)
+
+-- ---- what isn't derived yet
+
+-- an invocation in the text of type t is of something
+abbrev pub is_resolved : Types → ℕ → PhaseTree → Bool
+is_resolved ts t (Phases.Invoke label head names arguments parts) = is_some (invoked ts t head names)
+is_resolved ts t (Phases.Comp label place kind arguments members) = true
+is_resolved ts t (Phases.Wait label place elapsed) = true
+
+-- Each invocation of a `do` is of an action or scenario, as the rows of uses ask.
+abbrev pub Resolves : Types → Type 0
+Resolves ts = (t : ℕ) (d : Do) → the_do ts t ≡ Some d → list_all (λ (p : PhaseHere). is_resolved ts d.holder p.phase) (phases_in d.phase) ≡ true
+
+-- a type has a field of that name for one number, under no conditions
+pub record HasLimit (ts : Types) (t : ℕ) (name : List ℕ) : Type 0 where
+  pub of : Field
+  pub found : field ts t name ≡ Some of
+  pub kind : ℕ
+  pub typed : field_type ts of ≡ Some kind
+  pub single : list_length of.tree ≡ None
+  pub free : conditions ts t of.under ≡ []
+  pub range : ValueRange
+  pub ranged : range_of (form ts.table.heads kind) ≡ Some range
+  pub numeric : is_numeric range ≡ true
+
+-- The vehicle of the library has its limits, and so has each type that inherits from it.
+pub record HaveLimits (ts : Types) : Type 0 where
+  pub speed : (t : ℕ) → is_vehicle ts t ≡ true → HasLimit ts t (codes "max_speed")
+  pub acceleration : (t : ℕ) → is_vehicle ts t ≡ true → HasLimit ts t (codes "max_acceleration")
