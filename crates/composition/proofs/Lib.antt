@@ -1,2 +1,3 @@
 pub mod SpotSorts
 pub mod Sources
+pub mod HomeSteps

@@ -1,16 +1,20 @@
 -- The scene of a scenario: the lists that its expansion holds, with all paths replaced by their homes.
-use Rattle.std.specs.Prelude.{ℕ, ◌&&◌, Bool, false, List, [], ◌∷◌, ◌++◌, None, map, codes, is_some, option_map}
+use Rattle.std.specs.Prelude.{ℕ, ◌&&◌, Bool, false, List, [], ◌∷◌, ◌++◌, None, map, filter, codes, is_some, option_map, option_to_list}
 use Rattle.std.specs.Option.{option_map_or}
+use Rattle.std.specs.List.{list_any, list_all}
 use Rattle.osc_base.specs.declared.path.Path.{Path}
+use Rattle.osc_base.specs.Paths.{same_path}
 use Rattle.type_heads.specs.Table.{named, is_kind_of}
 use Rattle.type_heads.specs.Types.{Types}
 use Rattle.expr_nodes.specs.Typed.{moved}
 use Rattle.composition.specs.declared.guard.Guard.{Guard}
 use Rattle.composition.specs.declared.setting.Setting.{Setting}
-use Rattle.composition.specs.Scenes.{Content, Spot, Binding, Occurrence, ModifierSpot, Scene}
+use Rattle.composition.specs.Scenes.{Content, Spot, Binding, Occurrence, ModifierSpot, Scene, source, vehicles}
+use Rattle.composition.specs.There.{read_by, removed}
 use Rattle.composition.specs.Homes.{home}
 use Rattle.composition.specs.Givens.{Given}
 use Rattle.composition.specs.Expansion.{GivenModifier, Expansion, Expansions, Object, Value, Phase, End, Part, expansion}
+use Rattle.composition.specs.Invariants.{is_target}
 
 -- the type is the library's `vehicle` or inherits from it
 abbrev pub is_vehicle : Types → ℕ → Bool
@@ -87,7 +91,7 @@ modifier_of bindings m = record m {
   high = option_map (moved (home bindings)) m.high;
 }
 
--- the scene of an expansion
+-- a scene with all constraints and modifiers that the texts give
 abbrev pub scene_from : Types → Setting → Expansion → Scene
 scene_from ts setting tree =
     let bindings = bindings_of tree in
@@ -100,6 +104,33 @@ scene_from ts setting tree =
       texts = ts.table.texts;
     }
 
+-- ---- what can be there
+-- A constraint or modifier is there in a run only if all that it reads is. A text under a condition may name an `actor` that the object which has the
+-- text doesn't have: then it is there in no run, and the scene leaves it out.
+
+-- a path leads to a value or a duration of the scene
+abbrev pub is_readable : Scene → Path → Bool
+is_readable scene path = is_target scene path (source scene path)
+
+-- a path leads to a vehicle of the scene
+abbrev pub is_driven : Scene → Path → Bool
+is_driven scene path = list_any (same_path path) (vehicles scene)
+
+-- the scene has all that a constraint reads
+abbrev pub can_be_asked : Scene → Occurrence → Bool
+can_be_asked scene o = list_all (is_readable scene) (read_by o.typed ++ removed o.mark)
+
+-- the scene has the vehicles of a modifier, and all that its range reads
+abbrev pub can_apply : Scene → ModifierSpot → Bool
+can_apply scene m = list_all (is_driven scene) (m.own ∷ option_to_list m.other) && list_all (is_readable scene) (read_by m.low ++ read_by m.high)
+
+-- a scene without the constraints and modifiers that are there in no run
+abbrev pub with_readable : Scene → Scene
+with_readable scene = record scene {
+  occurrences = filter (can_be_asked scene) scene.occurrences;
+  modifiers = filter (can_apply scene) scene.modifiers;
+}
+
 -- the scene of the scenario of that number under a setting
 abbrev pub scene : Types → ℕ → Setting → Scene
-scene ts t setting = scene_from ts setting (expansion ts t)
+scene ts t setting = with_readable (scene_from ts setting (expansion ts t))

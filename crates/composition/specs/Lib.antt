@@ -2,6 +2,7 @@ pub mod Instance
 pub mod Calls
 pub mod TimedRuns
 pub mod Scenes
+pub mod SeenHomes
 pub mod SeenParts
 pub mod SeenScenes
 pub mod SeenSources

@@ -4,6 +4,7 @@
 
 mod clause;
 mod guard;
+mod homes;
 mod part;
 mod paths;
 mod queries;

@@ -2,7 +2,7 @@
 
 ghost use Rattle.osc_base.specs.declared.path.Path.{Path};
 
-use crate::part::Spot;
+use crate::part::{Binding, Spot};
 use crate::{Choice, ChoiceSpot, PhaseSpot, Span, Trace, Value, ValueSpot};
 use osc_base::Path;
 use path_index::HasPath;
@@ -12,6 +12,14 @@ impl HasPath for Spot {
 
     fn path(&self) -> &Path {
         &self.path
+    }
+}
+
+impl HasPath for Binding {
+    ghost path_of = { λ b. b.at };
+
+    fn path(&self) -> &Path {
+        &self.at
     }
 }
 

@@ -39,6 +39,7 @@ impl Scene {
         let value_index = PathIndex::of(alloc, values.as_slice())?;
         let phase_index = PathIndex::of(alloc, phases.as_slice())?;
         let phase_duration_index = PathIndex::of_durations(alloc, phases.as_slice())?;
+        let binding_index = PathIndex::of(alloc, bindings.as_slice())?;
         Ok(Scene {
             spots,
             bindings,
@@ -56,6 +57,7 @@ impl Scene {
             value_index,
             phase_index,
             phase_duration_index,
+            binding_index,
         })
     }
 

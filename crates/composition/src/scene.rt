@@ -32,6 +32,7 @@ pub struct Scene {
     pub(crate) value_index: PathIndex,
     pub(crate) phase_index: PathIndex,
     pub(crate) phase_duration_index: PathIndex,
+    pub(crate) binding_index: PathIndex,
     ghost choices_are: { choices ≡ filter_map choice_at spots },
     ghost values_are: { values ≡ filter_map value_at spots },
     ghost phases_are: { phases ≡ filter_map phase_at spots },
@@ -42,4 +43,5 @@ pub struct Scene {
     ghost values_at: { Places value_index (λ p. p) (λ s. s.path) values },
     ghost phases_at: { Places phase_index (λ p. p) (λ s. s.path) phases },
     ghost phase_durations_at: { Places phase_duration_index then_duration (λ s. s.path) phases },
+    ghost bindings_at: { Places binding_index (λ p. p) (λ b. b.at) bindings },
 }

@@ -1,7 +1,7 @@
 ghost use Rattle.std.specs.Prelude.{◌≡◌, ◌≤◌, ◌<◌, ◌^◌, length, pos, option_copied, option_map, IfOk};
 ghost use Rattle.type_heads.specs.Seen.{seen_form};
 ghost use Rattle.type_heads.specs.Shown.{hit_of};
-ghost use Rattle.type_heads.specs.Table.{base, enum_number, enums_with, form, named, owner};
+ghost use Rattle.type_heads.specs.Table.{base, enum_number, enums_with, form, head, named, owner};
 
 use crate::declarations::Declarations;
 use crate::head::member_number;
@@ -69,6 +69,16 @@ impl Heads {
     {
         let place = self.names.get(owner, name)?;
         Some(TypeId(place))
+    }
+
+    /// The name of a type, without its owner. A number that no type has has none.
+    pub fn name(&self, of: TypeId) -> &str
+        ensures { result.now ≡ (head self.now of).name }
+    {
+        match self.entries.get(of.0 as usize) {
+            Some(head) => head.name(),
+            None => "",
+        }
     }
 
     /// The type that a type inherits from. A number that no type has inherits from none.

@@ -1,7 +1,7 @@
 ghost use Rattle.std.specs.Prelude.{◌≡◌, ℕ, ℤ, bytes_eq, find, fold, List, Option, Some, None, map, length, pos, option_copied, option_map, slice_index_or};
 ghost use Rattle.std.specs.Int.{int_min, int_max};
 ghost use Rattle.type_heads.specs.Bounds.{numbers_of, bounds, least_of, greatest_of};
-ghost use Rattle.type_heads.specs.Table.{base, enum_members, enums_with, field_of, form, named, owner};
+ghost use Rattle.type_heads.specs.Table.{base, enum_members, enums_with, field_of, form, head, named, owner};
 ghost use Rattle.type_heads.specs.Table.{enum_number as number_in, unit as unit_in};
 ghost use Rattle.type_heads.specs.Shown.{bare, condition_told, hit_of, kind_form, members_told, shown_field, shown_member, shown_unit, unit_parts};
 
@@ -63,6 +63,13 @@ impl Types {
         ensures { result ≡ named self.now.table.heads (option_copied owner.entry) name.now }
     {
         self.heads.named(owner, name)
+    }
+
+    /// The name of a type, without its owner. A number that no type has has none.
+    pub fn name(&self, of: TypeId) -> &str
+        ensures { result.now ≡ (head self.now.table.heads of).name }
+    {
+        self.heads.name(of)
     }
 
     /// The type that a type inherits from.
