@@ -46,17 +46,18 @@ pub(crate) const LEFT_OUT: Texts = texts! {
 pub(crate) const NOT_YET: Texts = texts! {
     title: "this isn't built yet",
     meaning: [
-        "The source may well be right, but `osc` can't go on with it today. It runs",
-        "scenarios whose members go in pairs: a field of type `int`, then a `keep` of",
-        "its range. The fault stands at the first token of another form, by the order",
-        "of the files. Today it comes before all faults of 311 to 327, and of those",
-        "only 311 and 324 are told. This code goes when everything is built.",
+        "The source has no fault that `osc` looks for, but `osc` can't go on with the",
+        "scenario today. It runs scenarios whose members go in pairs: a field of type",
+        "`int`, then a `keep` of its range. Such a scenario has no owner, it inherits",
+        "from nothing, and no extension adds members to it. The fault stands at the",
+        "scenario's name and comes last of all. This code goes when everything is",
+        "built.",
     ],
     example: [
         "scenario top:",
         "    y: float",
     ],
-    answer: "fault 298 main.osc:2:5",
+    answer: "fault 298 main.osc:1:10",
     mending: [
         "Use the form of docs/LANGUAGE.md, \"What is built today\", or wait for a later",
         "version.",

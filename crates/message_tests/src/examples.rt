@@ -7,10 +7,8 @@ use std::test::Fail;
 
 /// How many codes there are.
 const CODES: usize = 29;
-/// The codes that `generate` tells today. The examples of all others give the fault 298.
-const TOLD: [u16; 14] = [
-    101, 102, 103, 104, 105, 106, 107, 201, 202, 298, 301, 302, 311, 324,
-];
+/// The codes that `generate` doesn't tell today. Their examples give the fault 298.
+const UNTOLD: [u16; 1] = [323];
 
 const GENERATE: [&str; 3] = ["generate", "main.osc", "top"];
 
@@ -62,10 +60,10 @@ fn each_example_gives_its_fault(rt: HostRuntime) -> Result<(), Fail> {
         let called = call(alloc, &GENERATE, &[("main.osc", source.as_slice())])?;
         assert_eq!(rt; called.status, 3);
         let (number, answer) = (code.number(), fault_text(*code).answer);
-        let want = if TOLD.contains(&number) {
-            format!(in alloc; "{answer}\n")?
-        } else {
+        let want = if UNTOLD.contains(&number) {
             format!(in alloc; "fault 298 main.osc:")?
+        } else {
+            format!(in alloc; "{answer}\n")?
         };
         assert!(rt;
             called.written.as_str().starts_with(want.as_str()),

@@ -1,15 +1,14 @@
 -- Pairs of members, one after another, and the values of their fields.
-use Rattle.std.proofs.Common.{◌≡◌, ◌∙◌, refl, sym, ap, subst, ℕ, ◌+◌, ◌-◌, ◌≤◌, ◌<◌, List, [], ◌∷◌, ◌++◌, length, take, drop, get_or, map, Option, Some, None, arith, append_assoc, append-nil}
+use Rattle.std.proofs.Common.{◌≡◌, ◌==◌, ◌∙◌, refl, sym, ap, subst, ℕ, Bool, true, false, ◌&&◌, ◌+◌, ◌-◌, ◌≤◌, ◌<◌, List, [], ◌∷◌, ◌++◌, length, take, drop, get_or, map, Option, Some, None, arith, append_assoc, append-nil}
 use Rattle.std.specs.Option.{option_map, option_map_or}
 use Rattle.std.proofs.lemmas.List.{drop_more, at_drop_all}
-use Rattle.osc_base.specs.declared.fault.Place.{Place}
 use Rattle.composition.specs.Instance.{RangedField, HoldsField, HoldFields}
 use Rattle.composition.specs.declared.run.Value.{Value}
 use Rattle.dsl_tree.specs.declared.compounds.Member.{Member}
 use Rattle.dsl_tree.specs.FileTree.{MemberTree}
 use Rattle.dsl_tree.specs.Views.{member_tree}
 use Rattle.scenario_tool.specs.declared.pair_form.ranges.HeldRange.{HeldRange}
-use Rattle.scenario_tool.specs.PairForm.{held_range, ranged_fields, unpaired}
+use Rattle.scenario_tool.specs.PairForm.{go_in_pairs, held_range, is_pair, ranged_fields}
 use Rattle.scenario_tool.specs.Ranges.{ranged}
 
 -- ---- Members two by two
@@ -33,29 +32,25 @@ seen_pair : (rest : List Member) (field keep : Member) → 2 ≤ length rest →
     map member_tree rest ≡ front_pair rest field keep
 seen_pair rest field keep few first second = ap (map member_tree) (two_front rest field keep few first second)
 
-pub broken : (names : List (List ℕ)) (all : Option Place) (rest : List Member) (field keep : Member) (place : Place) →
-    unpaired names (map member_tree rest) ≡ all → 2 ≤ length rest → field ≡ get_or rest 0 field → keep ≡ get_or rest 1 keep →
-    ((later : List MemberTree) → unpaired names (member_tree field ∷ member_tree keep ∷ later) ≡ Some place) → Some place ≡ all
-broken names all rest field keep place far few first second breaks =
-    sym (breaks (map member_tree (take (length rest - 2) (drop 2 rest)))) ∙ sym (ap (unpaired names) (seen_pair rest field keep few first second)) ∙ far
+-- the pair isn't one
+pub broken : (all : Bool) (rest : List Member) (field keep : Member) → go_in_pairs (map member_tree rest) ≡ all → 2 ≤ length rest → field ≡ get_or rest 0 field →
+    keep ≡ get_or rest 1 keep → is_pair (member_tree field) (member_tree keep) ≡ false → false ≡ all
+broken all rest field keep far few first second fails =
+    let later = map member_tree (take (length rest - 2) (drop 2 rest)) in
+    sym (ap (λ b. b && go_in_pairs later) fails) ∙ sym (ap go_in_pairs (seen_pair rest field keep few first second)) ∙ far
 
-pub paired : (names names' : List (List ℕ)) (all : Option Place) (rest : List Member) (field keep : Member) (name : List ℕ) →
-    unpaired names (map member_tree rest) ≡ all → 2 ≤ length rest → field ≡ get_or rest 0 field → keep ≡ get_or rest 1 keep →
-    ((later : List MemberTree) → unpaired names (member_tree field ∷ member_tree keep ∷ later) ≡ unpaired (names ++ name ∷ []) later) →
-    names' ≡ names ++ name ∷ [] → unpaired names' (map member_tree (take (length rest - 2) (drop 2 rest))) ≡ all
-paired names names' all rest field keep name far few first second pair more =
-    ap (λ ns. unpaired ns (map member_tree (take (length rest - 2) (drop 2 rest)))) more
-    ∙ sym (pair (map member_tree (take (length rest - 2) (drop 2 rest))))
-    ∙ sym (ap (unpaired names) (seen_pair rest field keep few first second)) ∙ far
+-- the pair is one
+pub paired : (all : Bool) (rest : List Member) (field keep : Member) → go_in_pairs (map member_tree rest) ≡ all → 2 ≤ length rest → field ≡ get_or rest 0 field →
+    keep ≡ get_or rest 1 keep → is_pair (member_tree field) (member_tree keep) ≡ true → go_in_pairs (map member_tree (take (length rest - 2) (drop 2 rest))) ≡ all
+paired all rest field keep far few first second holds =
+    let later = map member_tree (take (length rest - 2) (drop 2 rest)) in
+    sym (ap (λ b. b && go_in_pairs later) holds) ∙ sym (ap go_in_pairs (seen_pair rest field keep few first second)) ∙ far
 
-one_left : {X : Type 0} (xs : List X) (a : X) → 1 ≤ length xs → length xs < 2 → a ≡ get_or xs 0 a → xs ≡ a ∷ []
-one_left [] a some few first = absurd (omega arith)
-one_left (x ∷ []) a some few first = ap (λ v. v ∷ []) (sym first)
-one_left (x ∷ y ∷ xs) a some few first = absurd (omega arith)
-
-pub left_over : (names : List (List ℕ)) (rest : List Member) (field : Member) (place : Place) → 1 ≤ length rest → length rest < 2 → field ≡ get_or rest 0 field →
-    Some place ≡ unpaired names (member_tree field ∷ []) → Some place ≡ unpaired names (map member_tree rest)
-left_over names rest field place some few first is = is ∙ sym (ap (λ ms. unpaired names (map member_tree ms)) (one_left rest field some few first))
+-- what is left after the pairs is nothing
+pub left_over : (all : Bool) (rest : List Member) → go_in_pairs (map member_tree rest) ≡ all → length rest < 2 → (length rest == 0) ≡ all
+left_over all [] far few = far
+left_over all (m ∷ []) far few = far
+left_over all (m ∷ m' ∷ ms) far few = absurd (omega arith)
 
 -- ---- Values
 

@@ -1,13 +1,16 @@
 -- There is one right answer, or each right answer is left open.
-use Rattle.std.proofs.Common.{◌≡◌, ◌∙◌, ◌⊎◌, inl, inr, sym, ap, subst, List, Option, Some, None}
+use Rattle.std.proofs.Common.{◌≡◌, ◌∙◌, ◌⊎◌, inl, inr, sym, ap, subst, ℕ, List, Option, Some, None}
 use Rattle.outside_io.specs.declared.shelf.NamedBytes.{NamedBytes}
-use Rattle.dsl_tree.specs.FileTree.{CompoundTree}
+use Rattle.osc_base.specs.declared.fault.Fault.{Fault}
 use Rattle.name_scope.specs.FileNumbers.{AddedFile}
 use Rattle.program_load.proofs.Sole.{one_load}
 use Rattle.command_words.specs.Shared.{Source}
 use Rattle.command_words.specs.Words.{Wanted, request}
+use Rattle.named_scenario.specs.Naming.{types_in}
+use Rattle.type_heads.specs.Types.{Types}
 use Rattle.scenario_tool.specs.declared.replies.Reply.{Reply}
 use Rattle.scenario_tool.specs.declared.status.Status.{Status}
+use Rattle.scenario_tool.specs.PairForm.{not_built}
 use Rattle.scenario_tool.specs.Programs.{first_refusal, scenario_named}
 use Rattle.scenario_tool.specs.Replies.{refused_source}
 use Rattle.scenario_tool.specs.Answers.{AnswersTo, Generates, runs, Inputs, IsLeftOpen, OneAnswer, OnProgram, faulty, sound, OnSource, not_loaded, loaded}
@@ -24,19 +27,19 @@ One Open reply other = (reply ≡ other) ⊎ (Open reply × Open other)
 
 -- ---- Sources
 
-module _ (Answer : CompoundTree → Reply → Type 0) (Open : Reply → Type 0)
-    (one : (scenario : CompoundTree) (reply other : Reply) → Answer scenario reply → Answer scenario other → One Open reply other) where
-  on_program : (program : List AddedFile) (source : Source) (reply other : Reply) → OnProgram program source Answer reply → OnProgram program source Answer other →
+module _ (faults : Types → ℕ → Option Fault) (Answer : Types → ℕ → Reply → Type 0) (Open : Reply → Type 0)
+    (one : (types : Types) (scenario : ℕ) (reply other : Reply) → Answer types scenario reply → Answer types scenario other → One Open reply other) where
+  on_program : (program : List AddedFile) (source : Source) (reply other : Reply) → OnProgram program source faults Answer reply → OnProgram program source faults Answer other →
       One Open reply other
   on_program program source reply other (faulty refusal is told) (faulty refusal' is' told') =
-      inl (told ∙ ap (refused_source source.file) (some_is (first_refusal program source.scenario) refusal refusal' is is') ∙ sym told')
-  on_program program source reply other (faulty refusal is told) (sound scenario' none' named' answer') = absurd (none_some (first_refusal program source.scenario) refusal none' is)
-  on_program program source reply other (sound scenario none named answer) (faulty refusal' is' told') = absurd (none_some (first_refusal program source.scenario) refusal' none is')
+      inl (told ∙ ap (refused_source source.file) (some_is (first_refusal faults program source.scenario) refusal refusal' is is') ∙ sym told')
+  on_program program source reply other (faulty refusal is told) (sound scenario' none' named' answer') = absurd (none_some (first_refusal faults program source.scenario) refusal none' is)
+  on_program program source reply other (sound scenario none named answer) (faulty refusal' is' told') = absurd (none_some (first_refusal faults program source.scenario) refusal' none is')
   on_program program source reply other (sound scenario none named answer) (sound scenario' none' named' answer') =
-      one scenario reply other answer
-      (subst (λ s. Answer s other) (some_is (scenario_named program source.scenario) scenario' scenario named' named) answer')
+      one (types_in program) scenario reply other answer
+      (subst (λ s. Answer (types_in program) s other) (some_is (scenario_named program source.scenario) scenario' scenario named' named) answer')
 
-  on_source : (sources : List NamedBytes) (source : Source) (reply other : Reply) → OnSource sources source Answer reply → OnSource sources source Answer other →
+  on_source : (sources : List NamedBytes) (source : Source) (reply other : Reply) → OnSource sources source faults Answer reply → OnSource sources source faults Answer other →
       One Open reply other
   on_source sources source reply other (not_loaded refusal is told) (not_loaded refusal' is' told') =
       inl (told ∙ ap (refused_source source.file) ((one_load sources source.file).1 refusal refusal' is is') ∙ sym told')
@@ -44,16 +47,16 @@ module _ (Answer : CompoundTree → Reply → Type 0) (Open : Reply → Type 0)
   on_source sources source reply other (loaded program is told) (not_loaded refusal' is' told') = absurd ((one_load sources source.file).2 program refusal' is is')
   on_source sources source reply other (loaded program is told) (loaded program' is' told') =
       on_program program source reply other told
-      (subst (λ p. OnProgram p source Answer other) ((one_load sources source.file).0 program' program is' is) told')
+      (subst (λ p. OnProgram p source faults Answer other) ((one_load sources source.file).0 program' program is' is) told')
 
 -- ---- What is asked
 
-one_generate : (scenario : CompoundTree) (reply other : Reply) → Generates scenario reply → Generates scenario other → One (λ reply. reply.status ≡ Status.Done) reply other
-one_generate scenario reply other (runs run is told) (runs run' is' told') = inr (ap (λ (r : Reply). r.status) told, ap (λ (r : Reply). r.status) told')
+one_generate : (types : Types) (scenario : ℕ) (reply other : Reply) → Generates types scenario reply → Generates types scenario other → One (λ reply. reply.status ≡ Status.Done) reply other
+one_generate types scenario reply other (runs run is told) (runs run' is' told') = inr (ap (λ (r : Reply). r.status) told, ap (λ (r : Reply). r.status) told')
 
 one_wanted : (inputs : Inputs) (wanted : Wanted) (reply other : Reply) → AnswersTo inputs wanted reply → AnswersTo inputs wanted other → One (IsLeftOpen wanted) reply other
 one_wanted inputs (Wanted.Help text) reply other is is' = inl (is ∙ sym is')
-one_wanted inputs (Wanted.Generate asked) reply other is is' = on_source Generates _ one_generate inputs.sources asked.source reply other is is'
+one_wanted inputs (Wanted.Generate asked) reply other is is' = on_source not_built Generates _ one_generate inputs.sources asked.source reply other is is'
 one_wanted inputs Wanted.Refused reply other is is' = inl (is ∙ sym is')
 
 pub one_answer : OneAnswer

@@ -2,8 +2,12 @@
 use Rattle.std.proofs.Common.{◌≡◌, ◌∙◌, refl, sym, ap, subst, ℕ, ◌≤◌, pos, List, [], ◌∷◌, Option, Some, None, Bool, true, false, cond, nat_le, arith}
 use Rattle.std.specs.Prelude.{◌≢◌}
 use Rattle.std.proofs.lemmas.Bool.{leb-true}
-use Rattle.std.specs.Option.{is_some, option_map_or, option_or}
+use Rattle.std.specs.Option.{option_map_or, option_or}
 use Rattle.osc_base.specs.declared.path.Step.TheVariants.{Name}
+use Rattle.osc_base.specs.declared.fault.Fault.{Fault}
+use Rattle.type_heads.specs.Types.{Types}
+use Rattle.named_scenario.specs.Naming.{types_in}
+use Rattle.named_scenario.specs.Own.{own_members}
 use Rattle.outside_io.specs.declared.shelf.NamedBytes.{NamedBytes}
 use Rattle.composition.specs.declared.run.Run.{Run}
 use Rattle.composition.specs.declared.run.Value.{Value}
@@ -14,16 +18,16 @@ use Rattle.dsl_tree.specs.declared.rules.KeepKind.{KeepKind}
 use Rattle.dsl_tree.specs.declared.expr.RelationSign.{RelationSign}
 use Rattle.dsl_tree.specs.ExprTree.{ExprTree}
 use Rattle.dsl_tree.specs.PhaseTree.{RuleTree}
-use Rattle.dsl_tree.specs.FileTree.{MemberTree, CompoundTree}
+use Rattle.dsl_tree.specs.FileTree.{MemberTree}
 use Rattle.name_scope.specs.FileNumbers.{AddedFile}
 use Rattle.program_load.specs.declared.stop.Refusal.{Refusal}
 use Rattle.program_load.specs.Loading.{IsLoaded}
 use Rattle.program_load.proofs.Total.{some_load}
 use Rattle.command_words.specs.Shared.{Source}
 use Rattle.command_words.specs.Words.{Wanted, request}
-use Rattle.scenario_tool.specs.PairForm.{whole_number, range_of, held_range, ranged_fields}
+use Rattle.scenario_tool.specs.PairForm.{not_built, whole_number, range_of, held_range, ranged_fields}
 use Rattle.scenario_tool.specs.declared.replies.Reply.{Reply}
-use Rattle.scenario_tool.specs.Programs.{first_refusal, no_scenario, scenario_named, unnamed}
+use Rattle.scenario_tool.specs.Programs.{first_refusal, scenario_named, scenario_refusal}
 use Rattle.scenario_tool.specs.Replies.{done, refused_source, words_refused}
 use Rattle.scenario_tool.specs.Answers.{AnswersTo, Generates, runs, Inputs, OnProgram, faulty, sound, OnSource, not_loaded, loaded, SomeAnswer}
 
@@ -88,25 +92,24 @@ loaded_some : (files : List NamedBytes) (main : List ℕ) (program : List AddedF
 loaded_some files main [] its empty = let same : Some _ ≡ None = its.whole in cc
 loaded_some files main (first ∷ others) its empty = cc
 
-module _ (Answer : CompoundTree → Reply → Type 0) (some : (scenario : CompoundTree) → ((reply : Reply) → Answer scenario reply → ⊥) → ⊥) where
-  unrefused : (program : List AddedFile) (scenario : List ℕ) (named : Option CompoundTree) → program ≢ [] → scenario_named program scenario ≡ named → named ≡ None →
-      unnamed program scenario ≡ None → ⊥
-  unrefused [] scenario named some is none h = some refl
-  unrefused (main ∷ others) scenario named some is none h =
-      none_some _ (sym h ∙ ap (λ o. cond (is_some o) None (no_scenario (main ∷ others))) (is ∙ none))
+module _ (faults : Types → ℕ → Option Fault) (Answer : Types → ℕ → Reply → Type 0)
+    (some : (types : Types) (scenario : ℕ) → ((reply : Reply) → Answer types scenario reply → ⊥) → ⊥) where
+  no_refusal : (program : List AddedFile) (named : Option ℕ) → program ≢ [] → named ≡ None → scenario_refusal faults program named ≡ None → ⊥
+  no_refusal [] named some none h = some refl
+  no_refusal (main ∷ others) named some none h = none_some _ (sym h ∙ ap (scenario_refusal faults (main ∷ others)) none)
 
-  some_on_program : (program : List AddedFile) (source : Source) → program ≢ [] → ((reply : Reply) → OnProgram program source Answer reply → ⊥) → ⊥
-  some_on_program program source there none = by (first_refusal program source.scenario) refl
+  some_on_program : (program : List AddedFile) (source : Source) → program ≢ [] → ((reply : Reply) → OnProgram program source faults Answer reply → ⊥) → ⊥
+  some_on_program program source there none = by (first_refusal faults program source.scenario) refl
     where
-      by_name : (named : Option CompoundTree) → scenario_named program source.scenario ≡ named → first_refusal program source.scenario ≡ None → ⊥
-      by_name (Some scenario) is fine = some scenario (λ reply answer. none reply (sound scenario fine is answer))
-      by_name None is fine = unrefused program source.scenario None there is refl (rest_none _ _ (rest_none _ _ fine))
+      by_name : (named : Option ℕ) → scenario_named program source.scenario ≡ named → first_refusal faults program source.scenario ≡ None → ⊥
+      by_name (Some scenario) is fine = some (types_in program) scenario (λ reply answer. none reply (sound scenario fine is answer))
+      by_name None is fine = no_refusal program (scenario_named program source.scenario) there is (rest_none _ _ fine)
 
-      by : (first : Option Refusal) → first_refusal program source.scenario ≡ first → ⊥
+      by : (first : Option Refusal) → first_refusal faults program source.scenario ≡ first → ⊥
       by (Some refusal) is = none (refused_source source.file refusal) (faulty refusal is refl)
       by None is = by_name (scenario_named program source.scenario) refl is
 
-  some_on_source : (sources : List NamedBytes) (source : Source) → ((reply : Reply) → OnSource sources source Answer reply → ⊥) → ⊥
+  some_on_source : (sources : List NamedBytes) (source : Source) → ((reply : Reply) → OnSource sources source faults Answer reply → ⊥) → ⊥
   some_on_source sources source none =
       some_load sources source.file
       (λ program is. some_on_program program source (loaded_some sources source.file program is) (λ reply told. none reply (loaded program is told)))
@@ -114,14 +117,14 @@ module _ (Answer : CompoundTree → Reply → Type 0) (some : (scenario : Compou
 
 -- ---- What is asked
 
-some_generate : (scenario : CompoundTree) → ((reply : Reply) → Generates scenario reply → ⊥) → ⊥
-some_generate scenario none =
-    let h = held_all scenario.members in
-    none (done (run_text (run_of h.values))) (runs (run_of h.values) (is_instance (ranged_fields scenario.members) h) refl)
+some_generate : (types : Types) (scenario : ℕ) → ((reply : Reply) → Generates types scenario reply → ⊥) → ⊥
+some_generate types scenario none =
+    let h = held_all (own_members types scenario) in
+    none (done (run_text (run_of h.values))) (runs (run_of h.values) (is_instance (ranged_fields (own_members types scenario)) h) refl)
 
 some_wanted : (inputs : Inputs) (wanted : Wanted) → ((reply : Reply) → AnswersTo inputs wanted reply → ⊥) → ⊥
 some_wanted inputs (Wanted.Help text) none = none (done text) refl
-some_wanted inputs (Wanted.Generate asked) none = some_on_source Generates some_generate inputs.sources asked.source none
+some_wanted inputs (Wanted.Generate asked) none = some_on_source not_built Generates some_generate inputs.sources asked.source none
 some_wanted inputs Wanted.Refused none = none words_refused refl
 
 pub some_answer : SomeAnswer

@@ -9,7 +9,7 @@ use Rattle.outside_io.specs.declared.shelf.NamedBytes.{NamedBytes}
 use Rattle.outside_io.specs.Bytes.{AppendsPart}
 use Rattle.outside_io.specs.Counts.{Rises}
 use Rattle.outside_io.specs.Files.{SomeFiles}
-use Rattle.dsl_tree.specs.FileTree.{CompoundTree}
+use Rattle.osc_base.specs.declared.fault.Fault.{Fault}
 use Rattle.name_scope.specs.FileNumbers.{AddedFile}
 use Rattle.program_load.specs.declared.stop.Refusal.{Refusal}
 use Rattle.program_load.specs.Loading.{IsLoaded, IsStopped, IsTurn}
@@ -20,7 +20,10 @@ use Rattle.command_words.specs.Shared.{Source}
 use Rattle.command_words.specs.Words.{Wanted, request}
 use Rattle.scenario_tool.specs.declared.status.Status.{Status}
 use Rattle.scenario_tool.specs.declared.replies.Reply.{Reply}
-use Rattle.scenario_tool.specs.PairForm.{ranged_fields}
+use Rattle.type_heads.specs.Types.{Types}
+use Rattle.named_scenario.specs.Naming.{types_in}
+use Rattle.named_scenario.specs.Own.{own_members}
+use Rattle.scenario_tool.specs.PairForm.{not_built, ranged_fields}
 use Rattle.scenario_tool.specs.Programs.{first_refusal, scenario_named}
 use Rattle.scenario_tool.specs.Replies.{done, failed_shelf, status_number, refused_source, words_refused}
 
@@ -31,28 +34,29 @@ pub record Inputs : Type 0 where
   pub sources : List NamedBytes
   pub texts : List NamedBytes
 
--- what is replied about a scenario of a program: the program's first refusal; else what the command answers
-pub data OnProgram (program : List AddedFile) (source : Source) (Answer : CompoundTree → Reply → Type 0) (reply : Reply) : Type 0 where
-  faulty : (refusal : Refusal) → first_refusal program source.scenario ≡ Some refusal → reply ≡ refused_source source.file refusal →
-      OnProgram program source Answer reply
-  sound : (scenario : CompoundTree) → first_refusal program source.scenario ≡ None → scenario_named program source.scenario ≡ Some scenario →
-      Answer scenario reply → OnProgram program source Answer reply
+-- What is replied about a scenario of a program: the program's first refusal; else what the command answers. `faults` gives the fault
+-- that the command finds of the scenario itself.
+pub data OnProgram (program : List AddedFile) (source : Source) (faults : Types → ℕ → Option Fault) (Answer : Types → ℕ → Reply → Type 0) (reply : Reply) : Type 0 where
+  faulty : (refusal : Refusal) → first_refusal faults program source.scenario ≡ Some refusal → reply ≡ refused_source source.file refusal →
+      OnProgram program source faults Answer reply
+  sound : (scenario : ℕ) → first_refusal faults program source.scenario ≡ None → scenario_named program source.scenario ≡ Some scenario →
+      Answer (types_in program) scenario reply → OnProgram program source faults Answer reply
 
 -- what is replied about a source: why no program is loaded; else what is replied about the program
-pub data OnSource (sources : List NamedBytes) (source : Source) (Answer : CompoundTree → Reply → Type 0) (reply : Reply) : Type 0 where
+pub data OnSource (sources : List NamedBytes) (source : Source) (faults : Types → ℕ → Option Fault) (Answer : Types → ℕ → Reply → Type 0) (reply : Reply) : Type 0 where
   not_loaded : (refusal : Refusal) → IsStopped sources source.file refusal → reply ≡ refused_source source.file refusal →
-      OnSource sources source Answer reply
-  loaded : (program : List AddedFile) → IsLoaded sources source.file program → OnProgram program source Answer reply →
-      OnSource sources source Answer reply
+      OnSource sources source faults Answer reply
+  loaded : (program : List AddedFile) → IsLoaded sources source.file program → OnProgram program source faults Answer reply →
+      OnSource sources source faults Answer reply
 
--- what `generate` answers about a scenario: an instance of it
-pub data Generates (scenario : CompoundTree) (reply : Reply) : Type 0 where
-  runs : (run : Run) → IsRangedInstance (ranged_fields scenario.members) run → reply ≡ done (run_text run) → Generates scenario reply
+-- what `generate` answers about a scenario of ranged whole numbers: an instance of it
+pub data Generates (types : Types) (scenario : ℕ) (reply : Reply) : Type 0 where
+  runs : (run : Run) → IsRangedInstance (ranged_fields (own_members types scenario)) run → reply ≡ done (run_text run) → Generates types scenario reply
 
 -- the right answers to what the words ask for
 abbrev pub AnswersTo : Inputs → Wanted → Reply → Type 0
 AnswersTo inputs (Wanted.Help text) reply = reply ≡ done text
-AnswersTo inputs (Wanted.Generate asked) reply = OnSource inputs.sources asked.source Generates reply
+AnswersTo inputs (Wanted.Generate asked) reply = OnSource inputs.sources asked.source not_built Generates reply
 AnswersTo inputs Wanted.Refused reply = reply ≡ words_refused
 
 -- ---- Answers, or a shelf that fails

@@ -1,4 +1,5 @@
 pub mod Answers
+pub mod Found
 pub mod PairForm
 pub mod Programs
 pub mod Ranges

@@ -1,18 +1,21 @@
--- What is built today of the language: scenarios without an owner and without an heir, whose members go in pairs: a field
--- of whole numbers, and the constraint that holds it in a range.
-use Rattle.std.specs.Prelude.{ℕ, ◌==◌, nat_le, ◌&&◌, not, cond, Bool, true, false, List, [], ◌∷◌, ◌++◌, Option, Some, None, codes}
-use Rattle.std.specs.List.{list_any}
-use Rattle.std.specs.Option.{is_none, option_map_or, option_or}
+-- What `generate` can run so far: scenarios of ranged whole numbers. Their members go in pairs: a field of whole numbers, and the
+-- constraint that holds it in a range.
+use Rattle.std.specs.Prelude.{ℕ, ◌==◌, nat_le, nat_eq, ◌&&◌, cond, Bool, true, false, List, [], ◌∷◌, Option, Some, None, codes, length}
+use Rattle.std.specs.Option.{is_none, option_map_or}
 use Rattle.std.specs.Str.{bytes_eq}
-use Rattle.osc_base.specs.declared.fault.Place.{Place}
+use Rattle.osc_base.specs.declared.fault.FaultCode.{FaultCode}
+use Rattle.osc_base.specs.declared.fault.Fault.{Fault}
 use Rattle.composition.specs.Instance.{RangedField}
 use Rattle.dsl_tree.specs.declared.parts.Ident.{Ident}
 use Rattle.dsl_tree.specs.declared.rules.KeepKind.{KeepKind}
 use Rattle.dsl_tree.specs.declared.expr.RelationSign.{RelationSign}
-use Rattle.dsl_tree.specs.declared.compounds.CompoundKind.{CompoundKind}
 use Rattle.dsl_tree.specs.ExprTree.{ExprTree}
 use Rattle.dsl_tree.specs.PhaseTree.{RuleTree}
-use Rattle.dsl_tree.specs.FileTree.{FieldTree, MemberTree, CompoundTree, DeclarationTree}
+use Rattle.dsl_tree.specs.FileTree.{FieldTree, MemberTree}
+use Rattle.type_heads.specs.Table.{head}
+use Rattle.type_heads.specs.Types.{Types}
+use Rattle.type_heads.specs.Members.{body, members}
+use Rattle.named_scenario.specs.Own.{own_members}
 
 -- ---- Fields and their constraints
 
@@ -68,60 +71,30 @@ abbrev pub ranged_fields : List MemberTree → List RangedField
 ranged_fields [] = []
 ranged_fields (m ∷ ms) = option_map_or (λ (range : RangedField). range ∷ ranged_fields ms) (held_range m) (ranged_fields ms)
 
--- ---- Places that aren't of the form
+-- ---- Scenarios
 
-abbrev pub first_place : Ident → List Ident → Place
-first_place of [] = of.place
-first_place of (name ∷ names) = name.place
+-- a field of whole numbers, and the constraint that holds it in a range
+abbrev pub is_pair : MemberTree → MemberTree → Bool
+is_pair field keep = option_map_or (λ (name : Ident). holds name.text keep) (whole_number_field field) false
 
-abbrev pub rule_place : RuleTree → Place
-rule_place (RuleTree.Keep place kind tree) = place
-rule_place (RuleTree.Remove place path) = place
+-- members go in such pairs
+abbrev pub go_in_pairs : List MemberTree → Bool
+go_in_pairs [] = true
+go_in_pairs (field ∷ []) = false
+go_in_pairs (field ∷ keep ∷ members) = is_pair field keep && go_in_pairs members
 
--- the place of a member's first token
-abbrev pub member_place : MemberTree → Place
-member_place (MemberTree.Field f) = first_place f.of f.names
-member_place (MemberTree.Rule rule) = rule_place rule
-member_place (MemberTree.Do place phase) = place
+-- A scenario of ranged whole numbers, in a program whose declarations have no fault. No actor owns it, it inherits from nothing, all its
+-- members stand in its declaration (no extension and no conditional subtype has further ones), and these go in pairs.
+--
+-- So its fields have names of their own, and none is `duration`. A source of 1,048,576 bytes has fewer than 32,768 such fields, so the
+-- scenario passes no limit of scenes.
+abbrev pub is_ranged : Types → ℕ → Bool
+is_ranged ts t =
+    is_none (head ts.table.heads t).owner
+    && (is_none (body ts.bodies t).heir
+    && (nat_eq (length (members ts t)) (length (own_members ts t))
+    && go_in_pairs (own_members ts t)))
 
--- whether fields of these names leave the name free, which may not be `duration`
-abbrev pub is_free : List (List ℕ) → List ℕ → Bool
-is_free names name = not (bytes_eq name (codes "duration")) && not (list_any (bytes_eq name) names)
-
--- the first member that is none of a pair, after pairs of fields of these names
-abbrev pub unpaired : List (List ℕ) → List MemberTree → Option Place
-unpaired names [] = None
-unpaired names (field ∷ []) = Some (member_place field)
-unpaired names (field ∷ keep ∷ members) =
-    option_map_or
-    (λ (name : Ident). cond (is_free names name.text)
-    (cond (holds name.text keep) (unpaired (names ++ name.text ∷ []) members) (Some (member_place keep)))
-    (Some (member_place field)))
-    (whole_number_field field) (Some (member_place field))
-
-abbrev pub is_scenario : CompoundKind → Bool
-is_scenario CompoundKind.Scenario = true
-is_scenario _ = false
-
--- a scenario without an owner and without an heir
-abbrev pub is_plain : CompoundTree → Bool
-is_plain c = is_scenario c.kind && (is_none c.name.second && is_none c.heir)
-
--- the place of a declaration's first token
-abbrev pub declaration_place : DeclarationTree → Place
-declaration_place (DeclarationTree.TypeDeclaration d) = d.place
-declaration_place (DeclarationTree.UnitDeclaration d) = d.place
-declaration_place (DeclarationTree.EnumDeclaration d) = d.place
-declaration_place (DeclarationTree.CompoundDeclaration c) = c.place
-declaration_place (DeclarationTree.MemberExtension e) = e.place
-declaration_place (DeclarationTree.EnumExtension e) = e.place
-
--- the first place in a declaration at which it isn't a plain scenario whose members go in pairs
-abbrev pub unbuilt : DeclarationTree → Option Place
-unbuilt (DeclarationTree.CompoundDeclaration c) = cond (is_plain c) (unpaired [] c.members) (Some c.place)
-unbuilt d = Some (declaration_place d)
-
--- the first such place among declarations
-abbrev pub unbuilt_among : List DeclarationTree → Option Place
-unbuilt_among [] = None
-unbuilt_among (d ∷ ds) = option_or (unbuilt d) (unbuilt_among ds)
+-- the fault of a scenario that isn't one of ranged whole numbers, at its declared name
+abbrev pub not_built : Types → ℕ → Option Fault
+not_built ts t = cond (is_ranged ts t) None (Some (record { place = (body ts.bodies t).place; code = FaultCode.NotYet }))

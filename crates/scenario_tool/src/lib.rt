@@ -1,11 +1,11 @@
 //! The top call of `osc`.
 #![tactic(auto)]
 
-mod compile;
+mod generate;
 mod laws;
 mod pair_form;
-mod programs;
 mod replies;
+mod scenarios;
 mod status;
 mod top;
 

@@ -1,9 +1,7 @@
-//! What is built of the language so far: `docs/LANGUAGE.md` has the form.
-mod declarations;
+//! Scenarios of ranged whole numbers: `docs/LANGUAGE.md` has the form.
 mod members;
-mod names;
 mod ranges;
 mod values;
 
-pub use declarations::unbuilt_among;
+pub use members::go_in_pairs;
 pub use values::least_values;

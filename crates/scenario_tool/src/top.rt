@@ -3,7 +3,7 @@ ghost use Rattle.command_words.specs.Seen.{asked_by};
 ghost use Rattle.command_words.specs.Words.{Wanted, request};
 ghost use Rattle.scenario_tool.specs.Answers.{AnswersOrShelfFails, CountsOnce, IsAnswered, SomeInputs};
 
-use crate::compile::compile;
+use crate::generate::generate;
 use crate::replies::{Reply, done, failed_shelf, refused_source, words_refused};
 use crate::status::Status;
 use command_words::{GenerateWords, Request, read_words};
@@ -70,7 +70,7 @@ fn reply_to_generate<H: Shelf>(
     ensures files_kept { H.files shelf.new ≡ H.files shelf.old }
 {
     match load(alloc, shelf, asked.source.file) {
-        Ok(program) => compile(alloc, &program, asked.source),
+        Ok(program) => generate(alloc, &program, asked.source),
         Err(LoadStop::At(refusal)) => refused_source(alloc, asked.source.file, &refusal),
         Err(LoadStop::Shelf(name)) => failed_shelf(alloc, name.as_str()),
         Err(LoadStop::Memory) => Err(AllocError),

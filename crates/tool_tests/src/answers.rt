@@ -48,7 +48,10 @@ fn answer(
 const GENERATE: [&str; 3] = ["generate", "main.osc", "top"];
 
 /// The answers to `generate main.osc top` over these sources.
-fn answers_are(rt: &(impl Abort + AllocGlobal), rows: &[(&str, &str)]) -> Result<(), Fail> {
+pub(crate) fn answers_are(
+    rt: &(impl Abort + AllocGlobal),
+    rows: &[(&str, &str)],
+) -> Result<(), Fail> {
     for (source, want) in rows {
         let main = [("main.osc", source.as_bytes())];
         let got = answer(rt.alloc(), &GENERATE, &main, SOUND)?;
@@ -116,86 +119,6 @@ fn sources_that_no_tree_spells(rt: HostRuntime) -> Result<(), Fail> {
         (
             "scenario top:\n    y: float\n    cover(y)\n",
             "3 fault 202 main.osc:3:5\n",
-        ),
-    ];
-    answers_are(&rt, &rows)
-}
-
-#[test]
-fn members_that_are_not_built(rt: HostRuntime) -> Result<(), Fail> {
-    let rows: [(&str, &str); 6] = [
-        (
-            "scenario top:\n    y: float\n",
-            "3 fault 298 main.osc:2:5\n",
-        ),
-        (
-            "scenario top:\n    x: int = 3\n    keep(x in [3..3])\n",
-            "3 fault 298 main.osc:2:5\n",
-        ),
-        (
-            "scenario top:\n    duration: int\n    keep(duration in [3..3])\n",
-            "3 fault 298 main.osc:2:5\n",
-        ),
-        (
-            "scenario top:\n    do wait elapsed(1s)\n",
-            "3 fault 298 main.osc:2:5\n",
-        ),
-        ("scenario top:\n    x: int\n", "3 fault 298 main.osc:2:5\n"),
-        (
-            "scenario top:\n    x: int\n    remove_default(x)\n",
-            "3 fault 298 main.osc:3:5\n",
-        ),
-    ];
-    answers_are(&rt, &rows)
-}
-
-#[test]
-fn constraints_that_are_not_built(rt: HostRuntime) -> Result<(), Fail> {
-    let rows: [(&str, &str); 8] = [
-        (
-            "scenario top:\n    x: int\n    keep(y in [3..3])\n",
-            "3 fault 298 main.osc:3:5\n",
-        ),
-        (
-            "scenario top:\n    x: int\n    keep(x in [4..3])\n",
-            "3 fault 298 main.osc:3:5\n",
-        ),
-        (
-            "scenario top:\n    x: int\n    keep(x in [3..1000000001])\n",
-            "3 fault 298 main.osc:3:5\n",
-        ),
-        (
-            "scenario top:\n    x: int\n    keep(x in [3.0..3])\n",
-            "3 fault 298 main.osc:3:5\n",
-        ),
-        (
-            "scenario top:\n    x: int\n    keep(x == 3)\n",
-            "3 fault 298 main.osc:3:5\n",
-        ),
-        (
-            "scenario top:\n    x: int\n    keep(hard x in [3..3])\n",
-            "3 fault 298 main.osc:3:5\n",
-        ),
-        (
-            "scenario top:\n    x: int\n    keep(x in [3..3])\n    keep(x in [3..3])\n",
-            "3 fault 298 main.osc:4:5\n",
-        ),
-        (
-            "scenario top:\n    x: int\n    keep(x in [3..3])\n    x: int\n    keep(x in [3..3])\n",
-            "3 fault 298 main.osc:4:5\n",
-        ),
-    ];
-    answers_are(&rt, &rows)
-}
-
-#[test]
-fn declarations_that_are_not_built(rt: HostRuntime) -> Result<(), Fail> {
-    let rows: [(&str, &str); 3] = [
-        ("struct s\n", "3 fault 298 main.osc:1:1\n"),
-        ("scenario top inherits base\n", "3 fault 298 main.osc:1:1\n"),
-        (
-            "scenario other:\n    y: float\n",
-            "3 fault 298 main.osc:2:5\n",
         ),
     ];
     answers_are(&rt, &rows)
@@ -313,7 +236,7 @@ fn imports(rt: HostRuntime) -> Result<(), Fail> {
         ),
         ("import \"c.osc\"\n", "3 fault 301 b.osc:1:8\n"),
         ("scenario $\n", "3 fault 104 b.osc:1:10\n"),
-        ("struct s\n", "3 fault 298 b.osc:1:1\n"),
+        ("struct s\n", seven),
     ];
     for (second, want) in rows {
         let files = [("a.osc", main), ("b.osc", second.as_bytes())];

@@ -3,8 +3,8 @@ use Rattle.scenario_tool.proofs.CallEnds.{loaded_reply, refused_reply, shelf_rep
 use Rattle.scenario_tool.proofs.top.reply_to_generate.Goals as goal
 
 pub returns-in-Ok-clause-reply : goal.returns-in-Ok-clause-reply
-returns-in-Ok-clause-reply g c = loaded_reply (g.H.Shelf.files c.args.shelf.now) (asked_by c.args.asked) _ _ c.in-Ok.program c.compile.result
-    c.in-Ok.ensures.answer c.compile.ensures c.in-Ok.ensures.counts
+returns-in-Ok-clause-reply g c = loaded_reply (g.H.Shelf.files c.args.shelf.now) (asked_by c.args.asked) _ _ c.in-Ok.program c.generate.result
+    c.in-Ok.ensures.answer c.generate.ensures c.in-Ok.ensures.counts
 
 pub returns-in-Err-At-clause-reply : goal.returns-in-Err-At-clause-reply
 returns-in-Err-At-clause-reply g c = refused_reply (g.H.Shelf.files c.args.shelf.now) (asked_by c.args.asked) _ _ c.in-Err-At.refusal c.refused_source.result

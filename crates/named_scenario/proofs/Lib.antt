@@ -1,0 +1,2 @@
+pub mod DeclaredScenario
+pub mod FirstFaults

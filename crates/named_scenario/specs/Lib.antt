@@ -1,0 +1,4 @@
+pub mod Declarations
+pub mod Found
+pub mod Naming
+pub mod Own
