@@ -62,7 +62,7 @@ module _ (program : List AddedFile) (word : List ℕ) where
 
 -- ---- What is replied
 
-module _ (faults : Types → ℕ → Option Fault) (Answer : Types → ℕ → Reply → Type 0) (program : List AddedFile) (source : Source) where
+module _ (faults : Types → ℕ → Option Fault) (Answer : List AddedFile → ℕ → Reply → Type 0) (program : List AddedFile) (source : Source) where
   abbrev Replied : Reply → Type 0
   Replied = OnProgram program source faults Answer
 

@@ -6,7 +6,6 @@ use Rattle.name_scope.specs.FileNumbers.{AddedFile}
 use Rattle.program_load.proofs.Sole.{one_load}
 use Rattle.command_words.specs.Shared.{Source}
 use Rattle.command_words.specs.Words.{Wanted, request}
-use Rattle.named_scenario.specs.Naming.{types_in}
 use Rattle.type_heads.specs.Types.{Types}
 use Rattle.scenario_tool.specs.declared.replies.Reply.{Reply}
 use Rattle.scenario_tool.specs.declared.status.Status.{Status}
@@ -27,8 +26,8 @@ One Open reply other = (reply ≡ other) ⊎ (Open reply × Open other)
 
 -- ---- Sources
 
-module _ (faults : Types → ℕ → Option Fault) (Answer : Types → ℕ → Reply → Type 0) (Open : Reply → Type 0)
-    (one : (types : Types) (scenario : ℕ) (reply other : Reply) → Answer types scenario reply → Answer types scenario other → One Open reply other) where
+module _ (faults : Types → ℕ → Option Fault) (Answer : List AddedFile → ℕ → Reply → Type 0) (Open : Reply → Type 0)
+    (one : (program : List AddedFile) (scenario : ℕ) (reply other : Reply) → Answer program scenario reply → Answer program scenario other → One Open reply other) where
   on_program : (program : List AddedFile) (source : Source) (reply other : Reply) → OnProgram program source faults Answer reply → OnProgram program source faults Answer other →
       One Open reply other
   on_program program source reply other (faulty refusal is told) (faulty refusal' is' told') =
@@ -36,8 +35,8 @@ module _ (faults : Types → ℕ → Option Fault) (Answer : Types → ℕ → R
   on_program program source reply other (faulty refusal is told) (sound scenario' none' named' answer') = absurd (none_some (first_refusal faults program source.scenario) refusal none' is)
   on_program program source reply other (sound scenario none named answer) (faulty refusal' is' told') = absurd (none_some (first_refusal faults program source.scenario) refusal' none is')
   on_program program source reply other (sound scenario none named answer) (sound scenario' none' named' answer') =
-      one (types_in program) scenario reply other answer
-      (subst (λ s. Answer (types_in program) s other) (some_is (scenario_named program source.scenario) scenario' scenario named' named) answer')
+      one program scenario reply other answer
+      (subst (λ s. Answer program s other) (some_is (scenario_named program source.scenario) scenario' scenario named' named) answer')
 
   on_source : (sources : List NamedBytes) (source : Source) (reply other : Reply) → OnSource sources source faults Answer reply → OnSource sources source faults Answer other →
       One Open reply other
@@ -51,8 +50,8 @@ module _ (faults : Types → ℕ → Option Fault) (Answer : Types → ℕ → R
 
 -- ---- What is asked
 
-one_generate : (types : Types) (scenario : ℕ) (reply other : Reply) → Generates types scenario reply → Generates types scenario other → One (λ reply. reply.status ≡ Status.Done) reply other
-one_generate types scenario reply other (runs run is told) (runs run' is' told') = inr (ap (λ (r : Reply). r.status) told, ap (λ (r : Reply). r.status) told')
+one_generate : (program : List AddedFile) (scenario : ℕ) (reply other : Reply) → Generates program scenario reply → Generates program scenario other → One (λ reply. reply.status ≡ Status.Done) reply other
+one_generate program scenario reply other (runs run is told) (runs run' is' told') = inr (ap (λ (r : Reply). r.status) told, ap (λ (r : Reply). r.status) told')
 
 one_wanted : (inputs : Inputs) (wanted : Wanted) (reply other : Reply) → AnswersTo inputs wanted reply → AnswersTo inputs wanted other → One (IsLeftOpen wanted) reply other
 one_wanted inputs (Wanted.Help text) reply other is is' = inl (is ∙ sym is')

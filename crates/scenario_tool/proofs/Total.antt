@@ -92,8 +92,8 @@ loaded_some : (files : List NamedBytes) (main : List ℕ) (program : List AddedF
 loaded_some files main [] its empty = let same : Some _ ≡ None = its.whole in cc
 loaded_some files main (first ∷ others) its empty = cc
 
-module _ (faults : Types → ℕ → Option Fault) (Answer : Types → ℕ → Reply → Type 0)
-    (some : (types : Types) (scenario : ℕ) → ((reply : Reply) → Answer types scenario reply → ⊥) → ⊥) where
+module _ (faults : Types → ℕ → Option Fault) (Answer : List AddedFile → ℕ → Reply → Type 0)
+    (some : (program : List AddedFile) (scenario : ℕ) → ((reply : Reply) → Answer program scenario reply → ⊥) → ⊥) where
   no_refusal : (program : List AddedFile) (named : Option ℕ) → program ≢ [] → named ≡ None → scenario_refusal faults program named ≡ None → ⊥
   no_refusal [] named some none h = some refl
   no_refusal (main ∷ others) named some none h = none_some _ (sym h ∙ ap (scenario_refusal faults (main ∷ others)) none)
@@ -102,7 +102,7 @@ module _ (faults : Types → ℕ → Option Fault) (Answer : Types → ℕ → R
   some_on_program program source there none = by (first_refusal faults program source.scenario) refl
     where
       by_name : (named : Option ℕ) → scenario_named program source.scenario ≡ named → first_refusal faults program source.scenario ≡ None → ⊥
-      by_name (Some scenario) is fine = some (types_in program) scenario (λ reply answer. none reply (sound scenario fine is answer))
+      by_name (Some scenario) is fine = some program scenario (λ reply answer. none reply (sound scenario fine is answer))
       by_name None is fine = no_refusal program (scenario_named program source.scenario) there is (rest_none _ _ fine)
 
       by : (first : Option Refusal) → first_refusal faults program source.scenario ≡ first → ⊥
@@ -117,10 +117,10 @@ module _ (faults : Types → ℕ → Option Fault) (Answer : Types → ℕ → R
 
 -- ---- What is asked
 
-some_generate : (types : Types) (scenario : ℕ) → ((reply : Reply) → Generates types scenario reply → ⊥) → ⊥
-some_generate types scenario none =
-    let h = held_all (own_members types scenario) in
-    none (done (run_text (run_of h.values))) (runs (run_of h.values) (is_instance (ranged_fields (own_members types scenario)) h) refl)
+some_generate : (program : List AddedFile) (scenario : ℕ) → ((reply : Reply) → Generates program scenario reply → ⊥) → ⊥
+some_generate program scenario none =
+    let h = held_all (own_members (types_in program) scenario) in
+    none (done (run_text (run_of h.values))) (runs (run_of h.values) (is_instance (ranged_fields (own_members (types_in program) scenario)) h) refl)
 
 some_wanted : (inputs : Inputs) (wanted : Wanted) → ((reply : Reply) → AnswersTo inputs wanted reply → ⊥) → ⊥
 some_wanted inputs (Wanted.Help text) none = none (done text) refl

@@ -36,22 +36,22 @@ pub record Inputs : Type 0 where
 
 -- What is replied about a scenario of a program: the program's first refusal; else what the command answers. `faults` gives the fault
 -- that the command finds of the scenario itself.
-pub data OnProgram (program : List AddedFile) (source : Source) (faults : Types → ℕ → Option Fault) (Answer : Types → ℕ → Reply → Type 0) (reply : Reply) : Type 0 where
+pub data OnProgram (program : List AddedFile) (source : Source) (faults : Types → ℕ → Option Fault) (Answer : List AddedFile → ℕ → Reply → Type 0) (reply : Reply) : Type 0 where
   faulty : (refusal : Refusal) → first_refusal faults program source.scenario ≡ Some refusal → reply ≡ refused_source source.file refusal →
       OnProgram program source faults Answer reply
   sound : (scenario : ℕ) → first_refusal faults program source.scenario ≡ None → scenario_named program source.scenario ≡ Some scenario →
-      Answer (types_in program) scenario reply → OnProgram program source faults Answer reply
+      Answer program scenario reply → OnProgram program source faults Answer reply
 
 -- what is replied about a source: why no program is loaded; else what is replied about the program
-pub data OnSource (sources : List NamedBytes) (source : Source) (faults : Types → ℕ → Option Fault) (Answer : Types → ℕ → Reply → Type 0) (reply : Reply) : Type 0 where
+pub data OnSource (sources : List NamedBytes) (source : Source) (faults : Types → ℕ → Option Fault) (Answer : List AddedFile → ℕ → Reply → Type 0) (reply : Reply) : Type 0 where
   not_loaded : (refusal : Refusal) → IsStopped sources source.file refusal → reply ≡ refused_source source.file refusal →
       OnSource sources source faults Answer reply
   loaded : (program : List AddedFile) → IsLoaded sources source.file program → OnProgram program source faults Answer reply →
       OnSource sources source faults Answer reply
 
 -- what `generate` answers about a scenario of ranged whole numbers: an instance of it
-pub data Generates (types : Types) (scenario : ℕ) (reply : Reply) : Type 0 where
-  runs : (run : Run) → IsRangedInstance (ranged_fields (own_members types scenario)) run → reply ≡ done (run_text run) → Generates types scenario reply
+pub data Generates (program : List AddedFile) (scenario : ℕ) (reply : Reply) : Type 0 where
+  runs : (run : Run) → IsRangedInstance (ranged_fields (own_members (types_in program) scenario)) run → reply ≡ done (run_text run) → Generates program scenario reply
 
 -- the right answers to what the words ask for
 abbrev pub AnswersTo : Inputs → Wanted → Reply → Type 0

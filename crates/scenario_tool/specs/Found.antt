@@ -20,10 +20,10 @@ IsFound program word (Found.Refused reply) =
     (faults : Types → ℕ → Option Fault) (main : List ℕ) → option_map (refused_source main) (first_refusal faults program word) ≡ Some reply
 
 -- the fault that a command finds of a scenario; else what it answers
-abbrev pub OnScenario : (Types → ℕ → Option Fault) → (Types → ℕ → Reply → Type 0) → List AddedFile → ℕ → Reply → Type 0
+abbrev pub OnScenario : (Types → ℕ → Option Fault) → (List AddedFile → ℕ → Reply → Type 0) → List AddedFile → ℕ → Reply → Type 0
 OnScenario faults Answer program t reply =
     ((fault : Fault) × (faults (types_in program) t ≡ Some fault) × (reply ≡ fault_of (name_at program fault.place.file) fault))
-    ⊎ ((faults (types_in program) t ≡ None) × Answer (types_in program) t reply)
+    ⊎ ((faults (types_in program) t ≡ None) × Answer program t reply)
 
 -- the test of `is_ranged` on the declaration, by the number of all members
 abbrev pub is_ranged_declared : ℕ → CompoundTree → Bool
