@@ -23,7 +23,7 @@ class Run(NamedTuple):
 
 def run_once(words, folder):
     """Runs the program in the folder. A status other than 0 is no error: what the program refuses is timed too."""
-    with subprocess.Popen(words, cwd=folder, stdout=subprocess.PIPE) as process:
+    with subprocess.Popen(words, cwd=folder, stdout=subprocess.PIPE, stderr=subprocess.DEVNULL) as process:
         text = process.stdout.read()
         _, status, used = os.wait4(process.pid, 0)
         process.returncode = os.waitstatus_to_exitcode(status)

@@ -1,6 +1,7 @@
 //! The scenario of a name.
 
 ghost use Rattle.std.specs.Prelude.{◌≡◌, cond, IfOk, IfErr, Some, None, option_and_then, option_copied};
+ghost use Rattle.name_scope.specs.FileNumbers.{wanted_name};
 ghost use Rattle.type_heads.specs.Table.{form, is_scenario, named};
 ghost use Rattle.type_heads.specs.Told.{told};
 ghost use Rattle.named_scenario.specs.Found.{IsNamed, IsNoName};
@@ -32,13 +33,14 @@ pub enum NameStop {
     Memory,
 }
 
-/// The scenario of that name. Only a scenario that is asked for with its owner has one.
+/// The scenario of that name, in a program all of whose files were added. Only a scenario that is asked for with its owner has one.
 pub fn find_scenario<'a>(
     alloc: Global,
     program: &'a Program,
     owner: Option<&str>,
     name: &str,
 ) -> Result<NamedScenario<'a>, NameStop>
+    requires whole { wanted_name program.now ≡ None }
     ensures named { IfOk result (IsNamed program.now (option_copied owner.entry) name.now) }
     ensures stop { IfErr result (IsNoName program.now (option_copied owner.entry) name.now) }
 {

@@ -1,6 +1,6 @@
 //! What `generate` replies about a program that was loaded.
 
-ghost use Rattle.std.specs.Prelude.{◌≡◌, ◌≢◌, [], IfOk, map, length};
+ghost use Rattle.std.specs.Prelude.{◌≡◌, ◌≢◌, [], IfOk, None, map, length};
 ghost use Rattle.composition.specs.Instance.{IsRangedInstance};
 ghost use Rattle.command_words.specs.Seen.{source_by};
 ghost use Rattle.dsl_tree.specs.Views.{compound_tree, member_tree};
@@ -12,6 +12,7 @@ ghost use Rattle.scenario_tool.specs.Found.{OnScenario, is_ranged_declared};
 ghost use Rattle.scenario_tool.specs.PairForm.{not_built, ranged_fields};
 ghost use Rattle.scenario_tool.specs.Replies.{done};
 ghost use Rattle.name_scope.specs.Declaring.{behaviour_name};
+ghost use Rattle.name_scope.specs.FileNumbers.{wanted_name};
 ghost use Rattle.type_heads.specs.Shown.{members_told};
 ghost use Rattle.type_heads.specs.Told.{told};
 
@@ -29,7 +30,8 @@ use std::alloc::{AllocError, Global};
 
 /// What `generate` replies about a program that was loaded of this source.
 pub fn generate(alloc: Global, program: &Program, source: Source<'_>) -> Result<Reply, AllocError>
-    requires { program.now ≢ [] }
+    requires main { program.now ≢ [] }
+    requires whole { wanted_name program.now ≡ None }
     ensures { IfOk result (OnProgram program.now (source_by source.entry) not_built Generates) }
 {
     match scenario_of(alloc, program, source.scenario)? {

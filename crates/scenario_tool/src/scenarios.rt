@@ -1,6 +1,7 @@
 //! The scenario that a word names in a program that was loaded.
 
-ghost use Rattle.std.specs.Prelude.{◌≡◌, ◌≢◌, [], ℕ, List, IfOk, Some, option_copied, option_map};
+ghost use Rattle.std.specs.Prelude.{◌≡◌, ◌≢◌, [], ℕ, List, IfOk, None, Some, option_copied, option_map};
+ghost use Rattle.name_scope.specs.FileNumbers.{wanted_name};
 ghost use Rattle.program_load.specs.Loading.{name_at};
 ghost use Rattle.scenario_tool.specs.Found.{IsFound};
 ghost use Rattle.scenario_tool.specs.Programs.{name_in, no_scenario, owner_in};
@@ -27,7 +28,8 @@ pub fn scenario_of<'a>(
     program: &'a Program,
     word: &str,
 ) -> Result<Found<'a>, AllocError>
-    requires { program.now ≢ [] }
+    requires main { program.now ≢ [] }
+    requires whole { wanted_name program.now ≡ None }
     ensures { IfOk result (IsFound program.now word.now) }
 {
     let (owner, name) = owner_and_name(word);
