@@ -1,5 +1,5 @@
 -- The first place at which the library stands.
-use Rattle.std.proofs.Common.{◌≡◌, ◌∙◌, refl, sym, ap, arith, ℕ, zero, suc, ◌+◌, ◌≤◌, ◌<◌, Bool, true, false, cond, List, [], ◌∷◌, Option, Some, None, drop, length}
+use Rattle.std.proofs.Common.{◌≡◌, ◌∙◌, refl, sym, ap, arith, ℕ, zero, suc, ◌+◌, ◌≤◌, ◌<◌, Bool, true, false, cond, List, [], ◌∷◌, Option, Some, None, drop, length, add-one}
 use Rattle.std.specs.Prelude.{slice_get}
 use Rattle.std.specs.Option.{option_map_or}
 use Rattle.name_scope.specs.Declaring.{first_place}
@@ -19,7 +19,7 @@ first_from test (suc n) m [] h = cc
 first_from test (suc n) m (x ∷ xs) h = first_from test n m xs h
 
 later_from : {X : Type 0} (test : X → Bool) (n m : ℕ) (xs : List X) → option_map_or test (slice_get xs n) false ≡ false
-    → first_place test m (drop n xs) ≡ first_place test (m + 1) (drop (n + 1) xs)
+    → first_place test m (drop n xs) ≡ first_place test (m + 1) (drop (suc n) xs)
 later_from test zero m [] h = refl
 later_from test zero m (x ∷ xs) h = ap (λ b. cond b (Some m) (first_place test (m + 1) xs)) h
 later_from test (suc n) m [] h = refl
@@ -31,7 +31,7 @@ found_there test xs n before h = sym (first_from test n n xs h) ∙ before
 
 pub not_there : {X : Type 0} (test : X → Bool) (xs : List X) (n : ℕ) → first_place test n (drop n xs) ≡ first_place test 0 xs → option_map_or test (slice_get xs n) false ≡ false
     → first_place test (n + 1) (drop (n + 1) xs) ≡ first_place test 0 xs
-not_there test xs n before h = sym (later_from test n n xs h) ∙ before
+not_there test xs n before h = ap (λ k. first_place test (n + 1) (drop k xs)) (add-one n) ∙ sym (later_from test n n xs h) ∙ before
 
 pub nowhere : {X : Type 0} (test : X → Bool) (xs : List X) (n : ℕ) → first_place test n (drop n xs) ≡ first_place test 0 xs → slice_get xs n ≡ None
     → None ≡ first_place test 0 xs

@@ -8,9 +8,9 @@ use Rattle.type_heads.specs.Types.{Do, Field, Member, TypeBody, Written}
 use Rattle.program_texts.specs.SeenTexts.{seen_member}
 use Rattle.program_texts.specs.declared.texts.TypeText.{TypeText}
 
--- one name of a field
-abbrev pub field_named : FieldTree → ℕ → List ℕ → Ident → Field
-field_named tree holder under name = record { name = name; tree = tree; holder = holder; under = under }
+-- one name of the field that a member declares
+abbrev pub field_named : FieldTree → Member → Ident → Field
+field_named tree m name = record { name = name; tree = tree; holder = m.holder; under = m.under }
 
 -- the fields that a member declares
 abbrev pub fields_in : Member → List Field

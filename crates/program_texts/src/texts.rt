@@ -1,13 +1,13 @@
 //! The fields, the `do` and the text of each type.
 
-ghost use Rattle.std.specs.Prelude.{◌≡◌, ◌++◌, [], None, map, option_map, slice_index_or, IfOk, OnOk};
+ghost use Rattle.std.specs.Prelude.{◌≡◌, ◌++◌, None, map, option_copied, option_map, slice_index_or, IfOk, OnOk};
 ghost use Rattle.dsl_tree.specs.Views.{field_tree};
 ghost use Rattle.type_heads.specs.Bodied.{seen_body, seen_written};
 ghost use Rattle.type_heads.specs.Members.{fields_among};
 ghost use Rattle.type_heads.specs.Types.{Types};
 ghost use Rattle.type_members.specs.Listed.{lists_of, seen_listed};
 ghost use Rattle.program_texts.specs.Rows.{body_text, do_among, do_in, field_named, fields_in, seen_text, written_tree};
-ghost use Rattle.program_texts.specs.SeenTexts.{AreMembersOf, HasTextsOf, no_text, seen_do, seen_field, seen_member};
+ghost use Rattle.program_texts.specs.SeenTexts.{AreMembersOf, HasTextsOf, seen_do, seen_field, seen_member};
 
 use crate::ProgramMembers;
 use dsl_tree::{FieldDecl, Ident, Member, Phase};
@@ -24,24 +24,21 @@ const NOWHERE: Place = Place {
     token: 0,
 };
 
-/// A field of a type: its name, its declaration, the type in whose text that stands, and the conditional subtypes that
-/// it is under, outermost first.
+/// A field of a type: its name, its declaration, and the member that declares it. That tells the type in whose text it
+/// stands, and the conditional subtypes that it is under, outermost first.
 #[derive(Clone, Copy)]
 pub struct TypeField<'a> {
     pub name: &'a Ident,
     pub decl: &'a FieldDecl,
-    pub holder: TypeId,
-    pub under: &'a [TypeId],
+    pub member: &'a ListedMember<'a>,
 }
 
-/// The `do` of a scenario: the type in whose text it stands, its place, its phase, and the conditional subtypes that it
-/// is under.
+/// The `do` of a scenario: its place, its phase, and the member that it is.
 #[derive(Clone, Copy)]
 pub struct TypeDo<'a> {
-    pub holder: TypeId,
     pub place: Place,
     pub phase: &'a Phase,
-    pub under: &'a [TypeId],
+    pub member: &'a ListedMember<'a>,
 }
 
 /// The text of a type: the place of its name, and the members of its declaration and then of its extensions.
@@ -58,24 +55,21 @@ pub struct ProgramTexts<'a> {
     pub fields: Vec<Row<TypeField<'a>>>,
     pub dos: Vec<Option<TypeDo<'a>>>,
     pub texts: Vec<TypeText<'a>>,
+    /// What a number that no type has is told.
+    pub no_fields: Row<TypeField<'a>>,
+    pub no_text: TypeText<'a>,
 }
 
 /// Puts a field of each name at the end.
 fn push_names<'a>(
     into: &mut Vec<TypeField<'a>>,
     decl: &'a FieldDecl,
-    holder: TypeId,
-    under: &'a [TypeId],
+    member: &'a ListedMember<'a>,
 ) -> Result<(), AllocError>
-    ensures { OnOk result (map seen_field into.new.items ≡ map seen_field into.old.items ++ map (field_named (field_tree decl.entry.now) holder under.entry.now) decl.entry.now.names) }
+    ensures { OnOk result (map seen_field into.new.items ≡ map seen_field into.old.items ++ map (field_named (field_tree decl.entry.now) (seen_listed member.entry.now)) decl.entry.now.names) }
 {
     for name in decl.names.as_slice() {
-        into.push(TypeField {
-            name,
-            decl,
-            holder,
-            under,
-        })?;
+        into.push(TypeField { name, decl, member })?;
     }
     Ok(())
 }
@@ -88,7 +82,7 @@ fn push_fields<'a>(
     ensures { OnOk result (map seen_field into.new.items ≡ map seen_field into.old.items ++ fields_in (seen_listed member.entry.now)) }
 {
     match member.written.member {
-        Member::Field(decl) => push_names(into, decl, member.holder, member.under.as_slice()),
+        Member::Field(decl) => push_names(into, decl, member),
         Member::Rule(_) => Ok(()),
         Member::Do { .. } => Ok(()),
     }
@@ -116,10 +110,9 @@ fn do_of<'a>(member: &'a ListedMember<'a>) -> Option<TypeDo<'a>>
         Member::Field(_) => None,
         Member::Rule(_) => None,
         Member::Do { place, phase } => Some(TypeDo {
-            holder: member.holder,
             place: *place,
             phase,
-            under: member.under.as_slice(),
+            member,
         }),
     }
 }
@@ -217,46 +210,35 @@ impl<'a> ProgramTexts<'a> {
             fields,
             dos,
             texts,
+            no_fields: Row::new(alloc),
+            no_text: TypeText {
+                place: NOWHERE,
+                members: Row::new(alloc),
+            },
         })
     }
 
     /// The fields of a type, name by name.
     pub fn fields(&self, of: TypeId) -> &[TypeField<'a>]
-        ensures { result.now ≡ slice_index_or self.now.fields.items of [] }
+        ensures { result.now ≡ slice_index_or self.now.fields.items of self.now.no_fields }
     {
-        match self.fields.get(of.0 as usize) {
-            Some(fields) => fields.as_slice(),
-            None => &[],
-        }
+        self.fields
+            .get(of.0 as usize)
+            .unwrap_or(&self.no_fields)
+            .as_slice()
     }
 
     /// The `do` of a type, its own or an inherited one.
-    pub fn the_do(&self, of: TypeId) -> Option<TypeDo<'a>>
-        ensures { result ≡ slice_index_or self.now.dos.items of None }
+    pub fn the_do(&self, of: TypeId) -> Option<&TypeDo<'a>>
+        ensures { option_copied result ≡ slice_index_or self.now.dos.items of None }
     {
-        match self.dos.get(of.0 as usize) {
-            Some(found) => *found,
-            None => None,
-        }
+        self.dos.get(of.0 as usize)?.as_ref()
     }
 
-    /// The place of the name of a type.
-    pub fn place(&self, of: TypeId) -> Place
-        ensures { result ≡ (slice_index_or self.now.texts.items of no_text).place }
+    /// The text of a type.
+    pub fn text(&self, of: TypeId) -> &TypeText<'a>
+        ensures { result.now ≡ slice_index_or self.now.texts.items of self.now.no_text }
     {
-        match self.texts.get(of.0 as usize) {
-            Some(text) => text.place,
-            None => NOWHERE,
-        }
-    }
-
-    /// The members in the text of a type.
-    pub fn members(&self, of: TypeId) -> &[&'a Member]
-        ensures { result.now ≡ (slice_index_or self.now.texts.items of no_text).members }
-    {
-        match self.texts.get(of.0 as usize) {
-            Some(text) => text.members.as_slice(),
-            None => &[],
-        }
+        self.texts.get(of.0 as usize).unwrap_or(&self.no_text)
     }
 }
