@@ -7,18 +7,25 @@ use Rattle.osc_base.specs.declared.fault.FaultCode.{FaultCode}
 use Rattle.osc_base.specs.declared.fault.Fault.{Fault}
 use Rattle.command_words.specs.Shared.{Source}
 use Rattle.dsl_tree.specs.Views.{file_tree}
-use Rattle.name_scope.specs.FileNumbers.{AddedFile}
+use Rattle.name_scope.specs.FileNumbers.{AddedFile, wanted_name}
 use Rattle.type_heads.specs.Types.{Types}
 use Rattle.named_scenario.specs.Found.{IsNamed}
 use Rattle.named_scenario.specs.Naming.{fault_in, scenario_in, types_in}
 use Rattle.named_scenario.specs.declared.named.NamedScenario.{NamedScenario}
 use Rattle.program_load.specs.declared.stop.Refusal.{Refusal}
-use Rattle.program_load.specs.Loading.{name_at}
+use Rattle.program_load.specs.Loading.{name_at, next_name}
 use Rattle.scenario_tool.specs.declared.replies.Reply.{Reply}
 use Rattle.scenario_tool.specs.Found.{OnScenario}
 use Rattle.scenario_tool.specs.Programs.{faulty_at, first_refusal, name_in, no_scenario, owner_in, scenario_named, scenario_refusal}
 use Rattle.scenario_tool.specs.Replies.{fault_of, refused_source}
 use Rattle.scenario_tool.specs.Answers.{OnProgram, faulty, sound}
+
+-- ---- Programs that were loaded
+
+-- no further file is asked for
+pub loaded_whole : (main : List ℕ) (program : List AddedFile) → next_name main program ≡ None → wanted_name program ≡ None
+loaded_whole main [] next = refl
+loaded_whole main (f ∷ fs) next = next
 
 -- ---- The end of the main file
 
