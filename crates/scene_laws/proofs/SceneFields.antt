@@ -7,7 +7,8 @@ use Rattle.type_heads.specs.DeclaredTypes.{types_of}
 use Rattle.composition.specs.declared.setting.Setting.{Setting}
 use Rattle.composition.specs.Slots.{slot_names}
 use Rattle.composition.specs.Items.{items}
-use Rattle.composition.specs.Expanded.{scene}
+use Rattle.composition.specs.Expansion.{expansion}
+use Rattle.composition.specs.Expanded.{scene_from, scene}
 use Rattle.composition.specs.SceneFaults.{object_count, most_slots, most_rules}
 use Rattle.composition.specs.Invariants.{are_texts}
 use Rattle.dsl_tree.specs.FileTree.{DeclarationTree, MemberTree}
@@ -15,6 +16,7 @@ use Rattle.type_heads.specs.DeclaredTypes.{Placed, placed}
 use Rattle.field_flatten.proofs.Tests.{left_of, all_at, all_from}
 use Rattle.scene_laws.specs.Premises.{is_formed, is_written, is_spelled, is_spelled_program}
 use Rattle.scene_laws.specs.SceneLaws.{ScenesHaveRanges, ScenesAreFew, TypedAreSound, ConditionsAreGrounded, ConditionsAreSmall}
+use Rattle.expansion_laws.proofs.SceneCounts.{fewer_rules}
 use Rattle.scene_laws.proofs.FaultRows.{no_left, no_right, no_faults}
 use Rattle.scene_laws.proofs.LowestTerms.{below}
 use Rattle.scene_laws.proofs.IsSound.{scalar_values}
@@ -66,14 +68,25 @@ few n most h l = less n (2 ^ 32) (step n most (2 ^ 32) (below most n h) l)
     step : (a b c : ℕ) → a ≤ b → b < c → a < c
     step a b c p q = omega (arith, p, q)
 
+no_more : (n m most : ℕ) → m ≤ n → nat_lt most n ≡ false → nat_lt most m ≡ false
+no_more n m most l h = above m most (under n most (below most n h) l)
+  where
+    above : (a b : ℕ) → a ≤ b → nat_lt b a ≡ false
+    above a b p = grind arith
+
+    under : (n most : ℕ) → n ≤ most → m ≤ n → m ≤ most
+    under n most p q = omega (arith, p, q)
+
 pub scenes_are_few : ScenesAreFew
 scenes_are_few ts t setting h =
-    let sc = scene ts t setting in
-    let slots = no_right (nat_lt most_slots (object_count sc)) _ h in
-    let rules = no_right (nat_lt most_slots (length (slot_names sc))) _ slots in
+    let whole = scene_from ts setting (expansion ts t) in
+    let slots = no_right (nat_lt most_slots (object_count whole)) _ h in
+    let rules = no_right (nat_lt most_slots (length (slot_names whole))) _ slots in
     record {
-      few_slots = few (length (slot_names sc)) most_slots (no_left (nat_lt most_slots (length (slot_names sc))) _ slots) (omega arith);
-      few_rules = few (length (items sc)) most_rules (no_left (nat_lt most_rules (length (items sc))) _ rules) (omega arith);
+      few_slots = few (length (slot_names whole)) most_slots (no_left (nat_lt most_slots (length (slot_names whole))) _ slots) (omega arith);
+      few_rules =
+      few (length (items (scene ts t setting))) most_rules
+      (no_more (length (items whole)) (length (items (scene ts t setting))) most_rules (fewer_rules whole) (no_left (nat_lt most_rules (length (items whole))) _ rules)) (omega arith);
     }
 
 pub typed_are_sound : TypedAreSound
