@@ -1,0 +1,8 @@
+pub mod Turning
+pub mod WalkSteps
+pub mod NodesDone
+pub mod Limits
+pub mod ReadRows
+pub mod WholeScenes
+pub mod OverlapKinds
+pub mod SpotTotals
