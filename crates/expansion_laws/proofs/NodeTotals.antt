@@ -39,6 +39,9 @@ total_sum : {X : Type 0} (f g : X → ℕ) (xs : List X) → total (λ x. f x + 
 total_sum f g [] = omega arith
 total_sum {X} f g (x ∷ xs) = let more : total (λ (x : X). f x + g x) xs ≡ total f xs + total g xs = total_sum f g xs in omega arith
 
+last_counted : (f : Node → ℕ) (xs ys : List Node) (n : Node) → total f xs ≡ total f ys → total f (xs ++ n ∷ []) ≡ total f (n ∷ ys)
+last_counted f xs ys n same = let both : total f (xs ++ n ∷ []) ≡ total f xs + total f (n ∷ []) = total_append f xs (n ∷ []) in omega (arith, same, both)
+
 -- both orders count as many
 mutual
   pub closed_total : (f : Node → ℕ) (ts : Types) (e : Expansion) → total f (closed_of ts e) ≡ total f (nodes_of ts e)
@@ -53,9 +56,6 @@ mutual
   closed_totals f ts (Part part others) =
       total_append f (closed_of ts part) (closed_in ts others) ∙ ap₂ (λ n m. n + m) (closed_total f ts part) (closed_totals f ts others)
       ∙ sym (total_append f (nodes_of ts part) (nodes_in ts others))
-
-  last_counted : (f : Node → ℕ) (xs ys : List Node) (n : Node) → total f xs ≡ total f ys → total f (xs ++ n ∷ []) ≡ total f (n ∷ ys)
-  last_counted f xs ys n same = let both : total f (xs ++ n ∷ []) ≡ total f xs + total f (n ∷ []) = total_append f xs (n ∷ []) in omega (arith, same, both)
 
 module _ (last : ℕ) (before after : List Node) (alike : (f : Node → ℕ) → total f after ≡ total f before) where
   objects_are : total spot_objects (spots_laid before) ≡ total node_objects before
