@@ -1,7 +1,7 @@
 pub mod Turning
 pub mod WalkSteps
 pub mod NodesDone
-pub mod Limits
+pub mod CountLimits
 pub mod ReadRows
 pub mod WholeScenes
 pub mod OverlapKinds

@@ -2,18 +2,18 @@
 #![tactic(auto)]
 
 mod counts;
-mod expand;
 mod laid;
 mod layout;
 mod limits;
+mod named;
 mod readable;
 mod reads;
-mod whole;
 mod walk;
+mod whole;
 mod work;
 
 pub use counts::Counts;
-pub use expand::{ExpandStop, expand};
 pub use layout::Layout;
+pub use named::{ExpandStop, expand};
 pub use walk::MOST_WORKS;
 pub use work::{Call, Work};

@@ -1,6 +1,6 @@
 //! A named scenario, laid out as a scene.
 
-ghost use Rattle.std.specs.Prelude.{◌≡◌, ◌×◌, None, Some, false, true, option_copied, option_map, IfErr, IfOk, MatchOption};
+ghost use Rattle.std.specs.Prelude.{◌≡◌, None, Some, false, true, option_copied, option_map, IfErr, IfOk, MatchOption};
 ghost use Rattle.osc_base.specs.FaultRows.{first_fault};
 ghost use Rattle.osc_base.specs.Stops.{OnStop};
 ghost use Rattle.composition.specs.Expanded.{scene};
