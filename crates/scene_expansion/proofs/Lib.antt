@@ -4,5 +4,6 @@ pub mod NodesDone
 pub mod CountLimits
 pub mod ReadRows
 pub mod WholeScenes
+pub mod NamedScenes
 pub mod OverlapKinds
 pub mod SpotTotals
