@@ -1,4 +1,0 @@
-pub mod SeenWorks
-pub mod Walks
-pub mod AllCounts
-pub mod Readable
