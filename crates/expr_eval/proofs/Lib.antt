@@ -9,3 +9,5 @@ pub mod SoundLaw
 pub mod NarrowNodes
 pub mod TypedForms
 pub mod DivisorLaws
+pub mod LowestTerms
+pub mod ConstantValues

@@ -1,10 +1,11 @@
 -- The value of a divisor, if it is constant.
-use Rattle.std.specs.Prelude.{◌&&◌, Bool, false, not, cond, Option, Some, None, option_map}
+use Rattle.std.specs.Prelude.{◌&&◌, Bool, true, false, not, cond, Option, Some, None, option_map}
 use Rattle.osc_base.specs.Number.{Number}
 use Rattle.osc_base.specs.Fraction.{value}
 use Rattle.expr_nodes.specs.Typed.{Typed}
 use Rattle.expr_nodes.specs.Sizes.{size, divided, is_wide}
 use Rattle.expr_nodes.specs.Operators.{is_constant, constant_value, is_zero}
+use Rattle.expr_nodes.specs.Sound.{is_sound}
 use Rattle.expr_eval.specs.declared.divisor.Divisor.{Divisor}
 
 -- the number that a divisor stands for
@@ -25,3 +26,8 @@ is_zero_value (Some n) = is_zero n
 abbrev pub is_wide_by : Option Typed → Option Number → Bool
 is_wide_by (Some x) (Some n) = not (is_zero n) && is_wide (divided (size x) n)
 is_wide_by _ _ = false
+
+-- a part is sound, if it is there
+abbrev pub sound_part : Option Typed → Bool
+sound_part None = true
+sound_part (Some t) = is_sound t

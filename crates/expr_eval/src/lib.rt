@@ -1,4 +1,4 @@
-//! Whole expressions: their first fault and their typed form.
+//! Whole expressions: their first fault, their typed form and their value.
 #![tactic(auto)]
 
 mod checks;
@@ -11,4 +11,5 @@ mod typing;
 
 pub use checks::checked;
 pub use expr_nodes::parts::Checked;
+pub use expr_value::{Reading, value};
 pub use typing::{TypeStop, type_of};

@@ -1,10 +1,12 @@
 //! Nodes of two parts that are known.
 
-ghost use Rattle.std.specs.Prelude.{IfOk};
+ghost use Rattle.std.specs.Prelude.{◌≡◌, true, IfOk};
 ghost use Rattle.dsl_tree.specs.ExprTree.{ExprTree};
 ghost use Rattle.type_heads.specs.Table.{Table};
 ghost use Rattle.expr_nodes.specs.Scope.{Scope};
 ghost use Rattle.expr_nodes.specs.Checks.{IsChecked};
+ghost use Rattle.expr_nodes.specs.Seen.{seen_part};
+ghost use Rattle.expr_eval.specs.DivisorValues.{sound_part};
 ghost use Rattle.expr_eval.specs.NodePairs.{row_node, pair_node};
 
 use crate::quotients::factored;
@@ -42,6 +44,7 @@ fn in_row(
     left: Checked,
     right: Checked,
 ) -> Result<Checked, AllocError>
+    requires { sound_part (seen_part right.typed) ≡ true }
     ensures { IfOk result (λ c. (table : Table) (sc : Scope) (a b : ExprTree) → IsChecked table sc a left → IsChecked table sc b right → IsChecked table sc (row_node level place operator a b) c) }
 {
     match level {
@@ -60,6 +63,7 @@ pub(crate) fn paired(
     left: Checked,
     right: Checked,
 ) -> Result<Checked, AllocError>
+    requires { sound_part (seen_part right.typed) ≡ true }
     ensures { IfOk result (λ c. (table : Table) (sc : Scope) (a b : ExprTree) → IsChecked table sc a left → IsChecked table sc b right → IsChecked table sc (pair_node pair place a b) c) }
 {
     match pair {

@@ -16,9 +16,10 @@ ghost use Rattle.expr_nodes.specs.Scope.{Scope};
 ghost use Rattle.expr_nodes.specs.Sizes.{size, divided, is_wide};
 ghost use Rattle.expr_nodes.specs.Parts.{on_two};
 ghost use Rattle.expr_nodes.specs.Operators.{is_zero as zero, constant_at as constant_node, constant_value as value_of_constant, exponents_in, reciprocal as one_over, reciprocal_of, product_of, quotient_exponents, quotient_rows, quotient_typed, factor_rows, factor_typed};
+ghost use Rattle.expr_nodes.specs.Sound.{is_sound};
 ghost use Rattle.expr_nodes.specs.Seen.{seen, seen_kind, seen_part};
 ghost use Rattle.expr_nodes.specs.Checks.{IsChecked};
-ghost use Rattle.expr_eval.specs.DivisorValues.{seen_divisor, divisor_value, is_zero_value, is_wide_by};
+ghost use Rattle.expr_eval.specs.DivisorValues.{seen_divisor, divisor_value, is_zero_value, is_wide_by, sound_part};
 
 use crate::divisor::Divisor;
 use dsl_tree::Operator;
@@ -30,12 +31,10 @@ use expr_nodes::quotients::{are_past_limits, is_varying};
 use expr_nodes::size::gcd;
 use expr_nodes::steps::with_parts;
 use expr_nodes::{Typed, ValueKind};
+use expr_value::constant;
 use osc_base::{Boxed, Fault, FaultCode, Fraction, Place};
 use std::alloc::{AllocError, Global};
 use units_si::Exponents;
-
-/// The greatest part of a constant, 2^120.
-const MOST: u128 = 0x100_0000_0000_0000_0000_0000_0000_0000;
 
 /// The exponents of a number without a unit.
 const NO_EXPONENTS: Exponents = Exponents {
@@ -57,56 +56,45 @@ fn bottom_of(number: &Fraction) -> u128
     number.den.unsigned_abs()
 }
 
-/// A number in lowest terms. One whose parts pass 2^120 counts as out of memory; the constants of a source don't.
-fn lowest(number: &Fraction) -> Result<Divisor, AllocError>
-    ensures { IfOk result (λ d. value d.number ≡ lowest_terms number.now.num (unsigned_abs number.now.den)) }
+/// A number in lowest terms.
+fn lowest(number: &Fraction) -> Divisor
+    requires top { unsigned_abs number.now.num ≤ 2 ^ 120 }
+    requires bottom { unsigned_abs number.now.den ≤ 2 ^ 120 }
+    ensures { value result.number ≡ lowest_terms number.now.num (unsigned_abs number.now.den) }
 {
     let top = number.num.unsigned_abs();
     let bottom = bottom_of(number);
-    if top > MOST || bottom > MOST {
-        return Err(AllocError);
-    }
     let divisor = gcd(top, bottom);
     let shared = (top / divisor) as i128;
     let number = Fraction {
         num: if number.num < 0 { -shared } else { shared },
         den: (bottom / divisor) as i128,
     };
-    Ok(Divisor { number })
+    Divisor { number }
 }
 
-/// The value of a constant. Another constant than a literal counts as out of memory for now.
-fn constant_value(divisor: &Typed) -> Result<Divisor, AllocError>
-    ensures { IfOk result (λ d. value d.number ≡ value_of_constant (seen divisor.now)) }
+/// The value of a constant, in lowest terms.
+fn constant_value(divisor: &Typed) -> Divisor
+    requires { is_sound (seen divisor.now) ≡ true }
+    ensures { value result.number ≡ value_of_constant (seen divisor.now) }
 {
-    match divisor {
-        Typed::Constant { number, .. } => lowest(number),
-        Typed::Read { .. }
-        | Typed::Whole { .. }
-        | Typed::Listed { .. }
-        | Typed::Span { .. }
-        | Typed::Minus { .. }
-        | Typed::Not { .. }
-        | Typed::Joined { .. }
-        | Typed::Implies { .. }
-        | Typed::Relation { .. }
-        | Typed::Within { .. } => Err(AllocError),
-    }
+    lowest(&constant(divisor))
 }
 
 /// The value of a divisor, if it is there and constant.
-fn divisor_of(right: &Option<Boxed<Typed>>) -> Result<Option<Divisor>, AllocError>
-    ensures { IfOk result (λ d. seen_divisor d ≡ divisor_value (seen_part right.now)) }
+fn divisor_of(right: &Option<Boxed<Typed>>) -> Option<Divisor>
+    requires { sound_part (seen_part right.now) ≡ true }
+    ensures { seen_divisor result ≡ divisor_value (seen_part right.now) }
 {
     match right {
         Some(divisor) => {
             if is_constant(divisor.get()) {
-                Ok(Some(constant_value(divisor.get())?))
+                Some(constant_value(divisor.get()))
             } else {
-                Ok(None)
+                None
             }
         }
-        None => Ok(None),
+        None => None,
     }
 }
 
@@ -254,10 +242,11 @@ fn quotient(
     left: Option<Boxed<Typed>>,
     right: Option<Boxed<Typed>>,
 ) -> Result<Checked, AllocError>
+    requires { sound_part (seen_part right) ≡ true }
     ensures fault { IfOk result (λ c. c.fault ≡ first_fault (quotient_rows place (seen_part left) (seen_part right))) }
     ensures typed { IfOk result (λ c. seen_part c.typed ≡ quotient_typed place (seen_part left) (seen_part right)) }
 {
-    let divisor = divisor_of(&right)?;
+    let divisor = divisor_of(&right);
     match quotient_fault(place, &left, &right, &divisor) {
         None => Ok(Checked {
             fault: None,
@@ -278,6 +267,7 @@ fn factor(
     left: Option<Boxed<Typed>>,
     right: Option<Boxed<Typed>>,
 ) -> Result<Checked, AllocError>
+    requires { sound_part (seen_part right) ≡ true }
     ensures fault { IfOk result (λ c. c.fault ≡ first_fault (factor_rows place operator (seen_part left) (seen_part right))) }
     ensures typed { IfOk result (λ c. seen_part c.typed ≡ factor_typed place operator (seen_part left) (seen_part right)) }
 {
@@ -297,6 +287,7 @@ pub(crate) fn factored(
     left: Checked,
     right: Checked,
 ) -> Result<Checked, AllocError>
+    requires { sound_part (seen_part right.typed) ≡ true }
     ensures { IfOk result (λ c. (table : Table) (sc : Scope) (a b : ExprTree) → IsChecked table sc a left → IsChecked table sc b right → IsChecked table sc (ExprTree.Product place operator a b) c) }
 {
     let own = factor(alloc, place, operator, left.typed, right.typed)?;

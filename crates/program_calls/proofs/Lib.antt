@@ -4,7 +4,8 @@ mod HeadNameForms
 mod LabelPaths
 mod ModifierFews
 mod NameForms
-mod PathForms
+pub mod PathForms
+mod PathTests
 mod PhaseLabels
 mod PhaseLists
 mod StepRows

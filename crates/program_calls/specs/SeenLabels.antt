@@ -54,4 +54,4 @@ label_seen_from way l = record { name = l.name; path = l.path; made = l.made; hi
 
 -- a label of the program's own
 abbrev pub seen_phase_label : PhaseLabel → LabelHere
-seen_phase_label l = record { name = l.name.now.text; path = l.place.now.path; way = map seen_turn l.place.now.way; made = seen_made l.made }
+seen_phase_label l = record { name = l.name; path = l.place.path; way = map seen_turn l.place.way; made = seen_made l.made }

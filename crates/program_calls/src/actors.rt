@@ -1,20 +1,22 @@
 //! The actor whose behaviour an invocation calls, and what it calls.
 
 ghost use Rattle.std.specs.Prelude.{◌≡◌, IfOk};
-ghost use Rattle.composition.specs.Calls.{actor_type as actor_in};
+ghost use Rattle.composition.specs.Calls.{actor_type as actor_in, without_labels as scope_without};
 ghost use Rattle.expr_nodes.specs.Checks.{IsChecked};
 ghost use Rattle.expr_nodes.specs.Seen.{seen_part};
 ghost use Rattle.expr_nodes.specs.SeenNames.{seen_scope};
-ghost use Rattle.program_calls.specs.SeenCallees.{actor_tree, head_tree};
+ghost use Rattle.expr_nodes.specs.Typing.{first as first_in, typed as typed_in};
+ghost use Rattle.program_calls.specs.SeenCallees.{actor_tree, called_in, head_tree, seen_callee};
 
-use crate::callees::actor_of;
+use crate::callees::{Callee, actor_of, behaviour_named};
+use crate::owned::owned_behaviour;
 use dsl_tree::{Ident, InvokeHead};
 use expr_nodes::meanings::name;
 use expr_nodes::others::actor;
 use expr_nodes::parts::Checked;
 use expr_nodes::steps::pointed;
 use expr_nodes::{Scope, Typed};
-use osc_base::Boxed;
+use osc_base::{Boxed, Place, Row};
 use std::alloc::{AllocError, Global};
 use type_model::{TypeId, Types};
 
@@ -57,5 +59,62 @@ pub fn actor_type(types: &Types, typed: &Option<Boxed<Typed>>) -> Option<TypeId>
     match typed {
         Some(typed) => actor_of(types, typed.get().info().kind.object_type()?),
         None => None,
+    }
+}
+
+/// The place of the first token of a path to an actor.
+pub fn head_place(head: &InvokeHead) -> Place
+    ensures { result ≡ first_in (head_tree head.now) }
+{
+    match head {
+        InvokeHead::Name(name) => name.place,
+        InvokeHead::Actor(place) => *place,
+    }
+}
+
+/// The scope of a type's text without its labels, in which the paths to actors are read.
+fn without_labels(alloc: Global, holder: TypeId) -> Scope
+    ensures { seen_scope result ≡ scope_without holder }
+{
+    Scope {
+        holder,
+        it: None,
+        labels: Row::new(alloc),
+    }
+}
+
+/// The actor type to which a path in the text of a type leads.
+pub fn resolved_actor(
+    alloc: Global,
+    types: &Types,
+    holder: TypeId,
+    head: &InvokeHead,
+    names: &[Ident],
+) -> Result<Option<TypeId>, AllocError>
+    ensures { IfOk result (λ o. o ≡ actor_in types.now.table.heads (typed_in types.now.table (scope_without holder) (actor_tree head.now names.now))) }
+{
+    let scope = without_labels(alloc, holder);
+    let path = actor_checked(alloc, types, &scope, head, names)?;
+    Ok(actor_type(types, &path.typed))
+}
+
+/// The action or scenario that is called in the text of a type.
+pub fn called(
+    alloc: Global,
+    types: &Types,
+    holder: TypeId,
+    callee: Callee<'_>,
+) -> Result<Option<TypeId>, AllocError>
+    ensures { IfOk result (λ of. of ≡ called_in types.now.table holder (seen_callee callee.entry)) }
+{
+    match callee {
+        Callee::Alone(name) => Ok(behaviour_named(types, name.text.as_str())),
+        Callee::Owned { head, names, name } => {
+            match resolved_actor(alloc, types, holder, head, names)? {
+                Some(actor) => Ok(owned_behaviour(types, name.text.as_str(), actor)),
+                None => Ok(None),
+            }
+        }
+        Callee::NoName(_) => Ok(None),
     }
 }

@@ -6,9 +6,10 @@ ghost use Rattle.dsl_tree.specs.Views.{expr_tree};
 ghost use Rattle.expr_nodes.specs.Names.{is_label as of_label};
 ghost use Rattle.expr_nodes.specs.SeenNames.{label_in, seen_label, seen_scope};
 ghost use Rattle.composition.specs.Uses.{begins_with_label as begins_so};
+ghost use Rattle.program_calls.specs.SeenCallees.{head_tree};
 
 use crate::name_exprs::head_name;
-use dsl_tree::Expr;
+use dsl_tree::{Expr, InvokeHead};
 use expr_nodes::{Label, Scope};
 use type_model::Types;
 
@@ -38,5 +39,15 @@ pub fn begins_with_label(types: &Types, scope: &Scope, expr: &Expr) -> bool
     match head_name(expr) {
         Some(name) => is_label(types, scope, name.text.as_str()),
         None => false,
+    }
+}
+
+/// Whether the path to an actor begins with a label.
+pub fn begins_with_label_at(types: &Types, scope: &Scope, head: &InvokeHead) -> bool
+    ensures { result ≡ begins_so types.now.table (seen_scope scope.now) (head_tree head.now) }
+{
+    match head {
+        InvokeHead::Name(name) => is_label(types, scope, name.text.as_str()),
+        InvokeHead::Actor(_) => false,
     }
 }

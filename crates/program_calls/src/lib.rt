@@ -1,4 +1,5 @@
-//! The `do` of a scenario: its phases, the scopes of its expressions, paths to actors, and the forms of modifiers.
+//! The `do` of a scenario: its phases, its labels, the scopes of its expressions, what its invocations call, and the forms
+//! of modifiers.
 #![tactic(auto)]
 
 mod actors;
@@ -7,17 +8,21 @@ mod few;
 mod first_tokens;
 mod kinds;
 mod label_paths;
+mod labels;
 mod modifier_forms;
 mod name_exprs;
+mod owned;
 mod phases;
 mod scopes;
 
-pub use actors::{actor_checked, actor_type};
+pub use actors::{actor_checked, actor_type, called, head_place, resolved_actor};
 pub use callees::{Callee, actor_of, behaviour_named, callee_of};
 pub use first_tokens::first_place;
 pub use kinds::{is_drive, is_kind_of, is_vehicle};
-pub use label_paths::begins_with_label;
+pub use label_paths::{begins_with_label, begins_with_label_at};
+pub use labels::{invoked, phase_labels};
 pub use modifier_forms::{ModifierForm, is_modifier, modifier_form};
-pub use name_exprs::{head_name, name_of};
+pub use name_exprs::{head_name, is_path, name_of};
+pub use owned::owned_behaviour;
 pub use phases::{PhasePlace, PlacedPhase, Turn, phases_in};
 pub use scopes::{PhaseLabel, labels_from, scope_at};

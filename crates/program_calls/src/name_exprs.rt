@@ -2,6 +2,7 @@
 
 ghost use Rattle.std.specs.Prelude.{◌≡◌, option_copied};
 ghost use Rattle.dsl_tree.specs.Views.{expr_tree};
+ghost use Rattle.expr_nodes.specs.Typing.{is_path as of_path};
 ghost use Rattle.program_calls.specs.NameExprs.{head_in, is_nil, name_in};
 
 use dsl_tree::{Expr, Further, Ident};
@@ -78,5 +79,33 @@ pub fn head_name(expr: &Expr) -> Option<&Ident>
         | Expr::Span { .. }
         | Expr::Listed { .. }
         | Expr::RangeCall { .. } => None,
+    }
+}
+
+/// Whether an expression is a name, `it` or `actor`, with any names and indexes after it. One in brackets is none.
+pub fn is_path(expr: &Expr) -> bool
+    ensures { result ≡ of_path (expr_tree expr.now) }
+{
+    match expr {
+        Expr::Name(_) | Expr::It(_) | Expr::Actor(_) => true,
+        Expr::Dot { head, .. } => is_path(head.get()),
+        Expr::Index { head, .. } => is_path(head.get()),
+        Expr::Or { first, rest } => is_alone(rest) && is_path(first.get()),
+        Expr::And { first, rest } => is_alone(rest) && is_path(first.get()),
+        Expr::Sum { first, rest } => is_alone(rest) && is_path(first.get()),
+        Expr::Product { first, rest } => is_alone(rest) && is_path(first.get()),
+        Expr::Implies { .. }
+        | Expr::Not { .. }
+        | Expr::Relation { .. }
+        | Expr::Minus { .. }
+        | Expr::Number(_)
+        | Expr::Physical { .. }
+        | Expr::Chars { .. }
+        | Expr::Truth { .. }
+        | Expr::EnumName { .. }
+        | Expr::Group { .. }
+        | Expr::Span { .. }
+        | Expr::Listed { .. }
+        | Expr::RangeCall { .. } => false,
     }
 }

@@ -61,6 +61,17 @@ fn copy_way(alloc: Global, way: &[Turn]) -> Result<Row<Turn>, AllocError>
     Ok(copies)
 }
 
+/// An equal place.
+pub(crate) fn copy_place(alloc: Global, place: &PhasePlace) -> Result<PhasePlace, AllocError>
+    ensures path { IfOk result (λ p. p.path ≡ place.now.path) }
+    ensures way { IfOk result (λ p. p.way ≡ place.now.way) }
+{
+    Ok(PhasePlace {
+        path: place.path.copy(alloc)?,
+        way: copy_way(alloc, place.way.as_slice())?,
+    })
+}
+
 /// The way into a member of a composition, which is longer if the composition is a `one_of`.
 fn member_way(
     alloc: Global,

@@ -10,17 +10,16 @@ ghost use Rattle.program_calls.specs.PlacedPhases.{seen_turn};
 ghost use Rattle.program_calls.specs.SeenLabels.{do_labels, label_seen_from, seen_phase_label};
 
 use crate::phases::{PhasePlace, Turn};
-use dsl_tree::Ident;
 use expr_nodes::{It, Label, Made, Scope};
 use osc_base::{Path, Row, Step, Text};
 use std::alloc::{AllocError, Global};
 use type_model::TypeId;
 
 /// A label before a phase, where the phase is, and what it makes.
-#[derive(Clone, Copy)]
-pub struct PhaseLabel<'a> {
-    pub name: &'a Ident,
-    pub place: &'a PhasePlace,
+#[derive(Drop)]
+pub struct PhaseLabel {
+    pub name: Text,
+    pub place: PhasePlace,
     pub made: Made,
 }
 
@@ -98,10 +97,10 @@ fn leads_into(way: &[Turn], other: &[Turn]) -> bool
 }
 
 /// A label, as it is seen from a way.
-fn label_from(alloc: Global, label: &PhaseLabel<'_>, way: &[Turn]) -> Result<Label, AllocError>
+fn label_from(alloc: Global, label: &PhaseLabel, way: &[Turn]) -> Result<Label, AllocError>
     ensures { IfOk result (λ l. seen_label l ≡ label_seen_from (map seen_turn way.now) (seen_phase_label label.now)) }
 {
-    let name = Text::copy(alloc, label.name.text.as_str())?;
+    let name = Text::copy(alloc, label.name.as_str())?;
     let path = label.place.path.copy(alloc)?;
     let hidden = !leads_into(way, label.place.way.as_slice());
     Ok(Label {
@@ -115,7 +114,7 @@ fn label_from(alloc: Global, label: &PhaseLabel<'_>, way: &[Turn]) -> Result<Lab
 /// Labels, as they are seen from a way.
 pub fn labels_from(
     alloc: Global,
-    labels: &[PhaseLabel<'_>],
+    labels: &[PhaseLabel],
     way: &[Turn],
 ) -> Result<Row<Label>, AllocError>
     ensures { IfOk result (λ ls. map seen_label ls ≡ map (label_seen_from (map seen_turn way.now)) (map seen_phase_label labels.now)) }
@@ -133,7 +132,7 @@ pub fn scope_at(
     alloc: Global,
     holder: TypeId,
     it: Option<It>,
-    labels: &[PhaseLabel<'_>],
+    labels: &[PhaseLabel],
     way: &[Turn],
 ) -> Result<Scope, AllocError>
     ensures { IfOk result (λ s. (ts : Types) → map seen_phase_label labels.now ≡ do_labels ts holder → seen_scope s ≡ scope_in ts holder (option_map seen_it it) (map seen_turn way.now)) }

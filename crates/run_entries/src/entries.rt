@@ -50,6 +50,48 @@ impl<'a> Entries<'a> {
         })
     }
 
+    /// The last tick of the run.
+    pub fn end(&self) -> u32
+        ensures { result ≡ (seen_run self.now).end }
+    {
+        self.run.end
+    }
+
+    /// The length of the run's ticks in milliseconds.
+    pub fn tick(&self) -> u32
+        ensures { result ≡ (seen_run self.now).tick }
+    {
+        self.tick
+    }
+
+    /// The choices that the run lists.
+    pub fn choices(&self) -> &[Choice]
+        ensures { result.now ≡ (seen_run self.now).choices }
+    {
+        self.run.choices.as_slice()
+    }
+
+    /// The phases that the run lists.
+    pub fn phases(&self) -> &[Span]
+        ensures { result.now ≡ (seen_run self.now).phases }
+    {
+        self.run.phases.as_slice()
+    }
+
+    /// The traces that the run lists.
+    pub fn traces(&self) -> &[Trace]
+        ensures { result.now ≡ (seen_run self.now).traces }
+    {
+        self.run.traces.as_slice()
+    }
+
+    /// The values that the run lists.
+    pub fn values(&self) -> &[Value]
+        ensures { result.now ≡ (seen_run self.now).values }
+    {
+        self.run.values.as_slice()
+    }
+
     fn choice(&self, path: &Path) -> Option<&Choice>
         ensures { option_copied result ≡ find (λ c. same_path c.path path.now) (seen_run self.now).choices }
     {

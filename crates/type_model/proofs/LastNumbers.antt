@@ -1,5 +1,5 @@
 -- The last of some numbers stands at their end.
-use Rattle.std.proofs.Common.{◌≡◌, ◌∙◌, refl, sym, ap, arith, ℕ, suc, ◌-◌, List, [], ◌∷◌, length, slice_get}
+use Rattle.std.proofs.Common.{◌≡◌, ◌∙◌, refl, ap, arith, ℕ, suc, ◌-◌, List, [], ◌∷◌, length, slice_get}
 use Rattle.type_heads.specs.Told.{last_number}
 
 pub last_is : (ts : List ℕ) → slice_get ts (length ts - 1) ≡ last_number ts

@@ -4,7 +4,7 @@ use Rattle.std.specs.Prelude.{flat_map, fold}
 use Rattle.std.proofs.lemmas.List.{length-map}
 use Rattle.type_heads.specs.Table.{TypeHead, TableField, TableUnit, all_types, numbers_from}
 use Rattle.type_heads.specs.Types.{Program, TypeBody, Member, Types}
-use Rattle.type_heads.specs.Conditions.{Condition, condition}
+use Rattle.type_heads.specs.Conditions.{Condition}
 use Rattle.type_heads.specs.Members.{members_of, table_fields}
 use Rattle.type_heads.specs.Texts.{declaration_exprs, texts_in, texts_of, with_text}
 use Rattle.type_heads.specs.Told.{MemberAt, Told, member_told, told}
@@ -45,54 +45,54 @@ module _ (p : Program) (all : List Placed) (of_program : all ≡ placed p)
     (heads : List TypeHead) (same_heads : heads ≡ all_heads all)
     (bodies : List TypeBody) (same_bodies : bodies ≡ all_bodies all)
     (lists : List (List Member)) (same_lists : lists ≡ map (members_of heads bodies) (all_types heads))
-    where
+  where
+    types_are : types_from p (all_heads (placed p)) (all_bodies (placed p)) ≡ types_of p
+    unfolding all_heads all_bodies types_of
+    types_are = refl
 
-  types_are : types_from p (all_heads (placed p)) (all_bodies (placed p)) ≡ types_of p
-  unfolding all_heads all_bodies types_of
-  types_are = refl
+    from_parts : types_from p heads bodies ≡ types_of p
+    from_parts =
+        ap (λ hs. types_from p hs bodies) (same_heads ∙ ap all_heads of_program)
+        ∙ ap (types_from p (all_heads (placed p))) (same_bodies ∙ ap all_bodies of_program)
+        ∙ types_are
 
-  from_parts : types_from p heads bodies ≡ types_of p
-  from_parts =
-      ap (λ hs. types_from p hs bodies) (same_heads ∙ ap all_heads of_program)
-      ∙ ap (types_from p (all_heads (placed p))) (same_bodies ∙ ap all_bodies of_program)
-      ∙ types_are
-
-  pub have_parts : HaveParts heads bodies lists (types_of p)
-  have_parts =
-      (ap (λ (ts : Types). ts.table.heads) (sym from_parts),
+    pub have_parts : HaveParts heads bodies lists (types_of p)
+    have_parts = (
+      ap (λ (ts : Types). ts.table.heads) (sym from_parts),
       ap (λ (ts : Types). ts.bodies) (sym from_parts),
-      ap (λ (ts : Types). ts.members) (sym from_parts) ∙ sym same_lists)
+      ap (λ (ts : Types). ts.members) (sym from_parts) ∙ sym same_lists,
+    )
 
-  -- types with these units and texts
-  types_with : List (List Member) → List TableUnit → List (List ℕ) → Types
-  types_with members units texts = record {
-    bodies = bodies;
-    library = p.library;
-    members = members;
-    table = record { heads = heads; fields = map (table_fields heads) members; units = units; texts = texts };
-  }
+    -- types with these units and texts
+    types_with : List (List Member) → List TableUnit → List (List ℕ) → Types
+    types_with members units texts = record {
+      bodies = bodies;
+      library = p.library;
+      members = members;
+      table = record { heads = heads; fields = map (table_fields heads) members; units = units; texts = texts };
+    }
 
-  with_all : (units : List TableUnit) (texts : List (List ℕ)) → units ≡ units_in all → texts ≡ texts_among all → types_with lists units texts ≡ types_of p
-  unfolding types_with types_of
-  with_all units texts same_units same_texts =
-      ap (λ ms. types_with ms units texts) same_lists
-      ∙ ap (λ us. types_with (map (members_of heads bodies) (all_types heads)) us texts) (same_units ∙ ap units_in of_program ∙ program_units p)
-      ∙ ap (types_with (map (members_of heads bodies) (all_types heads)) (units_of p.files)) (same_texts ∙ ap texts_among of_program ∙ program_texts p)
-      ∙ from_parts
+    with_all : (units : List TableUnit) (texts : List (List ℕ)) → units ≡ units_in all → texts ≡ texts_among all → types_with lists units texts ≡ types_of p
+    unfolding types_with types_of
+    with_all units texts same_units same_texts =
+        ap (λ ms. types_with ms units texts) same_lists
+        ∙ ap (λ us. types_with (map (members_of heads bodies) (all_types heads)) us texts) (same_units ∙ ap units_in of_program ∙ program_units p)
+        ∙ ap (types_with (map (members_of heads bodies) (all_types heads)) (units_of p.files)) (same_texts ∙ ap texts_among of_program ∙ program_texts p)
+        ∙ from_parts
 
-  pub told_types : (fields : List (List TableField)) (units : List TableUnit) (texts : List (List ℕ)) (members : List (List MemberAt)) (conditions : List (Option Condition)) →
-      fields ≡ map (table_fields heads) lists → units ≡ units_in all → texts ≡ texts_among all → members ≡ map (map member_told) lists →
-      conditions ≡ map (condition_of heads bodies lists) (all_types heads) →
-      ◌≡◌ {A = Told} (record { table = record { heads = heads; fields = fields; units = units; texts = texts }; members = members; conditions = conditions }) (told (types_of p))
-  unfolding types_with
-  told_types fields units texts members conditions same_fields same_units same_texts same_members same_conditions =
-      ap (λ fs. made fs members conditions) same_fields
-      ∙ ap (λ ms. made (map (table_fields heads) lists) ms conditions) same_members
-      ∙ ap (made (map (table_fields heads) lists) (map (map member_told) lists)) same_conditions
-      ∙ ap told (with_all units texts same_units same_texts)
-    where
-      made : List (List TableField) → List (List MemberAt) → List (Option Condition) → Told
-      made fs ms cs = record { table = record { heads = heads; fields = fs; units = units; texts = texts }; members = ms; conditions = cs }
+    pub told_types : (fields : List (List TableField)) (units : List TableUnit) (texts : List (List ℕ)) (members : List (List MemberAt)) (conditions : List (Option Condition)) →
+        fields ≡ map (table_fields heads) lists → units ≡ units_in all → texts ≡ texts_among all → members ≡ map (map member_told) lists →
+        conditions ≡ map (condition_of heads bodies lists) (all_types heads) →
+        ◌≡◌ {A = Told} (record { table = record { heads = heads; fields = fields; units = units; texts = texts }; members = members; conditions = conditions }) (told (types_of p))
+    unfolding types_with
+    told_types fields units texts members conditions same_fields same_units same_texts same_members same_conditions =
+        ap (λ fs. made fs members conditions) same_fields
+        ∙ ap (λ ms. made (map (table_fields heads) lists) ms conditions) same_members
+        ∙ ap (made (map (table_fields heads) lists) (map (map member_told) lists)) same_conditions
+        ∙ ap told (with_all units texts same_units same_texts)
+      where
+        made : List (List TableField) → List (List MemberAt) → List (Option Condition) → Told
+        made fs ms cs = record { table = record { heads = heads; fields = fs; units = units; texts = texts }; members = ms; conditions = cs }
 
 pub told_parts : (p : Program) (all : List Placed) (of_program : all ≡ placed p) (heads : List TypeHead) (same_heads : heads ≡ all_heads all)
     (entries : List Body) (slice : List Body) → slice ≡ entries → map seen_body entries ≡ all_bodies all → (lists : List (List Member)) → lists ≡ map (members_of heads (map seen_body entries)) (all_types heads) →

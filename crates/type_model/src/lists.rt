@@ -31,10 +31,7 @@ fn declared_lists<'a>(
 /// The members of each type of a program, each with its text, its holder, and all conditional subtypes that it is under.
 ///
 /// Ask for them only if the headings have no fault: types that inherit from themselves have very long lists.
-pub fn member_lists<'a>(
-    alloc: Global,
-    program: &'a Program,
-) -> Result<MemberLists<'a>, AllocError>
+pub fn member_lists<'a>(alloc: Global, program: &'a Program) -> Result<MemberLists<'a>, AllocError>
     ensures { IfOk result (λ lists. lists_of lists ≡ (types_of (program_of program.now)).members) }
 {
     let declarations = Declarations::of(alloc, program)?;

@@ -44,10 +44,7 @@ fn refs(alloc: Global, members: &[ListedMember<'_>]) -> Result<Row<MemberRef>, A
 }
 
 /// Where the members of each type are written.
-pub fn all_refs(
-    alloc: Global,
-    lists: &MemberLists<'_>,
-) -> Result<Vec<Row<MemberRef>>, AllocError>
+pub fn all_refs(alloc: Global, lists: &MemberLists<'_>) -> Result<Vec<Row<MemberRef>>, AllocError>
     ensures { IfOk result (λ all. map (map shown_member) all.items ≡ map (map member_told) (lists_of lists.now)) }
 {
     let mut all = Vec::new(alloc);

@@ -44,7 +44,7 @@ both_numbers k false true = refl
 both_numbers k false false = refl
 
 -- a range of numbers
-range_is : (k : ValueKind) (t : Typed) → range_in k (ends_in t) ≡ (is_span t && (is_number k && not (list_any (λ e. not (is_number (kind e))) (ends_of t))))
+pub range_is : (k : ValueKind) (t : Typed) → range_in k (ends_in t) ≡ (is_span t && (is_number k && not (list_any (λ e. not (is_number (kind e))) (ends_of t))))
 range_is k (Span i low high) = both_numbers (is_number k) (is_number (kind low)) (is_number (kind high))
 range_is k (Constant i number) = refl
 range_is k (Read i path per) = refl

@@ -1,1 +1,2 @@
 mod FitEnds
+mod Widened

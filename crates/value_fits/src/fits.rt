@@ -48,7 +48,7 @@ fn is_alike(kind: &ValueKind, typed: &Typed) -> bool
 }
 
 /// Whether an expression is of the kind, as one value or, if ranges are taken, a range of numbers.
-fn is_kind(target: &Target, typed: &Typed) -> bool
+pub(crate) fn is_kind(target: &Target, typed: &Typed) -> bool
     ensures { result ≡ (is_one_value (seen typed.now) && are_alike (seen_kind target.now.kind) (kind_in (seen typed.now)) || (target.now.ranges && range_in (seen_kind target.now.kind) (ends_in (seen typed.now)))) }
 {
     is_alike(&target.kind, typed) || (target.ranges && is_range_of(&target.kind, typed))
@@ -62,7 +62,7 @@ fn is_apart(kind: &ValueKind, typed: &Typed) -> bool
 }
 
 /// Whether the value or an end of the range has another unit.
-fn has_end_apart(kind: &ValueKind, typed: &Typed) -> bool
+pub(crate) fn has_end_apart(kind: &ValueKind, typed: &Typed) -> bool
     ensures { result ≡ any_end (differs (seen_kind kind.now)) (seen typed.now) (ends_in (seen typed.now)) }
 {
     match ends_of(typed) {
@@ -72,7 +72,7 @@ fn has_end_apart(kind: &ValueKind, typed: &Typed) -> bool
 }
 
 /// Whether a value is too wide beside one of the size.
-fn is_wide_beside(size: &Size, typed: &Typed) -> bool
+pub(crate) fn is_wide_beside(size: &Size, typed: &Typed) -> bool
     ensures { result ≡ is_wide (joined (seen_size size.now) (size_in (seen typed.now))) }
 {
     size.joined(&typed.info().size).is_none()

@@ -10,6 +10,7 @@ use Rattle.expr_eval.specs.declared.pairs.Pair.{Pair}
 use Rattle.expr_eval.specs.ItemChecks.{AreChecked}
 use Rattle.expr_eval.specs.NodePairs.{row_node, pair_node}
 use Rattle.expr_eval.proofs.Passing.{right_known, index_known, name_after, index_after, from_left, from_part, from_named, from_indexed, from_items, from_leaf, from_typed, from_scope}
+use Rattle.expr_eval.proofs.ConstantValues.{part_sound}
 use Rattle.expr_eval.proofs.Rows.{row_more, path_more, items_next}
 use Rattle.expr_eval.proofs.checks.+checks.Goals as goal
 
@@ -96,6 +97,10 @@ unfolding IsWalked
 walked-returns-in_ok-items-in-Listed t c = from_items c.args.types.now.table (seen_scope c.args.scope.now) c.listed.result c.in-Listed.place c.in_ok-items-in-Listed.items (map expr_tree c.as_slice-in-Listed.result.now) (expr_tree c.args.expr.now)
     (ap expr_tree c.in-Listed.is ∙ seen_listed c.in-Listed.place c.in-Listed.items ∙ ap (λ xs. ExprTree.Listed c.in-Listed.place (row_of (map expr_tree xs))) (sym c.as_slice-in-Listed.ensures))
     c.listed.ensures c.in_ok-items-in-Listed.ensures
+
+pub with_right-paired-requires : goal.with_right-paired-requires
+unfolding IsWalked
+with_right-paired-requires t c = part_sound c.args.types.now.table (seen_scope c.args.scope.now) (expr_tree c.args.right.now) c.in_ok-right.right.typed c.in_ok-right.ensures.1
 
 pub with_right-returns : goal.with_right-returns
 unfolding IsWalked

@@ -11,7 +11,7 @@ nonzero_div-number c = subst (λ n. 0 < n) (sym c.gcd-divisor.ensures) (gcd_abov
 
 pub invariant_of-number : goal.invariant_of-number
 invariant_of-number c = record {
-  positive = share_stored c.bottom_of-bottom.result c.gcd-divisor.result (omega arith)
+  positive = share_stored c.bottom_of-bottom.result c.gcd-divisor.result (omega (arith, c.requires.bottom, c.bottom_of-bottom.ensures.value))
       (subst (λ g. 0 < c.bottom_of-bottom.result / g) (sym c.gcd-divisor.ensures)
       (share_above c.unsigned_abs-top.result c.bottom_of-bottom.result c.bottom_of-bottom.ensures.above));
 }

@@ -31,8 +31,9 @@ pub returns-clause-types : goal.returns-clause-types
 returns-clause-types c =
     let all = all_of c.args.declarations.now in
     let bodies = map seen_body c.as_slice-entries.result.now in
-    λ p same.
-    (c.in_ok-types.ensures p same,
-    c.requires.sound p same,
-    c.in_ok-refuse_members.ensures.sound (types_of p)
-    (have_parts p all same c.args.heads c.requires.same_heads bodies (ap (map seen_body) c.as_slice-entries.ensures.value ∙ c.requires.same_bodies.0) (lists_of c.in_ok-lists.lists) c.in_ok-lists.ensures))
+    λ p same. (
+      c.in_ok-types.ensures p same,
+      c.requires.sound p same,
+      c.in_ok-refuse_members.ensures.sound (types_of p)
+          (have_parts p all same c.args.heads c.requires.same_heads bodies (ap (map seen_body) c.as_slice-entries.ensures.value ∙ c.requires.same_bodies.0) (lists_of c.in_ok-lists.lists) c.in_ok-lists.ensures),
+    )

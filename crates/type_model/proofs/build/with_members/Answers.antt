@@ -1,7 +1,5 @@
-use Rattle.std.proofs.Common.{◌∙◌, ap, map}
-use Rattle.type_heads.specs.Bodied.{seen_body}
+use Rattle.std.proofs.Common.{◌∙◌}
 use Rattle.type_heads.specs.Gathered.{all_of}
-use Rattle.type_heads.specs.Shown.{shown_member}
 use Rattle.type_members.specs.Listed.{lists_of}
 use Rattle.type_model.proofs.SoundForms.{kept}
 use Rattle.type_model.proofs.TypeParts.{told_parts}

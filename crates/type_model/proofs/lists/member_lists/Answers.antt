@@ -1,6 +1,5 @@
-use Rattle.std.proofs.Common.{◌∙◌, refl}
+use Rattle.std.proofs.Common.{◌∙◌}
 use Rattle.std.proofs.lemmas.Result.{IfOk-weaker}
-use Rattle.type_heads.specs.Bodied.{all_bodies}
 use Rattle.type_heads.specs.DeclaredTypes.{program_of}
 use Rattle.type_heads.specs.Gathered.{all_of}
 use Rattle.type_model.proofs.TypeParts.{program_lists}

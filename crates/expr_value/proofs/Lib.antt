@@ -1,0 +1,10 @@
+pub mod Falls
+pub mod Bounds
+pub mod Shapes
+pub mod SoundParts
+pub mod RowSteps
+pub mod NodeCounts
+pub mod Scales
+pub mod Worths
+pub mod HeldParts
+pub mod ValueLaws

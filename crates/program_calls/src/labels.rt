@@ -1,0 +1,102 @@
+//! The labels of a `do`, and what their phases make.
+
+ghost use Rattle.std.specs.Prelude.{◌≡◌, map, option_copied, IfOk};
+ghost use Rattle.dsl_tree.specs.Views.{phase_tree};
+ghost use Rattle.composition.specs.Calls.{callee, label_of as label_before};
+ghost use Rattle.expr_nodes.specs.Seen.{seen_made};
+ghost use Rattle.program_calls.specs.PlacedPhases.{seen_phase};
+ghost use Rattle.program_calls.specs.SeenCallees.{called_in};
+ghost use Rattle.program_calls.specs.SeenLabels.{labelled as label_with, labels_here, made_in, made_of, seen_phase_label};
+
+use crate::PhaseLabel;
+use crate::actors::called;
+use crate::callees::callee_of;
+use crate::phases::{PlacedPhase, copy_place};
+use dsl_tree::{Ident, InvokeNode, Phase};
+use expr_nodes::Made;
+use osc_base::Text;
+use std::alloc::{AllocError, Global};
+use type_model::{TypeId, Types};
+
+/// The action or scenario that an invocation in the text of a type invokes.
+pub fn invoked(
+    alloc: Global,
+    types: &Types,
+    holder: TypeId,
+    invocation: &InvokeNode,
+) -> Result<Option<TypeId>, AllocError>
+    ensures { IfOk result (λ of. of ≡ called_in types.now.table holder (callee invocation.now.head invocation.now.names)) }
+{
+    let callee = callee_of(&invocation.head, invocation.names.as_slice());
+    called(alloc, types, holder, callee)
+}
+
+/// What an invocation makes, given the type that it invokes.
+fn made_by(of: Option<TypeId>) -> Made
+    ensures { seen_made result ≡ made_of of }
+{
+    match of {
+        Some(of) => Made::Makes(of),
+        None => Made::Unknown,
+    }
+}
+
+/// What a phase in the text of a type makes.
+fn made(alloc: Global, types: &Types, holder: TypeId, phase: &Phase) -> Result<Made, AllocError>
+    ensures { IfOk result (λ m. seen_made m ≡ made_in types.now.table holder (phase_tree phase.now)) }
+{
+    match phase {
+        Phase::Comp(_) | Phase::Wait(_) => Ok(Made::Nothing),
+        Phase::Invoke(invocation) => {
+            let of = invoked(alloc, types, holder, invocation)?;
+            Ok(made_by(of))
+        }
+    }
+}
+
+/// The label before a phase.
+fn label_of(phase: &Phase) -> Option<&Ident>
+    ensures { option_copied result ≡ label_before (phase_tree phase.now) }
+{
+    match phase {
+        Phase::Comp(comp) => comp.label.as_ref(),
+        Phase::Invoke(invocation) => invocation.label.as_ref(),
+        Phase::Wait(wait) => wait.label.as_ref(),
+    }
+}
+
+/// The label of that name before a phase in the text of a type.
+fn labelled(
+    alloc: Global,
+    types: &Types,
+    holder: TypeId,
+    placed: &PlacedPhase<'_>,
+    name: &Ident,
+) -> Result<PhaseLabel, AllocError>
+    ensures { IfOk result (λ l. seen_phase_label l ≡ label_with types.now.table holder (seen_phase placed.now) name.now) }
+{
+    let made = made(alloc, types, holder, placed.phase)?;
+    Ok(PhaseLabel {
+        name: Text::copy(alloc, name.text.as_str())?,
+        place: copy_place(alloc, &placed.place)?,
+        made,
+    })
+}
+
+/// The labels of the phases of a `do` that is written in the text of a type.
+pub fn phase_labels(
+    alloc: Global,
+    types: &Types,
+    holder: TypeId,
+    phases: &[PlacedPhase<'_>],
+) -> Result<Vec<PhaseLabel>, AllocError>
+    ensures { IfOk result (λ labels. map seen_phase_label labels.items ≡ labels_here types.now.table holder (map seen_phase phases.now)) }
+{
+    let mut labels = Vec::new(alloc);
+    for placed in phases {
+        if let Some(name) = label_of(placed.phase) {
+            labels.push(labelled(alloc, types, holder, placed, name)?)?;
+        }
+    }
+    Ok(labels)
+}

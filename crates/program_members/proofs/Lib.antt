@@ -1,0 +1,2 @@
+pub mod ProgramLists
+pub mod FirstLibrary

@@ -1,3 +1,0 @@
-pub mod TextLaws
-pub mod ProgramLists
-pub mod FirstLibrary

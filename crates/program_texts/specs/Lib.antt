@@ -1,2 +1,0 @@
-pub mod SeenTexts
-pub mod Rows

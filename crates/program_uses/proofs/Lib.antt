@@ -1,0 +1,15 @@
+mod RowSteps
+mod ExprKinds
+mod BareForms
+mod PathSteps
+mod RuleSteps
+mod FieldSteps
+mod ArgumentSteps
+mod CompositionSteps
+mod ModifierSteps
+mod CallSteps
+mod UseLaws
+mod PhaseSteps
+mod InvokedSteps
+mod TextSteps
+mod UsedTexts

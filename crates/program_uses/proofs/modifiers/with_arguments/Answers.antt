@@ -1,0 +1,13 @@
+use Rattle.std.proofs.Common.{flat_map, map, refl}
+use Rattle.osc_base.specs.FaultRows.{first_from}
+use Rattle.dsl_tree.specs.Views.{argument_tree}
+use Rattle.expr_nodes.specs.SeenNames.{seen_scope}
+use Rattle.program_uses.specs.ModifierRows.{compared_rows}
+use Rattle.program_uses.proofs.RowSteps.{each_more}
+use Rattle.program_uses.proofs.modifiers.with_arguments.Goals as goal
+
+pub loop-argument-preserved : goal.loop-argument-preserved
+loop-argument-preserved c =
+    let rows = compared_rows c.args.types.now.table (seen_scope c.args.scope.now) in
+    each_more rows argument_tree c.args.arguments.now c.args.arguments.now c.loop-argument.argument-index refl c.argument-item.result (first_from c.args.first (flat_map rows (map argument_tree c.args.arguments.now)))
+    c.loop-argument.fault c.in_ok-fault.fault c.loop-argument-test.true c.argument-item.is c.in_ok-fault.ensures c.loop-argument.invariant

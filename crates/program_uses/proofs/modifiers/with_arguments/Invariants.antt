@@ -1,0 +1,11 @@
+use Rattle.std.proofs.Common.{◌≡◌, drop, flat_map, map}
+use Rattle.osc_base.specs.FaultRows.{first_from}
+use Rattle.dsl_tree.specs.Views.{argument_tree}
+use Rattle.expr_nodes.specs.SeenNames.{seen_scope}
+use Rattle.program_uses.specs.ModifierRows.{compared_rows}
+use Rattle.program_uses.proofs.modifiers.with_arguments.Given as goal
+
+abbrev pub invariant-loop-argument : goal.invariant-loop-argument
+invariant-loop-argument l =
+    let rows = compared_rows l.types.table (seen_scope l.scope) in
+    first_from l.fn.first (flat_map rows (map argument_tree l.arguments)) ≡ first_from l.fault (flat_map rows (map argument_tree (drop l.argument-index l.arguments)))

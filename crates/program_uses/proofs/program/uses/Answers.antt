@@ -1,0 +1,16 @@
+use Rattle.std.proofs.Common.{◌∙◌, ap, map}
+use Rattle.std.proofs.lemmas.Result.{IfOk-weaker}
+use Rattle.type_heads.specs.Bodied.{seen_body}
+use Rattle.type_heads.specs.DeclaredTypes.{program_of, types_of}
+use Rattle.type_heads.specs.Told.{Told}
+use Rattle.program_uses.proofs.program.uses.Goals as goal
+
+pub returns : goal.returns
+returns c =
+    IfOk-weaker c.first_use_fault.result _ _
+    (λ f is. is (types_of (program_of c.args.program.now))
+    (ap (λ (t : Told). t.table) c.requires.built)
+    c.in_ok-members.ensures.same_library
+    (ap (map seen_body) c.as_slice.ensures.value ∙ c.in_ok-members.ensures.same_bodies)
+    c.in_ok-members.ensures.same_lists)
+    c.first_use_fault.ensures

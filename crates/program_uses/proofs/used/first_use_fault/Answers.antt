@@ -1,0 +1,16 @@
+use Rattle.std.proofs.Common.{◌≡◌, map}
+use Rattle.osc_base.specs.FaultRows.{first_fault}
+use Rattle.type_heads.specs.Bodied.{seen_body}
+use Rattle.type_heads.specs.Types.{Types}
+use Rattle.type_members.specs.Listed.{lists_of}
+use Rattle.composition.specs.Uses.{use_rows}
+use Rattle.program_uses.specs.SeenTexts.{Tells}
+use Rattle.program_uses.proofs.RowSteps.{if_ok}
+use Rattle.program_uses.proofs.used.first_use_fault.Goals as goal
+
+pub returns : goal.returns
+returns c =
+    if_ok (λ f. (ts : Types) → Tells ts c.args.types.now c.in_ok-texts.texts → f ≡ first_fault (use_rows ts))
+    (λ f. (ts : Types) → c.args.types.now.table ≡ ts.table → c.args.library ≡ ts.library → map seen_body c.args.bodies.now ≡ ts.bodies → lists_of c.args.lists.now ≡ ts.members → f ≡ first_fault (use_rows ts))
+    (λ f is ts table library bodies same. is ts (record { table = table; texts = c.in_ok-texts.ensures ts library bodies same }))
+    c.first_of_all.result c.first_of_all.ensures

@@ -1,0 +1,11 @@
+pub mod TableTypes
+pub mod ExprParts
+pub mod RuleRows
+pub mod FieldRows
+pub mod SeenTexts
+pub mod ArgumentRows
+pub mod CompositionRows
+pub mod ModifierRows
+pub mod PhaseRows
+pub mod InvokedTypes
+pub mod GatheredLists

@@ -1,0 +1,22 @@
+//! The first fault of uses: of constraints, initial values, arguments, phases and modifiers, wherever they are written.
+#![tactic(auto)]
+
+mod arguments;
+mod calls;
+mod compositions;
+mod expr_parts;
+mod fields;
+mod gathered;
+mod held;
+mod invocations;
+mod modifiers;
+mod paths;
+mod phases;
+mod program;
+mod program_texts;
+mod rules;
+mod texts;
+mod used;
+
+pub use program::uses;
+pub use used::first_use_fault;

@@ -1,0 +1,122 @@
+//! The faults of all text: of the members of each type, where they are written.
+
+ghost use Rattle.std.specs.Prelude.{◌≡◌, None, IfOk};
+ghost use Rattle.osc_base.specs.FaultRows.{first_from};
+ghost use Rattle.dsl_tree.specs.Views.{member_tree};
+ghost use Rattle.type_heads.specs.Types.{Types as TypesOf};
+ghost use Rattle.expr_nodes.specs.SeenNames.{seen_scope};
+ghost use Rattle.composition.specs.Calls.{scope_at as scope_in};
+ghost use Rattle.composition.specs.Uses.{member_use_rows, text_rows};
+ghost use Rattle.std.specs.Prelude.{[], flat_map, map};
+ghost use Rattle.type_heads.specs.Table.{all_types};
+ghost use Rattle.program_calls.specs.SeenLabels.{do_labels, seen_phase_label};
+ghost use Rattle.type_heads.specs.Bodied.{seen_written};
+ghost use Rattle.program_uses.specs.SeenTexts.{Tells, written_rows};
+
+use crate::fields::with_field;
+use crate::phases::with_phases;
+use crate::program_texts::ProgramTexts;
+use crate::rules::with_rule;
+use dsl_tree::Member;
+use expr_nodes::Scope;
+use osc_base::Fault;
+use program_calls::{PhaseLabel, phase_labels, phases_in, scope_at};
+use std::alloc::{AllocError, Global};
+use type_heads::WrittenMember;
+use type_model::{TypeId, Types};
+
+/// Faults of a member in the text of a type. The scope is that of the text, and is left as it was.
+fn with_member<'a>(
+    alloc: Global,
+    types: &Types,
+    texts: &ProgramTexts<'a>,
+    labels: &[PhaseLabel],
+    of: TypeId,
+    scope: &mut Scope,
+    first: Option<Fault>,
+    member: &'a Member,
+) -> Result<Option<Fault>, AllocError>
+    ensures faults { IfOk result (λ f. (ts : TypesOf) → Tells ts types.now texts.now → map seen_phase_label labels.now ≡ do_labels ts of → seen_scope scope.old ≡ scope_in ts of None [] → f ≡ first_from first (member_use_rows ts of (member_tree member.entry.now))) }
+    ensures scope { IfOk result (λ f. scope.new ≡ scope.old) }
+{
+    match member {
+        Member::Field(field) => with_field(alloc, types, scope, first, field),
+        Member::Rule(rule) => with_rule(alloc, types, scope, first, rule),
+        Member::Do { phase, .. } => { with_phases(alloc, types, texts, labels, of, first, phase) }
+    }
+}
+
+/// Faults of members in the text of a type. The labels are those of the type's `do`.
+fn with_members<'a>(
+    alloc: Global,
+    types: &Types,
+    texts: &ProgramTexts<'a>,
+    labels: &[PhaseLabel],
+    of: TypeId,
+    first: Option<Fault>,
+    members: &[WrittenMember<'a>],
+) -> Result<Option<Fault>, AllocError>
+    ensures { IfOk result (λ f. (ts : TypesOf) → Tells ts types.now texts.now → map seen_phase_label labels.now ≡ do_labels ts of → f ≡ first_from first (flat_map (written_rows ts of) (map seen_written members.now))) }
+{
+    let mut scope = scope_at(alloc, of, None, labels, &[])?;
+    let mut fault = first;
+    for written in members {
+        let member = written.member;
+        fault = with_member(alloc, types, texts, labels, of, &mut scope, fault, member)?;
+    }
+    Ok(fault)
+}
+
+/// Faults of the text of a type, given the labels of its `do`.
+fn with_labelled(
+    alloc: Global,
+    types: &Types,
+    texts: &ProgramTexts<'_>,
+    labels: &[PhaseLabel],
+    first: Option<Fault>,
+    of: TypeId,
+) -> Result<Option<Fault>, AllocError>
+    ensures { IfOk result (λ f. (ts : TypesOf) → Tells ts types.now texts.now → map seen_phase_label labels.now ≡ do_labels ts of → f ≡ first_from first (text_rows ts of)) }
+{
+    let declared = with_members(alloc, types, texts, labels, of, first, texts.own(of))?;
+    let found = with_members(alloc, types, texts, labels, of, declared, texts.more(of))?;
+    Ok(found)
+}
+
+/// Faults of the text of a type.
+fn with_text(
+    alloc: Global,
+    types: &Types,
+    texts: &ProgramTexts<'_>,
+    first: Option<Fault>,
+    of: TypeId,
+) -> Result<Option<Fault>, AllocError>
+    ensures { IfOk result (λ f. (ts : TypesOf) → Tells ts types.now texts.now → f ≡ first_from first (text_rows ts of)) }
+{
+    match texts.the_do(of) {
+        Some(found) => {
+            let phases = phases_in(alloc, found.phase)?;
+            let placed = phases.as_slice();
+            let all = phase_labels(alloc, types, TypeId(found.holder), placed)?;
+            let labels = all.as_slice();
+            with_labelled(alloc, types, texts, labels, first, of)
+        }
+        None => with_labelled(alloc, types, texts, &[], first, of),
+    }
+}
+
+/// Faults of the text of all types.
+pub(crate) fn with_texts(
+    alloc: Global,
+    types: &Types,
+    texts: &ProgramTexts<'_>,
+    first: Option<Fault>,
+) -> Result<Option<Fault>, AllocError>
+    ensures { IfOk result (λ f. (ts : TypesOf) → Tells ts types.now texts.now → f ≡ first_from first (flat_map (text_rows ts) (all_types ts.table.heads))) }
+{
+    let mut fault = first;
+    for number in 0..types.count() {
+        fault = with_text(alloc, types, texts, fault, TypeId(number))?;
+    }
+    Ok(fault)
+}

@@ -1,0 +1,65 @@
+//! The first fault of uses, given the bodies and the members of all types.
+
+ghost use Rattle.std.specs.Prelude.{◌≡◌, map, IfOk};
+ghost use Rattle.osc_base.specs.FaultRows.{first_fault};
+ghost use Rattle.type_heads.specs.Bodied.{seen_body};
+ghost use Rattle.type_heads.specs.Types.{Types as TypesOf};
+ghost use Rattle.type_members.specs.Listed.{lists_of};
+ghost use Rattle.composition.specs.Uses.{use_rows};
+ghost use Rattle.program_uses.specs.SeenTexts.{HasTextsOf, Tells};
+
+use crate::gathered::{all_dos, all_fields};
+use crate::invocations::with_invocations;
+use crate::program_texts::ProgramTexts;
+use crate::texts::with_texts;
+use osc_base::Fault;
+use std::alloc::{AllocError, Global};
+use type_heads::Body;
+use type_members::MemberLists;
+use type_model::Types;
+
+/// The fields, the `do` and the body of each type.
+fn texts_of<'a>(
+    alloc: Global,
+    library: Option<u32>,
+    bodies: &'a [Body<'a>],
+    lists: &'a MemberLists<'a>,
+) -> Result<ProgramTexts<'a>, AllocError>
+    ensures { IfOk result (λ t. (ts : TypesOf) → library ≡ ts.library → map seen_body bodies.entry.now ≡ ts.bodies → lists_of lists.entry.now ≡ ts.members → HasTextsOf ts t) }
+{
+    let rows = lists.rows();
+    let fields = all_fields(alloc, rows)?;
+    let dos = all_dos(alloc, rows)?;
+    Ok(ProgramTexts {
+        library,
+        fields,
+        dos,
+        bodies,
+    })
+}
+
+/// The first fault of all uses.
+fn first_of_all(
+    alloc: Global,
+    types: &Types,
+    texts: &ProgramTexts<'_>,
+) -> Result<Option<Fault>, AllocError>
+    ensures { IfOk result (λ f. (ts : TypesOf) → Tells ts types.now texts.now → f ≡ first_fault (use_rows ts)) }
+{
+    let written = with_texts(alloc, types, texts, None)?;
+    with_invocations(alloc, types, texts, written)
+}
+
+/// The first fault of all uses, given the number of the library's file, the bodies and the members of all types.
+pub fn first_use_fault(
+    alloc: Global,
+    types: &Types,
+    library: Option<u32>,
+    bodies: &[Body<'_>],
+    lists: &MemberLists<'_>,
+) -> Result<Option<Fault>, AllocError>
+    ensures { IfOk result (λ f. (ts : TypesOf) → types.now.table ≡ ts.table → library ≡ ts.library → map seen_body bodies.now ≡ ts.bodies → lists_of lists.now ≡ ts.members → f ≡ first_fault (use_rows ts)) }
+{
+    let texts = texts_of(alloc, library, bodies, lists)?;
+    first_of_all(alloc, types, &texts)
+}
