@@ -11,6 +11,6 @@ returns c =
     (λ f is. is (types_of (program_of c.args.program.now))
     (ap (λ (t : Told). t.table) c.requires.built)
     c.in_ok-members.ensures.same_library
-    (ap (map seen_body) c.as_slice.ensures.value ∙ c.in_ok-members.ensures.same_bodies)
+    (ap (map seen_body) c.as_slice-bodies.ensures.value ∙ c.in_ok-members.ensures.same_bodies)
     c.in_ok-members.ensures.same_lists)
     c.first_use_fault.ensures
