@@ -4,7 +4,7 @@ use Rattle.scenario_tool.proofs.Named.{loaded_whole}
 use Rattle.scenario_tool.proofs.top.reply_to_generate.Goals as goal
 
 pub generate-requires-clause-whole : goal.generate-requires-clause-whole
-generate-requires-clause-whole g c = loaded_whole c.args.asked.source.file.now c.in-Ok.program c.in-Ok.ensures.answer.2.whole
+generate-requires-clause-whole g c = loaded_whole _ c.in-Ok.program c.in-Ok.ensures.answer.2.whole
 
 pub returns-in-Ok-clause-reply : goal.returns-in-Ok-clause-reply
 returns-in-Ok-clause-reply g c = loaded_reply (g.H.Shelf.files c.args.shelf.now) (asked_by c.args.asked) _ _ c.in-Ok.program c.generate.result
