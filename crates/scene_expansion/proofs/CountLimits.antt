@@ -105,12 +105,12 @@ module _ (ts : Types) (works : List OwnWork) (last : ℕ) where
 
       by : (most_slots < a) ⊎ (a ≤ most_slots) → (most_slots < b) ⊎ (b ≤ most_slots) → (most_rules < c) ⊎ (c ≤ most_rules) → (most_tokens < d) ⊎ (d ≤ most_tokens)
           → is_past (a + more) (b + less) (c + rest) (d + fewer) ≡ true
-      by (inl p) q r s = first _ _ _ _ (grown most_slots a more p)
-      by (inr p) (inl q) r s = second _ _ _ _ (grown most_slots b less q)
-      by (inr p) (inr q) (inl r) s = third _ _ _ _ (grown most_rules c rest r)
-      by (inr p) (inr q) (inr r) (inl s) = fourth _ _ _ _ (grown most_tokens d fewer s)
+      by (inl p) q r s = first (nat_lt most_slots (a + more)) (nat_lt most_slots (b + less)) (nat_lt most_rules (c + rest)) (nat_lt most_tokens (d + fewer)) (grown most_slots a more p)
+      by (inr p) (inl q) r s = second (nat_lt most_slots (a + more)) (nat_lt most_slots (b + less)) (nat_lt most_rules (c + rest)) (nat_lt most_tokens (d + fewer)) (grown most_slots b less q)
+      by (inr p) (inr q) (inl r) s = third (nat_lt most_slots (a + more)) (nat_lt most_slots (b + less)) (nat_lt most_rules (c + rest)) (nat_lt most_tokens (d + fewer)) (grown most_rules c rest r)
+      by (inr p) (inr q) (inr r) (inl s) = fourth (nat_lt most_slots (a + more)) (nat_lt most_slots (b + less)) (nat_lt most_rules (c + rest)) (nat_lt most_tokens (d + fewer)) (grown most_tokens d fewer s)
       by (inr p) (inr q) (inr r) (inr s) =
-          let not : is_past a b c d ≡ false = none _ _ _ _ (lt_fails most_slots a p) (lt_fails most_slots b q) (lt_fails most_rules c r) (lt_fails most_tokens d s) in
+          let not : is_past a b c d ≡ false = none (nat_lt most_slots a) (nat_lt most_slots b) (nat_lt most_rules c) (nat_lt most_tokens d) (lt_fails most_slots a p) (lt_fails most_slots b q) (lt_fails most_rules c r) (lt_fails most_tokens d s) in
           absurd (cc (h, not))
 
   past_with : (nodes more : List Node) → pass_limits last nodes ≡ true → pass_limits last (nodes ++ more) ≡ true

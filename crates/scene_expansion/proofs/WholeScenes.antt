@@ -32,28 +32,27 @@ module _ (ts : Types) (t : ℕ) (root : Work) (parts : List Work) (is_root : nod
   after_is : whole_after ts root parts ≡ closed_of ts (expansion ts t)
   after_is = ap₂ (λ (n : Node) (ws : List Work). flat_map (closed_for ts) ws ++ n ∷ []) is_root are_parts ∙ sym (root_closed ts t)
 
-  module _ {V E : Type 0} (items : V → List OwnWork) where
-    pub before_all : (r : Result (Option V) E) → IfOk r (λ laid. IfSome laid (λ ws. nodes_done ts (items ws) ≡ whole_before ts root parts))
-        → IfOk r (λ laid. IfSome laid (λ ws. nodes_done ts (items ws) ≡ nodes_of ts (expansion ts t)))
-    before_all (Ok (Some ws)) h = h ∙ before_is
-    before_all (Ok None) h = h
-    before_all (Err e) h = h
+  pub before_all : {V E : Type 0} (r : Result (Option V) E) (items : V → List OwnWork) → IfOk r (λ laid. IfSome laid (λ ws. nodes_done ts (items ws) ≡ whole_before ts root parts))
+      → IfOk r (λ laid. IfSome laid (λ ws. nodes_done ts (items ws) ≡ nodes_of ts (expansion ts t)))
+  before_all (Ok (Some ws)) items h = h ∙ before_is
+  before_all (Ok None) items h = h
+  before_all (Err e) items h = h
 
-    pub before_many : (r : Result (Option V) E) → IfOk r (λ laid. laid ≡ None → 131072 < length (whole_before ts root parts))
-        → IfOk r (λ laid. laid ≡ None → (s : Setting) → is_too_large ts t s ≡ true)
-    before_many (Ok laid) h = λ none s. many_parts ts t s (subst (λ (ns : List Node). 131072 < length ns) before_is (h none))
-    before_many (Err e) h = h
+  pub before_many : {V E : Type 0} (r : Result (Option V) E) (items : V → List OwnWork) → IfOk r (λ laid. laid ≡ None → 131072 < length (whole_before ts root parts))
+      → IfOk r (λ laid. laid ≡ None → (s : Setting) → is_too_large ts t s ≡ true)
+  before_many (Ok laid) items h = λ none s. many_parts ts t s (subst (λ (ns : List Node). 131072 < length ns) before_is (h none))
+  before_many (Err e) items h = h
 
-    pub after_all : (r : Result (Option V) E) → IfOk r (λ laid. IfSome laid (λ ws. nodes_done ts (items ws) ≡ whole_after ts root parts))
-        → IfOk r (λ laid. IfSome laid (λ ws. nodes_done ts (items ws) ≡ closed_of ts (expansion ts t)))
-    after_all (Ok (Some ws)) h = h ∙ after_is
-    after_all (Ok None) h = h
-    after_all (Err e) h = h
+  pub after_all : {V E : Type 0} (r : Result (Option V) E) (items : V → List OwnWork) → IfOk r (λ laid. IfSome laid (λ ws. nodes_done ts (items ws) ≡ whole_after ts root parts))
+      → IfOk r (λ laid. IfSome laid (λ ws. nodes_done ts (items ws) ≡ closed_of ts (expansion ts t)))
+  after_all (Ok (Some ws)) items h = h ∙ after_is
+  after_all (Ok None) items h = h
+  after_all (Err e) items h = h
 
-    pub after_many : (r : Result (Option V) E) → IfOk r (λ laid. laid ≡ None → 131072 < length (whole_after ts root parts))
-        → IfOk r (λ laid. laid ≡ None → (s : Setting) → is_too_large ts t s ≡ true)
-    after_many (Ok laid) h = λ none s. many_parts_after ts t s (subst (λ (ns : List Node). 131072 < length ns) after_is (h none))
-    after_many (Err e) h = h
+  pub after_many : {V E : Type 0} (r : Result (Option V) E) (items : V → List OwnWork) → IfOk r (λ laid. laid ≡ None → 131072 < length (whole_after ts root parts))
+      → IfOk r (λ laid. laid ≡ None → (s : Setting) → is_too_large ts t s ≡ true)
+  after_many (Ok laid) items h = λ none s. many_parts_after ts t s (subst (λ (ns : List Node). 131072 < length ns) after_is (h none))
+  after_many (Err e) items h = h
 
 -- ---- the scene
 
