@@ -5,5 +5,3 @@ pub mod CountLimits
 pub mod ReadRows
 pub mod WholeScenes
 pub mod NamedScenes
-pub mod OverlapKinds
-pub mod SpotTotals
