@@ -10,11 +10,7 @@ use osc_base::Row;
 
 impl Scene {
     /// The scene with these constraints and modifiers in place of its own.
-    pub fn with_asked(
-        self,
-        occurrences: Row<Occurrence>,
-        modifiers: Row<ModifierSpot>,
-    ) -> Scene
+    pub fn with_asked(self, occurrences: Row<Occurrence>, modifiers: Row<ModifierSpot>) -> Scene
         ensures { seen_scene result ≡ scene_of self.spots self.bindings occurrences modifiers self.setting self.texts }
     {
         Scene {

@@ -19,7 +19,6 @@ in_has n ns i = any_from (nat_eq n) ns n i (number_self n)
 
 -- ---- distinct numbers below a bound
 
-
 zero_more : (n : ℕ) → 0 ≤ n
 zero_more n = omega arith
 
@@ -69,7 +68,7 @@ pub few_below : (n : ℕ) (xs : List ℕ) → Pairs Differ xs → ((x : ℕ) →
 few_below zero xs p f = none_below xs f
 few_below (suc n) xs p f =
     let rest = few_below n (filter (λ x. not (nat_eq x n)) xs) (pairs_filter n xs p)
-        (λ x i. let g = in_filter (λ x. not (nat_eq x n)) xs x i in lower x n (f x g.0) g.1) in
+    (λ x i. let g = in_filter (λ x. not (nat_eq x n)) xs x i in lower x n (f x g.0) g.1) in
     chain_le (length xs) (length (filter (λ x. not (nat_eq x n)) xs)) n (one_less n xs p) rest
 
 -- ---- what is new
@@ -81,6 +80,7 @@ fresh_in seen (x ∷ xs) y i = by (has x seen) refl i (fresh_in seen xs y) (fres
     or_left : (a b : Bool) → a || b ≡ false → b ≡ false
     or_left true b h = absurd (true≢false h)
     or_left false b h = h
+
     by : (b : Bool) → has x seen ≡ b → In y (cond b (fresh seen xs) (x ∷ fresh (x ∷ seen) xs)) → (In y (fresh seen xs) → In y xs × (has y seen ≡ false)) → (In y (fresh (x ∷ seen) xs) → In y xs × (has y (x ∷ seen) ≡ false))
         → In y (x ∷ xs) × (has y seen ≡ false)
     by true e j f g = let r = f j in (inr r.0, r.1)
@@ -135,6 +135,7 @@ module _ (count : ℕ) (step : ℕ → List ℕ) (bounded : (x y : ℕ) → In y
       more : (zs : List ℕ) → length zs + 1 ≤ length (zs ++ y ∷ ys)
       more [] = omega arith
       more (z ∷ zs) = let r = more zs in omega (arith, r)
+
       by : (a b : ℕ) → a + 1 ≤ b → suc c ≤ suc a + 1 → suc c ≤ suc b + 0
       by a b p q = omega (arith, p, q)
   length_more (x ∷ xs) y ys (suc n) c h = by (length xs) (length (xs ++ y ∷ ys)) (more xs) h
@@ -142,6 +143,7 @@ module _ (count : ℕ) (step : ℕ → List ℕ) (bounded : (x y : ℕ) → In y
       more : (zs : List ℕ) → length zs + 1 ≤ length (zs ++ y ∷ ys)
       more [] = omega arith
       more (z ∷ zs) = let r = more zs in omega (arith, r)
+
       by : (a b : ℕ) → a + 1 ≤ b → suc c ≤ suc a + suc (suc n) → suc c ≤ suc b + suc n
       by a b p q = omega (arith, p, q)
 
@@ -161,19 +163,19 @@ module _ (count : ℕ) (step : ℕ → List ℕ) (bounded : (x y : ℕ) → In y
       let more = flat_map step (z ∷ zs) in
       let next = fresh seen more in
       let r = rounds_closed n seen next
-          (pairs_append Differ seen next p (fresh_pairs seen more) (λ x y i j same. true≢false (sym (in_has y seen (subst (λ k. In k seen) same i)) ∙ (fresh_in seen more y j).1)))
-          (λ x i. elim (in_either x seen next i) as (λ _. x < count) [
-            | inl j ↦ b x j
-            | inr j ↦ let g = flat_map_in step (z ∷ zs) x (fresh_in seen more x j).0 in bounded g.0 x g.2
-          ])
-          (λ x y i j. elim (in_either x found (z ∷ zs) i) as (λ _. In y (seen ++ next)) [
-            | inl k ↦ in_left y seen next (c x y k j)
-            | inr k ↦ elim (fresh_has seen more y (in_flat_map step (z ∷ zs) x y k j)) as (λ _. In y (seen ++ next)) [
-              | inl m ↦ in_left y seen next m
-              | inr m ↦ in_right y seen next m
-            ]
-          ])
-          (length_more found z zs n count l) in
+      (pairs_append Differ seen next p (fresh_pairs seen more) (λ x y i j same. true≢false (sym (in_has y seen (subst (λ k. In k seen) same i)) ∙ (fresh_in seen more y j).1)))
+      (λ x i. elim (in_either x seen next i) as (λ _. x < count) [
+        | inl j ↦ b x j
+        | inr j ↦ let g = flat_map_in step (z ∷ zs) x (fresh_in seen more x j).0 in bounded g.0 x g.2
+      ])
+      (λ x y i j. elim (in_either x found (z ∷ zs) i) as (λ _. In y (seen ++ next)) [
+        | inl k ↦ in_left y seen next (c x y k j)
+        | inr k ↦ elim (fresh_has seen more y (in_flat_map step (z ∷ zs) x y k j)) as (λ _. In y (seen ++ next)) [
+          | inl m ↦ in_left y seen next m
+          | inr m ↦ in_right y seen next m
+        ]
+      ])
+      (length_more found z zs n count l) in
       record { starts = λ y i. r.starts y (in_left y seen next i); steps = r.steps }
 
   -- what is reached from some numbers
@@ -184,6 +186,7 @@ module _ (count : ℕ) (step : ℕ → List ℕ) (bounded : (x y : ℕ) → In y
     where
       whole : (c : ℕ) → suc c ≤ 0 + suc c
       whole c = omega arith
+
       found : (y : ℕ) → In y [] ⊎ In y (fresh [] start) → In y (fresh [] start)
       found y (inl i) = absurd i
       found y (inr i) = i

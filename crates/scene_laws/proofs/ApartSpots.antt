@@ -219,7 +219,7 @@ module _ (ts : Types) (names : (t : ℕ) → Pairs NamesDiffer (fields ts t)) (f
       let y = do_within phase q j in
       let paths : base.steps ++ (p.path.steps ++ v.0) ≡ base.steps ++ (q.path.steps ++ w.0) = sym v.2 ∙ ap (λ z. z.steps) same ∙ w.2 in
       let inner : (Name do_text ∷ x.0) ++ v.0 ≡ (Name do_text ∷ y.0) ++ w.0 =
-          ap (λ l. l ++ v.0) (sym x.2) ∙ cancelled base.steps (p.path.steps ++ v.0) (q.path.steps ++ w.0) paths ∙ ap (λ l. l ++ w.0) y.2 in
+      ap (λ l. l ++ v.0) (sym x.2) ∙ cancelled base.steps (p.path.steps ++ v.0) (q.path.steps ++ w.0) paths ∙ ap (λ l. l ++ w.0) y.2 in
       let runs : x.0 ≡ y.0 = runs_same x.0 y.0 v.0 w.0 x.1 y.1 v.1 w.1 (tail_same (Name do_text) (Name do_text) (x.0 ++ v.0) (y.0 ++ w.0) inner) in
       absurd (differ (ap path_of (x.2 ∙ ap (λ l. Name do_text ∷ l) runs ∙ sym y.2)))
 
@@ -253,6 +253,7 @@ module _ (ts : Types) (names : (t : ℕ) → Pairs NamesDiffer (fields ts t)) (f
             by (inl f) = subst (AtPhase base p) (sym (ap (λ (z : Spot). z.path) f ∙ here)) at_phase
             by (inr k) = absurd k
         keyed q (inr k) u j = absurd k
+
         each : (q : Expansion) → In q (part ∷ []) → Pairs Apart (spots_of ts q)
         each q (inl e) = subst (λ z. Pairs Apart (spots_of ts z)) (sym e) (subst (Pairs Apart) (sym is) (one_pair Apart s))
         each q (inr k) = absurd k
@@ -262,15 +263,20 @@ module _ (ts : Types) (names : (t : ℕ) → Pairs NamesDiffer (fields ts t)) (f
       where
         part : Expansion
         part = invocation make ts at head names arguments parts of
+
         bound : List Binding
         bound = call_bindings ts at head names arguments of
+
         w : Whole at.path at.guards (make at.path of at.guards (call_bindings ts at head names arguments of))
         w = good at.path of at.guards (call_bindings ts at head names arguments of)
+
         inside : (u : Spot) → In u (spots_of ts (make at.path of at.guards (call_bindings ts at head names arguments of)) ++ []) → IsOf at.path at.guards u
         inside u j = w.of u (nil_in u (spots_of ts (make at.path of at.guards (call_bindings ts at head names arguments of))) j)
+
         key : (u : Spot) → IsOf at.path at.guards u → AtPhase base p u.path
         key u (inl here) = subst (AtPhase base p) (sym here.0) at_phase
         key u (inr b) = below_phase u.path b
+
         keyed : (q : Expansion) → In q (invocation make ts at head names arguments parts of ∷ []) → IsPhasePart base p q
         keyed q (inl e) u j = by (subst (λ z. In u (spots_of ts z)) e j)
           where
@@ -278,13 +284,16 @@ module _ (ts : Types) (names : (t : ℕ) → Pairs NamesDiffer (fields ts t)) (f
             by (inl f) = subst (AtPhase base p) (sym (ap (λ (z : Spot). z.path) f)) at_phase
             by (inr k) = key u (inside u k)
         keyed q (inr k) u j = absurd k
+
         first : (content : Content) → ((v : Bool) → same_sort content (Content.Object v) ≡ false) → (u : Spot) → IsOf at.path at.guards u → Apart (spot at.path at.guards content) u
         first content other u (inl here) same = (ap (same_sort content) here.1.1.1 ∙ other here.1.1.0, sym here.1.0)
         first content other u (inr b) same = absurd (below_not at.path b.0 u.path b.1 same)
+
         each : (q : Expansion) → In q (invocation make ts at head names arguments parts of ∷ []) → Pairs Apart (spots_of ts q)
-        each q (inl e) = subst (λ z. Pairs Apart (spots_of ts z)) (sym e)
-            (λ u j. first (Content.Phase (invoked_kind ts (is_some (the_do ts of))) (invoked_members ts at.path (is_some (the_do ts of)))) (λ v. refl) u (inside u j),
-            nil_right Apart (spots_of ts (make at.path of at.guards (call_bindings ts at head names arguments of))) w.apart)
+        each q (inl e) = subst (λ z. Pairs Apart (spots_of ts z)) (sym e) (
+          λ u j. first (Content.Phase (invoked_kind ts (is_some (the_do ts of))) (invoked_members ts at.path (is_some (the_do ts of)))) (λ v. refl) u (inside u j),
+          nil_right Apart (spots_of ts (make at.path of at.guards (call_bindings ts at head names arguments of))) w.apart,
+        )
         each q (inr k) = absurd k
 
     parts_of_phase : (phase : PhaseTree) → PhaseParts (phase_part make ts at phase)
@@ -330,9 +339,11 @@ module _ (ts : Types) (names : (t : ℕ) → Pairs NamesDiffer (fields ts t)) (f
     do_part part i =
         let m = flat_map_in (do_parts make ts bindings base guards) (option_to_list (the_do ts t)) part i in
         let n = flat_map_in (λ (p : PhaseHere). phase_part make ts (calling bindings base guards m.0 p) p.phase) (phases_in m.0.phase) part m.2 in
-        let f = parts_of_phase make good bindings base guards m.0 n.0 n.0.phase in
-        (λ s j. let k = f.keyed part n.2 s j in let w = do_within m.0.phase n.0 n.1 in
-        (w.0 ++ k.0, k.2 ∙ ap (λ l. base.steps ++ (l ++ k.0)) w.2), f.each part n.2)
+        let f = parts_of_phase make good bindings base guards m.0 n.0 n.0.phase in (
+          λ s j. let k = f.keyed part n.2 s j in let w = do_within m.0.phase n.0 n.1 in
+              (w.0 ++ k.0, k.2 ∙ ap (λ l. base.steps ++ (l ++ k.0)) w.2),
+          f.each part n.2,
+        )
 
     fields_parted : Pairs PartsApart all_fields
     fields_parted = pairs_flat PartsApart NamesDiffer (field_parts make ts bindings base t guards) (fields ts t) (names t)
@@ -356,7 +367,7 @@ module _ (ts : Types) (names : (t : ℕ) → Pairs NamesDiffer (fields ts t)) (f
     all_parted =
         pairs_append PartsApart (actor ++ all_fields) all_dos
         (pairs_append PartsApart actor all_fields first.apart fields_parted
-            (λ x y i j. let f = field_part y j in keyed_apart base (codes "actor") f.0.name.text x y (first.keyed x i) f.2 (λ same. free_apart f.0.name.text (codes "actor") (free t f.0 f.1) (inl refl) (sym same))))
+        (λ x y i j. let f = field_part y j in keyed_apart base (codes "actor") f.0.name.text x y (first.keyed x i) f.2 (λ same. free_apart f.0.name.text (codes "actor") (free t f.0 f.1) (inl refl) (sym same))))
         dos_parted
         (λ x y i j. elim (in_either x actor all_fields i) as (λ _. PartsApart x y) [
           | inl k ↦ keyed_apart base (codes "actor") (codes "do") x y (first.keyed x k) (do_part y j).0 (λ same. true≢false (sym ((bytes_eq-Decides (codes "actor") (codes "do")).1 same)))
@@ -377,8 +388,10 @@ module _ (ts : Types) (names : (t : ℕ) → Pairs NamesDiffer (fields ts t)) (f
       where
         inside : (u : Spot) → In u (spots_in ts (in_row all_parts)) → NamedBelow base u.path
         inside u i = let g = spots_in_row ts all_parts u i in (each_part g.0 g.1).0 u g.2
+
         self : (u : Spot) → NamedBelow base u.path → Apart (spot base guards (Content.Object (is_vehicle ts t))) u
         self u b same = absurd (below_not base b.0 u.path b.1 same)
+
         of : (s : Spot) → In s (spots_of ts (Object base t guards (in_row all_parts) own)) → IsOf base guards s
         of s (inl e) = inl (ap (λ (z : Spot). z.path) e, (ap (λ (z : Spot). z.guards) e, (is_vehicle ts t, ap (λ (z : Spot). z.content) e)))
         of s (inr i) = inr (inside s i)
@@ -401,6 +414,7 @@ module _ (ts : Types) (names : (t : ℕ) → Pairs NamesDiffer (fields ts t)) (f
     where
       at : Path
       at = then_name root (codes "actor")
+
       by : (o : Option ℕ) → ActorParts root (map (λ a. expand_within (length ts.table.heads) ts (then_name root (codes "actor")) a [] [] []) (option_to_list o))
       by None = no_actor root
       by (Some a) = let p = object_parts root (codes "actor") (λ q of conditions bound. expand_within (length ts.table.heads) ts q of conditions bound []) (λ q of conditions bound. whole_within (length ts.table.heads) q of conditions bound [] (no_actor q)) a [] in

@@ -98,10 +98,12 @@ pick_choice = record { here = λ s c e. here s.path s.content c e; one = λ s c 
     at : (p : Path) (b : Bool) (n : ℕ) (c : ChoiceSpot) → cond b (Some (record { path = p; members = n })) None ≡ Some c → c.path ≡ p
     at p true n c e = let same : record { path = p; members = n } ≡ c = cc in sym (ap (λ (z : ChoiceSpot). z.path) same)
     at p false n c e = cc
+
     here : (p : Path) (content : Content) (c : ChoiceSpot) → choice_spot p content ≡ Some c → c.path ≡ p
     here p (Content.Phase k ms) c e = at p (is_one_of k) (length ms) c e
     here p (Content.Object v) c e = cc
     here p (Content.Value r) c e = cc
+
     one : (p : Path) (content : Content) (c : ChoiceSpot) → choice_spot p content ≡ Some c → is_phase_content content ≡ true
     one p (Content.Phase k ms) c e = refl
     one p (Content.Object v) c e = cc
@@ -114,6 +116,7 @@ pick_value = record { here = λ s c e. here s.path s.content c e; one = λ s c e
     here p (Content.Value r) c e = let same : record { path = p; range = r } ≡ c = cc in sym (ap (λ (z : ValueSpot). z.path) same)
     here p (Content.Object v) c e = cc
     here p (Content.Phase k ms) c e = cc
+
     one : (p : Path) (content : Content) (c : ValueSpot) → value_spot p content ≡ Some c → is_value_content content ≡ true
     one p (Content.Value r) c e = refl
     one p (Content.Object v) c e = cc
@@ -126,6 +129,7 @@ pick_phase = record { here = λ s c e. here s.path s.content c e; one = λ s c e
     here p (Content.Phase k ms) c e = let same : record { path = p; kind = k; members = ms } ≡ c = cc in sym (ap (λ (z : PhaseSpot). z.path) same)
     here p (Content.Object v) c e = cc
     here p (Content.Value r) c e = cc
+
     one : (p : Path) (content : Content) (c : PhaseSpot) → phase_spot p content ≡ Some c → is_phase_content content ≡ true
     one p (Content.Phase k ms) c e = refl
     one p (Content.Object v) c e = cc
@@ -137,10 +141,12 @@ pick_vehicle = record { here = λ s c e. here s.path s.content c e; one = λ s c
     at : (p : Path) (b : Bool) (c : Path) → cond b (Some p) None ≡ Some c → c ≡ p
     at p true c e = let same : p ≡ c = cc in sym same
     at p false c e = cc
+
     here : (p : Path) (content : Content) (c : Path) → vehicle_spot p content ≡ Some c → c ≡ p
     here p (Content.Object v) c e = at p v c e
     here p (Content.Phase k ms) c e = cc
     here p (Content.Value r) c e = cc
+
     one : (p : Path) (content : Content) (c : Path) → vehicle_spot p content ≡ Some c → is_object_content content ≡ true
     one p (Content.Object v) c e = refl
     one p (Content.Phase k ms) c e = cc

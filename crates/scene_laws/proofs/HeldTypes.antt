@@ -34,8 +34,10 @@ first_below test n (x ∷ xs) t h = by (test x) h (first_below test (n + 1) xs t
   where
     here : (m k : ℕ) → m ≡ t → t < m + suc k
     here m k e = omega (arith, e)
+
     more : (m k : ℕ) → t < (m + 1) + k → t < m + suc k
     more m k e = omega (arith, e)
+
     by : (b : Bool) → cond b (Some n) (first_place test (n + 1) xs) ≡ Some t → (first_place test (n + 1) xs ≡ Some t → t < (n + 1) + length xs) → t < n + length (x ∷ xs)
     by true e f = here n (length xs) cc
     by false e f = more n (length xs) (f e)
@@ -97,9 +99,9 @@ module _ (heads : List TypeHead) (bodies : List TypeBody) (based : AreBased head
           | inl j ↦ elim (in_either l (map (line_of u) (body bodies u).own) (flat_map (λ c. map (through c) (down_within n heads bodies c)) (subtypes heads bodies u)) j) as (λ _. In l.holder of_family) [
             | inl k ↦ let g = map_in (line_of u) (body bodies u).own l k in subst (λ (z : Line). In z.holder of_family) (sym g.2) h
             | inr k ↦
-              let g = flat_map_in (λ c. map (through c) (down_within n heads bodies c)) (subtypes heads bodies u) l k in
-              let m = map_in (through g.0) (down_within n heads bodies g.0) l g.2 in
-              subst (λ (z : Line). In z.holder of_family) (sym m.2) (down_family n g.0 (family_closed.steps u g.0 h g.1) m.0 m.1)
+                let g = flat_map_in (λ c. map (through c) (down_within n heads bodies c)) (subtypes heads bodies u) l k in
+                let m = map_in (through g.0) (down_within n heads bodies g.0) l g.2 in
+                subst (λ (z : Line). In z.holder of_family) (sym m.2) (down_family n g.0 (family_closed.steps u g.0 h g.1) m.0 m.1)
           ]
           | inr j ↦ let g = map_in (line_of u) (body bodies u).more l j in subst (λ (z : Line). In z.holder of_family) (sym g.2) h
         ]
@@ -109,9 +111,9 @@ module _ (heads : List TypeHead) (bodies : List TypeBody) (based : AreBased head
     lines_family (suc n) u f l i =
         elim (in_either l (flat_map (λ b. filter (λ l. not (has u l.through)) (lines_within n heads bodies b)) (option_to_list (base heads u))) (down heads bodies u) i) as (λ _. In l.holder of_family) [
           | inl j ↦
-            let g = flat_map_in (λ b. filter (λ l. not (has u l.through)) (lines_within n heads bodies b)) (option_to_list (base heads u)) l j in
-            let is = of_option (base heads u) g.0 g.1 in
-            lines_family n g.0 (λ v k. f v (inr (subst (λ o. In v (line_within (suc n) heads o)) (sym is) k))) l (in_filter (λ (l : Line). not (has u l.through)) (lines_within n heads bodies g.0) l g.2).0
+              let g = flat_map_in (λ b. filter (λ l. not (has u l.through)) (lines_within n heads bodies b)) (option_to_list (base heads u)) l j in
+              let is = of_option (base heads u) g.0 g.1 in
+              lines_family n g.0 (λ v k. f v (inr (subst (λ o. In v (line_within (suc n) heads o)) (sym is) k))) l (in_filter (λ (l : Line). not (has u l.through)) (lines_within n heads bodies g.0) l g.2).0
           | inr j ↦ down_family (length heads) u (f u (inl refl)) l j
         ]
 
@@ -141,6 +143,7 @@ field_held ts based are t below f i of typed =
     written : (m : Member) → IsWrittenIn ts.table.heads ts.bodies m.holder m.written → In m.written ((body ts.bodies m.holder).own ++ (body ts.bodies m.holder).more)
     written m (inl j) = in_left m.written (body ts.bodies m.holder).own (body ts.bodies m.holder).more j
     written m (inr j) = in_right m.written (body ts.bodies m.holder).own (body ts.bodies m.holder).more j
+
     by : (m : Member) (tree : MemberTree) → In f (fields_declared m tree) → In of (field_types ts.table.heads m.written tree)
     by m (MemberTree.Field x) j =
         let g = map_in (λ (i : Ident). record { name = i; tree = x; holder = m.holder; under = m.under }) x.names f j in
@@ -159,6 +162,7 @@ held_below ts x y i =
     one None f j = absurd j
     one (Some t) f (inl e) = subst (λ k. k < length ts.table.heads) (sym e) (f t refl)
     one (Some t) f (inr j) = absurd j
+
     by : (w : Written) (tree : MemberTree) → In y (field_types ts.table.heads w tree) → y < length ts.table.heads
     by w (MemberTree.Field f) j = one (named ts.table.heads None f.of.text) (named_below ts.table.heads None f.of.text) j
     by w (MemberTree.Rule r) j = absurd j
@@ -170,6 +174,7 @@ called_below ts t (Callee.Alone name) of h = by (named ts.table.heads None name.
     test : (u : ℕ) (b : Bool) → u < length ts.table.heads → cond b (Some u) None ≡ Some of → of < length ts.table.heads
     test u true l is = let same : u ≡ of = cc in subst (λ k. k < length ts.table.heads) same l
     test u false l is = cc
+
     by : (o : Option ℕ) → named ts.table.heads None name.text ≡ o → option_and_then (λ u. cond (is_behaviour (form ts.table.heads u)) (Some u) None) o ≡ Some of → of < length ts.table.heads
     by None e is = cc
     by (Some u) e is = test u (is_behaviour (form ts.table.heads u)) (named_below ts.table.heads None name.text u e) is
@@ -251,6 +256,7 @@ at_number f n (x ∷ xs) (suc k) h = at_number f (n + 1) xs k (less k (length xs
   where
     less : (k m : ℕ) → suc k < suc m → k < m
     less k m h = omega (arith, h)
+
     moved : (n k : ℕ) → (n + 1) + k ≡ n + suc k
     moved n k = omega arith
 

@@ -79,10 +79,13 @@ module _ (label : Option Ident) (place : Place) (kind : CompKind) (arguments : L
       where
         kinds : Comp l q c args ms ≡ Comp label place kind arguments members → c ≡ kind
         kinds g = cc
+
         rows : Comp l q c args ms ≡ Comp label place kind arguments members → ms ≡ members
         rows g = cc
+
         zero_less : (n : ℕ) → 0 + n ≡ n
         zero_less n = omega arith
+
         by : (d : CompKind) (ns : PhaseRow) → d ≡ kind → ns ≡ members → p ≡ record { path = path; way = way; phase = Comp l q d args ns }
             → IsAt (then_member p.path k) (p.way ++ turns kind p.path k) (record { path = path; way = way; phase = Comp l q d args ns } ∷ phases_among d path way 0 ns)
         by d ns f g same =
@@ -174,12 +177,14 @@ range_within a (suc n) k (inl e) = (at_least a k e, at_most a n k e)
   where
     at_least : (a k : ℕ) → k ≡ a → a ≤ k
     at_least a k e = omega (arith, e)
+
     at_most : (a n k : ℕ) → k ≡ a → k < a + suc n
     at_most a n k e = omega (arith, e)
 range_within a (suc n) k (inr i) = let r = range_within (a + 1) n k i in (less a k r.0, more a n k r.1)
   where
     less : (a k : ℕ) → a + 1 ≤ k → a ≤ k
     less a k h = omega (arith, h)
+
     more : (a n k : ℕ) → k < (a + 1) + n → k < a + suc n
     more a n k h = omega (arith, h)
 
@@ -217,23 +222,31 @@ module _ (ts : Types) (a : IsAcyclic ts) (names : (t : ℕ) → Pairs NamesDiffe
       where
         make : Maker
         make = λ q of c b. expand_within placed.steps ts q of c b []
+
         by : (phase : PhaseTree) → p.phase ≡ phase → (k : PhaseKind) × (ms : List Path) × In (spot (calling bindings path conditions d p).path (calling bindings path conditions d p).guards (Content.Phase k ms)) all
         by (Comp label place kind arguments members) e =
-            let part = comp_part (λ q of c b. expand_within placed.steps ts q of c b []) (calling bindings path conditions d p) label place kind arguments members in
-            (composition_kind kind arguments, map (then_member (calling bindings path conditions d p).path) (range_with_len 0 (length (phases_of members))),
-            phase_in ts a all path t conditions bindings placed d is p i part.0 (subst (λ z. In part.0 (phase_part (λ q of c b. expand_within placed.steps ts q of c b []) ts (calling bindings path conditions d p) z)) (sym e) part.1)
-            (spot (calling bindings path conditions d p).path (calling bindings path conditions d p).guards (Content.Phase (composition_kind kind arguments) (map (then_member (calling bindings path conditions d p).path) (range_with_len 0 (length (phases_of members)))))) part.2)
+            let part = comp_part (λ q of c b. expand_within placed.steps ts q of c b []) (calling bindings path conditions d p) label place kind arguments members in (
+              composition_kind kind arguments,
+              map (then_member (calling bindings path conditions d p).path) (range_with_len 0 (length (phases_of members))),
+              phase_in ts a all path t conditions bindings placed d is p i part.0 (subst (λ z. In part.0 (phase_part (λ q of c b. expand_within placed.steps ts q of c b []) ts (calling bindings path conditions d p) z)) (sym e) part.1)
+                  (spot (calling bindings path conditions d p).path (calling bindings path conditions d p).guards (Content.Phase (composition_kind kind arguments) (map (then_member (calling bindings path conditions d p).path) (range_with_len 0 (length (phases_of members)))))) part.2,
+            )
         by (Wait label place elapsed) e =
-            let part = wait_part (λ q of c b. expand_within placed.steps ts q of c b []) (calling bindings path conditions d p) label place elapsed in
-            (PhaseKind.Wait, [], phase_in ts a all path t conditions bindings placed d is p i part.0 (subst (λ z. In part.0 (phase_part (λ q of c b. expand_within placed.steps ts q of c b []) ts (calling bindings path conditions d p) z)) (sym e) part.1)
-            (spot (calling bindings path conditions d p).path (calling bindings path conditions d p).guards (Content.Phase PhaseKind.Wait [])) part.2)
+            let part = wait_part (λ q of c b. expand_within placed.steps ts q of c b []) (calling bindings path conditions d p) label place elapsed in (
+              PhaseKind.Wait,
+              [],
+              phase_in ts a all path t conditions bindings placed d is p i part.0 (subst (λ z. In part.0 (phase_part (λ q of c b. expand_within placed.steps ts q of c b []) ts (calling bindings path conditions d p) z)) (sym e) part.1)
+                  (spot (calling bindings path conditions d p).path (calling bindings path conditions d p).guards (Content.Phase PhaseKind.Wait [])) part.2,
+            )
         by (Invoke label head names arguments parts) e =
-            let r = resolves t d is p i label head names arguments parts e in
-            (invoked_kind ts (is_some (the_do ts r.0)), invoked_members ts (calling bindings path conditions d p).path (is_some (the_do ts r.0)),
-            phase_in ts a all path t conditions bindings placed d is p i (invocation (λ q of c b. expand_within placed.steps ts q of c b []) ts (calling bindings path conditions d p) head names arguments parts r.0)
-                (subst (λ z. In (invocation (λ q of c b. expand_within placed.steps ts q of c b []) ts (calling bindings path conditions d p) head names arguments parts r.0) (phase_part (λ q of c b. expand_within placed.steps ts q of c b []) ts (calling bindings path conditions d p) z)) (sym e)
-                (in_map (invocation (λ q of c b. expand_within placed.steps ts q of c b []) ts (calling bindings path conditions d p) head names arguments parts) (option_to_list (invoked ts d.holder head names)) r.0 (option_in (invoked ts d.holder head names) r.0 r.1)))
-            (spot (calling bindings path conditions d p).path (calling bindings path conditions d p).guards (Content.Phase (invoked_kind ts (is_some (the_do ts r.0))) (invoked_members ts (calling bindings path conditions d p).path (is_some (the_do ts r.0))))) (inl refl))
+            let r = resolves t d is p i label head names arguments parts e in (
+              invoked_kind ts (is_some (the_do ts r.0)),
+              invoked_members ts (calling bindings path conditions d p).path (is_some (the_do ts r.0)),
+              phase_in ts a all path t conditions bindings placed d is p i (invocation (λ q of c b. expand_within placed.steps ts q of c b []) ts (calling bindings path conditions d p) head names arguments parts r.0)
+                  (subst (λ z. In (invocation (λ q of c b. expand_within placed.steps ts q of c b []) ts (calling bindings path conditions d p) head names arguments parts r.0) (phase_part (λ q of c b. expand_within placed.steps ts q of c b []) ts (calling bindings path conditions d p) z)) (sym e)
+                  (in_map (invocation (λ q of c b. expand_within placed.steps ts q of c b []) ts (calling bindings path conditions d p) head names arguments parts) (option_to_list (invoked ts d.holder head names)) r.0 (option_in (invoked ts d.holder head names) r.0 r.1)))
+                  (spot (calling bindings path conditions d p).path (calling bindings path conditions d p).guards (Content.Phase (invoked_kind ts (is_some (the_do ts r.0))) (invoked_members ts (calling bindings path conditions d p).path (is_some (the_do ts r.0))))) (inl refl),
+            )
           where
             option_in : (o : Option ℕ) (x : ℕ) → o ≡ Some x → In x (option_to_list o)
             option_in None x f = cc
@@ -291,11 +304,12 @@ module _ (ts : Types) (a : IsAcyclic ts) (names : (t : ℕ) → Pairs NamesDiffe
           both (is_member here (guards here at ++ Guard.Choice at k ∷ []) (then_member at k)) (are_choices here at (guards here at) (k + 1) (map (then_member at) (range_with_len (k + 1) n)))
           (member_of k (few k n (length (phases_of members)) h) (guards here at ++ Guard.Choice at k ∷ [])
           (ap (λ l. conditions ++ choices_of (p.way ++ l)) (one k) ∙ ap (λ l. conditions ++ l) (map_append (λ (turn : Turn). Guard.Choice (from_object path turn.phase) turn.member) p.way (record { phase = p.path; member = k } ∷ []))
-              ∙ sym (joined_again conditions (choices_of p.way) (Guard.Choice at k ∷ [])) ∙ ap (λ l. l ++ Guard.Choice at k ∷ []) (sym own_guards)))
+          ∙ sym (joined_again conditions (choices_of p.way) (Guard.Choice at k ∷ [])) ∙ ap (λ l. l ++ Guard.Choice at k ∷ []) (sym own_guards)))
           (chosen one n (k + 1) (next k n (length (phases_of members)) h))
         where
           few : (k n m : ℕ) → k + suc n ≤ m → k < m
           few k n m h = omega (arith, h)
+
           next : (k n m : ℕ) → k + suc n ≤ m → (k + 1) + n ≤ m
           next k n m h = omega (arith, h)
 
@@ -304,6 +318,7 @@ module _ (ts : Types) (a : IsAcyclic ts) (names : (t : ℕ) → Pairs NamesDiffe
         where
           all_of : (n : ℕ) → 0 + n ≤ n
           all_of n = omega arith
+
           by : (c : CompKind) → c ≡ kind → are_members here (record { path = at; kind = composition_kind c arguments; members = map (then_member at) (range_with_len 0 (length (phases_of members))) }) (composition_kind c arguments) ≡ true
           by CompKind.Serial f = plain_members PhaseKind.Serial refl (plain_all (λ k. ap (λ c. turns c p.path k) (sym f)))
           by CompKind.Parallel f = plain_members (overlap_kind (argument_named (codes "overlap") arguments)) (overlap_plain (argument_named (codes "overlap") arguments)) (plain_all (λ k. ap (λ c. turns c p.path k) (sym f)))
@@ -350,6 +365,7 @@ module _ (ts : Types) (a : IsAcyclic ts) (names : (t : ℕ) → Pairs NamesDiffe
       where
         object_is : {v : Bool} (k : PhaseKind) (ms : List Path) → Content.Object v ≡ Content.Phase k ms → ⊥
         object_is k ms e = cc
+
         value_is : (r : ValueRange) (k : PhaseKind) (ms : List Path) → Content.Value r ≡ Content.Phase k ms → ⊥
         value_is r k ms e = cc
 

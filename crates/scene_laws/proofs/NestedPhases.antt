@@ -74,15 +74,18 @@ tested ok before f (s ∷ ss) n = by s.content refl (λ b g. tested (λ q. ok q 
     apart : (q : Path) → ((k : PhaseKind) (ms : List Path) → s.content ≡ Content.Phase k ms → ⊥) → ok q ⊎ IsMember s q → ok q
     apart q never (inl o) = o
     apart q never (inr m) = absurd (never m.0 m.1 m.2)
+
     or_true : (a b c : Bool) → (a || b) ≡ true → (a || (c || b)) ≡ true
     or_true true b c h = refl
     or_true false b true h = refl
     or_true false b false h = h
+
     or_first : (a b c : Bool) → b ≡ true → (a || (b || c)) ≡ true
     or_first true b c h = refl
     or_first false b c h = rw h refl
+
     by : (c : Content) → s.content ≡ c → ((b : List PhaseSpot) → ((q : Path) → ok q ⊎ IsMember s q → (same_path q root_do || list_any (λ (p : PhaseSpot). list_any (same_path q) p.members) b) ≡ true)
-            → are_nested b (filter_map (λ (u : Spot). phase_spot u.path u.content) ss) ≡ true)
+        → are_nested b (filter_map (λ (u : Spot). phase_spot u.path u.content) ss) ≡ true)
         → are_nested before (cons_option (phase_spot s.path c) (filter_map (λ (u : Spot). phase_spot u.path u.content) ss)) ≡ true
     by (Content.Object v) e rest = rest before (λ q o. f q (apart q (λ k ms g. differ v k ms (sym e ∙ g)) o))
       where
@@ -98,6 +101,7 @@ tested ok before f (s ∷ ss) n = by s.content refl (λ b g. tested (λ q. ok q 
       where
         same : (l : PhaseKind) (ns : List Path) → Content.Phase k ms ≡ Content.Phase l ns → ms ≡ ns
         same l ns g = cc
+
         kept : (q : Path) → ok q ⊎ IsMember s q → (same_path q root_do || list_any (λ (p : PhaseSpot). list_any (same_path q) p.members) (record { path = s.path; kind = k; members = ms } ∷ before)) ≡ true
         kept q (inl o) = or_true (same_path q root_do) (list_any (λ (p : PhaseSpot). list_any (same_path q) p.members) before) (list_any (same_path q) ms) (f q o)
         kept q (inr m) =
@@ -153,6 +157,7 @@ module _ (ts : Types) (scenarios : (t : ℕ) (d : Do) → the_do ts t ≡ Some d
       clash Form.Chars p q = true≢false (sym p)
       clash (Form.Physical x) p q = true≢false (sym p)
       clash (Form.Enum x) p q = true≢false (sym p)
+
       by : (d : Option Do) → the_do ts t ≡ d → d ≡ None
       by None e = refl
       by (Some d) e = absurd (clash (form ts.table.heads t) o (scenarios t d e))
@@ -176,6 +181,7 @@ module _ (ts : Types) (scenarios : (t : ℕ) (d : Do) → the_do ts t ≡ Some d
     where
       object_is : {v : Bool} (k : PhaseKind) (ms : List Path) → Content.Object v ≡ Content.Phase k ms → ⊥
       object_is k ms e = cc
+
       value_is : (r : ValueRange) (k : PhaseKind) (ms : List Path) → Content.Value r ≡ Content.Phase k ms → ⊥
       value_is r k ms e = cc
 
@@ -198,17 +204,24 @@ module _ (ts : Types) (scenarios : (t : ℕ) (d : Do) → the_do ts t ≡ Some d
 
     mutual
       nested_at : (q : Path) (way : List Turn) (phase : PhaseTree) → Nested (Here q) (spots_for (phases_at q way phase))
-      nested_at q way (Comp label place kind arguments members) =
-          (λ k ms e. refl, (nested_more (Among q 0 members) (λ r. Here q r ⊎ IsMember (spot (from_object base q) (calling bindings base guards d (record { path = q; way = way; phase = Comp label place kind arguments members })).guards
-              (Content.Phase (composition_kind kind arguments) (map (then_member (from_object base q)) (range_with_len 0 (length (phases_of members)))))) r)
-              (λ r m. inr (composition_kind kind arguments, map (then_member (from_object base q)) (range_with_len 0 (length (phases_of members))), refl,
-              subst (λ z. In z (map (then_member (from_object base q)) (range_with_len 0 (length (phases_of members))))) (sym (m.3 ∙ member_at q m.0)) (in_map (then_member (from_object base q)) (range_with_len 0 (length (phases_of members))) m.0 (range_has 0 (length (phases_of members)) m.0 m.1 m.2))))
-              (spots_for (phases_among kind q way 0 members)) (nested_among kind q way 0 members)))
+      nested_at q way (Comp label place kind arguments members) = (
+        λ k ms e. refl,
+        (nested_more (Among q 0 members) (λ r. Here q r ⊎ IsMember (spot (from_object base q) (calling bindings base guards d (record { path = q; way = way; phase = Comp label place kind arguments members })).guards
+            (Content.Phase (composition_kind kind arguments) (map (then_member (from_object base q)) (range_with_len 0 (length (phases_of members)))))) r)
+            (λ r m. inr (
+              composition_kind kind arguments,
+              map (then_member (from_object base q)) (range_with_len 0 (length (phases_of members))),
+              refl,
+              subst (λ z. In z (map (then_member (from_object base q)) (range_with_len 0 (length (phases_of members))))) (sym (m.3 ∙ member_at q m.0)) (in_map (then_member (from_object base q)) (range_with_len 0 (length (phases_of members))) m.0 (range_has 0 (length (phases_of members)) m.0 m.1 m.2)),
+            ))
+            (spots_for (phases_among kind q way 0 members)) (nested_among kind q way 0 members)),
+      )
       nested_at q way (Wait label place elapsed) = (λ k ms e. refl, tt)
       nested_at q way (Invoke label head names arguments parts) = by (invoked ts d.holder head names)
         where
           abbrev_call : Calling
           abbrev_call = calling bindings base guards d (record { path = q; way = way; phase = Invoke label head names arguments parts })
+
           by : (o : Option ℕ) → Nested (Here q) (spots_in ts (in_row (map (invocation make ts (calling bindings base guards d (record { path = q; way = way; phase = Invoke label head names arguments parts })) head names arguments parts) (option_to_list o))) ++ [])
           by None = tt
           by (Some of) = (λ k ms e. refl, nested_append _ _ [] (nested_append _ _ [] (nested_append _ _ [] (object (the_do ts of) refl) tt) tt) tt)
@@ -216,10 +229,11 @@ module _ (ts : Types) (scenarios : (t : ℕ) (d : Do) → the_do ts t ≡ Some d
               abbrev_object : Expansion
               abbrev_object = make (from_object base q) of (calling bindings base guards d (record { path = q; way = way; phase = Invoke label head names arguments parts })).guards
                   (call_bindings ts (calling bindings base guards d (record { path = q; way = way; phase = Invoke label head names arguments parts })) head names arguments of)
+
               object : (o : Option Do) → the_do ts of ≡ o
                   → Nested (λ r. Here q r ⊎ IsMember (spot (from_object base q) (calling bindings base guards d (record { path = q; way = way; phase = Invoke label head names arguments parts })).guards (Content.Phase (invoked_kind ts (is_some (the_do ts of))) (invoked_members ts (from_object base q) (is_some (the_do ts of))))) r)
-                      (spots_of ts (make (from_object base q) of (calling bindings base guards d (record { path = q; way = way; phase = Invoke label head names arguments parts })).guards
-                      (call_bindings ts (calling bindings base guards d (record { path = q; way = way; phase = Invoke label head names arguments parts })) head names arguments of)))
+                  (spots_of ts (make (from_object base q) of (calling bindings base guards d (record { path = q; way = way; phase = Invoke label head names arguments parts })).guards
+                  (call_bindings ts (calling bindings base guards d (record { path = q; way = way; phase = Invoke label head names arguments parts })) head names arguments of)))
               object None e = none_nested _ _ ((made (from_object base q) of _ _).0 e)
               object (Some x) e = nested_more (λ r. r ≡ then_do (from_object base q)) _ (λ r same. inr (invoked_kind ts (is_some (the_do ts of)), invoked_members ts (from_object base q) (is_some (the_do ts of)), refl, subst (λ o. In r (invoked_members ts (from_object base q) (is_some o))) (sym e) (inl same))) _ (made (from_object base q) of _ _).1
 
@@ -239,19 +253,20 @@ module _ (ts : Types) (scenarios : (t : ℕ) (d : Do) → the_do ts t ≡ Some d
       let conditions = guards ++ guards_under ts base t f.under in
       let types = option_to_list (field_type ts f) in
       elim (in_either part (map (λ of. make q of conditions []) (filter (λ of. is_object (form ts.table.heads of) && not (is_bound bindings q)) types))
-          (flat_map (value_parts q conditions (list_length f.tree)) (filter_map (λ of. range_of (form ts.table.heads of)) types)) i) as (λ _. NoPhases (spots_of ts part)) [
+      (flat_map (value_parts q conditions (list_length f.tree)) (filter_map (λ of. range_of (form ts.table.heads of)) types)) i) as (λ _. NoPhases (spots_of ts part)) [
         | inl l ↦
-          let m = map_in (λ of. make q of conditions []) (filter (λ of. is_object (form ts.table.heads of) && not (is_bound bindings q)) types) part l in
-          let n = in_filter (λ of. is_object (form ts.table.heads of) && not (is_bound bindings q)) types m.0 m.1 in
-          subst (λ z. NoPhases (spots_of ts z)) (sym m.2) ((made q m.0 conditions []).0 (object_no_do m.0 (left_of (is_object (form ts.table.heads m.0)) _ n.1)))
+            let m = map_in (λ of. make q of conditions []) (filter (λ of. is_object (form ts.table.heads of) && not (is_bound bindings q)) types) part l in
+            let n = in_filter (λ of. is_object (form ts.table.heads of) && not (is_bound bindings q)) types m.0 m.1 in
+            subst (λ z. NoPhases (spots_of ts z)) (sym m.2) ((made q m.0 conditions []).0 (object_no_do m.0 (left_of (is_object (form ts.table.heads m.0)) _ n.1)))
         | inr l ↦
-          let m = flat_map_in (value_parts q conditions (list_length f.tree)) (filter_map (λ of. range_of (form ts.table.heads of)) types) part l in
-          let v = value_spots ts q conditions (list_length f.tree) m.0 part m.2 in
-          subst (λ z. NoPhases (spots_of ts z)) (sym v.2) (value_none v.0 conditions m.0)
+            let m = flat_map_in (value_parts q conditions (list_length f.tree)) (filter_map (λ of. range_of (form ts.table.heads of)) types) part l in
+            let v = value_spots ts q conditions (list_length f.tree) m.0 part m.2 in
+            subst (λ z. NoPhases (spots_of ts z)) (sym v.2) (value_none v.0 conditions m.0)
       ]
     where
       differ : (r : ValueRange) (k : PhaseKind) (ms : List Path) → Content.Value r ≡ Content.Phase k ms → ⊥
       differ r k ms e = cc
+
       value_none : (v : Path) (conditions : List Guard) (r : ValueRange) → NoPhases (spots_of ts (Value v conditions r))
       value_none v conditions r s (inl e) k ms g = differ r k ms (sym (ap (λ (z : Spot). z.content) e) ∙ g)
       value_none v conditions r s (inr j) k ms g = j
@@ -287,13 +302,14 @@ module _ (ts : Types) (scenarios : (t : ℕ) (d : Do) → the_do ts t ≡ Some d
   pub nested_within : (n : ℕ) (path : Path) (t : ℕ) (guards : List Guard) (bindings : List Binding) (actor : List Expansion) → ((part : Expansion) → In part actor → NoPhases (spots_of ts part))
       → Nested (λ r. r ≡ then_do path) (spots_of ts (expand_within n ts path t guards bindings actor))
   nested_within zero path t guards bindings actor f = (λ k ms e. absurd (object_phase k ms e), tt)
-  nested_within (suc n) path t guards bindings actor f =
-      (λ k ms e. absurd (object_phase k ms e),
-      nested_more (λ r. r ≡ then_do path) (λ r. (r ≡ then_do path) ⊎ IsMember (spot path guards (Content.Object (is_vehicle ts t))) r) (λ r o. inl o)
-      (spots_in ts (in_row (actor ++ flat_map (field_parts (λ q of conditions bound. expand_within n ts q of conditions bound []) ts bindings path t guards) (fields ts t)
-          ++ flat_map (do_parts (λ q of conditions bound. expand_within n ts q of conditions bound []) ts bindings path guards) (option_to_list (the_do ts t)))))
-      (parts_nested (λ q of conditions bound. expand_within n ts q of conditions bound [])
-          (λ q of c b. (λ e. none_within n q of c b [] e (λ part j. absurd j), nested_within n q of c b [] (λ part j. absurd j))) path t guards bindings actor f))
+  nested_within (suc n) path t guards bindings actor f = (
+    λ k ms e. absurd (object_phase k ms e),
+    nested_more (λ r. r ≡ then_do path) (λ r. (r ≡ then_do path) ⊎ IsMember (spot path guards (Content.Object (is_vehicle ts t))) r) (λ r o. inl o)
+        (spots_in ts (in_row (actor ++ flat_map (field_parts (λ q of conditions bound. expand_within n ts q of conditions bound []) ts bindings path t guards) (fields ts t)
+        ++ flat_map (do_parts (λ q of conditions bound. expand_within n ts q of conditions bound []) ts bindings path guards) (option_to_list (the_do ts t)))))
+        (parts_nested (λ q of conditions bound. expand_within n ts q of conditions bound [])
+        (λ q of c b. (λ e. none_within n q of c b [] e (λ part j. absurd j), nested_within n q of c b [] (λ part j. absurd j))) path t guards bindings actor f),
+  )
 
   module _ (actors : HaveActors ts.table.heads) (t : ℕ) (setting : Setting) where
     actor_object : (f : Form) → is_actor f ≡ true → is_object f ≡ true

@@ -194,6 +194,7 @@ module _ (ts : Types) (owned : AreOwned ts.table.heads) (free : (t : ℕ) (f : F
     where
       none : {p : PhaseSpot} → None ≡ Some p → ends_phase p.path.steps ≡ true
       none e = cc
+
       some : (path : Path) (kind : _) (members : List Path) → ends_phase path.steps ≡ true → (p : PhaseSpot) → Some (record { path = path; kind = kind; members = members }) ≡ Some p → ends_phase p.path.steps ≡ true
       some path kind members h p e = let same : record { path = path; kind = kind; members = members } ≡ p = cc in subst (λ (z : PhaseSpot). ends_phase z.path.steps ≡ true) same h
 
@@ -210,10 +211,13 @@ module _ (ts : Types) (owned : AreOwned ts.table.heads) (free : (t : ℕ) (f : F
       whole_is : (init : List Step) → (init ≡ [] → ⊥) → same_path (path_of init) root ≡ false
       whole_is [] f = absurd (f refl)
       whole_is (x ∷ xs) f = refl
+
       no_phase : (init : List Step) → ends_phase init ≡ false → has_phase (scene ts t setting) (path_of init) ≡ false
       no_phase init e = two_ways (has_phase (scene ts t setting) (path_of init)) (λ k. absurd (true≢false (sym (has_ends t setting (path_of init) k) ∙ e))) (λ k. k)
+
       timed : (init : List Step) → IsPlain init → is_value_source (source_timed (scene ts t setting) (path_of init)) ≡ true
       timed init p = rw (whole_is init p.1, no_phase init p.0) refl
+
       by : (o : Option (List Step)) → timed_part path.steps ≡ o → is_value_source (option_map_or (λ steps. source_timed (scene ts t setting) (path_of steps)) o OfValue) ≡ true
       by None e = refl
       by (Some init) e = timed init (h init e)

@@ -37,12 +37,13 @@ AreOwned heads = (t : ℕ) → IsOwned (head heads t)
 
 declared_owned : (all : List Placed) (d : Declared) → In d (all_declared all) → IsOwned d.head
 declared_owned all d i = elim (in_either d basic_types (filter_map (λ (d : Placed). type_declared d.file d.index d.declaration) all) i) as (λ _. IsOwned d.head) [
-    | inl j ↦ basic j
-    | inr j ↦ let g = filter_map_in (λ (d : Placed). type_declared d.file d.index d.declaration) all d j in by g.0.file g.0.index g.0.declaration g.2
-  ]
+  | inl j ↦ basic j
+  | inr j ↦ let g = filter_map_in (λ (d : Placed). type_declared d.file d.index d.declaration) all d j in by g.0.file g.0.index g.0.declaration g.2
+]
   where
     none : {e : Declared} → d ≡ e → e.head.owner ≡ None → IsOwned d.head
     none same empty x h = let other : d.head.owner ≡ None = ap (λ (z : Declared). z.head.owner) same ∙ empty in cc
+
     basic : In d basic_types → IsOwned d.head
     basic (inl e) = none e refl
     basic (inr (inl e)) = none e refl
@@ -50,13 +51,16 @@ declared_owned all d i = elim (in_either d basic_types (filter_map (λ (d : Plac
     basic (inr (inr (inr (inl e)))) = none e refl
     basic (inr (inr (inr (inr (inl e))))) = none e refl
     basic (inr (inr (inr (inr (inr k))))) = absurd k
+
     some : {e : Declared} → Some e ≡ Some d → d ≡ e
     some is = cc
+
     kinds : (k : CompoundKind) (q : QName) (x : List ℕ) → (let name : DeclaredName = compound_name k q in name.owner) ≡ Some x → is_behaviour (Form.Compound k) ≡ true
     kinds CompoundKind.Struct q x h = cc
     kinds CompoundKind.Actor q x h = cc
     kinds CompoundKind.Action q x h = refl
     kinds CompoundKind.Scenario q x h = refl
+
     by : (file index : ℕ) (t : DeclarationTree) → type_declared file index t ≡ Some d → IsOwned d.head
     by file index (DeclarationTree.EnumDeclaration e) is x h = none (some is) refl x h
     by file index (DeclarationTree.TypeDeclaration e) is x h = none (some is) refl x h
@@ -100,6 +104,7 @@ named_owner owner name n (x ∷ xs) t h = by (same_owner x.owner (Some owner) &&
     some : (o : Option (List ℕ)) → same_owner o (Some owner) ≡ true → (y : List ℕ) × (o ≡ Some y)
     some None e = absurd (true≢false (sym e))
     some (Some y) e = (y, refl)
+
     by : (b : Bool) → (same_owner x.owner (Some owner) && bytes_eq x.name name) ≡ b → cond b (Some n) (first_place (λ h. same_owner h.owner (Some owner) && bytes_eq h.name name) (n + 1) xs) ≡ Some t
         → (first_place (λ h. same_owner h.owner (Some owner) && bytes_eq h.name name) (n + 1) xs ≡ Some t → (k : ℕ) × (t ≡ (n + 1) + k) × ((y : List ℕ) × ((slice_index_or xs k int_head).owner ≡ Some y)))
         → (k : ℕ) × (t ≡ n + k) × ((y : List ℕ) × ((slice_index_or (x ∷ xs) k int_head).owner ≡ Some y))
@@ -121,6 +126,7 @@ invoked_behaviour ts owned t (Callee.Alone name) of h = by (named ts.table.heads
     test : (u : ℕ) (b : Bool) → is_behaviour (form ts.table.heads u) ≡ b → cond b (Some u) None ≡ Some of → is_behaviour (form ts.table.heads of) ≡ true
     test u true e is = let same : u ≡ of = cc in subst (λ k. is_behaviour (form ts.table.heads k) ≡ true) same e
     test u false e is = cc
+
     by : (o : Option ℕ) → option_and_then (λ u. cond (is_behaviour (form ts.table.heads u)) (Some u) None) o ≡ Some of → is_behaviour (form ts.table.heads of) ≡ true
     by None e = cc
     by (Some u) e = test u (is_behaviour (form ts.table.heads u)) refl e
@@ -146,9 +152,11 @@ module _ (ts : Types) (counted : AreCounted ts) (rows : any_holds (member_fault_
           by : (ms : List Member) → ms ≡ [] → find (λ (d : Do). true) (filter_map (λ (m : Member). do_declared m m.written.member) ms) ≡ Some d → is_scenario (form ts.table.heads t) ≡ true
           by [] e is = cc
           by (m ∷ ms) e is = cc
+
       row_of : (ds : List Do) (b : Bool) → any_holds (do_rows (form ts.table.heads t) b ds) ≡ false → find (λ (d : Do). true) ds ≡ Some d → is_scenario (form ts.table.heads t) ≡ true
       row_of [] b r is = cc
       row_of (x ∷ xs) b r is = holds_not (is_scenario (form ts.table.heads t)) (no_left (not (is_scenario (form ts.table.heads t))) _ (no_left (not (is_scenario (form ts.table.heads t)) || nat_lt 0 (length x.under)) _ r))
+
       inside : t < length ts.table.heads → is_scenario (form ts.table.heads t) ≡ true
       inside l =
           let f = form ts.table.heads t in
@@ -172,9 +180,11 @@ actor_of heads k q rows x h t is = by k q.second rows h
         let found : named heads None q.first.text ≡ Some t = subst (λ z. named heads None z ≡ Some t) (sym same) is in
         let row = no_left (option_map_or (λ u. not (is_actor (form heads u))) (named heads None q.first.text) false) false (no_right (is_none (named heads None q.first.text)) _ r) in
         holds_not (is_actor (form heads t)) (sym (ap (λ o. option_map_or (λ u. not (is_actor (form heads u))) o false) found) ∙ row)
+
     behaves : (o : Option Ident) → any_holds (option_map_or (λ name. owner_rows heads q.first) o []) ≡ false → (let name : DeclaredName = behaviour_name q.first o in name.owner) ≡ Some x → is_actor (form heads t) ≡ true
     behaves None r e = cc
     behaves (Some i) r e = let same : q.first.text ≡ x = cc in fits r same
+
     by : (k : CompoundKind) (o : Option Ident) → any_holds (option_map_or (λ name. owner_rows heads q.first) o []) ≡ false
         → (let name : DeclaredName = compound_name k (record { first = q.first; second = o }) in name.owner) ≡ Some x → is_actor (form heads t) ≡ true
     by CompoundKind.Struct o r e = cc
@@ -184,14 +194,15 @@ actor_of heads k q rows x h t is = by k q.second rows h
 
 declared_actor : (heads : List TypeHead) (all : List Placed) → any_holds (flat_map (λ (d : Placed). declaration_rows heads d.declaration) all) ≡ false → (d : Declared) → In d (all_declared all) → HasActor heads d.head
 declared_actor heads all rows d i = elim (in_either d basic_types (filter_map (λ (d : Placed). type_declared d.file d.index d.declaration) all) i) as (λ _. HasActor heads d.head) [
-    | inl j ↦ basic j
-    | inr j ↦
+  | inl j ↦ basic j
+  | inr j ↦
       let g = filter_map_in (λ (d : Placed). type_declared d.file d.index d.declaration) all d j in
       by g.0.file g.0.index g.0.declaration (rows_among (λ (d : Placed). declaration_rows heads d.declaration) all rows g.0 g.1) g.2
-  ]
+]
   where
     none : {e : Declared} → d ≡ e → e.head.owner ≡ None → HasActor heads d.head
     none same empty x h = let other : d.head.owner ≡ None = ap (λ (z : Declared). z.head.owner) same ∙ empty in cc
+
     basic : In d basic_types → HasActor heads d.head
     basic (inl e) = none e refl
     basic (inr (inl e)) = none e refl
@@ -199,8 +210,10 @@ declared_actor heads all rows d i = elim (in_either d basic_types (filter_map (�
     basic (inr (inr (inr (inl e)))) = none e refl
     basic (inr (inr (inr (inr (inl e))))) = none e refl
     basic (inr (inr (inr (inr (inr k))))) = absurd k
+
     some : {e : Declared} → Some e ≡ Some d → d ≡ e
     some is = cc
+
     by : (file index : ℕ) (t : DeclarationTree) → any_holds (declaration_rows heads t) ≡ false → type_declared file index t ≡ Some d → HasActor heads d.head
     by file index (DeclarationTree.EnumDeclaration e) r is x h = none (some is) refl x h
     by file index (DeclarationTree.TypeDeclaration e) r is x h = none (some is) refl x h

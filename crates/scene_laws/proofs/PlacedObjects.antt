@@ -113,6 +113,7 @@ module _ (ts : Types) (a : IsAcyclic ts) where
     where
       full : (k c : ℕ) → k + 0 ≡ c → suc k ≤ c → ⊥
       full k c e l = omega (arith, e, l)
+
       all : (x : ℕ) → In x (t ∷ f.around) → x < length ts.table.heads
       all x (inl e) = subst (λ k. k < length ts.table.heads) (sym e) f.below
       all x (inr i) = f.others x i
@@ -141,6 +142,7 @@ module _ (ts : Types) (a : IsAcyclic ts) where
       others : (x : ℕ) → In x (t ∷ f.around) → x < length ts.table.heads
       others x (inl e) = subst (λ k. k < length ts.table.heads) (sym e) f.below
       others x (inr i) = f.others x i
+
       new : (x : ℕ) → In x (t ∷ f.around) → of ≡ x → ⊥
       new x (inl e) same = differ (same ∙ e)
       new x (inr i) same = apart x i same
@@ -151,13 +153,16 @@ module _ (ts : Types) (a : IsAcyclic ts) where
     where
       holds : In of (held_types ts.table.heads ts.bodies t)
       holds = field_held ts a.based a.listed t fuel.below f i of typed
+
       self : of ≡ t → ⊥
       self same = no_hold t fuel.below (subst (λ k. IsObject k) same o) zero (subst (λ k. In k (held_types ts.table.heads ts.bodies t)) same holds)
+
       other : (x : ℕ) → In x fuel.around → Edge x t → of ≡ x → ⊥
       other x j (inl (q, inl b)) same = object_behaves (form ts.table.heads x) (subst (λ k. IsObject k) same o) b
       other x j (inl (q, inr (p, (k, r)))) same =
           no_hold x (fuel.others x j) p (suc k) (subst (λ y. Holds (suc k) x y) same (reach_more (length ts.table.heads) (held_types ts.table.heads ts.bodies) (held_below ts) k x t of r holds))
       other x j (inr (b, (s, r))) same = object_behaves (form ts.table.heads x) (subst (λ k. IsObject k) same o) (scenario_behaves (form ts.table.heads x) s)
+
       edge : (x : ℕ) → In x (t ∷ fuel.around) → Edge x of
       edge x (inl e) = subst (λ k. Edge k of) (sym e) (own fuel.kind)
         where
@@ -178,15 +183,20 @@ module _ (ts : Types) (a : IsAcyclic ts) where
     where
       behaves : Behaves of
       behaves = invoked_behaviour ts a.owned d.holder (callee head names) of to
+
       scenario : IsScenario t
       scenario = a.scenarios t d is
+
       calls : In of (invocations ts t)
       calls = call_invoked ts t d is p i label head names arguments parts e of to
+
       self : of ≡ t → ⊥
       self same = no_call t fuel.below scenario zero (subst (λ k. In k (invocations ts t)) same calls)
+
       other : (x : ℕ) → In x fuel.around → Edge x t → of ≡ x → ⊥
       other x j (inl (q, r)) same = object_behaves (form ts.table.heads t) q (scenario_behaves (form ts.table.heads t) scenario)
       other x j (inr (b, (s, (k, r)))) same = no_call x (fuel.others x j) s (suc k) (subst (λ y. Calls (suc k) x y) same (reach_more (length ts.table.heads) (invocations ts) (invocations_below ts) k x t of r calls))
+
       edge : (x : ℕ) → In x (t ∷ fuel.around) → Edge x of
       edge x (inl e) = subst (λ k. Edge k of) (sym e) (inr (behaves, (scenario, (zero, calls))))
       edge x (inr j) = by (fuel.edges x j)
@@ -247,7 +257,7 @@ module _ (ts : Types) (a : IsAcyclic ts) where
     field_in f i part j s k =
         let all_fields = flat_map (field_parts make ts bindings path t guards) (fields ts t) in
         part_in part (in_left part (placed.actor ++ all_fields) (flat_map (do_parts make ts bindings path guards) (option_to_list (the_do ts t)))
-            (in_right part placed.actor all_fields (in_flat_map (field_parts make ts bindings path t guards) (fields ts t) f part i j))) s k
+        (in_right part placed.actor all_fields (in_flat_map (field_parts make ts bindings path t guards) (fields ts t) f part i j))) s k
 
     -- the parts of each phase
     pub phase_in : (d : Do) → the_do ts t ≡ Some d → (p : PhaseHere) → In p (phases_in d.phase) → (part : Expansion) → In part (phase_part make ts (calling bindings path guards d p) p.phase) → (s : Spot) → In s (spots_of ts part) → In s all
@@ -255,7 +265,7 @@ module _ (ts : Types) (a : IsAcyclic ts) where
         let all_fields = flat_map (field_parts make ts bindings path t guards) (fields ts t) in
         let dos = flat_map (do_parts make ts bindings path guards) (option_to_list (the_do ts t)) in
         part_in part (in_right part (placed.actor ++ all_fields) dos (in_flat_map (do_parts make ts bindings path guards) (option_to_list (the_do ts t)) d part (option_in (the_do ts t) d is)
-            (in_flat_map (λ (p : PhaseHere). phase_part make ts (calling bindings path guards d p) p.phase) (phases_in d.phase) p part i j))) s k
+        (in_flat_map (λ (p : PhaseHere). phase_part make ts (calling bindings path guards d p) p.phase) (phases_in d.phase) p part i j))) s k
 
     -- the values of each field
     pub value_in : (f : Field) → In f (fields ts t) → (of : ℕ) → field_type ts f ≡ Some of → (range : ValueRange) → range_of (form ts.table.heads of) ≡ Some range
@@ -267,7 +277,7 @@ module _ (ts : Types) (a : IsAcyclic ts) where
         let objects = map (λ of. make at of conditions []) (filter (λ of. is_object (form ts.table.heads of) && not (is_bound bindings at)) types) in
         let values = flat_map (value_parts at conditions (list_length f.tree)) (filter_map (λ of. range_of (form ts.table.heads of)) types) in
         let ranged : In range (filter_map (λ of. range_of (form ts.table.heads of)) types) =
-            subst (λ o. In range (filter_map (λ of. range_of (form ts.table.heads of)) (option_to_list o))) (sym typed) (subst (λ o. In range (cons_option o [])) (sym is) (inl refl)) in
+        subst (λ o. In range (filter_map (λ of. range_of (form ts.table.heads of)) (option_to_list o))) (sym typed) (subst (λ o. In range (cons_option o [])) (sym is) (inl refl)) in
         field_in f i (Value q conditions range) (in_right (Value q conditions range) objects values (in_flat_map (value_parts at conditions (list_length f.tree)) (filter_map (λ of. range_of (form ts.table.heads of)) types) range (Value q conditions range) ranged (value_part at conditions (list_length f.tree) range q j)))
         (spot q conditions (Content.Value range)) (inl refl)
       where
@@ -301,4 +311,4 @@ module _ (ts : Types) (a : IsAcyclic ts) where
         let bound = call_bindings ts call head names arguments of in
         placed_from all call.path of call.guards bound placed.steps (call_fuel placed.steps t placed.fuel d is p i label head names arguments parts e of to) []
         (λ s j. phase_in d is p i part (subst (λ z. In part (phase_part make ts call z)) (sym e) (in_map (invocation make ts call head names arguments parts) (option_to_list (invoked ts d.holder head names)) of (option_in (invoked ts d.holder head names) of to)))
-            s (inr (in_left s (spots_of ts (make call.path of call.guards bound)) [] j)))
+        s (inr (in_left s (spots_of ts (make call.path of call.guards bound)) [] j)))

@@ -103,8 +103,8 @@ scenes_are_few ts t setting h =
     record {
       few_slots = few (length (slot_names whole)) most_slots (no_left (nat_lt most_slots (length (slot_names whole))) _ slots) (omega arith);
       few_rules =
-      few (length (items (scene ts t setting))) most_rules
-      (no_more (length (items whole)) (length (items (scene ts t setting))) most_rules (fewer_rules whole) (no_left (nat_lt most_rules (length (items whole))) _ rules)) (omega arith);
+          few (length (items (scene ts t setting))) most_rules
+          (no_more (length (items whole)) (length (items (scene ts t setting))) most_rules (fewer_rules whole) (no_left (nat_lt most_rules (length (items whole))) _ rules)) (omega arith);
     }
 
 pub typed_are_sound : TypedAreSound
@@ -164,6 +164,7 @@ named_is ts owner name t h = by (named ts.table.heads owner name) h
     test : (u : ℕ) (b : Bool) → is_scenario (form ts.table.heads u) ≡ b → cond b (Some u) None ≡ Some t → is_scenario (form ts.table.heads t) ≡ true
     test u true e is = let same : u ≡ t = cc in subst (λ k. is_scenario (form ts.table.heads k) ≡ true) same e
     test u false e is = cc
+
     by : (o : Option ℕ) → option_and_then (λ u. cond (is_scenario (form ts.table.heads u)) (Some u) None) o ≡ Some t → is_scenario (form ts.table.heads t) ≡ true
     by None e = cc
     by (Some u) e = test u (is_scenario (form ts.table.heads u)) refl e

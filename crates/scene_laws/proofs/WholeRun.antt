@@ -117,7 +117,7 @@ module _ (ts : Types) (scenarios : (t : ℕ) (d : Do) → the_do ts t ≡ Some d
           by (inl f) = let none : phases (scene ts t setting) ≡ [] = no_phases (spots_of ts (expansion ts t)) f in rw none refl
           by (inr h) =
               let there : has_root_do (scene ts t setting) ≡ true = any_from (λ (p : PhaseSpot). same_path p.path root_do) (phases (scene ts t setting)) (record { path = root_do; kind = h.0; members = h.1 })
-                  (filter_in (λ (s : Spot). phase_spot s.path s.content) (spots_of ts (expansion ts t)) (spot root_do [] (Content.Phase h.0 h.1)) (record { path = root_do; kind = h.0; members = h.1 }) h.2 refl) (path_self root_do) in
+              (filter_in (λ (s : Spot). phase_spot s.path s.content) (spots_of ts (expansion ts t)) (spot root_do [] (Content.Phase h.0 h.1)) (record { path = root_do; kind = h.0; members = h.1 }) h.2 refl) (path_self root_do) in
               let free_of : guards (scene ts t setting) root_do ≡ [] = spot_guards ts names free t setting (spot root_do [] (Content.Phase h.0 h.1)) h.2 in
               or_right (nat_eq (length (phases (scene ts t setting))) 0) _ (both (has_root_do (scene ts t setting)) (nat_eq (length (guards (scene ts t setting) root_do)) 0) there (subst (λ l. nat_eq (length l) 0 ≡ true) (sym free_of) refl))
             where
