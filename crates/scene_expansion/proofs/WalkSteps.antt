@@ -109,14 +109,14 @@ pub many_before : (ts : Types) (done left : List OwnWork) (whole : List Node) (n
 many_before ts done left whole n is laid most =
     let rest : List Node = flat_map (nodes_for ts) (map seen_work (reverse left)) in
     let whole_length : length whole ≡ length (nodes_done ts done) + length (flat_map (nodes_for ts) (map seen_work (reverse left))) =
-        ap length (sym is) ∙ length-append (nodes_done ts done) (flat_map (nodes_for ts) (map seen_work (reverse left))) in
+    ap length (sym is) ∙ length-append (nodes_done ts done) (flat_map (nodes_for ts) (map seen_work (reverse left))) in
     let same : length (nodes_done ts done) ≡ length done = done_length ts done in
     omega (arith, whole_length, same, laid, most)
 
 pub many_after : (ts : Types) (done left : List OwnWork) (whole : List Node) (n : ℕ) → nodes_after ts done left ≡ whole → length done ≡ n + 1 → n ≡ 131072 → 131072 < length whole
 many_after ts done left whole n is laid most =
     let whole_length : length whole ≡ length (flat_map (closed_for ts) (map seen_work left)) + length (nodes_done ts (reverse done)) =
-        ap length (sym is) ∙ length-append (flat_map (closed_for ts) (map seen_work left)) (nodes_done ts (reverse done)) in
+    ap length (sym is) ∙ length-append (flat_map (closed_for ts) (map seen_work left)) (nodes_done ts (reverse done)) in
     let same : length (nodes_done ts (reverse done)) ≡ length done = done_length ts (reverse done) ∙ length-reverse done in
     omega (arith, whole_length, same, laid, most)
 

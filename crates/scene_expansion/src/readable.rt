@@ -1,7 +1,8 @@
 //! Which constraints and modifiers can be there.
 
 ghost use Rattle.std.specs.Prelude.{◌≡◌, filter, map, option_to_list};
-ghost use Rattle.std.specs.List.{list_all};
+ghost use Rattle.std.specs.List.{list_all, list_any};
+ghost use Rattle.osc_base.specs.Paths.{same_path as one_path};
 ghost use Rattle.expr_nodes.specs.Seen.{seen_part};
 ghost use Rattle.composition.specs.Expanded.{can_apply as applies, can_be_asked as asked, is_driven as driven};
 ghost use Rattle.composition.specs.SeenParts.{seen_modifier, seen_occurrence};
@@ -53,16 +54,23 @@ fn can_be_asked(scene: &Scene, occurrence: &Occurrence) -> bool
     has_part(scene, &occurrence.typed) && has_removed(scene, &occurrence.mark)
 }
 
-/// Whether a path leads to a vehicle of the scene.
-fn is_driven(scene: &Scene, path: &Path) -> bool
-    ensures { result ≡ driven (seen_scene scene.now) path.now }
+/// Whether a path is one of some others.
+fn is_among(path: &Path, others: &[Path]) -> bool
+    ensures { result ≡ list_any (one_path path.now) others.now }
 {
-    for vehicle in scene.vehicles() {
-        if same_path(path, vehicle) {
+    for other in others {
+        if same_path(path, other) {
             return true;
         }
     }
     false
+}
+
+/// Whether a path leads to a vehicle of the scene.
+fn is_driven(scene: &Scene, path: &Path) -> bool
+    ensures { result ≡ driven (seen_scene scene.now) path.now }
+{
+    is_among(path, scene.vehicles())
 }
 
 /// Whether the other vehicle of a modifier, if it has one, is a vehicle of the scene.

@@ -37,7 +37,10 @@ pub enum Work<'p> {
         range: ValueRange,
     },
     /// A composition.
-    Comp { call: Call, node: &'p CompNode },
+    Comp {
+        call: Call,
+        node: &'p CompNode,
+    },
     /// An invocation of a type, with the bindings that it makes.
     Invoke {
         steps: u32,
@@ -47,5 +50,8 @@ pub enum Work<'p> {
         bindings: Row<Binding>,
     },
     /// A `wait`.
-    Wait { call: Call, node: &'p WaitNode },
+    Wait {
+        call: Call,
+        node: &'p WaitNode,
+    },
 }

@@ -9,8 +9,8 @@ loop-work-init g c = record { counted = c.none-all.ensures ∙ none_counted c.ar
 pub loop-work-preserved : goal.loop-work-preserved
 loop-work-preserved g c = record {
   counted =
-  work_counted (g.L.Layout.types c.args.layout.now) c.args.works.now c.args.last c.loop-work.work-index c.work-item.result c.loop-work.all c.counts.result c.with-all.result c.loop-work-test.true c.work-item.is
-  c.loop-work.invariant.counted c.counts.ensures c.with-all.ensures;
+      work_counted (g.L.Layout.types c.args.layout.now) c.args.works.now c.args.last c.loop-work.work-index c.work-item.result c.loop-work.all c.counts.result c.with-all.result c.loop-work-test.true c.work-item.is
+      c.loop-work.invariant.counted c.counts.ensures c.with-all.ensures;
   within = sym c.are_past.ensures ∙ c.if-are_past.false;
 }
 
