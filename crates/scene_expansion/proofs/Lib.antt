@@ -1,0 +1,7 @@
+pub mod Turning
+pub mod WalkSteps
+pub mod NodesDone
+pub mod CountLimits
+pub mod ReadRows
+pub mod WholeScenes
+pub mod NamedScenes

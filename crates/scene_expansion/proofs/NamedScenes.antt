@@ -1,0 +1,27 @@
+-- The scene of the named scenario, or its fault, by the works that are laid out.
+use Rattle.std.proofs.Common.{◌≡◌, ℕ, Bool, true, false, List, ◌∙◌, Option, Some, None, ap, sym}
+use Rattle.std.specs.Prelude.{option_map}
+use Rattle.type_heads.specs.Types.{Types}
+use Rattle.composition.specs.declared.setting.Setting.{Setting}
+use Rattle.composition.specs.Scenes.{Scene}
+use Rattle.composition.specs.Expansion.{expansion}
+use Rattle.composition.specs.Expanded.{with_readable, scene}
+use Rattle.composition.specs.SceneFaults.{is_too_large}
+use Rattle.expansion_laws.specs.Nodes.{Node, nodes_of, closed_of}
+use Rattle.expansion_laws.specs.Laid.{scene_laid}
+use Rattle.expansion_laws.specs.NodeCounts.{pass_limits}
+use Rattle.expansion_laws.proofs.NodeTotals.{too_large_is}
+use Rattle.expansion_laws.proofs.LaidScenes.{laid_scene}
+
+module _ (ts : Types) (t : ℕ) (setting : Setting) (before : List Node) (is_before : before ≡ nodes_of ts (expansion ts t)) where
+  -- the limits are decided by the parts
+  pub judged : (past answer : Bool) → past ≡ pass_limits setting.ticks before → past ≡ answer → is_too_large ts t setting ≡ answer
+  judged past answer counted is = too_large_is ts t setting ∙ ap (pass_limits setting.ticks) (sym is_before) ∙ sym counted ∙ is
+
+  -- the scene of the parts is the scenario's
+  pub scene_is : (after : List Node) (s : Scene) → after ≡ closed_of ts (expansion ts t) → s ≡ with_readable (scene_laid setting ts.table.texts before after) → s ≡ scene ts t setting
+  scene_is after s is_after is = is ∙ sym (laid_scene ts t setting before after is_before is_after)
+
+-- the scene of what is named
+pub named_is : (ts : Types) (setting : Setting) (named : Option ℕ) (t : ℕ) (s : Scene) → Some t ≡ named → s ≡ scene ts t setting → option_map (λ u. scene ts u setting) named ≡ Some s
+named_is ts setting named t s found is = ap (option_map (λ u. scene ts u setting)) (sym found) ∙ ap (λ (x : Scene). Some x) (sym is)

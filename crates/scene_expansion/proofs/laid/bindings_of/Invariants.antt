@@ -1,0 +1,8 @@
+use Rattle.std.proofs.Common.{◌≡◌, map, take}
+use Rattle.composition.specs.SeenParts.{seen_binding}
+use Rattle.expansion_laws.specs.Laid.{bindings_laid}
+use Rattle.scene_expansion.specs.Walks.{nodes_done}
+use Rattle.scene_expansion.proofs.laid.bindings_of.Given as goal
+
+abbrev pub invariant-loop-work : goal.invariant-loop-work
+invariant-loop-work g l = map seen_binding l.bindings ≡ bindings_laid (nodes_done (g.L.Layout.types l.layout) (take l.work-index l.works))

@@ -1,0 +1,4 @@
+pub mod SeenWorks
+pub mod Walks
+pub mod AllCounts
+pub mod Readable

@@ -1,0 +1,19 @@
+//! The scene of a named scenario, laid out by its definition.
+#![tactic(auto)]
+
+mod counts;
+mod laid;
+mod layout;
+mod limits;
+mod named;
+mod readable;
+mod reads;
+mod walk;
+mod whole;
+mod work;
+
+pub use counts::Counts;
+pub use layout::Layout;
+pub use named::{ExpandStop, expand};
+pub use walk::MOST_WORKS;
+pub use work::{Call, Work};

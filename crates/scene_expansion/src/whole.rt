@@ -1,0 +1,91 @@
+//! The scene of the works that are laid out.
+
+ghost use Rattle.std.specs.Prelude.{◌≡◌, IfOk, IfSome, None, true};
+ghost use Rattle.composition.specs.Expanded.{with_readable};
+ghost use Rattle.composition.specs.Expansion.{expansion};
+ghost use Rattle.composition.specs.SceneFaults.{is_too_large};
+ghost use Rattle.composition.specs.SeenScenes.{seen_scene};
+ghost use Rattle.composition.specs.declared.setting.Setting.{Setting};
+ghost use Rattle.expansion_laws.specs.Laid.{scene_laid};
+ghost use Rattle.expansion_laws.specs.Nodes.{closed_of, nodes_of};
+ghost use Rattle.scene_expansion.specs.Walks.{bare_scene, nodes_done};
+
+use crate::laid::{bindings_of, modifiers_of, occurrences_of, spots_of};
+use crate::layout::Layout;
+use crate::readable::{readable_modifiers, readable_occurrences};
+use crate::walk::{laid_after, laid_before};
+use crate::work::Work;
+use composition::{Scene, Setting};
+use osc_base::Row;
+use std::alloc::{AllocError, Global};
+use type_model::TypeId;
+
+/// All works of a scenario, each before the works in it. `None` if there are too many for a scene.
+pub(crate) fn all_before<'p, L: Layout<'p>>(
+    alloc: Global,
+    layout: &L,
+    of: TypeId,
+) -> Result<Option<Vec<Work<'p>>>, AllocError>
+    ensures all { IfOk result (λ laid. IfSome laid (λ ws. nodes_done (L.types layout.now) ws.items ≡ nodes_of (L.types layout.now) (expansion (L.types layout.now) of))) }
+    ensures many { IfOk result (λ laid. laid ≡ None → (s : Setting) → is_too_large (L.types layout.now) of s ≡ true) }
+{
+    let root = layout.root(alloc, of)?;
+    let parts = layout.root_parts(alloc, of)?;
+    laid_before(alloc, layout, root, parts)
+}
+
+/// All works of a scenario, each after the works in it. `None` if there are too many for a scene.
+pub(crate) fn all_after<'p, L: Layout<'p>>(
+    alloc: Global,
+    layout: &L,
+    of: TypeId,
+) -> Result<Option<Vec<Work<'p>>>, AllocError>
+    ensures all { IfOk result (λ laid. IfSome laid (λ ws. nodes_done (L.types layout.now) ws.items ≡ closed_of (L.types layout.now) (expansion (L.types layout.now) of))) }
+    ensures many { IfOk result (λ laid. laid ≡ None → (s : Setting) → is_too_large (L.types layout.now) of s ≡ true) }
+{
+    let root = layout.root(alloc, of)?;
+    let parts = layout.root_parts(alloc, of)?;
+    laid_after(alloc, layout, root, parts)
+}
+
+/// A scene with the spots and bindings of works, without constraints and modifiers.
+fn bare<'p, L: Layout<'p>>(
+    alloc: Global,
+    layout: &L,
+    setting: Setting,
+    works: &[Work<'p>],
+) -> Result<Scene, AllocError>
+    ensures { IfOk result (λ s. seen_scene s ≡ bare_scene setting (L.types layout.now).table.texts (nodes_done (L.types layout.now) works.now)) }
+{
+    let spots = spots_of(alloc, layout, works)?;
+    let bindings = bindings_of(alloc, layout, works)?;
+    let texts = layout.texts(alloc)?;
+    let (occurrences, modifiers) = (Row::new(alloc), Row::new(alloc));
+    Scene::new(
+        alloc,
+        spots,
+        bindings,
+        occurrences,
+        modifiers,
+        setting,
+        texts,
+    )
+}
+
+/// The scene of works, which stand in one list before the works in them, and in the other after them.
+pub(crate) fn whole<'p, L: Layout<'p>>(
+    alloc: Global,
+    layout: &L,
+    setting: Setting,
+    before: &[Work<'p>],
+    after: &[Work<'p>],
+) -> Result<Scene, AllocError>
+    ensures { IfOk result (λ s. seen_scene s ≡ with_readable (scene_laid setting (L.types layout.now).table.texts (nodes_done (L.types layout.now) before.now) (nodes_done (L.types layout.now) after.now))) }
+{
+    let scene = bare(alloc, layout, setting, before)?;
+    let occurrences = occurrences_of(alloc, layout, &scene, after)?;
+    let modifiers = modifiers_of(alloc, layout, &scene, before)?;
+    let occurrences = readable_occurrences(&scene, occurrences);
+    let modifiers = readable_modifiers(&scene, modifiers);
+    Ok(scene.with_asked(occurrences, modifiers))
+}
