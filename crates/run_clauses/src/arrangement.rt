@@ -1,11 +1,18 @@
 //! Whether phases are arranged.
 
-ghost use Rattle.std.specs.Prelude.{◌≡◌, int_lt};
+ghost use Rattle.std.specs.Prelude.{◌≡◌, find, not, int_le, int_lt, option_copied, pos};
 ghost use Rattle.std.specs.List.{list_all};
-ghost use Rattle.composition.specs.Arrangement.{same_span as equal_spans, follow as are_followed};
-ghost use Rattle.composition.specs.Items.{times_of};
+ghost use Rattle.osc_base.specs.Comparisons.{same_number};
+ghost use Rattle.osc_base.specs.Paths.{same_path};
+ghost use Rattle.composition.specs.Arrangement.{same_span as equal_spans, follow as are_followed, all_same, arranged as is_arranged_as, by_kind as as_kind_says, chosen_spans, covers as is_covered, is_greatest, is_least, overlap as share_moment, starts_of, ends_of};
+ghost use Rattle.composition.specs.Items.{times_of, arranged_holds as arranged_if_there};
+ghost use Rattle.composition.specs.Scenes.{phases as all_phases, root_do};
+ghost use Rattle.composition.specs.SeenScenes.{seen_scene};
 ghost use Rattle.run_entries.specs.SeenRuns.{seen_run};
+ghost use Rattle.run_clauses.specs.Latest.{latest, later_tick};
 
+use crate::listing::is_root_do;
+use composition::{PhaseKind, PhaseSpot, Scene};
 use osc_base::Path;
 use run_entries::Entries;
 
@@ -64,4 +71,168 @@ pub fn takes_time(run: &Entries<'_>, phase: &Path) -> bool
     ensures { result ≡ int_lt ((times_of (seen_run run.now)).start phase.now) ((times_of (seen_run run.now)).end phase.now) }
 {
     start_of(run, phase) < end_of(run, phase)
+}
+
+/// The phase starts when the first of the others does.
+fn starts_first(run: &Entries<'_>, whole: &Path, phases: &[Path]) -> bool
+    ensures { result ≡ is_least ((times_of (seen_run run.now)).start whole.now) (starts_of (times_of (seen_run run.now)) phases.now) }
+{
+    let start = start_of(run, whole);
+    phases.iter().all(|phase| start <= start_of(run, phase))
+        && phases.iter().any(|phase| start_of(run, phase) == start)
+}
+
+/// The phase ends when the last of the others does.
+fn ends_last(run: &Entries<'_>, whole: &Path, phases: &[Path]) -> bool
+    ensures { result ≡ is_greatest ((times_of (seen_run run.now)).end whole.now) (ends_of (times_of (seen_run run.now)) phases.now) }
+{
+    let end = end_of(run, whole);
+    phases.iter().all(|phase| end_of(run, phase) <= end)
+        && phases.iter().any(|phase| end_of(run, phase) == end)
+}
+
+/// The whole starts with the first of the phases and ends with the last.
+pub fn covers(run: &Entries<'_>, whole: &Path, phases: &[Path]) -> bool
+    ensures { result ≡ is_covered (times_of (seen_run run.now)) whole.now phases.now }
+{
+    starts_first(run, whole, phases) && ends_last(run, whole, phases)
+}
+
+/// All phases start together.
+pub fn start_together(run: &Entries<'_>, phases: &[Path]) -> bool
+    ensures { result ≡ all_same (starts_of (times_of (seen_run run.now)) phases.now) }
+{
+    match phases {
+        [first, others @ ..] => start_at(run, start_of(run, first), others),
+        [] => true,
+    }
+}
+
+fn start_at(run: &Entries<'_>, tick: i64, phases: &[Path]) -> bool
+    ensures { result ≡ list_all (same_number tick) (starts_of (times_of (seen_run run.now)) phases.now) }
+{
+    phases.iter().all(|phase| tick == start_of(run, phase))
+}
+
+/// All phases end together.
+pub fn end_together(run: &Entries<'_>, phases: &[Path]) -> bool
+    ensures { result ≡ all_same (ends_of (times_of (seen_run run.now)) phases.now) }
+{
+    match phases {
+        [first, others @ ..] => end_at(run, end_of(run, first), others),
+        [] => true,
+    }
+}
+
+fn end_at(run: &Entries<'_>, tick: i64, phases: &[Path]) -> bool
+    ensures { result ≡ list_all (same_number tick) (ends_of (times_of (seen_run run.now)) phases.now) }
+{
+    phases.iter().all(|phase| tick == end_of(run, phase))
+}
+
+/// The tick at which the last of the phases starts.
+fn latest_start(run: &Entries<'_>, phases: &[Path]) -> i64
+    ensures { result ≡ latest (pos 0) (starts_of (times_of (seen_run run.now)) phases.now) }
+{
+    let mut tick = 0;
+    let mut rest = phases;
+    while let [phase, later @ ..] = rest {
+        tick = later_of(tick, start_of(run, phase));
+        rest = later;
+    }
+    tick
+}
+
+/// The later of two ticks.
+fn later_of(a: i64, b: i64) -> i64
+    ensures { result ≡ later_tick a b }
+{
+    if a <= b { b } else { a }
+}
+
+/// No phase ends before the tick.
+fn end_from(run: &Entries<'_>, tick: i64, phases: &[Path]) -> bool
+    ensures { result ≡ list_all (int_le tick) (ends_of (times_of (seen_run run.now)) phases.now) }
+{
+    phases.iter().all(|phase| tick <= end_of(run, phase))
+}
+
+/// The phases share a moment.
+pub fn overlap(run: &Entries<'_>, phases: &[Path]) -> bool
+    ensures { result ≡ share_moment (starts_of (times_of (seen_run run.now)) phases.now) (ends_of (times_of (seen_run run.now)) phases.now) }
+{
+    end_from(run, latest_start(run, phases), phases)
+}
+
+/// The phase that the whole chose has its span.
+pub fn chose_span(run: &Entries<'_>, whole: &Path, phases: &[Path]) -> bool
+    ensures { result ≡ chosen_spans (times_of (seen_run run.now)) whole.now 0 phases.now }
+{
+    match phases.get(chosen(run, whole) as usize) {
+        Some(phase) => same_span(run, phase, whole),
+        None => true,
+    }
+}
+
+/// The member that the `one_of` chose, 0 if the run doesn't list it.
+fn chosen(run: &Entries<'_>, phase: &Path) -> u32
+    ensures { pos result ≡ (times_of (seen_run run.now)).member phase.now }
+{
+    match run.member(phase) {
+        Some(member) => member,
+        None => 0,
+    }
+}
+
+/// The phase is as its kind says.
+fn is_as_kind_says(run: &Entries<'_>, phase: &PhaseSpot) -> bool
+    ensures { result ≡ as_kind_says phase.now.kind (times_of (seen_run run.now)) phase.now.path phase.now.members }
+{
+    let members = phase.members.as_slice();
+    match phase.kind {
+        PhaseKind::Serial => follow(
+            run,
+            start_of(run, &phase.path),
+            end_of(run, &phase.path),
+            members,
+        ),
+        PhaseKind::Start => covers(run, &phase.path, members) && start_together(run, members),
+        PhaseKind::End => covers(run, &phase.path, members) && end_together(run, members),
+        PhaseKind::Equal => {
+            covers(run, &phase.path, members)
+                && (start_together(run, members) && end_together(run, members))
+        }
+        PhaseKind::Any => covers(run, &phase.path, members) && overlap(run, members),
+        PhaseKind::OneOf => chose_span(run, &phase.path, members),
+        PhaseKind::Scenario => share_span(run, &phase.path, members),
+        PhaseKind::Action => takes_time(run, &phase.path),
+        PhaseKind::Wait => true,
+    }
+}
+
+/// The phase is arranged: it doesn't end before it starts, and is as its kind says. The `do` of the named scenario also
+/// starts at tick 0.
+fn is_arranged(run: &Entries<'_>, phase: &PhaseSpot) -> bool
+    ensures { result ≡ is_arranged_as (times_of (seen_run run.now)) (same_path phase.now.path root_do) phase.now }
+{
+    start_of(run, &phase.path) <= end_of(run, &phase.path)
+        && is_as_kind_says(run, phase)
+        && (!is_root_do(&phase.path) || start_of(run, &phase.path) == 0)
+}
+
+/// The phase is arranged, if it is there.
+pub fn arranged_holds(scene: &Scene, run: &Entries<'_>, phase: &PhaseSpot) -> bool
+    ensures { result ≡ arranged_if_there (seen_scene scene.now) (seen_run run.now) phase.now }
+{
+    !run.is_there(scene, &phase.path) || is_arranged(run, phase)
+}
+
+/// The first phase that is there and isn't arranged.
+pub fn first_disarranged<'a>(scene: &'a Scene, run: &Entries<'_>) -> Option<&'a PhaseSpot>
+    ensures { option_copied result ≡ find (λ p. not (arranged_if_there (seen_scene scene.now) (seen_run run.now) p)) (all_phases (seen_scene scene.now)) }
+{
+    scene
+        .phases()
+        .iter()
+        .find(|phase| !arranged_holds(scene, run, phase))
 }

@@ -1,12 +1,17 @@
 //! Whether what a run lists is in its range.
 
-ghost use Rattle.std.specs.Prelude.{◌≡◌};
-ghost use Rattle.composition.specs.Claims.{choice_in_range as choice_fits, sample_in_range as sample_fits, span_in_range as span_fits};
-ghost use Rattle.composition.specs.Ranges.{lies_between as between};
+ghost use Rattle.std.specs.Prelude.{◌≡◌, find, not, bytes_eq, option_copied};
+ghost use Rattle.std.specs.List.{list_all, list_any};
+ghost use Rattle.osc_base.specs.Comparisons.{same_number};
+ghost use Rattle.composition.specs.Claims.{choice_in_range as choice_fits, sample_in_range as sample_fits, span_in_range as span_fits, value_in_range as value_fits};
+ghost use Rattle.composition.specs.Ranges.{lies_between as between, in_range};
 ghost use Rattle.composition.specs.SeenScenes.{seen_scene};
+ghost use Rattle.composition.specs.declared.run.Held.{Held};
+ghost use Rattle.run_entries.specs.SeenRuns.{seen_run};
 
-use composition::{Choice, Scene, Setting, Span};
-use osc_base::Sample;
+use composition::{Choice, Held, Scene, Setting, Span, Trace, Value, ValueRange};
+use osc_base::{Sample, Text};
+use run_entries::Entries;
 
 /// The greatest speed, in millimetres a second.
 const TOP_SPEED: i64 = 1_000_000_000;
@@ -45,4 +50,91 @@ fn lies_between(low: i64, high: i64, number: i64) -> bool
     ensures { result ≡ between low high number }
 {
     low <= number && number <= high
+}
+
+/// The value is what its field may hold.
+pub fn value_in_range(scene: &Scene, value: &Value) -> bool
+    ensures { result ≡ value_fits (seen_scene scene.now) value.now }
+{
+    match scene.value(&value.path) {
+        Some(spot) => may_hold(scene.texts(), &spot.range, &value.held),
+        None => false,
+    }
+}
+
+/// A field with this range may hold it.
+fn may_hold(texts: &[Text], range: &ValueRange, held: &Held) -> bool
+    ensures { result ≡ in_range texts.now range.now held.now }
+{
+    match held {
+        Held::Number(number) => may_be(range, *number, texts),
+        Held::Chars(text) => may_read(range, text, texts),
+    }
+}
+
+/// A field with this range may hold the number.
+fn may_be(range: &ValueRange, number: i64, texts: &[Text]) -> bool
+    ensures { result ≡ in_range texts.now range.now (Held.Number number) }
+{
+    match range {
+        ValueRange::Between { low, high } => lies_between(*low, *high, number),
+        ValueRange::Among { numbers } => is_among(numbers.as_slice(), number),
+        ValueRange::Chars => false,
+    }
+}
+
+/// The number is one of those.
+fn is_among(numbers: &[i64], number: i64) -> bool
+    ensures { result ≡ list_any (same_number number) numbers.now }
+{
+    numbers.iter().any(|other| number == *other)
+}
+
+/// A field with this range may hold the text.
+fn may_read(range: &ValueRange, text: &Text, texts: &[Text]) -> bool
+    ensures { result ≡ in_range texts.now range.now (Held.Chars text.now) }
+{
+    match range {
+        ValueRange::Chars => texts.iter().any(|other| text == other),
+        ValueRange::Between { .. } | ValueRange::Among { .. } => false,
+    }
+}
+
+/// All samples of the trace are in range.
+fn trace_in_range(setting: &Setting, trace: &Trace) -> bool
+    ensures { result ≡ list_all (sample_fits setting.now) trace.now.samples }
+{
+    trace
+        .samples
+        .as_slice()
+        .iter()
+        .all(|sample| sample_in_range(setting, sample))
+}
+
+/// The first choice that is none of the members.
+pub fn first_choice_out<'a>(scene: &Scene, run: &'a Entries<'_>) -> Option<&'a Choice>
+    ensures { option_copied result ≡ find (λ c. not (choice_fits (seen_scene scene.now) c)) (seen_run run.now).choices }
+{
+    run.choices().iter().find(|choice| !choice_in_range(scene, choice))
+}
+
+/// The first value that its field may not hold.
+pub fn first_value_out<'a>(scene: &Scene, run: &'a Entries<'_>) -> Option<&'a Value>
+    ensures { option_copied result ≡ find (λ v. not (value_fits (seen_scene scene.now) v)) (seen_run run.now).values }
+{
+    run.values().iter().find(|value| !value_in_range(scene, value))
+}
+
+/// The first phase whose ticks are out of range.
+pub fn first_span_out<'a>(setting: &Setting, run: &'a Entries<'_>) -> Option<&'a Span>
+    ensures { option_copied result ≡ find (λ s. not (span_fits setting.now s)) (seen_run run.now).phases }
+{
+    run.phases().iter().find(|span| !span_in_range(setting, span))
+}
+
+/// The first trace with a sample that is out of range.
+pub fn first_trace_out<'a>(setting: &Setting, run: &'a Entries<'_>) -> Option<&'a Trace>
+    ensures { option_copied result ≡ find (λ t. not (list_all (sample_fits setting.now) t.samples)) (seen_run run.now).traces }
+{
+    run.traces().iter().find(|trace| !trace_in_range(setting, trace))
 }

@@ -1,0 +1,4 @@
+pub mod PathForms
+pub mod Told
+pub mod RoundTrips
+pub mod LineFeeds

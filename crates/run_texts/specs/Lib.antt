@@ -1,0 +1,4 @@
+pub mod PathForms
+pub mod RunShape
+pub mod RunReading
+pub mod WrittenRuns

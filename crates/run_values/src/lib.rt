@@ -1,0 +1,7 @@
+//! The numbers that a run holds, and whether vehicles move as they may.
+#![tactic(auto)]
+
+mod motion;
+mod numbers;
+
+pub use numbers::Numbers;

@@ -1,0 +1,94 @@
+//! The numbers that a run holds at the paths of its scene.
+
+ghost use Rattle.std.specs.Prelude.{◌≡◌, ◌≤◌, ◌*◌, pos, option_map};
+ghost use Rattle.composition.specs.Numbers.{text_number, thousandths};
+ghost use Rattle.composition.specs.SeenScenes.{seen_scene};
+ghost use Rattle.run_entries.specs.SeenRuns.{seen_run};
+ghost use Rattle.run_values.specs.Frames.{IsWithin};
+
+use composition::{Held, Scene, Source};
+use osc_base::{Path, Text};
+use run_entries::Entries;
+
+/// The numbers of a run that is within the limits of its scene.
+pub struct Numbers<'a> {
+    pub(crate) scene: &'a Scene,
+    pub(crate) run: &'a Entries<'a>,
+    ghost within: { IsWithin (seen_scene scene.now) (seen_run run.now) },
+}
+
+impl<'a> Numbers<'a> {
+    ghost use Rattle.std.specs.Prelude.{◌≡◌, ◌≤◌, ◌*◌, pos, option_map, option_and_then, position, bytes_eq};
+    ghost use Rattle.composition.specs.Numbers.{number_at, number_of, thousandths, text_number};
+    ghost use Rattle.composition.specs.SeenScenes.{seen_scene};
+    ghost use Rattle.composition.specs.TimedRuns.{span_in, held_in};
+    ghost use Rattle.run_entries.specs.SeenRuns.{seen_run};
+    ghost use Rattle.run_values.specs.Frames.{IsWithin};
+
+    /// The numbers of a run.
+    pub fn of(scene: &'a Scene, run: &'a Entries<'a>) -> Numbers<'a>
+        requires { IsWithin (seen_scene scene.now) (seen_run run.now) }
+        ensures scene { seen_scene result.scene.now ≡ seen_scene scene.now }
+        ensures run { seen_run result.run.now ≡ seen_run run.now }
+    {
+        Numbers { scene, run }
+    }
+
+    /// The number that the run holds at a path: the value of the field there, or a duration in thousandths of a second.
+    pub fn number(&self, path: &Path) -> Option<i64>
+        ensures { result ≡ number_at (seen_scene self.now.scene.now) (seen_run self.now.run.now) path.now }
+    {
+        match self.scene.source(path) {
+            Source::Run => Some(self.length()),
+            Source::Phase(phase) => self.length_of(phase),
+            Source::Value => self.held_number(path),
+        }
+    }
+
+    /// How long the run is.
+    fn length(&self) -> i64
+        ensures { result ≡ thousandths (seen_run self.now.run.now).tick (pos 0) (pos (seen_run self.now.run.now).end) }
+    {
+        over_ticks(self.run.tick(), 0, self.run.end())
+    }
+
+    /// How long the phase is.
+    fn length_of(&self, phase: &Path) -> Option<i64>
+        ensures { result ≡ option_map (λ s. thousandths (seen_run self.now.run.now).tick (pos s.start) (pos s.end)) (span_in (seen_run self.now.run.now) phase.now) }
+    {
+        match self.run.span(phase) {
+            Some(span) => Some(over_ticks(self.run.tick(), span.start, span.end)),
+            None => None,
+        }
+    }
+
+    /// The number that stands for what the field holds.
+    fn held_number(&self, path: &Path) -> Option<i64>
+        ensures { result ≡ option_and_then (number_of (seen_scene self.now.scene.now).texts) (held_in (seen_run self.now.run.now) path.now) }
+    {
+        match self.run.held(path) {
+            Some(Held::Number(number)) => Some(*number),
+            Some(Held::Chars(text)) => number_of_text(self.scene.texts(), text),
+            None => None,
+        }
+    }
+}
+
+/// The place of the text among the texts.
+fn number_of_text(texts: &[Text], text: &Text) -> Option<i64>
+    ensures { result ≡ option_map pos (text_number texts.now text.now) }
+{
+    match texts.iter().position(|other| text == other) {
+        Some(place) => Some(place as i64),
+        None => None,
+    }
+}
+
+/// How long it is from one tick to another, in thousandths of a second.
+fn over_ticks(tick: u32, start: u32, end: u32) -> i64
+    requires ordered { start ≤ end }
+    requires small { tick * end ≤ 60000 }
+    ensures { result ≡ thousandths tick (pos start) (pos end) }
+{
+    i64::from(tick) * (i64::from(end) - i64::from(start))
+}
