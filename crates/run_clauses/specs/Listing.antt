@@ -1,7 +1,9 @@
 -- Whether a run lists what is there, in order.
-use Rattle.std.specs.Prelude.{Bool, true, false, cond, List, [], ◌∷◌, Option, Some, None}
+use Rattle.std.specs.Prelude.{Bool, false, cond, List, [], ◌∷◌, Option, Some, None, bytes_eq, codes}
 use Rattle.std.specs.Option.{option_map_or}
 use Rattle.osc_base.specs.declared.path.Path.{Path}
+use Rattle.osc_base.specs.declared.path.Step.{Step}
+use Rattle.osc_base.specs.declared.path.Step.TheVariants.{Name, Index, Member}
 use Rattle.osc_base.specs.Paths.{same_path}
 
 -- the path of the first thing of a list
@@ -28,3 +30,11 @@ abbrev pub first_unlisted : {T U : Type 0} → (Path → Bool) → (T → Path) 
 first_unlisted there wanted_path given_path [] given = first_path given_path given
 first_unlisted there wanted_path given_path (x ∷ xs) given =
     option_map_or (λ left. first_unlisted there wanted_path given_path xs left) (left_after there given_path (wanted_path x) given) (Some (wanted_path x))
+
+-- the steps are `do` alone
+abbrev pub is_do : List Step → Bool
+is_do [] = false
+is_do (Name name ∷ []) = bytes_eq name (codes "do")
+is_do (Index number ∷ []) = false
+is_do (Member number ∷ []) = false
+is_do (step ∷ next ∷ later) = false

@@ -177,6 +177,13 @@ fn is_even(run: &Entries<'_>, trace: &Trace) -> bool
 pub fn is_root_do(path: &Path) -> bool
     ensures { result ≡ same_path path.now root_do }
 {
+    is_do(path)
+}
+
+/// The path is `do` alone.
+fn is_do(path: &Path) -> bool
+    ensures { result ≡ listing.is_do path.now.steps }
+{
     match path.steps.as_slice() {
         [Step::Name(name)] => name.as_str() == "do",
         _ => false,

@@ -26,6 +26,10 @@ told_at s p Memory d h = tt
 abbrev pub after : {T : Type 0} → List T → Shaped (List T) → Shaped (List T)
 after done s = shaped_then s (λ later. Fits (done ++ later))
 
+pub after_none : {T : Type 0} (s : Shaped (List T)) → after [] s ≡ s
+after_none (Fits later) = refl
+after_none (Differs p) = refl
+
 module _ {T : Type 0} (f : Data → Option T) (key : List ℕ) where
   pub list_more : (done : List T) (d : Data) (ds : Items) (x : T) → f d ≡ Some x
       → after done (list_from f key (length done) (item d ds)) ≡ after (done ++ x ∷ []) (list_from f key (length (done ++ x ∷ [])) ds)

@@ -1,6 +1,6 @@
 -- What is within the limits of a scene.
 use Rattle.std.proofs.Common.{◌≡◌, ◌∙◌, refl, sym, ap, ap₂, subst, arith, ints, true≢false, ℕ, ◌+◌, ◌*◌, ◌-◌, ◌<◌, ◌≤◌, List, [], ◌∷◌, ◌++◌, ◌&&◌, ◌||◌, Bool, true, false, cond, not, Option, Some, None, map, length, unsigned_abs}
-use Rattle.std.proofs.Math.Nat.{mul-le-mul_right, mul-le-mul_left}
+use Rattle.std.proofs.Math.Nat.{mul_comm, mul-le-mul_right, mul-le-mul_left}
 use Rattle.std.specs.Prelude.{ℤ, pos, ◌*ℤ◌, ◌-ℤ◌, int_le, ◌≤ℤ◌, nat_eq, nat_le, nat_lt, find, is_some, option_map, option_and_then, position, bytes_eq, neg_ℤ}
 use Rattle.std.proofs.lemmas.Int.{unsigned_abs-mul}
 use Rattle.std.proofs.lemmas.List.Quantifiers.{position-Some}
@@ -9,7 +9,7 @@ use Rattle.std.specs.List.{list_all, list_any}
 use Rattle.osc_base.specs.declared.path.Path.{Path}
 use Rattle.osc_base.specs.Comparisons.{same_number}
 use Rattle.osc_base.specs.Paths.{same_path}
-use Rattle.expr_nodes.specs.Sizes.{Size, field_reach, duration_reach, duration_scale, duration_size, field_size}
+use Rattle.expr_nodes.specs.Sizes.{Size, field_reach, duration_reach, duration_scale, duration_size, field_size, is_wide}
 use Rattle.expr_nodes.specs.Sound.{has_size, is_sound, each_read, each_read_of}
 use Rattle.expr_nodes.specs.Typed.{Typed, Info, Constant, Read, Whole, Listed, Span, Minus, Not, Sum, Times, And, Or, Implies, Relation, Within, TypedRow, End, Item}
 use Rattle.composition.specs.declared.clause.Clause.{Clause}
@@ -119,7 +119,7 @@ module _ (scene : Scene) (run : TimedRun) (is : IsWithin scene run) where
   -- no tick up to the last is longer off than a duration may be
   pub off : (t : ℕ) → t ≤ the_setting.ticks → run.tick * t ≤ duration_reach
   off t h =
-      let e : run.tick * t ≡ t * the_setting.tick = ap (λ k. k * t) same_tick ∙ grind arith in
+      let e : run.tick * t ≡ t * the_setting.tick = ap (λ k. k * t) same_tick ∙ mul_comm the_setting.tick t in
       let m : t * the_setting.tick ≤ the_setting.ticks * the_setting.tick = mul-le-mul_right the_setting.tick h in
       omega (arith, e, m, longest)
 
@@ -259,7 +259,7 @@ module _ (scene : Scene) (run : TimedRun) (is : IsWithin scene run) where
       over a b h = grind arith
 
   reach_of : (i : Info) (s : Size) → has_size i s ≡ true → i.reach ≡ s.reach
-  reach_of i s h = eq_nat i.reach s.reach (right_of (nat_eq i.scale s.scale) (nat_eq i.reach s.reach) (left_of (nat_eq i.scale s.scale && nat_eq i.reach s.reach) _ h))
+  reach_of i s h = eq_nat i.reach s.reach (right_of (nat_eq i.scale s.scale) (nat_eq i.reach s.reach) (left_of (nat_eq i.scale s.scale && nat_eq i.reach s.reach) (not (is_wide s)) h))
 
   span_small : (phase : Path) (n : ℤ) → option_map (λ (s : run_span.Span). thousandths run.tick (pos s.start) (pos s.end)) (span_in run phase) ≡ Some n → unsigned_abs n ≤ duration_reach
   span_small phase n e = by (span_in run phase) refl e
