@@ -1,12 +1,16 @@
 -- Tests of lists of ticks.
-use Rattle.std.proofs.Common.{◌≡◌, ◌∙◌, refl, sym, ap, ap₂, subst, arith, ints, true≢false, ℕ, zero, suc, ◌+◌, ◌-◌, ◌<◌, ◌≤◌, List, [], ◌∷◌, ◌++◌, ◌&&◌, ◌||◌, Bool, true, false, cond, not, Option, Some, None, map, length}
+use Rattle.std.proofs.Common.{◌≡◌, ◌∙◌, refl, sym, ap, ap₂, subst, arith, true≢false, ℕ, zero, suc, ◌+◌, ◌-◌, ◌<◌, ◌≤◌, List, [], ◌∷◌, ◌++◌, ◌&&◌, ◌||◌, Bool, true, false, cond, not, Option, Some, None, map, length}
+use Rattle.std.proofs.lemmas.Int.{ints}
 use Rattle.std.specs.Prelude.{ℤ, pos, int_le, ◌≤ℤ◌, ◌<ℤ◌, nat_eq, slice_get, find}
 use Rattle.std.specs.Option.{option_map_or}
 use Rattle.std.specs.List.{list_all, list_any}
 use Rattle.osc_base.specs.Comparisons.{same_number}
 use Rattle.osc_base.specs.declared.path.Path.{Path}
-use Rattle.composition.specs.Arrangement.{Times, same_span, overlap, chosen_spans}
-use Rattle.run_clauses.specs.Latest.{latest, later_tick}
+use Rattle.composition.specs.declared.run.Span.{Span}
+use Rattle.composition.specs.TimedRuns.{TimedRun, span_in}
+use Rattle.composition.specs.Items.{times_of}
+use Rattle.composition.specs.Arrangement.{Times, same_span, overlap, chosen_spans, covers, ends_of}
+use Rattle.run_clauses.specs.Latest.{latest, later_tick, is_first, is_last}
 
 pub all_mapped : {A B : Type 0} (t : B → Bool) (f : A → B) (xs : List A) → list_all t (map f xs) ≡ list_all (λ x. t (f x)) xs
 all_mapped t f [] = refl
@@ -119,3 +123,22 @@ module _ (times : Times) (whole : Path) (n : ℕ) (is : times.member whole ≡ p
 pub chosen_span : (times : Times) (whole : Path) (n : ℕ) (ms : List Path) → pos n ≡ times.member whole
     → option_map_or (λ m. same_span times m whole) (slice_get ms n) true ≡ chosen_spans times whole 0 ms
 chosen_span times whole n ms e = chosen_later times whole n (sym e) 0 n ms (omega arith)
+
+-- ---- wholes
+
+pub covers_is : (times : Times) (whole : Path) (ms : List Path) → (is_first times.start whole ms && is_last times.end whole ms) ≡ covers times whole ms
+covers_is times whole ms =
+    sym (λ i. (all_mapped (int_le (times.start whole)) times.start ms i && any_mapped (λ t. same_number t (times.start whole)) times.start ms i)
+      && (all_mapped (λ t. int_le t (times.end whole)) times.end ms i && any_mapped (λ t. same_number t (times.end whole)) times.end ms i))
+
+-- no phase ends before tick 0
+pub ends_from_first : (run : TimedRun) (ms : List Path) → list_all (int_le (pos 0)) (ends_of (times_of run) ms) ≡ true
+ends_from_first run [] = refl
+ends_from_first run (m ∷ ms) = ap₂ (◌&&◌) (by (span_in run m)) (ends_from_first run ms)
+  where
+    from_first : (n : ℕ) → int_le (pos 0) (pos n) ≡ true
+    from_first n = grind (arith, ints)
+
+    by : (o : Option Span) → int_le (pos 0) (option_map_or (λ (s : Span). pos s.end) o (pos 0)) ≡ true
+    by None = refl
+    by (Some s) = from_first s.end

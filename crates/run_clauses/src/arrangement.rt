@@ -1,15 +1,15 @@
 //! Whether phases are arranged.
 
-ghost use Rattle.std.specs.Prelude.{◌≡◌, find, not, int_le, int_lt, option_copied, pos};
-ghost use Rattle.std.specs.List.{list_all};
+ghost use Rattle.std.specs.Prelude.{◌≡◌, ◌&&◌, find, not, int_le, int_lt, option_copied, pos};
+ghost use Rattle.std.specs.List.{list_all, list_any};
 ghost use Rattle.osc_base.specs.Comparisons.{same_number};
 ghost use Rattle.osc_base.specs.Paths.{same_path};
-ghost use Rattle.composition.specs.Arrangement.{same_span as equal_spans, follow as are_followed, all_same, arranged as is_arranged_as, by_kind as as_kind_says, chosen_spans, covers as is_covered, is_greatest, is_least, overlap as share_moment, starts_of, ends_of};
+ghost use Rattle.composition.specs.Arrangement.{same_span as equal_spans, follow as are_followed, all_same, arranged as is_arranged_as, by_kind as as_kind_says, chosen_spans, covers as is_covered, overlap as share_moment, starts_of, ends_of};
 ghost use Rattle.composition.specs.Items.{times_of, arranged_holds as arranged_if_there};
 ghost use Rattle.composition.specs.Scenes.{phases as all_phases, root_do};
 ghost use Rattle.composition.specs.SeenScenes.{seen_scene};
 ghost use Rattle.run_entries.specs.SeenRuns.{seen_run};
-ghost use Rattle.run_clauses.specs.Latest.{latest, later_tick};
+ghost use Rattle.run_clauses.specs.Latest.{is_first, is_last, latest, later_tick};
 
 use crate::listing::is_root_do;
 use composition::{PhaseKind, PhaseSpot, Scene};
@@ -73,60 +73,113 @@ pub fn takes_time(run: &Entries<'_>, phase: &Path) -> bool
     start_of(run, phase) < end_of(run, phase)
 }
 
-/// The phase starts when the first of the others does.
-fn starts_first(run: &Entries<'_>, whole: &Path, phases: &[Path]) -> bool
-    ensures { result ≡ is_least ((times_of (seen_run run.now)).start whole.now) (starts_of (times_of (seen_run run.now)) phases.now) }
+/// None of the others starts before the phase.
+fn starts_before(run: &Entries<'_>, whole: &Path, phases: &[Path]) -> bool
+    ensures { result ≡ list_all (λ m. int_le ((times_of (seen_run run.now)).start whole.now) ((times_of (seen_run run.now)).start m)) phases.now }
 {
     let start = start_of(run, whole);
     phases.iter().all(|phase| start <= start_of(run, phase))
-        && phases.iter().any(|phase| start_of(run, phase) == start)
+}
+
+/// One of the others starts with the phase.
+fn starts_with(run: &Entries<'_>, whole: &Path, phases: &[Path]) -> bool
+    ensures { result ≡ list_any (λ m. same_number ((times_of (seen_run run.now)).start m) ((times_of (seen_run run.now)).start whole.now)) phases.now }
+{
+    let start = start_of(run, whole);
+    phases.iter().any(|phase| start_of(run, phase) == start)
+}
+
+/// The phase starts when the first of the others does.
+fn starts_first(run: &Entries<'_>, whole: &Path, phases: &[Path]) -> bool
+    ensures { result ≡ is_first (times_of (seen_run run.now)).start whole.now phases.now }
+{
+    starts_before(run, whole, phases) && starts_with(run, whole, phases)
+}
+
+/// None of the others ends after the phase.
+fn ends_after(run: &Entries<'_>, whole: &Path, phases: &[Path]) -> bool
+    ensures { result ≡ list_all (λ m. int_le ((times_of (seen_run run.now)).end m) ((times_of (seen_run run.now)).end whole.now)) phases.now }
+{
+    let end = end_of(run, whole);
+    phases.iter().all(|phase| end_of(run, phase) <= end)
+}
+
+/// One of the others ends with the phase.
+fn ends_with(run: &Entries<'_>, whole: &Path, phases: &[Path]) -> bool
+    ensures { result ≡ list_any (λ m. same_number ((times_of (seen_run run.now)).end m) ((times_of (seen_run run.now)).end whole.now)) phases.now }
+{
+    let end = end_of(run, whole);
+    phases.iter().any(|phase| end_of(run, phase) == end)
 }
 
 /// The phase ends when the last of the others does.
 fn ends_last(run: &Entries<'_>, whole: &Path, phases: &[Path]) -> bool
-    ensures { result ≡ is_greatest ((times_of (seen_run run.now)).end whole.now) (ends_of (times_of (seen_run run.now)) phases.now) }
+    ensures { result ≡ is_last (times_of (seen_run run.now)).end whole.now phases.now }
 {
-    let end = end_of(run, whole);
-    phases.iter().all(|phase| end_of(run, phase) <= end)
-        && phases.iter().any(|phase| end_of(run, phase) == end)
+    ends_after(run, whole, phases) && ends_with(run, whole, phases)
 }
 
 /// The whole starts with the first of the phases and ends with the last.
-pub fn covers(run: &Entries<'_>, whole: &Path, phases: &[Path]) -> bool
-    ensures { result ≡ is_covered (times_of (seen_run run.now)) whole.now phases.now }
+fn spans(run: &Entries<'_>, whole: &Path, phases: &[Path]) -> bool
+    ensures { result ≡ (is_first (times_of (seen_run run.now)).start whole.now phases.now && is_last (times_of (seen_run run.now)).end whole.now phases.now) }
 {
     starts_first(run, whole, phases) && ends_last(run, whole, phases)
 }
 
+/// The whole covers the phases.
+fn covers(run: &Entries<'_>, whole: &Path, phases: &[Path]) -> bool
+    ensures { result ≡ is_covered (times_of (seen_run run.now)) whole.now phases.now }
+{
+    spans(run, whole, phases)
+}
+
 /// All phases start together.
-pub fn start_together(run: &Entries<'_>, phases: &[Path]) -> bool
+fn start_together(run: &Entries<'_>, phases: &[Path]) -> bool
     ensures { result ≡ all_same (starts_of (times_of (seen_run run.now)) phases.now) }
 {
     match phases {
-        [first, others @ ..] => start_at(run, start_of(run, first), others),
+        [first, others @ ..] => start_at(run, first, others),
         [] => true,
     }
 }
 
-fn start_at(run: &Entries<'_>, tick: i64, phases: &[Path]) -> bool
-    ensures { result ≡ list_all (same_number tick) (starts_of (times_of (seen_run run.now)) phases.now) }
+/// All phases start with the first.
+fn start_at(run: &Entries<'_>, first: &Path, phases: &[Path]) -> bool
+    ensures { result ≡ list_all (same_number ((times_of (seen_run run.now)).start first.now)) (starts_of (times_of (seen_run run.now)) phases.now) }
 {
+    each_starts_at(run, first, phases)
+}
+
+/// All phases start with the first.
+fn each_starts_at(run: &Entries<'_>, first: &Path, phases: &[Path]) -> bool
+    ensures { result ≡ list_all (λ m. same_number ((times_of (seen_run run.now)).start first.now) ((times_of (seen_run run.now)).start m)) phases.now }
+{
+    let tick = start_of(run, first);
     phases.iter().all(|phase| tick == start_of(run, phase))
 }
 
 /// All phases end together.
-pub fn end_together(run: &Entries<'_>, phases: &[Path]) -> bool
+fn end_together(run: &Entries<'_>, phases: &[Path]) -> bool
     ensures { result ≡ all_same (ends_of (times_of (seen_run run.now)) phases.now) }
 {
     match phases {
-        [first, others @ ..] => end_at(run, end_of(run, first), others),
+        [first, others @ ..] => end_at(run, first, others),
         [] => true,
     }
 }
 
-fn end_at(run: &Entries<'_>, tick: i64, phases: &[Path]) -> bool
-    ensures { result ≡ list_all (same_number tick) (ends_of (times_of (seen_run run.now)) phases.now) }
+/// All phases end with the first.
+fn end_at(run: &Entries<'_>, first: &Path, phases: &[Path]) -> bool
+    ensures { result ≡ list_all (same_number ((times_of (seen_run run.now)).end first.now)) (ends_of (times_of (seen_run run.now)) phases.now) }
 {
+    each_ends_at(run, first, phases)
+}
+
+/// All phases end with the first.
+fn each_ends_at(run: &Entries<'_>, first: &Path, phases: &[Path]) -> bool
+    ensures { result ≡ list_all (λ m. same_number ((times_of (seen_run run.now)).end first.now) ((times_of (seen_run run.now)).end m)) phases.now }
+{
+    let tick = end_of(run, first);
     phases.iter().all(|phase| tick == end_of(run, phase))
 }
 
@@ -150,22 +203,23 @@ fn later_of(a: i64, b: i64) -> i64
     if a <= b { b } else { a }
 }
 
-/// No phase ends before the tick.
-fn end_from(run: &Entries<'_>, tick: i64, phases: &[Path]) -> bool
-    ensures { result ≡ list_all (int_le tick) (ends_of (times_of (seen_run run.now)) phases.now) }
+/// No phase ends before the last of them starts.
+fn end_after_starts(run: &Entries<'_>, phases: &[Path]) -> bool
+    ensures { result ≡ list_all (λ m. int_le (latest (pos 0) (starts_of (times_of (seen_run run.now)) phases.now)) ((times_of (seen_run run.now)).end m)) phases.now }
 {
+    let tick = latest_start(run, phases);
     phases.iter().all(|phase| tick <= end_of(run, phase))
 }
 
 /// The phases share a moment.
-pub fn overlap(run: &Entries<'_>, phases: &[Path]) -> bool
+fn overlap(run: &Entries<'_>, phases: &[Path]) -> bool
     ensures { result ≡ share_moment (starts_of (times_of (seen_run run.now)) phases.now) (ends_of (times_of (seen_run run.now)) phases.now) }
 {
-    end_from(run, latest_start(run, phases), phases)
+    end_after_starts(run, phases)
 }
 
 /// The phase that the whole chose has its span.
-pub fn chose_span(run: &Entries<'_>, whole: &Path, phases: &[Path]) -> bool
+fn chose_span(run: &Entries<'_>, whole: &Path, phases: &[Path]) -> bool
     ensures { result ≡ chosen_spans (times_of (seen_run run.now)) whole.now 0 phases.now }
 {
     match phases.get(chosen(run, whole) as usize) {

@@ -95,9 +95,16 @@ fn may_read(range: &ValueRange, text: &Text, texts: &[Text]) -> bool
     ensures { result ≡ in_range texts.now range.now (Held.Chars text.now) }
 {
     match range {
-        ValueRange::Chars => texts.iter().any(|other| text == other),
+        ValueRange::Chars => is_text_among(texts, text),
         ValueRange::Between { .. } | ValueRange::Among { .. } => false,
     }
+}
+
+/// The text is one of those.
+fn is_text_among(texts: &[Text], text: &Text) -> bool
+    ensures { result ≡ list_any (bytes_eq text.now) texts.now }
+{
+    texts.iter().any(|other| text == other)
 }
 
 /// All samples of the trace are in range.
