@@ -13,3 +13,6 @@ mod sets;
 
 pub use headings::first_heading_fault;
 pub use members::first_member_fault;
+pub use reach::Steps;
+pub use returning::Ranking;
+pub use sets::TextSet;

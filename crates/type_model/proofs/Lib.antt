@@ -1,2 +1,7 @@
 mod Ends
 mod SoundUnits
+mod Quiet
+mod SoundForms
+mod TypeParts
+mod Stops
+mod LastNumbers

@@ -1,9 +1,13 @@
 -- What is kept of types beside the table.
 use Rattle.std.specs.Prelude.{◌≡◌, ℕ, ℤ, ◌<◌, ◌^◌, Bool, true, false, List, None, map, length, is_some, find, bytes_eq}
 use Rattle.std.specs.Option.{option_map_or}
+use Rattle.std.specs.List.{list_all}
+use Rattle.dsl_tree.specs.FileTree.{DeclarationTree}
 use Rattle.type_heads.specs.Form.{Form}
 use Rattle.type_heads.specs.Bounds.{numbers_of}
 use Rattle.type_heads.specs.Table.{TypeHead, TableUnit, form, enum_members}
+use Rattle.type_heads.specs.Units.{exponents_of}
+use Rattle.type_heads.specs.DeclaredTypes.{Placed}
 
 -- a physical type has exponents: its brackets have no fault
 abbrev pub is_sound : Form → Bool
@@ -24,3 +28,16 @@ pub record AreKept (heads : List TypeHead) (numbers : List (List ℤ)) (units : 
   pub sound_units : (name : List ℕ) → is_sound_unit units name ≡ true
   pub same_numbers : numbers ≡ all_numbers heads
   pub few : length texts < 2 ^ 32
+
+-- what a declaration says of a physical type or unit has exponents
+abbrev pub has_exponents : DeclarationTree → Bool
+has_exponents (DeclarationTree.TypeDeclaration d) = is_some (exponents_of d.bases)
+has_exponents (DeclarationTree.UnitDeclaration d) = is_some (exponents_of d.bases)
+has_exponents (DeclarationTree.EnumDeclaration d) = true
+has_exponents (DeclarationTree.CompoundDeclaration d) = true
+has_exponents (DeclarationTree.MemberExtension d) = true
+has_exponents (DeclarationTree.EnumExtension d) = true
+
+-- each declaration of a physical type or unit has exponents
+abbrev pub have_exponents : List Placed → Bool
+have_exponents all = list_all (λ (d : Placed). has_exponents d.declaration) all

@@ -1,7 +1,15 @@
 //! The types of a program: a table that is worked out once, and the calls that look things up in it.
 #![tactic(auto)]
 
+mod build;
+mod lists;
+mod parts;
+mod refs;
+mod refusing;
 mod types;
 
+pub use build::BuildStop;
+pub use lists::member_lists;
 pub use type_heads::{EnumHit, FieldType, MemberRef, TypeId, TypeKind};
+pub use type_members::{ListedMember, MemberLists};
 pub use types::Types;

@@ -3,8 +3,10 @@ ghost use Rattle.std.specs.Int.{int_min, int_max};
 ghost use Rattle.type_heads.specs.Bounds.{numbers_of, bounds, least_of, greatest_of};
 ghost use Rattle.type_heads.specs.Table.{base, enum_members, enums_with, field_of, form, head, named, owner};
 ghost use Rattle.type_heads.specs.Table.{enum_number as number_in, unit as unit_in};
+ghost use Rattle.type_model.specs.Kept.{AreKept};
 ghost use Rattle.type_heads.specs.Shown.{bare, condition_told, hit_of, kind_form, members_told, shown_field, shown_member, shown_unit, unit_parts};
 
+use crate::parts::{MemberTables, ProgramTables};
 use dsl_tree::CompoundKind;
 use osc_base::{Row, Text};
 use std::marker::Model;
@@ -51,6 +53,22 @@ impl Model for Types {
 }
 
 impl Types {
+    /// The types with these heads and tables.
+    pub(crate) fn of(heads: Heads, members: MemberTables, program: ProgramTables) -> Types
+        requires { AreKept heads program.numbers.items program.units.items program.texts.items }
+        ensures { result ≡ record { table = record { heads = heads; fields = members.fields.items; units = program.units.items; texts = program.texts.items }; members = map (map shown_member) members.members.items; conditions = members.conditions.items } }
+    {
+        Types {
+            heads,
+            fields: members.fields,
+            units: program.units,
+            texts: program.texts,
+            members: members.members,
+            conditions: members.conditions,
+            numbers: program.numbers,
+        }
+    }
+
     /// How many types there are.
     pub fn count(&self) -> u32
         ensures { result ≡ length self.now.table.heads }

@@ -1,0 +1,12 @@
+use Rattle.std.proofs.Common.{◌∙◌, ap, map}
+use Rattle.std.proofs.lemmas.Result.{IfOk-weaker}
+use Rattle.type_heads.specs.Bodied.{seen_body}
+use Rattle.type_heads.specs.Members.{members_of}
+use Rattle.type_heads.specs.Table.{all_types}
+use Rattle.type_model.proofs.lists.declared_lists.Goals as goal
+
+pub returns : goal.returns
+returns c =
+    IfOk-weaker c.build.result _ _
+    (λ lists is. is ∙ ap (λ bs. map (members_of c.args.heads.now bs) (all_types c.args.heads.now)) (ap (map seen_body) c.as_slice.ensures.value ∙ c.in_ok-bodies.ensures.0))
+    c.build.ensures

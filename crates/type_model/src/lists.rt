@@ -1,0 +1,43 @@
+//! The members of each type of a program, with what they are under.
+
+ghost use Rattle.std.specs.Prelude.{◌≡◌, map, IfOk};
+ghost use Rattle.type_heads.specs.Bodied.{all_bodies};
+ghost use Rattle.type_heads.specs.DeclaredTypes.{program_of, types_of};
+ghost use Rattle.type_heads.specs.Gathered.{AreGathered, all_of};
+ghost use Rattle.type_heads.specs.HeadsGrouped.{all_heads};
+ghost use Rattle.type_heads.specs.Members.{members_of};
+ghost use Rattle.type_heads.specs.Table.{all_types};
+ghost use Rattle.type_members.specs.Listed.{lists_of};
+
+use crate::parts::Bodies;
+use name_scope::Program;
+use std::alloc::{AllocError, Global};
+use type_heads::{Declarations, Heads};
+use type_members::MemberLists;
+
+/// The members of each type that is declared.
+fn declared_lists<'a>(
+    alloc: Global,
+    declarations: &Declarations<'a>,
+    heads: &Heads,
+) -> Result<MemberLists<'a>, AllocError>
+    requires gathered { AreGathered declarations.now }
+    ensures { IfOk result (λ lists. lists_of lists ≡ map (members_of heads.now (all_bodies (all_of declarations.now))) (all_types heads.now)) }
+{
+    let bodies = Bodies::of(alloc, declarations, heads)?;
+    MemberLists::build(alloc, heads, bodies.entries.as_slice(), &bodies.subtypes)
+}
+
+/// The members of each type of a program, each with its text, its holder, and all conditional subtypes that it is under.
+///
+/// Ask for them only if the headings have no fault: types that inherit from themselves have very long lists.
+pub fn member_lists<'a>(
+    alloc: Global,
+    program: &'a Program,
+) -> Result<MemberLists<'a>, AllocError>
+    ensures { IfOk result (λ lists. lists_of lists ≡ (types_of (program_of program.now)).members) }
+{
+    let declarations = Declarations::of(alloc, program)?;
+    let heads = Heads::of(alloc, &declarations)?;
+    declared_lists(alloc, &declarations, &heads)
+}

@@ -1,0 +1,106 @@
+//! What types are put together from.
+
+ghost use Rattle.std.specs.Prelude.{◌≡◌, ◌<◌, ◌^◌, length, map, IfOk};
+ghost use Rattle.type_heads.specs.Bodied.{seen_body};
+ghost use Rattle.type_heads.specs.Gathered.{AreGathered, all_of};
+ghost use Rattle.type_members.specs.Listed.{lists_of};
+ghost use Rattle.type_model.specs.Built.{AreBodies, AreMemberTables, AreProgramTables, texts_among};
+
+use crate::refs::all_refs;
+use osc_base::{Row, Text};
+use std::alloc::{AllocError, Global};
+use string_texts::texts;
+use type_heads::{
+    Body, ConditionEntry, Declarations, FieldEntry, Heads, MemberRef, UnitEntry, bodies,
+    unit_entries,
+};
+use type_members::{MemberLists, Subtypes};
+use type_tables::{all_conditions, all_fields, all_numbers};
+
+/// The bodies and the conditional subtypes of all types.
+#[derive(Drop)]
+pub struct Bodies<'a> {
+    pub entries: Vec<Body<'a>>,
+    pub subtypes: Subtypes,
+}
+
+impl<'a> Bodies<'a> {
+    /// Those of the types that are declared.
+    pub fn of(
+        alloc: Global,
+        declarations: &Declarations<'a>,
+        heads: &Heads,
+    ) -> Result<Bodies<'a>, AllocError>
+        requires { AreGathered declarations.now }
+        ensures { IfOk result (AreBodies (all_of declarations.now) heads.now) }
+    {
+        let entries = bodies(alloc, declarations)?;
+        let subtypes = Subtypes::build(alloc, heads, entries.as_slice())?;
+        Ok(Bodies { entries, subtypes })
+    }
+}
+
+/// What is worked out of the members of each type.
+#[derive(Drop)]
+pub struct MemberTables {
+    pub fields: Vec<Row<FieldEntry>>,
+    pub members: Vec<Row<MemberRef>>,
+    pub conditions: Vec<Option<ConditionEntry>>,
+}
+
+impl MemberTables {
+    /// Those of types with these heads, bodies and members.
+    pub fn of(
+        alloc: Global,
+        heads: &Heads,
+        bodies: &[Body<'_>],
+        lists: &MemberLists<'_>,
+    ) -> Result<MemberTables, AllocError>
+        ensures { IfOk result (AreMemberTables heads.now (map seen_body bodies.now) (lists_of lists.now)) }
+    {
+        let fields = all_fields(alloc, heads, lists)?;
+        let members = all_refs(alloc, lists)?;
+        let conditions = all_conditions(alloc, heads, bodies, lists)?;
+        Ok(MemberTables {
+            fields,
+            members,
+            conditions,
+        })
+    }
+}
+
+/// The texts that a string may hold, each once, in byte order.
+fn all_texts(alloc: Global, declarations: &Declarations<'_>) -> Result<Vec<Text>, AllocError>
+    ensures texts { IfOk result (λ texts. texts.items ≡ texts_among (all_of declarations.now)) }
+    ensures few { IfOk result (λ texts. length texts.items < 2 ^ 32) }
+{
+    texts(alloc, declarations.placed.as_slice())
+}
+
+/// What is worked out of the declarations of a program and the heads of its types.
+#[derive(Drop)]
+pub struct ProgramTables {
+    pub units: Vec<UnitEntry>,
+    pub texts: Vec<Text>,
+    pub numbers: Vec<Row<i64>>,
+}
+
+impl ProgramTables {
+    /// Those of these declarations and heads.
+    pub fn of(
+        alloc: Global,
+        declarations: &Declarations<'_>,
+        heads: &Heads,
+    ) -> Result<ProgramTables, AllocError>
+        ensures { IfOk result (AreProgramTables (all_of declarations.now) heads.now) }
+    {
+        let units = unit_entries(alloc, declarations)?;
+        let texts = all_texts(alloc, declarations)?;
+        let numbers = all_numbers(alloc, heads)?;
+        Ok(ProgramTables {
+            units,
+            texts,
+            numbers,
+        })
+    }
+}
