@@ -1,7 +1,7 @@
 -- Tests of lists of ticks.
-use Rattle.std.proofs.Common.{◌≡◌, ◌∙◌, refl, sym, ap, ap₂, subst, arith, true≢false, ℕ, zero, suc, ◌+◌, ◌-◌, ◌<◌, ◌≤◌, List, [], ◌∷◌, ◌++◌, ◌&&◌, ◌||◌, Bool, true, false, cond, not, Option, Some, None, map, length}
+use Rattle.std.proofs.Common.{◌≡◌, ◌∙◌, refl, sym, ap, ap₂, arith, ℕ, zero, suc, ◌+◌, ◌<◌, List, [], ◌∷◌, ◌&&◌, ◌||◌, Bool, true, false, cond, not, Option, Some, None, map}
 use Rattle.std.proofs.lemmas.Int.{ints}
-use Rattle.std.specs.Prelude.{ℤ, pos, int_le, ◌≤ℤ◌, ◌<ℤ◌, nat_eq, slice_get, find}
+use Rattle.std.specs.Prelude.{ℤ, pos, int_le, ◌≤ℤ◌, nat_eq, slice_get}
 use Rattle.std.specs.Option.{option_map_or}
 use Rattle.std.specs.List.{list_all, list_any}
 use Rattle.osc_base.specs.Comparisons.{same_number}
@@ -129,7 +129,7 @@ chosen_span times whole n ms e = chosen_later times whole n (sym e) 0 n ms (omeg
 pub covers_is : (times : Times) (whole : Path) (ms : List Path) → (is_first times.start whole ms && is_last times.end whole ms) ≡ covers times whole ms
 covers_is times whole ms =
     sym (λ i. (all_mapped (int_le (times.start whole)) times.start ms i && any_mapped (λ t. same_number t (times.start whole)) times.start ms i)
-      && (all_mapped (λ t. int_le t (times.end whole)) times.end ms i && any_mapped (λ t. same_number t (times.end whole)) times.end ms i))
+    && (all_mapped (λ t. int_le t (times.end whole)) times.end ms i && any_mapped (λ t. same_number t (times.end whole)) times.end ms i))
 
 -- no phase ends before tick 0
 pub ends_from_first : (run : TimedRun) (ms : List Path) → list_all (int_le (pos 0)) (ends_of (times_of run) ms) ≡ true

@@ -122,26 +122,34 @@ fn trace_in_range(setting: &Setting, trace: &Trace) -> bool
 pub fn first_choice_out<'a>(scene: &Scene, run: &'a Entries<'_>) -> Option<&'a Choice>
     ensures { option_copied result ≡ find (λ c. not (choice_fits (seen_scene scene.now) c)) (seen_run run.now).choices }
 {
-    run.choices().iter().find(|choice| !choice_in_range(scene, choice))
+    run.choices()
+        .iter()
+        .find(|choice| !choice_in_range(scene, choice))
 }
 
 /// The first value that its field may not hold.
 pub fn first_value_out<'a>(scene: &Scene, run: &'a Entries<'_>) -> Option<&'a Value>
     ensures { option_copied result ≡ find (λ v. not (value_fits (seen_scene scene.now) v)) (seen_run run.now).values }
 {
-    run.values().iter().find(|value| !value_in_range(scene, value))
+    run.values()
+        .iter()
+        .find(|value| !value_in_range(scene, value))
 }
 
 /// The first phase whose ticks are out of range.
 pub fn first_span_out<'a>(setting: &Setting, run: &'a Entries<'_>) -> Option<&'a Span>
     ensures { option_copied result ≡ find (λ s. not (span_fits setting.now s)) (seen_run run.now).phases }
 {
-    run.phases().iter().find(|span| !span_in_range(setting, span))
+    run.phases()
+        .iter()
+        .find(|span| !span_in_range(setting, span))
 }
 
 /// The first trace with a sample that is out of range.
 pub fn first_trace_out<'a>(setting: &Setting, run: &'a Entries<'_>) -> Option<&'a Trace>
     ensures { option_copied result ≡ find (λ t. not (list_all (sample_fits setting.now) t.samples)) (seen_run run.now).traces }
 {
-    run.traces().iter().find(|trace| !trace_in_range(setting, trace))
+    run.traces()
+        .iter()
+        .find(|trace| !trace_in_range(setting, trace))
 }

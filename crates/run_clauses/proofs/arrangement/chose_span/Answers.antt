@@ -11,11 +11,11 @@ pub returns-in-Some : goal.returns-in-Some
 returns-in-Some c =
     c.same_span.ensures
     ∙ ap (λ o. option_map_or (λ m. same_span (times_of (seen_run c.args.run.now)) m c.args.whole.now) o true)
-      (sym (ap option_copied c.in-Some.is) ∙ item_is c.args.phases.now c.chosen.result c.get.result c.get.ensures.lookup)
+    (sym (ap option_copied c.in-Some.is) ∙ item_is c.args.phases.now c.chosen.result c.get.result c.get.ensures.lookup)
     ∙ chosen_span (times_of (seen_run c.args.run.now)) c.args.whole.now c.chosen.result c.args.phases.now c.chosen.ensures
 
 pub returns-in-None : goal.returns-in-None
 returns-in-None c =
     ap (λ o. option_map_or (λ m. same_span (times_of (seen_run c.args.run.now)) m c.args.whole.now) o true)
-      (sym (ap option_copied c.in-None.is) ∙ item_is c.args.phases.now c.chosen.result c.get.result c.get.ensures.lookup)
+    (sym (ap option_copied c.in-None.is) ∙ item_is c.args.phases.now c.chosen.result c.get.result c.get.ensures.lookup)
     ∙ chosen_span (times_of (seen_run c.args.run.now)) c.args.whole.now c.chosen.result c.args.phases.now c.chosen.ensures

@@ -12,4 +12,4 @@ returns c =
     c.end_after_starts.ensures
     ∙ sym (all_mapped (int_le (latest (pos 0) (starts_of (times_of (seen_run c.args.run.now)) c.args.phases.now))) (times_of (seen_run c.args.run.now)).end c.args.phases.now)
     ∙ overlap_latest (starts_of (times_of (seen_run c.args.run.now)) c.args.phases.now) (ends_of (times_of (seen_run c.args.run.now)) c.args.phases.now)
-      (ends_from_first (seen_run c.args.run.now) c.args.phases.now)
+    (ends_from_first (seen_run c.args.run.now) c.args.phases.now)
