@@ -27,7 +27,7 @@ use Rattle.composition.specs.Invariants.{are_grounded, is_expression, is_end, ha
 use Rattle.field_flatten.specs.Shapes.{Layout, shape, phase_start, phase_end}
 use Rattle.field_flatten.specs.Rules.{presence_rules, sample_slots, scale_of, end_of, modifier_rule}
 use Rattle.field_flatten.specs.Seen.{has_values}
-use Rattle.field_flatten.specs.Exactness.{IsExpanded, IsLimited, are_small_guards, farthest, end_reach, is_narrow_range, expressions}
+use Rattle.field_flatten.specs.Exactness.{IsExpanded, IsLimited, are_small_guards, farthest, quantity_reach, end_reach, is_narrow_range, expressions}
 use Rattle.field_flatten.proofs.Tests.{left_of, right_of, path_is, In, in_left, in_right, in_flat_map, all_at, any_at}
 use Rattle.field_flatten.proofs.Multiples.{common, share_of}
 use Rattle.field_flatten.proofs.Fitting.{Fits, RuleFits, AllRules, weaker, whole_fits, sum_fits, times_fits, equal_fits, at_most_fits, below_fits, both_fits, under_fits}
@@ -74,45 +74,45 @@ module _ (scene : Scene) (expanded : IsExpanded scene) (limited : IsLimited scen
     fits : Fits box most term most_at
     small : most_at * (lcm position_scale e / e) ≤ most
 
-  between_fits : (unit : ℕ) (quantity low high : FlatTerm) (e : ℕ) → Fits box most quantity farthest → EndFits low e → EndFits high e → farthest * lcm position_scale e ≤ most → Fit (between unit quantity low high e)
-  between_fits unit quantity low high e q l h small =
+  between_fits : (unit bound : ℕ) (quantity low high : FlatTerm) (e : ℕ) → 1 ≤ bound → bound * (lcm position_scale e / unit) ≤ quantity_reach * lcm position_scale e → Fits box most quantity bound
+      → EndFits low e → EndFits high e → quantity_reach * lcm position_scale e ≤ most → Fit (between unit quantity low high e)
+  between_fits unit bound quantity low high e one less q l h small =
       let common = lcm position_scale e in
-      let less : farthest * (common / unit) ≤ farthest * common = mul-le-mul_left farthest (div-le_self common unit) in
-      let middle : Fits box most (times (common / unit) quantity) (farthest * (common / unit)) = times_fits box most (common / unit) quantity farthest (omega arith) q (omega arith) in
+      let middle : Fits box most (times (common / unit) quantity) (bound * (common / unit)) = times_fits box most (common / unit) quantity bound one q (omega (arith, less, small)) in
       let first = times_fits box most (common / e) low l.most_at l.one l.fits l.small in
       let last = times_fits box most (common / e) high h.most_at h.one h.fits h.small in
       both_fits box most (AtMost (times (common / e) low) (times (common / unit) quantity)) (AtMost (times (common / unit) quantity) (times (common / e) high))
-      (at_most_fits box most (times (common / e) low) (times (common / unit) quantity) (l.most_at * (common / e)) (farthest * (common / unit)) first middle)
-      (at_most_fits box most (times (common / unit) quantity) (times (common / e) high) (farthest * (common / unit)) (h.most_at * (common / e)) middle last)
+      (at_most_fits box most (times (common / e) low) (times (common / unit) quantity) (l.most_at * (common / e)) (bound * (common / unit)) first middle)
+      (at_most_fits box most (times (common / unit) quantity) (times (common / e) high) (bound * (common / unit)) (h.most_at * (common / e)) middle last)
 
   relation_fits : (kind : Kind) (v w : Path) (t : ℕ) (low high : FlatTerm) (e : ℕ) → In v (vehicles scene) → (has_other kind ≡ true → In w (vehicles scene)) → t ≤ scene.setting.ticks
-      → farthest * lcm position_scale e ≤ most → (has_range kind ≡ true → EndFits low e × EndFits high e)
+      → quantity_reach * lcm position_scale e ≤ most → (has_range kind ≡ true → EndFits low e × EndFits high e)
       → Fit (relation_at kind (sample_slots layed v t) (sample_slots layed w t) low high e)
   relation_fits kind v w t low high e i other small far fits = by kind other fits
     where
       lane : (u : Path) → In u (vehicles scene) → Fits box most (Slot (number (SlotName.Lane u t))) 8
       lane u j = lane_fits scene expanded limited most large wide u t j small
 
-      speed : Fits box most (Slot (number (SlotName.Speed v t))) farthest
-      speed = weaker box most (Slot (number (SlotName.Speed v t))) field_reach farthest (omega arith) (speed_fits scene expanded limited most large wide v t i small)
+      speed : Fits box most (Slot (number (SlotName.Speed v t))) field_reach
+      speed = speed_fits scene expanded limited most large wide v t i small
 
-      gap : (a b : Path) → In a (vehicles scene) → In b (vehicles scene) → Fits box most (Less (Slot (number (SlotName.Speed a t))) (Slot (number (SlotName.Speed b t)))) farthest
-      gap a b j k = weaker box most (Less (Slot (number (SlotName.Speed a t))) (Slot (number (SlotName.Speed b t)))) field_reach farthest (omega arith) (speed_gap scene expanded limited most large wide a b t t j k small small)
+      gap : (a b : Path) → In a (vehicles scene) → In b (vehicles scene) → Fits box most (Less (Slot (number (SlotName.Speed a t))) (Slot (number (SlotName.Speed b t)))) field_reach
+      gap a b j k = speed_gap scene expanded limited most large wide a b t t j k small small
 
       by : (k : Kind) → (has_other k ≡ true → In w (vehicles scene)) → (has_range k ≡ true → EndFits low e × EndFits high e) → Fit (relation_at k (sample_slots layed v t) (sample_slots layed w t) low high e)
-      by Kind.Speed o f = between_fits speed_scale (Slot (number (SlotName.Speed v t))) low high e speed (f refl).0 (f refl).1 far
-      by Kind.FasterThan o f = between_fits speed_scale (Less (Slot (number (SlotName.Speed v t))) (Slot (number (SlotName.Speed w t)))) low high e (gap v w i (o refl)) (f refl).0 (f refl).1 far
-      by Kind.SlowerThan o f = between_fits speed_scale (Less (Slot (number (SlotName.Speed w t))) (Slot (number (SlotName.Speed v t)))) low high e (gap w v (o refl) i) (f refl).0 (f refl).1 far
-      by Kind.SameSpeed o f = equal_fits box most (Slot (number (SlotName.Speed v t))) (Slot (number (SlotName.Speed w t))) farthest field_reach speed (speed_fits scene expanded limited most large wide w t (o refl) small)
-      by Kind.Lane o f = between_fits lane_scale (Slot (number (SlotName.Lane v t))) low high e (weaker box most (Slot (number (SlotName.Lane v t))) 8 farthest (omega arith) (lane v i)) (f refl).0 (f refl).1 far
+      by Kind.Speed o f = between_fits speed_scale field_reach (Slot (number (SlotName.Speed v t))) low high e (omega arith) (omega arith) speed (f refl).0 (f refl).1 far
+      by Kind.FasterThan o f = between_fits speed_scale field_reach (Less (Slot (number (SlotName.Speed v t))) (Slot (number (SlotName.Speed w t)))) low high e (omega arith) (omega arith) (gap v w i (o refl)) (f refl).0 (f refl).1 far
+      by Kind.SlowerThan o f = between_fits speed_scale field_reach (Less (Slot (number (SlotName.Speed w t))) (Slot (number (SlotName.Speed v t)))) low high e (omega arith) (omega arith) (gap w v (o refl) i) (f refl).0 (f refl).1 far
+      by Kind.SameSpeed o f = equal_fits box most (Slot (number (SlotName.Speed v t))) (Slot (number (SlotName.Speed w t))) field_reach field_reach speed (speed_fits scene expanded limited most large wide w t (o refl) small)
+      by Kind.Lane o f = between_fits lane_scale 8 (Slot (number (SlotName.Lane v t))) low high e (omega arith) (omega arith) (lane v i) (f refl).0 (f refl).1 far
       by Kind.SameLane o f = equal_fits box most (Slot (number (SlotName.Lane v t))) (Slot (number (SlotName.Lane w t))) 8 8 (lane v i) (lane w (o refl))
       by Kind.LeftOf o f = equal_fits box most (Slot (number (SlotName.Lane v t))) (Sum (Slot (number (SlotName.Lane w t))) (Whole (pos 1))) 8 9 (lane v i)
           (sum_fits box most (Slot (number (SlotName.Lane w t))) (Whole (pos 1)) 8 1 (lane w (o refl)) (whole_fits box most (pos 1) 1 (omega (arith, ints)) (omega arith)) (omega arith))
       by Kind.RightOf o f = equal_fits box most (Slot (number (SlotName.Lane v t))) (Sum (Slot (number (SlotName.Lane w t))) (Whole (negsuc 0))) 8 9 (lane v i)
           (sum_fits box most (Slot (number (SlotName.Lane w t))) (Whole (negsuc 0)) 8 1 (lane w (o refl)) (whole_fits box most (negsuc 0) 1 (omega (arith, ints)) (omega arith)) (omega arith))
-      by Kind.Position o f = between_fits position_scale (Slot (number (SlotName.Position v t))) low high e (position_fits scene expanded limited most large wide v t i small) (f refl).0 (f refl).1 far
-      by Kind.AheadOf o f = between_fits position_scale (Less (Slot (number (SlotName.Position v t))) (Slot (number (SlotName.Position w t)))) low high e (position_gap scene expanded limited most large wide v w t i (o refl) small) (f refl).0 (f refl).1 far
-      by Kind.Behind o f = between_fits position_scale (Less (Slot (number (SlotName.Position w t))) (Slot (number (SlotName.Position v t)))) low high e (position_gap scene expanded limited most large wide w v t (o refl) i small) (f refl).0 (f refl).1 far
+      by Kind.Position o f = between_fits position_scale farthest (Slot (number (SlotName.Position v t))) low high e (omega arith) (omega arith) (position_fits scene expanded limited most large wide v t i small) (f refl).0 (f refl).1 far
+      by Kind.AheadOf o f = between_fits position_scale farthest (Less (Slot (number (SlotName.Position v t))) (Slot (number (SlotName.Position w t)))) low high e (omega arith) (omega arith) (position_gap scene expanded limited most large wide v w t i (o refl) small) (f refl).0 (f refl).1 far
+      by Kind.Behind o f = between_fits position_scale farthest (Less (Slot (number (SlotName.Position w t))) (Slot (number (SlotName.Position v t)))) low high e (omega arith) (omega arith) (position_gap scene expanded limited most large wide w v t (o refl) i small) (f refl).0 (f refl).1 far
 
   -- ---- ends
 
@@ -192,7 +192,7 @@ module _ (scene : Scene) (expanded : IsExpanded scene) (limited : IsLimited scen
       let b = scale_of m.high in
       let inner = common a b (subst (λ n. 0 < n) (sym (ap scale_of low.is)) low.above) (subst (λ n. 0 < n) (sym (ap scale_of high.is)) high.above) in
       let outer = common position_scale (lcm a b) (omega arith) inner.above in
-      let rest = right_of (not (nat_lt greatest_part (farthest * lcm position_scale (scaled m)))) _ narrow in (
+      let rest = right_of (not (nat_lt greatest_part (quantity_reach * lcm position_scale (scaled m)))) _ narrow in (
         end_fit m.low low (scaled m) (inner.left * outer.right) (outer.right_is ∙ ap (λ n. n * outer.right) inner.left_is ∙ mul_assoc a inner.left outer.right) outer.above
             (wide (end_reach m.low * (scaled m / a) * (lcm position_scale (scaled m) / scaled m)) (not_true (nat_lt greatest_part (end_reach m.low * (scaled m / a) * (lcm position_scale (scaled m) / scaled m))) (left_of _ _ rest))),
         end_fit m.high high (scaled m) (inner.right * outer.right) (outer.right_is ∙ ap (λ n. n * outer.right) inner.right_is ∙ mul_assoc b inner.right outer.right) outer.above
@@ -212,7 +212,7 @@ module _ (scene : Scene) (expanded : IsExpanded scene) (limited : IsLimited scen
       let known = left_of (has_phase scene m.phase) (list_any (same_path m.own) (vehicles scene)) first in
       let own = vehicle_in m.own (right_of (has_phase scene m.phase) (list_any (same_path m.own) (vehicles scene)) first) in
       let narrow = all_at is_narrow_range scene.modifiers limited.narrow_ranges m i in
-      let far : farthest * lcm position_scale (scaled m) ≤ most = wide (farthest * lcm position_scale (scaled m)) (not_true (nat_lt greatest_part (farthest * lcm position_scale (scaled m))) (left_of _ _ narrow)) in
+      let far : quantity_reach * lcm position_scale (scaled m) ≤ most = wide (quantity_reach * lcm position_scale (scaled m)) (not_true (nat_lt greatest_part (quantity_reach * lcm position_scale (scaled m))) (left_of _ _ narrow)) in
       let s = setting_parts scene expanded limited most large in
       let ticks : scene.setting.ticks ≤ 600 = s.1 in
       let few : t ≤ most = omega arith in

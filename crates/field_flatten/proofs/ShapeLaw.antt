@@ -1,5 +1,5 @@
 -- The term of an expression is its value times the scale, and its rule is true exactly if the value is 1.
-use Rattle.std.proofs.Common.{◌≡◌, ℕ, ◌*◌, ◌/◌, ◌<◌, refl, sym, ap, ap₂, ◌∙◌, subst, List, map, Bool, true, false, ◌&&◌, ◌||◌, not, cond, arith, true≢false}
+use Rattle.std.proofs.Common.{◌≡◌, ℕ, ◌*◌, ◌/◌, ◌<◌, refl, sym, ap, ap₂, ◌∙◌, subst, List, [], ◌∷◌, ◌++◌, map, Bool, true, false, ◌&&◌, ◌||◌, not, cond, arith, true≢false}
 use Rattle.std.specs.Prelude.{ℤ, pos, ◌-ℤ◌, ◌*ℤ◌, ◌≤ℤ◌, nat_eq, int_le, unsigned_abs}
 use Rattle.std.specs.List.{list_any, list_all}
 use Rattle.std.proofs.Math.Nat.{mul_assoc}
@@ -13,7 +13,7 @@ use Rattle.osc_base.specs.LowestTerms.{gcd, lcm}
 use Rattle.osc_base.proofs.Integers.{assoc, abs_above}
 use Rattle.box_eval.specs.Box.{value_of}
 use Rattle.box_eval.specs.Truth.{as_number}
-use Rattle.box_eval.specs.FlatRules.{FlatTerm, FlatRule, worth_at, holds_at, times, any_of}
+use Rattle.box_eval.specs.FlatRules.{FlatTerm, FlatRule, worth_at, holds_at, times, all_of, any_of}
 use Rattle.box_eval.specs.FlatRules as Flat
 use Rattle.expr_nodes.specs.declared.compare.Compare.{Compare}
 use Rattle.expr_nodes.specs.Kinds.{ValueKind, is_number, is_truth, same_units}
@@ -24,10 +24,10 @@ use Rattle.expr_nodes.specs.Parts.{is_scalar, parts_of}
 use Rattle.expr_nodes.specs.Operators.{fit_for, fits_in, is_range_or_list}
 use Rattle.expr_nodes.specs.Sound.{same_size, has_size, is_lowest, is_constant_of, is_per, are_truths, is_truth_info, can_join, is_sound, are_sound}
 use Rattle.composition.specs.Scenes.{Source, OfRun, OfPhase, OfValue}
-use Rattle.field_flatten.specs.Shapes.{Layout, Shape, of_rule, of_term, constant_term, of_constant, phase_start, phase_end, read_term, product_term, compared, at_common, relation, in_span, in_list, shape, shapes}
+use Rattle.field_flatten.specs.Shapes.{Layout, Shape, of_rule, of_term, sum_of, product_of, constant_term, of_constant, phase_start, phase_end, read_term, compared, at_common, relation, in_span, in_list, shape, shapes}
 use Rattle.field_flatten.specs.Seen.{has_values, have_values, source_value, seen}
 use Rattle.field_flatten.proofs.Tests.{left_of, right_of, two_ways, number_is}
-use Rattle.field_flatten.proofs.JoinedRows.{any_holds, times_worth}
+use Rattle.field_flatten.proofs.JoinedRows.{all_holds, any_holds, all_more, any_more, sum_total, sum_worth, sum_more, sum_alone, product_total, product_worth, product_more, product_alone, times_worth}
 use Rattle.field_flatten.proofs.Multiples.{common, share_of, product_positive}
 use Rattle.field_flatten.proofs.Times.{IsTimes, widened, opposite_times, plus_times, product_times, read_times, less_is, more_is, at_most_is, at_least_is, same_is}
 
@@ -80,12 +80,20 @@ module _ (point : List ℤ) where
   abbrev pub Holding : (ℕ → (ℕ → FlatTerm) → FlatRule) → (Number → Bool) → Type 0
   Holding holding inside = (d : ℕ) (term : ℕ → FlatTerm) (x : Number) → 0 < d → Terms x d term → holds_at point (holding d term) ≡ inside x
 
+  -- the rows with which an expression goes on
+  pub record RowsLaw (i : Info) (x : Number) (summands : ℕ → List FlatTerm) (factors : List FlatTerm) (conjuncts disjuncts : List FlatRule) : Type 0 where
+    pub sums : (e k : ℕ) → e ≡ i.scale * k → IsTimes x e (sum_total point (summands e))
+    pub product : IsTimes x i.scale (product_total point factors)
+    pub all : is_truth i.kind ≡ true → list_all (holds_at point) conjuncts ≡ is_one x
+    pub any : is_truth i.kind ≡ true → list_any (holds_at point) disjuncts ≡ is_one x
+
   pub record NodeLaw (i : Info) (s : Shape) (x : Number) (inside : Number → Bool) : Type 0 where
     pub above : 0 < i.scale
     pub kept : s.scale ≡ i.scale
     pub term : Terms x i.scale s.term
     pub rule : is_truth i.kind ≡ true → holds_at point s.rule ≡ is_one x
     pub holding : Holding s.holding inside
+    pub rows : RowsLaw i x s.summands s.factors s.conjuncts s.disjuncts
 
   abbrev nothing : Number → Bool
   nothing x = false
@@ -108,25 +116,72 @@ module _ (point : List ℤ) where
   truth_one true = refl
   truth_one false = refl
 
-  pub truth_node : (i : Info) (rule : FlatRule) (b : Bool) → has_size i unit_size ≡ true → holds_at point rule ≡ b → NodeLaw i (of_rule rule) (of_truth b) nothing
-  truth_node i rule b sized is =
+  and_unit : (b : Bool) → (b && true) ≡ b
+  and_unit true = refl
+  and_unit false = refl
+
+  or_unit : (b : Bool) → (b || false) ≡ b
+  or_unit true = refl
+  or_unit false = refl
+
+  once : (n : ℕ) → n ≡ n * 1
+  once n = omega arith
+
+  -- an expression that is no row
+  alone : (i : Info) (d : ℕ) (x : Number) (term : ℕ → FlatTerm) (rule : FlatRule) → i.scale ≡ d → Terms x i.scale term → (is_truth i.kind ≡ true → holds_at point rule ≡ is_one x)
+      → RowsLaw i x (λ e. term e ∷ []) (term d ∷ []) (rule ∷ []) (rule ∷ [])
+  alone i d x term rule is f g = record {
+    sums = λ e k h. subst (IsTimes x e) (sum_alone point (term e)) (f e k h);
+    product = subst (λ c. IsTimes x c (product_total point (term d ∷ []))) (sym is) (subst (IsTimes x d) (product_alone point (term d)) (f d 1 (sym is ∙ once i.scale)));
+    all = λ t. and_unit (holds_at point rule) ∙ g t;
+    any = λ t. or_unit (holds_at point rule) ∙ g t;
+  }
+
+  truth_terms : (i : Info) (rule : FlatRule) (b : Bool) → holds_at point rule ≡ b → Terms (of_truth b) i.scale (λ e. times e (Flat.Truth rule))
+  truth_terms i rule b is e k h = subst (IsTimes (of_truth b) e) (ap (λ t. pos e *ℤ as_number t) (sym is) ∙ sym (times_worth point e (Flat.Truth rule))) (truth_times b e)
+
+  -- a truth value that joins a row of others
+  truth_rows : (i : Info) (rule : FlatRule) (b : Bool) (conjuncts disjuncts : List FlatRule) → has_size i unit_size ≡ true → holds_at point rule ≡ b
+      → list_all (holds_at point) conjuncts ≡ b → list_any (holds_at point) disjuncts ≡ b
+      → NodeLaw i (record (of_rule rule) { conjuncts = conjuncts; disjuncts = disjuncts }) (of_truth b) nothing
+  truth_rows i rule b conjuncts disjuncts sized is alls anys =
       let one : i.scale ≡ 1 = scale_is i unit_size sized in
+      let single = alone i 1 (of_truth b) (λ e. times e (Flat.Truth rule)) rule one (truth_terms i rule b is) (λ _. is ∙ truth_one b) in
       record {
         above = omega arith;
         kept = sym one;
-        term = λ e k h. subst (IsTimes (of_truth b) e) (ap (λ t. pos e *ℤ as_number t) (sym is) ∙ sym (times_worth point e (Flat.Truth rule))) (truth_times b e);
+        term = truth_terms i rule b is;
         rule = λ _. is ∙ truth_one b;
         holding = λ d term x p f. refl;
+        rows = record { sums = single.sums; product = single.product; all = λ _. alls ∙ truth_one b; any = λ _. anys ∙ truth_one b };
+      }
+
+  pub truth_node : (i : Info) (rule : FlatRule) (b : Bool) → has_size i unit_size ≡ true → holds_at point rule ≡ b → NodeLaw i (of_rule rule) (of_truth b) nothing
+  truth_node i rule b sized is = truth_rows i rule b (rule ∷ []) (rule ∷ []) sized is (and_unit (holds_at point rule) ∙ is) (or_unit (holds_at point rule) ∙ is)
+
+  number_rule : (i : Info) (term : ℕ → FlatTerm) (x : Number) → Terms x i.scale term → (is_truth i.kind ≡ true → i.scale ≡ 1)
+      → is_truth i.kind ≡ true → holds_at point (Flat.Equal (term 1) (Flat.Whole (pos 1))) ≡ is_one x
+  number_rule i term x f one h = let is : i.scale ≡ 1 = one h in one_is x (worth_at point (term 1)) (f 1 1 (omega arith))
+
+  -- a number that joins a row of others
+  number_rows : (i : Info) (term : ℕ → FlatTerm) (x : Number) (summands : ℕ → List FlatTerm) (factors : List FlatTerm) → 0 < i.scale → Terms x i.scale term
+      → (is_truth i.kind ≡ true → i.scale ≡ 1) → ((e k : ℕ) → e ≡ i.scale * k → IsTimes x e (sum_total point (summands e))) → IsTimes x i.scale (product_total point factors)
+      → NodeLaw i (record (of_term i.scale term) { summands = summands; factors = factors }) x nothing
+  number_rows i term x summands factors above f one sums product =
+      let single = alone i i.scale x term (Flat.Equal (term 1) (Flat.Whole (pos 1))) refl f (number_rule i term x f one) in
+      record {
+        above = above;
+        kept = refl;
+        term = f;
+        rule = number_rule i term x f one;
+        holding = λ d t y p g. refl;
+        rows = record { sums = sums; product = product; all = single.all; any = single.any };
       }
 
   pub number_node : (i : Info) (term : ℕ → FlatTerm) (x : Number) → 0 < i.scale → Terms x i.scale term → (is_truth i.kind ≡ true → i.scale ≡ 1) → NodeLaw i (of_term i.scale term) x nothing
-  number_node i term x above f one = record {
-    above = above;
-    kept = refl;
-    term = f;
-    rule = λ h. let is : i.scale ≡ 1 = one h in one_is x (worth_at point (term 1)) (f 1 1 (omega arith));
-    holding = λ d t y p g. refl;
-  }
+  number_node i term x above f one =
+      let single = alone i i.scale x term (Flat.Equal (term 1) (Flat.Whole (pos 1))) refl f (number_rule i term x f one) in
+      number_rows i term x (λ e. term e ∷ []) (term i.scale ∷ []) above f one single.sums single.product
 
   zero_times : (e : ℕ) → IsTimes (whole (pos 0)) e (pos 0)
   zero_times e = record { above = omega (arith, ints); same = omega (arith, ints) }
@@ -135,7 +190,8 @@ module _ (point : List ℤ) where
       → NodeLaw i (record (of_term i.scale (λ e. Flat.Whole (pos 0))) { holding = holding }) (whole (pos 0)) inside
   rest_node i holding inside sized f =
       let one : i.scale ≡ 1 = scale_is i unit_size sized in
-      record { above = omega arith; kept = refl; term = λ e k h. zero_times e; rule = λ _. refl; holding = f }
+      let single = alone i i.scale (whole (pos 0)) (λ e. Flat.Whole (pos 0)) (Flat.Equal (Flat.Whole (pos 0)) (Flat.Whole (pos 1))) refl (λ e k h. zero_times e) (λ _. refl) in
+      record { above = omega arith; kept = refl; term = λ e k h. zero_times e; rule = λ _. refl; holding = f; rows = single }
 
   -- ---- constants
 
@@ -173,6 +229,7 @@ module _ (point : List ℤ) where
         term = constant_terms n i.scale above is;
         rule = λ _. told (is_one n);
         holding = λ d term x p f. refl;
+        rows = alone i i.scale n (constant_term n) (cond (is_one n) Flat.Always (Flat.Not Flat.Always)) refl (constant_terms n i.scale above is) (λ _. told (is_one n));
       }
 
   -- ---- reads
@@ -273,31 +330,57 @@ module _ (point : List ℤ) where
     sum_node i left right units sized a b =
         let is : i.scale ≡ lcm (scale left) (scale right) = scale_is i (joined (size left) (size right)) sized in
         let c = common (scale left) (scale right) a.above b.above in
-        number_node i (λ e. Flat.Sum ((shape at left).term e) ((shape at right).term e)) (plus (worth (seen at point) left) (worth (seen at point) right)) (rw is c.above)
-        (λ e k m. plus_times (worth (seen at point) left) (worth (seen at point) right) e (worth_at point ((shape at left).term e)) (worth_at point ((shape at right).term e))
-        (a.term e (c.left * k) (m ∙ ap (λ d. d * k) (is ∙ c.left_is) ∙ mul_assoc (scale left) c.left k))
-        (b.term e (c.right * k) (m ∙ ap (λ d. d * k) (is ∙ c.right_is) ∙ mul_assoc (scale right) c.right k)))
-        (units_no_truth i.kind (kind left) units)
+        let x : Number = plus (worth (seen at point) left) (worth (seen at point) right) in
+        let row : ℕ → List FlatTerm = λ e. (shape at left).summands e ++ (shape at right).term e ∷ [] in
+        let sums : (e k : ℕ) → e ≡ i.scale * k → IsTimes x e (sum_total point (row e)) =
+        λ e k m. subst (IsTimes x e) (sym (sum_more point ((shape at left).summands e) ((shape at right).term e)))
+        (plus_times (worth (seen at point) left) (worth (seen at point) right) e (sum_total point ((shape at left).summands e)) (worth_at point ((shape at right).term e))
+        (a.rows.sums e (c.left * k) (m ∙ ap (λ d. d * k) (is ∙ c.left_is) ∙ mul_assoc (scale left) c.left k))
+        (b.term e (c.right * k) (m ∙ ap (λ d. d * k) (is ∙ c.right_is) ∙ mul_assoc (scale right) c.right k))) in
+        let terms : Terms x i.scale (λ e. sum_of (row e)) = λ e k m. subst (IsTimes x e) (sym (sum_worth point (row e))) (sums e k m) in
+        let own : i.scale ≡ i.scale * 1 = once i.scale in
+        number_rows i (λ e. sum_of (row e)) x row (sum_of (row i.scale) ∷ []) (rw is c.above) terms (units_no_truth i.kind (kind left) units) sums
+        (subst (IsTimes x i.scale) (product_alone point (sum_of (row i.scale))) (terms i.scale 1 own))
 
     times_node : (i : Info) (left right : Typed) → is_number i.kind ≡ true → has_size i (multiplied (size left) (size right)) ≡ true → Law left → Law right → Law (Times i left right)
     times_node i left right number sized a b =
         let is : i.scale ≡ scale left * scale right = scale_is i (multiplied (size left) (size right)) sized in
-        let d = (shape at left).scale in
         let d' = (shape at right).scale in
-        let kept : scale left * scale right ≡ d * d' = ap₂ (◌*◌) (sym a.kept) (sym b.kept) in
-        let above : 0 < d * d' = product_positive d d' (above_of left a) (above_of right b) in
-        let v = worth_at point ((shape at left).term d) in
-        let w = worth_at point ((shape at right).term d') in
         let x : Number = product (worth (seen at point) left) (worth (seen at point) right) in
-        let own : IsTimes x (d * d') (v *ℤ w) =
-        product_times (worth (seen at point) left) (worth (seen at point) right) d d' v w (terms_of left a d 1 (omega arith)) (terms_of right b d' 1 (omega arith)) in
-        number_node i (product_term (shape at left) (shape at right)) x (rw (is, kept) above)
-        (λ e k m. let here : e ≡ (d * d') * k = m ∙ ap (λ z. z * k) (is ∙ kept) in
-        let share : e / (d * d') ≡ k = ap (λ z. z / (d * d')) here ∙ share_of (d * d') k above in
-        subst (IsTimes x e)
-        (*ℤ_comm (v *ℤ w) (pos k) ∙ ap (λ z. pos z *ℤ (v *ℤ w)) (sym share) ∙ sym (times_worth point (e / (d * d')) (Flat.Times ((shape at left).term d) ((shape at right).term d'))))
-        (subst (λ z. IsTimes x z ((v *ℤ w) *ℤ pos k)) (sym here) (widened x (d * d') k (v *ℤ w) own)))
-        (number_no_truth i.kind number)
+        let row : List FlatTerm = (shape at left).factors ++ (shape at right).term d' ∷ [] in
+        let above : 0 < i.scale = subst (λ n. 0 < n) (sym is) (product_positive (scale left) (scale right) a.above b.above) in
+        let last : IsTimes (worth (seen at point) right) (scale right) (worth_at point ((shape at right).term d')) =
+        subst (λ n. IsTimes (worth (seen at point) right) n (worth_at point ((shape at right).term d'))) b.kept (terms_of right b d' 1 (once d')) in
+        let own : IsTimes x (scale left * scale right) (product_total point row) =
+        subst (IsTimes x (scale left * scale right)) (sym (product_more point (shape at left).factors ((shape at right).term d')))
+        (product_times (worth (seen at point) left) (worth (seen at point) right) (scale left) (scale right) (product_total point (shape at left).factors) (worth_at point ((shape at right).term d')) a.rows.product last) in
+        let product_is : IsTimes x i.scale (product_total point row) = subst (λ n. IsTimes x n (product_total point row)) (sym is) own in
+        let v = worth_at point (product_of row) in
+        let told : IsTimes x i.scale v = subst (IsTimes x i.scale) (sym (product_worth point row)) product_is in
+        let terms : Terms x i.scale (λ e. times (e / i.scale) (product_of row)) =
+        λ e k m. let share : e / i.scale ≡ k = ap (λ z. z / i.scale) m ∙ share_of i.scale k above in
+        subst (IsTimes x e) (*ℤ_comm v (pos k) ∙ ap (λ z. pos z *ℤ v) (sym share) ∙ sym (times_worth point (e / i.scale) (product_of row)))
+        (subst (λ z. IsTimes x z (v *ℤ pos k)) (sym m) (widened x i.scale k v told)) in
+        number_rows i (λ e. times (e / i.scale) (product_of row)) x (λ e. times (e / i.scale) (product_of row) ∷ []) row above terms (number_no_truth i.kind number)
+        (λ e k m. subst (IsTimes x e) (sum_alone point (times (e / i.scale) (product_of row))) (terms e k m)) product_is
+
+    -- a row of truth values that all hold
+    and_node : (i : Info) (left right : Typed) → is_truth_info i ≡ true → are_truths left right ≡ true → Law left → Law right → Law (And i left right)
+    and_node i left right sized truths a b =
+        let row : List FlatRule = (shape at left).conjuncts ++ (shape at right).rule ∷ [] in
+        let is : list_all (holds_at point) row ≡ (is_one (worth (seen at point) left) && is_one (worth (seen at point) right)) =
+        all_more point (shape at left).conjuncts (shape at right).rule ∙ ap₂ (◌&&◌) (a.rows.all (truths_left left right truths)) (b.rule (truths_right left right truths)) in
+        truth_rows i (all_of row) (is_one (worth (seen at point) left) && is_one (worth (seen at point) right)) row (all_of row ∷ []) (truth_sized i sized)
+        (all_holds point row ∙ is) is (or_unit (holds_at point (all_of row)) ∙ all_holds point row ∙ is)
+
+    -- a row of truth values of which one holds
+    or_node : (i : Info) (left right : Typed) → is_truth_info i ≡ true → are_truths left right ≡ true → Law left → Law right → Law (Or i left right)
+    or_node i left right sized truths a b =
+        let row : List FlatRule = (shape at left).disjuncts ++ (shape at right).rule ∷ [] in
+        let is : list_any (holds_at point) row ≡ (is_one (worth (seen at point) left) || is_one (worth (seen at point) right)) =
+        any_more point (shape at left).disjuncts (shape at right).rule ∙ ap₂ (◌||◌) (a.rows.any (truths_left left right truths)) (b.rule (truths_right left right truths)) in
+        truth_rows i (any_of row) (is_one (worth (seen at point) left) || is_one (worth (seen at point) right)) (any_of row ∷ []) row (truth_sized i sized)
+        (any_holds point row ∙ is) (and_unit (holds_at point (any_of row)) ∙ any_holds point row ∙ is) is
 
     mutual
       pub law : (t : Typed) → is_sound t ≡ true → has_values t ≡ true → Law t
@@ -342,18 +425,14 @@ module _ (point : List ℤ) where
           let parts = right_of (are_truths left right) (is_sound left && is_sound right) rest in
           let a = law left (left_of (is_sound left) (is_sound right) parts) (left_of (has_values left) (has_values right) v) in
           let b = law right (right_of (is_sound left) (is_sound right) parts) (right_of (has_values left) (has_values right) v) in
-          truth_node i (Flat.Both (shape at left).rule (shape at right).rule) (is_one (worth (seen at point) left) && is_one (worth (seen at point) right))
-          (truth_sized i (left_of (is_truth_info i) (are_truths left right && (is_sound left && is_sound right)) h))
-          (ap₂ (◌&&◌) (a.rule (truths_left left right truths)) (b.rule (truths_right left right truths)))
+          and_node i left right (left_of (is_truth_info i) (are_truths left right && (is_sound left && is_sound right)) h) truths a b
       law (Or i left right) h v =
           let rest = right_of (is_truth_info i) (are_truths left right && (is_sound left && is_sound right)) h in
           let truths = left_of (are_truths left right) (is_sound left && is_sound right) rest in
           let parts = right_of (are_truths left right) (is_sound left && is_sound right) rest in
           let a = law left (left_of (is_sound left) (is_sound right) parts) (left_of (has_values left) (has_values right) v) in
           let b = law right (right_of (is_sound left) (is_sound right) parts) (right_of (has_values left) (has_values right) v) in
-          truth_node i (Flat.Either (shape at left).rule (shape at right).rule) (is_one (worth (seen at point) left) || is_one (worth (seen at point) right))
-          (truth_sized i (left_of (is_truth_info i) (are_truths left right && (is_sound left && is_sound right)) h))
-          (ap₂ (◌||◌) (a.rule (truths_left left right truths)) (b.rule (truths_right left right truths)))
+          or_node i left right (left_of (is_truth_info i) (are_truths left right && (is_sound left && is_sound right)) h) truths a b
       law (Implies i left right) h v =
           let rest = right_of (is_truth_info i) (are_truths left right && (is_sound left && is_sound right)) h in
           let truths = left_of (are_truths left right) (is_sound left && is_sound right) rest in

@@ -148,6 +148,10 @@ are_small_guards conditions = list_all is_small_guard conditions
 abbrev pub farthest : ℕ
 farthest = 10000000000
 
+-- the most metres, metres a second or lanes of a quantity that a modifier compares
+abbrev pub quantity_reach : ℕ
+quantity_reach = 2000000
+
 -- the reach of an end, 1 if there is none
 abbrev pub end_reach : Option Typed → ℕ
 end_reach typed = option_map_or reach typed 1
@@ -157,7 +161,7 @@ abbrev pub is_narrow_range : ModifierSpot → Bool
 is_narrow_range m =
     let own = lcm position_scale (lcm (scale_of m.low) (scale_of m.high)) in
     let common = lcm position_scale own in
-    not (nat_lt greatest_part (farthest * common))
+    not (nat_lt greatest_part (quantity_reach * common))
     && (not (nat_lt greatest_part (end_reach m.low * (own / scale_of m.low) * (common / own)))
     && not (nat_lt greatest_part (end_reach m.high * (own / scale_of m.high) * (common / own))))
 

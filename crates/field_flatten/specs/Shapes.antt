@@ -1,10 +1,10 @@
 -- The terms and rules of typed expressions.
-use Rattle.std.specs.Prelude.{ℕ, ◌*◌, ◌/◌, List, [], ◌∷◌, map, cond, unsigned_abs, pos, ◌*ℤ◌}
+use Rattle.std.specs.Prelude.{ℕ, ◌*◌, ◌/◌, List, [], ◌∷◌, ◌++◌, map, cond, unsigned_abs, pos, ◌*ℤ◌}
 use Rattle.osc_base.specs.declared.path.Path.{Path}
 use Rattle.osc_base.specs.declared.listing.SlotName.{SlotName}
 use Rattle.osc_base.specs.Number.{Number}
 use Rattle.osc_base.specs.LowestTerms.{lcm}
-use Rattle.box_eval.specs.FlatRules.{FlatTerm, FlatRule, times, any_of}
+use Rattle.box_eval.specs.FlatRules.{FlatTerm, FlatRule, joined, times, all_of, any_of}
 use Rattle.box_eval.specs.FlatRules as Flat
 use Rattle.expr_nodes.specs.declared.compare.Compare.{Compare}
 use Rattle.expr_nodes.specs.Typed.{Typed, Constant, Read, Whole, Listed, Span, Minus, Not, Sum, Times, And, Or, Implies, Relation, Within, TypedRow, End, Item}
@@ -20,24 +20,69 @@ pub record Layout : Type 0 where
   pub tick : ℕ
 
 -- The shape of an expression: its scale, its term at each multiple of that, its rule if it is a truth value, and, if it is a range or a list, the
--- rule that a term with a scale of its own is in it.
+-- rule that a term with a scale of its own is in it. Then the rows that it goes on with as the left part of a larger one: what it is the sum of, at
+-- each multiple of its scale; what it is the product of, at its own scale; the rules that all hold, and those of which one holds. An expression
+-- that is no such row is the only part of it.
 pub record Shape : Type 0 where
   pub scale : ℕ
   pub term : ℕ → FlatTerm
   pub rule : FlatRule
   pub holding : ℕ → (ℕ → FlatTerm) → FlatRule
+  pub summands : ℕ → List FlatTerm
+  pub factors : List FlatTerm
+  pub conjuncts : List FlatRule
+  pub disjuncts : List FlatRule
 
 -- nothing is in what is no range or list
 abbrev pub in_nothing : ℕ → (ℕ → FlatTerm) → FlatRule
 in_nothing d term = Flat.Not Flat.Always
 
+-- an expression that is no row
+abbrev pub of_one : ℕ → (ℕ → FlatTerm) → FlatRule → Shape
+of_one d term rule = record {
+  scale = d;
+  term = term;
+  rule = rule;
+  holding = in_nothing;
+  summands = λ e. term e ∷ [];
+  factors = term d ∷ [];
+  conjuncts = rule ∷ [];
+  disjuncts = rule ∷ [];
+}
+
 -- a truth value: as a number it is 1 or 0
 abbrev pub of_rule : FlatRule → Shape
-of_rule rule = record { scale = 1; term = λ e. times e (Flat.Truth rule); rule = rule; holding = in_nothing }
+of_rule rule = of_one 1 (λ e. times e (Flat.Truth rule)) rule
 
 -- a number: as a truth value it is true if it is 1
 abbrev pub of_term : ℕ → (ℕ → FlatTerm) → Shape
-of_term d term = record { scale = d; term = term; rule = Flat.Equal (term 1) (Flat.Whole (pos 1)); holding = in_nothing }
+of_term d term = of_one d term (Flat.Equal (term 1) (Flat.Whole (pos 1)))
+
+-- ---- rows
+
+-- the sum of a row, by joining neighbours
+abbrev pub sum_of : List FlatTerm → FlatTerm
+sum_of row = joined Flat.Sum (Flat.Whole (pos 0)) row
+
+-- the product of a row, by joining neighbours
+abbrev pub product_of : List FlatTerm → FlatTerm
+product_of row = joined Flat.Times (Flat.Whole (pos 1)) row
+
+-- the sum of a row at each multiple of a scale
+abbrev pub of_sum : ℕ → (ℕ → List FlatTerm) → Shape
+of_sum d row = record (of_term d (λ e. sum_of (row e))) { summands = row }
+
+-- the product of a row, each at its own scale, widened once
+abbrev pub of_product : ℕ → List FlatTerm → Shape
+of_product d row = record (of_term d (λ e. times (e / d) (product_of row))) { factors = row }
+
+-- all of a row
+abbrev pub of_all : List FlatRule → Shape
+of_all row = record (of_rule (all_of row)) { conjuncts = row }
+
+-- one of a row
+abbrev pub of_any : List FlatRule → Shape
+of_any row = record (of_rule (any_of row)) { disjuncts = row }
 
 -- ---- numbers
 
@@ -47,7 +92,7 @@ constant_term number e = Flat.Whole (number.numerator *ℤ pos (e / unsigned_abs
 
 -- a constant; as a truth value it is always or never true
 abbrev pub of_constant : ℕ → Number → Shape
-of_constant d number = record (of_term d (constant_term number)) { rule = cond (is_one number) Flat.Always (Flat.Not Flat.Always) }
+of_constant d number = of_one d (constant_term number) (cond (is_one number) Flat.Always (Flat.Not Flat.Always))
 
 -- the start of a phase
 abbrev pub phase_start : Layout → Path → FlatTerm
@@ -62,10 +107,6 @@ abbrev pub read_term : Layout → Path → ℕ → Source → ℕ → FlatTerm
 read_term at path per OfRun e = times (e / per * at.tick) at.end
 read_term at path per (OfPhase phase) e = times (e / per * at.tick) (Flat.Less (phase_end at phase) (phase_start at phase))
 read_term at path per OfValue e = times (e / per) (Flat.Slot (at.slot (SlotName.Value path)))
-
--- the two parts of a product at their own scales, widened to e
-abbrev pub product_term : Shape → Shape → ℕ → FlatTerm
-product_term a b e = times (e / (a.scale * b.scale)) (Flat.Times (a.term a.scale) (b.term b.scale))
 
 -- ---- relations
 
@@ -105,10 +146,10 @@ abbrev mutual
   shape at (Span i low high) = record (of_term i.scale (λ e. Flat.Whole (pos 0))) { holding = in_span (shape at low) (shape at high) }
   shape at (Minus i part) = of_term i.scale (λ e. Flat.Less (Flat.Whole (pos 0)) ((shape at part).term e))
   shape at (Not i part) = of_rule (Flat.Not (shape at part).rule)
-  shape at (Sum i left right) = of_term i.scale (λ e. Flat.Sum ((shape at left).term e) ((shape at right).term e))
-  shape at (Times i left right) = of_term i.scale (product_term (shape at left) (shape at right))
-  shape at (And i left right) = of_rule (Flat.Both (shape at left).rule (shape at right).rule)
-  shape at (Or i left right) = of_rule (Flat.Either (shape at left).rule (shape at right).rule)
+  shape at (Sum i left right) = of_sum i.scale (λ e. (shape at left).summands e ++ (shape at right).term e ∷ [])
+  shape at (Times i left right) = of_product i.scale ((shape at left).factors ++ (shape at right).term (shape at right).scale ∷ [])
+  shape at (And i left right) = of_all ((shape at left).conjuncts ++ (shape at right).rule ∷ [])
+  shape at (Or i left right) = of_any ((shape at left).disjuncts ++ (shape at right).rule ∷ [])
   shape at (Implies i left right) = of_rule (Flat.Either (Flat.Not (shape at left).rule) (shape at right).rule)
   shape at (Relation i sign left right) = of_rule (relation sign (shape at left) (shape at right))
   shape at (Within i left right) = of_rule ((shape at right).holding (shape at left).scale (shape at left).term)

@@ -1,0 +1,4 @@
+pub mod Founds
+pub mod Joins
+pub mod Nodes
+pub mod Room

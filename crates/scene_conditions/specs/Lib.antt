@@ -1,0 +1,2 @@
+pub mod SeenConditions
+pub mod Gathered
