@@ -1,6 +1,6 @@
-ghost use Rattle.std.specs.Prelude.{◌≡◌, ◌≢◌, ◌≤◌, ◌^◌, List, ℤ, length, true, false};
+ghost use Rattle.std.specs.Prelude.{◌≡◌, ◌≢◌, ◌<◌, ◌≤◌, ◌^◌, List, ℤ, length, true, false};
 ghost use Rattle.box_eval.specs.declared.bounds.Pair.{Pair};
-ghost use Rattle.box_eval.specs.Box.{IsBox, IsPointOf, IsInside, IsOnePoint};
+ghost use Rattle.box_eval.specs.Box.{low_at, high_at, IsBox, IsPointOf, IsInside, IsOnePoint};
 ghost use Rattle.box_eval.specs.Truth.{true_at};
 ghost use Rattle.box_eval.specs.Verdict.{verdict_of, span_of};
 ghost use Rattle.box_eval.specs.Reach.{slot_bound, term_slot_bound, reach_of, term_reach};
@@ -43,7 +43,7 @@ fn verdict_on<E: Ends>(rule: &Rule, ends: &E) -> Verdict
     match rule {
         Rule::Always => Verdict::True,
         Rule::Below(a, b) | Rule::AtMost(a, b) | Rule::Equal(a, b) | Rule::Differ(a, b) => {
-            compared(rule, span(a, ends), span(b, ends))
+            compared(rule, part_span(a, ends), part_span(b, ends))
         }
         // The second part isn't looked at if the first decides.
         Rule::Both(a, b) => match verdict_on(a.get(), ends) {
@@ -58,6 +58,22 @@ fn verdict_on<E: Ends>(rule: &Rule, ends: &E) -> Verdict
     }
 }
 
+/// The least and the greatest value of a term in a box. It stands in place of its calls, so that a number or a slot takes none:
+/// a call of `span` saves registers, and sets its locals to zero.
+#[inline(always)]
+#[cycle(looks)]
+fn part_span<E: Ends>(term: &Term, ends: &E) -> Span
+    requires slots { term_slot_bound term.now ≤ length (E.ends ends.now) }
+    requires reach { term_reach (E.ends ends.now) term.now ≤ 2 ^ 120 }
+    ensures { result ≡ span_of (E.ends ends.now) term.now }
+{
+    match term {
+        Term::Whole(number) => between(*number, *number),
+        Term::Slot(slot) => slot_span(*slot, ends),
+        _ => span(term, ends),
+    }
+}
+
 /// The least and the greatest value of a term in a box.
 #[cycle(looks)]
 fn span<E: Ends>(term: &Term, ends: &E) -> Span
@@ -67,10 +83,19 @@ fn span<E: Ends>(term: &Term, ends: &E) -> Span
 {
     match term {
         Term::Whole(number) => between(*number, *number),
-        Term::Slot(slot) => between(i128::from(ends.low(*slot)), i128::from(ends.high(*slot))),
+        Term::Slot(slot) => slot_span(*slot, ends),
         Term::Sum(a, b) | Term::Less(a, b) | Term::Times(a, b) => {
-            combined(term, span(a.get(), ends), span(b.get(), ends))
+            combined(term, part_span(a.get(), ends), part_span(b.get(), ends))
         }
         Term::Truth(rule) => truth_span(verdict_on(rule.get(), ends)),
     }
+}
+
+/// The ends of a slot.
+fn slot_span<E: Ends>(slot: u32, ends: &E) -> Span
+    requires { slot < length (E.ends ends.now) }
+    ensures least { result.least ≡ low_at (E.ends ends.now) slot }
+    ensures greatest { result.greatest ≡ high_at (E.ends ends.now) slot }
+{
+    between(i128::from(ends.low(slot)), i128::from(ends.high(slot)))
 }

@@ -1,7 +1,8 @@
 -- The home of a path, by the first parameter whose path is a prefix of it.
-use Rattle.std.proofs.Common.{◌≡◌, ◌∙◌, refl, sym, ap, subst, arith, ℕ, zero, suc, ◌+◌, ◌≤◌, min, List, [], ◌∷◌, ◌++◌, ◌&&◌, ◌||◌, Bool, true, false, cond, Option, Some, None, map, drop, length, is_some}
+use Rattle.std.proofs.Common.{◌≡◌, ◌∙◌, refl, sym, ap, ap₂, arith, ℕ, ◌+◌, ◌<◌, ◌≤◌, take, get_or, min, List, [], ◌∷◌, ◌++◌, ◌&&◌, ◌||◌, Bool, true, false, cond, Option, Some, None, map, drop, length, is_some}
 use Rattle.std.specs.Prelude.{find, option_map, Result, Ok, Err, IfOk}
 use Rattle.std.specs.Option.{option_map_or}
+use Rattle.std.proofs.lemmas.List.{take_more}
 use Rattle.osc_base.specs.declared.path.Path.{Path}
 use Rattle.osc_base.specs.declared.path.Step.{Step}
 use Rattle.osc_base.specs.Paths.{path_of, same_path, same_step, same_steps, steps_after}
@@ -112,6 +113,11 @@ first_longer index bs prefix steps x first places longer before =
     same : (b : Binding) → (leads steps b || same_path b.at prefix) ≡ leads (steps ++ x ∷ []) b
     same b = ap (λ z. leads steps b || same_steps b.at.steps z) longer ∙ sym (prefix_more b.at.steps steps x)
 
+-- one step more
+pub more_steps : (items : List Step) (i : ℕ) (x y : Step) (before after : List Step) → i < length items → x ≡ get_or items i x → y ≡ x → before ≡ take i items
+    → after ≡ before ++ y ∷ [] → after ≡ take (i + 1) items
+more_steps items i x y before after lt is same so now = now ∙ ap₂ (λ b z. b ++ z ∷ []) so (same ∙ is) ∙ sym (take_more items i x lt)
+
 -- ---- homes
 
 after_is : (a steps later : List Step) → steps_after a steps ≡ Some later → later ≡ drop (length a) steps
@@ -120,11 +126,11 @@ after_is [] steps later h = sym (some_is steps later h)
     some_is : (x y : List Step) → Some x ≡ Some y → x ≡ y
     some_is x y h = cc
 after_is (b ∷ more) [] later h = cc
-after_is (b ∷ more) (y ∷ ys) later h = by (same_step b y) h
+after_is (b ∷ more) (y ∷ ys) later h = by (same_step b y) (after_is more ys later) h
   where
-    by : (s : Bool) → cond s (steps_after more ys) None ≡ Some later → later ≡ drop (length more) ys
-    by true e = after_is more ys later e
-    by false e = cc
+    by : (s : Bool) → (steps_after more ys ≡ Some later → later ≡ drop (length more) ys) → cond s (steps_after more ys) None ≡ Some later → later ≡ drop (length more) ys
+    by true f e = f e
+    by false f e = cc
 
 pub home_found : (path : Path) (bs : List Binding) → home (map seen_binding bs) path ≡ option_map_or (moved_on path) (find (leads path.steps) bs) path
 home_found path [] = refl
@@ -162,7 +168,7 @@ home_seen scene spots path first seen is =
     ap (λ o. option_map_or (λ (s : Spot). true) o (homes.is_timed (Scenes.source scene path))) is
     ∙ sym (by (find (λ (s : Spot). same_path s.path path) spots))
     ∙ sym (ap (λ o. option_map_or (λ (s : Scenes.Spot). true) o (homes.is_timed (Scenes.source scene path)))
-        (ap (find (λ (s : Scenes.Spot). same_path s.path path)) seen ∙ found_map seen_spot (λ (s : Scenes.Spot). same_path s.path path) spots))
+    (ap (find (λ (s : Scenes.Spot). same_path s.path path)) seen ∙ found_map seen_spot (λ (s : Scenes.Spot). same_path s.path path) spots))
   where
     by : (o : Option Spot) → option_map_or (λ (s : Scenes.Spot). true) (option_map seen_spot o) (homes.is_timed (Scenes.source scene path))
         ≡ option_map_or (λ (s : Spot). true) o (homes.is_timed (Scenes.source scene path))

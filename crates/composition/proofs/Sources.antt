@@ -1,5 +1,5 @@
 -- What a scene tells of a path, by the first spots that stand there.
-use Rattle.std.proofs.Common.{◌≡◌, ◌∙◌, refl, sym, ap, ap₂, ℕ, List, [], ◌∷◌, ◌||◌, Bool, true, false, cond, Option, Some, None, map, codes}
+use Rattle.std.proofs.Common.{◌≡◌, ◌∙◌, refl, sym, ap, ap₂, List, [], ◌∷◌, ◌||◌, Bool, true, false, cond, Option, Some, None, map, codes}
 use Rattle.std.specs.Prelude.{find, option_and_then, option_map, bytes_eq}
 use Rattle.std.specs.Option.{option_or, option_map_or}
 use Rattle.std.specs.List.{list_any}
@@ -9,7 +9,6 @@ use Rattle.osc_base.specs.declared.path.Step.TheVariants.{Name, Index, Member}
 use Rattle.osc_base.specs.Paths.{path_of, same_path, then_duration, timed_part}
 use Rattle.osc_base.proofs.PathEquality.{path_is}
 use Rattle.path_index.proofs.Durations.{timed_find}
-use Rattle.composition.specs.declared.guard.Guard.{Guard}
 use Rattle.composition.specs.declared.part.Spot.{Spot}
 use Rattle.composition.specs.declared.spot.PhaseSpot.{PhaseSpot}
 use Rattle.composition.specs.SeenParts.{seen_spot}

@@ -38,7 +38,7 @@ impl Scene {
     }
 
     /// The path with the parameter that it leads through replaced by its home.
-    fn moved(&self, alloc: Global, path: &Path) -> Result<Path, AllocError>
+    pub fn moved(&self, alloc: Global, path: &Path) -> Result<Path, AllocError>
         ensures { IfOk result (λ h. h ≡ homes.home (seen_scene self.now).bindings path.now) }
     {
         match self.first_binding(alloc, path)? {
@@ -86,7 +86,7 @@ fn least_place(a: Option<u32>, b: Option<u32>) -> Option<u32>
 
 /// A duration is read there.
 fn is_timed(source: Source<'_>) -> bool
-    ensures { result ≡ seen.is_timed source }
+    ensures { result ≡ seen.is_timed source.entry }
 {
     match source {
         Source::Run | Source::Phase(_) => true,

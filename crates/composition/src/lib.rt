@@ -2,6 +2,7 @@
 //! of its scenario.
 #![tactic(auto)]
 
+mod asked;
 mod clause;
 mod guard;
 mod homes;

@@ -6,7 +6,7 @@ use Rattle.composition.specs.declared.setting.Setting.{Setting}
 use Rattle.composition.specs.Scenes.{Spot, Binding, Scene}
 use Rattle.composition.specs.Givens.{Given}
 use Rattle.composition.specs.Expansion.{GivenModifier, Expansion, Expansions, Object, Value, Phase, End, Part, expansion}
-use Rattle.composition.specs.Expanded.{spots_of, bindings_of, givens_of, modifiers_of, occurrence_of, modifier_of, scene_from, scene}
+use Rattle.composition.specs.Expanded.{spots_of, bindings_of, givens_of, modifiers_of, occurrence_of, modifier_of, scene_from, with_readable, scene}
 use Rattle.composition.specs.SceneFaults.{is_too_large, passes}
 use Rattle.expansion_laws.specs.Nodes.{Node, nodes_of, nodes_in, closed_of, closed_in, object_node, phase_node}
 use Rattle.expansion_laws.specs.Counts.{total, spot_objects, spot_slots, spot_rules, samples_of, given_rules, given_tokens, modifier_tokens, is_past}
@@ -58,8 +58,11 @@ module _ (ts : Types) (setting : Setting) (tree : Expansion) where
       ∙ ap₂ (λ (gs : List Given) (ms : List GivenModifier). counted (spots_laid (nodes_of ts tree)) gs ms) (givens_are ts tree) (modifiers_are ts tree)
 
 module _ (ts : Types) (t : ℕ) (setting : Setting) (before after : List Node) (is_before : before ≡ nodes_of ts (expansion ts t)) (is_after : after ≡ closed_of ts (expansion ts t)) where
-  pub laid_scene : scene ts t setting ≡ scene_laid setting ts.table.texts before after
-  laid_scene = scene_of_nodes ts setting (expansion ts t) ∙ ap₂ (λ (xs ys : List Node). scene_laid setting ts.table.texts xs ys) (sym is_before) (sym is_after)
+  pub laid_whole : scene_from ts setting (expansion ts t) ≡ scene_laid setting ts.table.texts before after
+  laid_whole = scene_of_nodes ts setting (expansion ts t) ∙ ap₂ (λ (xs ys : List Node). scene_laid setting ts.table.texts xs ys) (sym is_before) (sym is_after)
+
+  pub laid_scene : scene ts t setting ≡ with_readable (scene_laid setting ts.table.texts before after)
+  laid_scene = ap with_readable laid_whole
 
   pub laid_past : is_too_large ts t setting ≡ is_past_laid setting before after
   laid_past = past_of_nodes ts setting (expansion ts t) ∙ ap₂ (λ (xs ys : List Node). is_past_laid setting xs ys) (sym is_before) (sym is_after)

@@ -17,6 +17,7 @@ use Rattle.composition.specs.Scenes.{Content, Spot, Scene, Occurrence, ModifierS
 use Rattle.composition.specs.Slots.{ticks_of, sample_names, slot_names}
 use Rattle.composition.specs.Ranges.{has_gap}
 use Rattle.composition.specs.Items.{Item, OfTyped, OfPhase, OfModifier, OfMotion, occurrence_item, occurrence_items, typed_item, items}
+use Rattle.composition.specs.Expanded.{can_be_asked, can_apply, with_readable}
 use Rattle.composition.specs.SceneFaults.{is_object_spot, object_count}
 use Rattle.expansion_laws.specs.Counts.{total, content_objects, spot_objects, content_slots, spot_slots, range_rules, content_rules, spot_rules, strength_rules, samples_of}
 
@@ -166,6 +167,28 @@ rules_are scene =
     flat_length (λ v. map (OfMotion v) (ticks_of scene.setting)) (λ h. scene.setting.ticks + 1) (λ v. ticks_length scene (OfMotion v)) (vehicles scene) in
     let among = rules_among (scene.setting.ticks + 1) scene.spots in
     all ∙ omega (arith, o, g, p, m, h, among)
+
+-- fewer constraints and modifiers have no more rules
+total_of_filter : {X : Type 0} (f : X → ℕ) (test : X → Bool) (xs : List X) → total f (filter test xs) ≤ total f xs
+total_of_filter f test [] = omega arith
+total_of_filter {X} f test (x ∷ xs) = by (test x) (total_of_filter f test xs)
+  where
+    by : (b : Bool) → total f (filter test xs) ≤ total f xs → total f (cond b (x ∷ filter test xs) (filter test xs)) ≤ f x + total f xs
+    by true h = omega (arith, h)
+    by false h = omega (arith, h)
+
+pub fewer_rules : (scene : Scene) → length (items (with_readable scene)) ≤ length (items scene)
+fewer_rules scene =
+    let ticks : ℕ = scene.setting.ticks + 1 in
+    let rest : ℕ = total (spot_rules ticks) scene.spots in
+    let kept = rules_are (with_readable scene) in
+    let all = rules_are scene in
+    let fewer = total_of_filter (λ (o : Occurrence). strength_rules o.mark.strength) (can_be_asked scene) scene.occurrences in
+    let less = total_of_filter (λ (m : ModifierSpot). ticks) (can_apply scene) scene.modifiers in
+    sums (length (items (with_readable scene))) (length (items scene)) _ _ rest _ _ kept all fewer less
+  where
+    sums : (n m a b r c d : ℕ) → n ≡ a + (r + c) → m ≡ b + (r + d) → a ≤ b → c ≤ d → n ≤ m
+    sums n m a b r c d p q h k = omega (arith, p, q, h, k)
 
 -- ---- many spots
 

@@ -12,7 +12,7 @@ use Rattle.box_eval.proofs.Lines.{lines_of-injective}
 use Rattle.record_text.specs.declared.line.TextLine.{TextLine}
 use Rattle.record_text.specs.declared.line.TextLine.TheVariants.{Cut, Close, End}
 use Rattle.record_text.specs.Lines.{spelled, text_of, AllShort}
-use Rattle.record_text.specs.Text.{text_line, record_lines, record_text, IsTextOf}
+use Rattle.record_text.specs.Text.{text_line, record_lines, record_text, HasOwnText, IsTextOf}
 use Rattle.record_text.proofs.LineSpelling.{line_unique}
 
 cons_both : {A : Type 0} {x y : A} {xs ys : List A} → x ≡ y → xs ≡ ys → x ∷ xs ≡ y ∷ ys
@@ -104,17 +104,23 @@ record_prefix a b more e =
     same_of lines = same_record a b (let u : a.undecided ≡ b.undecided = cc in u) (let n : a.slots ≡ b.slots = cc in n) (let n : a.rules ≡ b.rules = cc in n)
         (let n : a.room ≡ b.room = cc in n) lines
 
--- one record at most has a text, and is of one tree
-pub text_of_one : (text : List ℕ) (a b : Record) (s t : Tree) → IsTextOf text a s → IsTextOf text b t → (a ≡ b) × (s ≡ t)
-text_of_one text a b s t p q =
-    let same : a ≡ b = ⊎_elim (shorter a b p.short q.short (sym p.spelled ∙ q.spelled)) (λ less. sym (shorter b a q.short p.short (sym q.spelled ∙ p.spelled) less))
-    (either_order (length (record_lines a)) (length (record_lines b))) in
-    (same, lines_of-injective s t (sym p.record_of.lines ∙ (ap (λ (r : Record). r.lines) same ∙ q.record_of.lines)))
+-- two records with one text are one, if each of their numbers has at most 18 digits
+pub same_text : (a b : Record) → AllShort (record_lines a) → AllShort (record_lines b) → record_text a ≡ record_text b → a ≡ b
+same_text a b p q e = ⊎_elim (shorter a b p q e) (λ less. sym (shorter b a q p (sym e) less)) (either_order (length (record_lines a)) (length (record_lines b)))
   where
     shorter : (c d : Record) → AllShort (record_lines c) → AllShort (record_lines d) → record_text c ≡ record_text d → length (record_lines c) ≤ length (record_lines d) → c ≡ d
     shorter c d k j e less =
         let r = lines_prefix (record_lines c) (record_lines d) [] [] k j (append-nil (record_text c) ∙ (e ∙ sym (append-nil (record_text d)))) less in
         sym (record_prefix d c r.0 r.1).0
+
+pub own_text : (claim : Record) → AllShort (record_lines claim) → HasOwnText claim
+own_text claim short other p e = same_text other claim p short e
+
+-- one record at most has a text, and is of one tree
+pub text_of_one : (text : List ℕ) (a b : Record) (s t : Tree) → IsTextOf text a s → IsTextOf text b t → (a ≡ b) × (s ≡ t)
+text_of_one text a b s t p q =
+    let same : a ≡ b = same_text a b p.short q.short (sym p.spelled ∙ q.spelled) in
+    (same, lines_of-injective s t (sym p.record_of.lines ∙ (ap (λ (r : Record). r.lines) same ∙ q.record_of.lines)))
 
 -- no text of a record begins another's
 pub text_prefix : (text more : List ℕ) (a b : Record) (s t : Tree) → IsTextOf text a s → IsTextOf (text ++ more) b t → (a ≡ b) × (more ≡ [])

@@ -25,6 +25,10 @@ record_lines claim =
 abbrev pub record_text : Record → List ℕ
 record_text claim = text_of (record_lines claim)
 
+-- no other record has the text of this one, if each number of the other has at most 18 digits
+abbrev pub HasOwnText : Record → Type 0
+HasOwnText claim = (other : Record) → AllShort (record_lines other) → record_text other ≡ record_text claim → other ≡ claim
+
 -- the record of a tree, and its text; each number has at most 18 digits
 pub record IsTextOf (text : List ℕ) (claim : Record) (tree : Tree) : Type 0 where
   pub record_of : IsRecordOf claim tree

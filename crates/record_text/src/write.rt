@@ -4,7 +4,7 @@ ghost use Rattle.outside_io.specs.Bytes.{AppendsPart};
 ghost use Rattle.outside_io.specs.Counts.{Rises};
 ghost use Rattle.record_text.specs.declared.line.TextLine.TheVariants.{Head, Slots, Rules, Room, Cut};
 ghost use Rattle.record_text.specs.Lines.{spelled, IsFewDigits, IsShort, AllShort, text_of};
-ghost use Rattle.record_text.specs.Text.{text_line, record_lines, record_text};
+ghost use Rattle.record_text.specs.Text.{text_line, record_lines, record_text, HasOwnText};
 ghost use Rattle.record_text.specs.Written.{HasShortValue, HaveShortValues, Puts};
 
 use crate::TextLine;
@@ -15,11 +15,13 @@ use outside_io::{Sink, SinkStop, write_all};
 
 /// Writes a record. It takes no memory.
 ///
-/// Each value of a cut has at most 18 digits. `Sink` comes where the sink failed; a prefix of the text is written then.
+/// Each value of a cut has at most 18 digits. No other record has this text. `Sink` comes where the sink failed; a prefix of
+/// the text is written then.
 pub fn write_record<K: Sink>(sink: &mut K, claim: &Record) -> Result<(), SinkStop>
     requires { HaveShortValues claim.now.lines }
     ensures whole { OnOk result (K.contents sink.new ≡ append_known (K.contents sink.old) (record_text claim.now)) }
     ensures short { OnOk result (AllShort (record_lines claim.now)) }
+    ensures own { OnOk result (HasOwnText claim.now) }
     ensures part { OnErr result (AppendsPart (K.contents sink.old) (K.contents sink.new) (record_text claim.now)) }
     ensures cause { OnErr result (Rises (K.faults sink.old) (K.faults sink.new)) }
 

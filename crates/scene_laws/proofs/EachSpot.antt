@@ -40,7 +40,7 @@ module _ (ts : Types) where
   value_paths path None = path ∷ []
   value_paths path (Some length) = map (then_index path) (range_with_len 0 length)
 
-  value_spots : (path : Path) (guards : List Guard) (count : Option ℕ) (range : ValueRange) (part : Expansion) → In part (value_parts path guards count range)
+  pub value_spots : (path : Path) (guards : List Guard) (count : Option ℕ) (range : ValueRange) (part : Expansion) → In part (value_parts path guards count range)
       → (q : Path) × In q (value_paths path count) × (part ≡ Value q guards range)
   value_spots path guards None range part (inl e) = (path, inl refl, e)
   value_spots path guards None range part (inr i) = absurd i

@@ -124,10 +124,10 @@ program_counted p t h =
     let heads = heads_from names all 0 (all_declared all) in
     beyond (members_of heads (bodies_from names all 0 (all_declared all))) 0 heads t h
 
-less : (a b : ℕ) → nat_lt a b ≡ true → a < b
+pub less : (a b : ℕ) → nat_lt a b ≡ true → a < b
 less a b h = grind arith
 
-more : (a b : ℕ) → nat_lt a b ≡ false → b ≤ a
+pub more : (a b : ℕ) → nat_lt a b ≡ false → b ≤ a
 more a b h = grind arith
 
 module _ (ts : Types) (counted : AreCounted ts) (rows : any_holds (member_fault_rows ts) ≡ false) where

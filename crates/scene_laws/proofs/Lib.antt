@@ -19,3 +19,12 @@ pub mod Steps
 pub mod PhasePaths
 pub mod ApartSpots
 pub mod SceneFields
+pub mod DistinctPaths
+pub mod OwnedHeads
+pub mod NoDurations
+pub mod NestedPhases
+pub mod WholeRun
+pub mod Acyclic
+pub mod HeldTypes
+pub mod PlacedObjects
+pub mod MemberPhases

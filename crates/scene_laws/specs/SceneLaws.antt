@@ -1,5 +1,5 @@
 -- What the scenes of a program without faults of declarations have.
-use Rattle.std.specs.Prelude.{◌≡◌, ℕ, ◌^◌, ◌&&◌, true, false, [], Some, None, length, nat_lt}
+use Rattle.std.specs.Prelude.{◌≡◌, ℕ, ◌^◌, ◌&&◌, true, false, List, [], Option, Some, None, map, length, nat_lt}
 use Rattle.std.specs.List.{list_all}
 use Rattle.osc_base.specs.declared.path.Path.{Path}
 use Rattle.dsl_tree.specs.ExprTree.{ExprTree}
@@ -14,16 +14,17 @@ use Rattle.expr_nodes.specs.Sound.{is_sound}
 use Rattle.composition.specs.declared.setting.Setting.{Setting}
 use Rattle.composition.specs.declared.spot.ChoiceSpot.{ChoiceSpot}
 use Rattle.composition.specs.declared.spot.ValueSpot.{ValueSpot}
-use Rattle.composition.specs.Scenes.{Scene, Spot, Occurrence, ModifierSpot, choices, values}
+use Rattle.composition.specs.declared.spot.PhaseSpot.{PhaseSpot}
+use Rattle.composition.specs.Scenes.{Scene, Spot, Occurrence, ModifierSpot, source, choices, values, phases, vehicles}
 use Rattle.composition.specs.There.{presence, modifier_presence}
 use Rattle.composition.specs.Slots.{slot_names}
 use Rattle.composition.specs.Items.{items}
 use Rattle.composition.specs.Expanded.{scene}
-use Rattle.composition.specs.SceneFaults.{is_too_large}
+use Rattle.composition.specs.SceneFaults.{named_scenario, is_too_large}
 use Rattle.composition.specs.StaticFaults.{declaration_fault}
-use Rattle.composition.specs.Invariants.{are_texts, are_grounded, is_range}
+use Rattle.composition.specs.Invariants.{are_texts, are_distinct, are_grounded, are_nested, has_whole, is_range}
 use Rattle.field_flatten.specs.Seen.{has_values}
-use Rattle.field_flatten.specs.Exactness.{is_ordered_range, are_small_guards}
+use Rattle.field_flatten.specs.Exactness.{is_value_source, is_ordered_range, are_small_guards}
 use Rattle.scene_laws.specs.Premises.{IsSmallTable, are_short, are_held, is_spelled_program}
 
 -- The values of a scene hold a number, enums in order, each `one_of` has a member, and the texts are distinct.
@@ -32,6 +33,17 @@ pub record HasRanges (scene : Scene) : Type 0 where
   pub enums_ordered : list_all (λ (v : ValueSpot). is_ordered_range v.range) (values scene) ≡ true
   pub choices_full : list_all (λ (c : ChoiceSpot). nat_lt 0 c.members) (choices scene) ≡ true
   pub texts : (are_texts scene.texts && nat_lt 0 (length scene.texts)) ≡ true
+
+-- Within each sort of spots a path stands once, phases stand in phases, all of them in the `do` of the named scenario, and no spot stands where a
+-- duration is read.
+pub record IsLaidOut (scene : Scene) : Type 0 where
+  pub choices_distinct : are_distinct (map (λ (c : ChoiceSpot). c.path) (choices scene)) ≡ true
+  pub values_distinct : are_distinct (map (λ (v : ValueSpot). v.path) (values scene)) ≡ true
+  pub phases_distinct : are_distinct (map (λ (p : PhaseSpot). p.path) (phases scene)) ≡ true
+  pub vehicles_distinct : are_distinct (vehicles scene) ≡ true
+  pub nested : are_nested [] (phases scene) ≡ true
+  pub whole : has_whole scene ≡ true
+  pub no_durations : list_all (λ (s : Spot). is_value_source (source scene s.path)) scene.spots ≡ true
 
 -- a scene with few slots and few rules
 pub record IsFew (scene : Scene) : Type 0 where
@@ -58,6 +70,12 @@ pub record HasSmallConditions (scene : Scene) : Type 0 where
 -- of each type of a program whose trees are as the grammar has them, without a fault of headings, members and uses
 abbrev pub ScenesHaveRanges : Type 0
 ScenesHaveRanges = (p : Program) (t : ℕ) (setting : Setting) → is_spelled_program p ≡ true → declaration_fault p (types_of p) ≡ None → HasRanges (scene (types_of p) t setting)
+
+-- of each scenario that is named
+abbrev pub ScenesAreLaidOut : Type 0
+ScenesAreLaidOut =
+    (p : Program) (t : ℕ) (owner : Option (List ℕ)) (name : List ℕ) (setting : Setting) → is_spelled_program p ≡ true → declaration_fault p (types_of p) ≡ None
+    → named_scenario (types_of p) owner name ≡ Some t → IsLaidOut (scene (types_of p) t setting)
 
 -- of each scenario that isn't too large
 abbrev pub ScenesAreFew : Type 0

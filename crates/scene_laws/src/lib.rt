@@ -4,6 +4,6 @@
 mod laws;
 
 pub use laws::{
-    conditions_are_grounded, conditions_are_small, scenes_are_few, scenes_have_ranges,
-    typed_are_sound,
+    conditions_are_grounded, conditions_are_small, scenes_are_few, scenes_are_laid_out,
+    scenes_have_ranges, typed_are_sound,
 };

@@ -1,6 +1,7 @@
 use Rattle.std.proofs.Common.{◌≤◌, ◌∙◌, ap, length, List, arith}
 use Rattle.box_eval.specs.declared.record.Line.{Line}
 use Rattle.record_text.proofs.Writing.{value_short, same_item, line_written, part_put, end_written, all_short, exit_part, last_whole, last_part, on_ok}
+use Rattle.record_text.proofs.Texts.{own_text}
 use Rattle.record_text.proofs.write.write_record.Goals as goal
 
 pub put-requires : goal.put-requires
@@ -37,6 +38,11 @@ pub returns-clause-short : goal.returns-clause-short
 returns-clause-short g c =
     let all : length c.args.claim.now.lines ≤ c.loop-line.line-index = omega (arith, c.loop-line-test.false, ap (λ (ls : List Line). length ls) c.loop-line.invariant.items) in
     on_ok c.write_all.result _ (all_short c.args.claim.now c.loop-line.line-index _ _ _ all c.loop-line.invariant.written)
+
+pub returns-clause-own : goal.returns-clause-own
+returns-clause-own g c =
+    let all : length c.args.claim.now.lines ≤ c.loop-line.line-index = omega (arith, c.loop-line-test.false, ap (λ (ls : List Line). length ls) c.loop-line.invariant.items) in
+    on_ok c.write_all.result _ (own_text c.args.claim.now (all_short c.args.claim.now c.loop-line.line-index _ _ _ all c.loop-line.invariant.written))
 
 pub returns-clause-part : goal.returns-clause-part
 returns-clause-part g c =

@@ -1,7 +1,0 @@
-use Rattle.std.proofs.Common.{◌≡◌, take}
-use Rattle.path_index.specs.Places.{first_place}
-use Rattle.composition.specs.SeenHomes.{leads}
-use Rattle.composition.proofs.homes.Scene.first_binding_place.Given as goal
-
-abbrev pub invariant-loop-step : goal.invariant-loop-step
-invariant-loop-step l = (l.prefix.steps ≡ take l.step-index l.step-items) × (l.first ≡ first_place (leads (take l.step-index l.step-items)) 0 l.fn.self.now.bindings)

@@ -1,0 +1,2 @@
+pub mod SeenTexts
+pub mod Rows
