@@ -180,3 +180,24 @@ module _ (scene : Scene) (met : List Guard) (typed : ProgramTyped) where
       ∙ ap (λ m. after_reads scene m (seen last)) (parts_are scene join (map reached earlier) (seen first) met)
       ∙ joined_is scene join (seen_info info) (seen first) (seen last) met (map reached earlier)
       ∙ ap (after_reads scene met) (sym (ap seen is ∙ seen_joined info join first earlier last))
+
+-- ---- step by step
+
+module _ (scene : Scene) where
+  pub presence_steps : (o : Occurrence) (none one two three holder under : List Guard) (paths : List Path)
+      → none ≡ [] → holder ≡ guards scene o.holder → one ≡ with_all none holder → under ≡ o.under → two ≡ with_all one under → three ≡ after_part scene two o.typed → paths ≡ removed o.mark
+      → after_paths scene three paths ≡ presence scene o
+  presence_steps o none one two three holder under paths z h a u b t p =
+      let first : one ≡ with_all [] (guards scene o.holder) = a ∙ (λ i. with_all (z i) (h i)) in
+      let second : two ≡ with_all (with_all [] (guards scene o.holder)) o.under = b ∙ (λ i. with_all (first i) (u i)) in
+      let third : three ≡ after_part scene (with_all (with_all [] (guards scene o.holder)) o.under) o.typed = t ∙ ap (λ m. after_part scene m o.typed) second in
+      (λ i. after_paths scene (third i) (p i)) ∙ presence_is scene o
+
+  pub modifier_steps : (m : ModifierSpot) (none one two three four phase own : List Guard) (paths : List Path)
+      → none ≡ [] → phase ≡ guards scene m.phase → one ≡ with_all none phase → own ≡ guards scene m.own → two ≡ with_all one own → paths ≡ option_to_list m.other → three ≡ after_paths scene two paths
+      → four ≡ after_part scene three m.low → after_part scene four m.high ≡ modifier_presence scene m
+  modifier_steps m none one two three four phase own paths z h a u b p t q =
+      let first : one ≡ with_all [] (guards scene m.phase) = a ∙ (λ i. with_all (z i) (h i)) in
+      let second : two ≡ with_all (with_all [] (guards scene m.phase)) (guards scene m.own) = b ∙ (λ i. with_all (first i) (u i)) in
+      let third : three ≡ after_paths scene (with_all (with_all [] (guards scene m.phase)) (guards scene m.own)) (option_to_list m.other) = t ∙ (λ i. after_paths scene (second i) (p i)) in
+      ap (λ x. after_part scene x m.high) (q ∙ ap (λ x. after_part scene x m.low) third) ∙ modifier_is scene m
