@@ -18,7 +18,7 @@ pub(crate) struct Counts {
 
 /// Where the slots of a scene begin.
 #[tactic(auto, using(crate::proofs::SlotNumbers::past_is))]
-pub(crate) fn counts(scene: &Scene) -> Counts
+pub(crate) fn slot_counts(scene: &Scene) -> Counts
     requires { past_slots (seen_scene scene.now) < 2 ^ 32 }
     ensures phases { result.first_phase ≡ phases_from (seen_scene scene.now) }
     ensures values { result.first_value ≡ values_from (seen_scene scene.now) }

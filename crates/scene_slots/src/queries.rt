@@ -10,7 +10,7 @@ ghost use Rattle.scene_slots.specs.Places.{end_slot};
 ghost use Rattle.scene_slots.specs.SeenSlots.{layout_of};
 ghost use Rattle.scene_slots.specs.Tracks.{IsTrack, track_slot};
 
-use crate::counts::{Counts, counts};
+use crate::counts::{Counts, slot_counts};
 use crate::slots::SceneSlots;
 use crate::track::Track;
 use composition::Scene;
@@ -39,7 +39,7 @@ impl<'a> SceneSlots<'a> {
         requires short { (seen_scene scene.now).setting.tick ≤ 60000 }
         ensures { IfOk result (λ s. s.scene.now ≡ scene.now) }
     {
-        let counts = counts(scene);
+        let counts = slot_counts(scene);
         let choices = PathIndex::of(alloc, scene.choices())?;
         let phases = PathIndex::of(alloc, scene.phases())?;
         let values = PathIndex::of(alloc, scene.values())?;
