@@ -1,0 +1,11 @@
+//! Tests of the types of a program that is loaded from its source.
+#![tactic(auto)]
+
+#[cfg(test)]
+mod built;
+#[cfg(test)]
+mod faults;
+#[cfg(test)]
+mod members;
+#[cfg(test)]
+mod queries;
