@@ -9,11 +9,13 @@ pub mod Narrowings
 pub mod Numbers
 pub mod Parts
 pub mod Points
+pub mod Pushes
 pub mod ReadBounds
 pub mod Reaches
 pub mod Reading
 pub mod Rows
 pub mod Settled
+pub mod SlotLists
 pub mod Smaller
 pub mod Unread
 pub mod Ways

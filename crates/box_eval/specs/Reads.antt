@@ -1,6 +1,7 @@
 -- Which slots a rule reads.
 use Rattle.std.specs.Prelude.{◌≡◌, ℕ, Bool, nat_eq, List, [], ◌∷◌, ◌++◌, ⊤}
 use Rattle.std.specs.List.{list_any}
+use Rattle.std.specs.List.Sorted.{IsStrictlyIncreasing}
 use Rattle.box_eval.specs.declared.rule.Rule.{Rule}
 use Rattle.box_eval.specs.declared.rule.Term.{Term}
 use Rattle.box_eval.specs.declared.rule.Rule.TheOpen.{Rule-F, Term-F, Always, Below, AtMost, Equal, Differ, Both, Either, Not, Whole, Slot, Sum, Less, Times, Truth}
@@ -39,6 +40,11 @@ term_slots_read = fold-Term (List ℕ) (List ℕ) read_in_rule read_in_term
 -- whether a rule reads a slot
 abbrev pub reads : Rule → ℕ → Bool
 reads rule slot = list_any (nat_eq slot) (slots_read rule)
+
+-- the slots that a rule reads, each once, ascending
+pub record IsSlotList (rule : Rule) (slots : List ℕ) : Type 0 where
+  pub told : (slot : ℕ) → list_any (nat_eq slot) slots ≡ reads rule slot
+  pub ascending : IsStrictlyIncreasing slots
 
 -- two boxes have equal ends at each slot of a list
 abbrev pub AgreeOn : List ℕ → List Pair → List Pair → Type 0

@@ -8,6 +8,7 @@ mod judgement;
 mod point;
 mod record;
 mod rule;
+mod slots;
 mod verdict;
 mod whole;
 
@@ -18,6 +19,7 @@ pub use judgement::judge;
 pub use point::{Point, truth};
 pub use record::{Line, Record, refuted};
 pub use rule::{Rule, Term};
+pub use slots::slots_of;
 pub use verdict::Verdict;
 
 #[cfg(test)]

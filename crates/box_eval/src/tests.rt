@@ -1,9 +1,11 @@
-//! A flat form with one slot: from 0 to 5, above 3, and below 3.
+//! A flat form with one slot: from 0 to 5, above 3, and below 3. The slots of a rule over several.
 ghost use Rattle.std.specs.Prelude.{IfOk, [], ◌∷◌, negsuc, pos, ◌≤ℤ◌};
 ghost use Rattle.box_eval.specs.Box.{pair};
 ghost use Rattle.box_eval.specs.Rules.{CanJudge};
 
-use crate::{Bounds, Flat, Line, Pair, Record, Rule, Term, Verdict, judge, refuted, truth};
+use crate::{
+    Bounds, Flat, Line, Pair, Record, Rule, Term, Verdict, judge, refuted, slots_of, truth,
+};
 use osc_base::{Boxed, Row};
 use std::alloc::{AllocError, Global};
 
@@ -138,4 +140,34 @@ fn is_row(rules: &[Rule]) -> bool {
         }
         _ => false,
     }
+}
+
+fn product(alloc: Global, a: u32, b: u32) -> Result<Term, AllocError> {
+    let a = Boxed::new(alloc, Term::Slot(a))?;
+    let b = Boxed::new(alloc, Term::Slot(b))?;
+    Ok(Term::Times(a, b))
+}
+
+fn falsehood(alloc: Global, rule: Rule) -> Result<Term, AllocError> {
+    let rule = Boxed::new(alloc, rule)?;
+    Ok(Term::Truth(Boxed::new(alloc, Rule::Not(rule))?))
+}
+
+/// Slot 7 times slot 2 is 1 if slot 7 is at least slot 0, and else 0.
+fn over_three(alloc: Global) -> Result<Rule, AllocError> {
+    let product = product(alloc, 7, 2)?;
+    let at_least = falsehood(alloc, Rule::Below(Term::Slot(7), Term::Slot(0)))?;
+    Ok(Rule::Equal(product, at_least))
+}
+
+#[test]
+fn slots(rt: HostRuntime) {
+    let several = over_three(rt.alloc()).expect(&rt, "memory");
+    let read = slots_of(rt.alloc(), &several).expect(&rt, "memory");
+    assert_eq!(rt; read.as_slice(), [0, 2, 7].as_slice());
+    let within = within(rt.alloc()).expect(&rt, "memory");
+    let one = slots_of(rt.alloc(), &within).expect(&rt, "memory");
+    assert_eq!(rt; one.as_slice(), [0].as_slice());
+    let none = slots_of(rt.alloc(), &Rule::Always).expect(&rt, "memory");
+    assert!(rt; none.as_slice().is_empty());
 }

@@ -1,5 +1,5 @@
 -- The value of a constant, in lowest terms.
-use Rattle.std.proofs.Common.{◌≡◌, ◌∙◌, sym, ap, ap₂, ℕ, ◌<◌, ◌≤◌, ◌^◌, Bool, true, false, not, Option, Some, None, refl, arith}
+use Rattle.std.proofs.Common.{◌≡◌, ◌∙◌, sym, ap, ℕ, ◌<◌, ◌≤◌, ◌^◌, true, false, Option, Some, None, refl, arith}
 use Rattle.std.specs.Prelude.{ℤ, pos, ◌*ℤ◌, ◌≤ℤ◌, ◌||◌, unsigned_abs, nat_lt}
 use Rattle.std.proofs.lemmas.Bool.Decides.{nat_tests}
 use Rattle.std.proofs.lemmas.Int.{ints}
@@ -12,7 +12,6 @@ use Rattle.dsl_tree.specs.ExprTree.{ExprTree}
 use Rattle.type_heads.specs.Table.{Table}
 use Rattle.expr_nodes.specs.declared.node.Typed.{Typed}
 use Rattle.expr_nodes.specs.Typed.{scale, reach}
-use Rattle.expr_nodes.specs.Sizes.{size, is_wide}
 use Rattle.expr_nodes.specs.Value.{worth}
 use Rattle.expr_nodes.specs.Operators.{constant_value}
 use Rattle.expr_nodes.specs.Scope.{Scope}

@@ -9,19 +9,17 @@ use Rattle.osc_base.specs.declared.fault.Fault.{Fault}
 use Rattle.osc_base.specs.declared.fault.FaultCode.{FaultCode}
 use Rattle.osc_base.specs.FaultRows.{FaultRow, row, first_fault}
 use Rattle.osc_base.specs.Number.{Number}
-use Rattle.units_si.specs.Units.{each}
 use Rattle.units_si.specs.ExponentTests.{are_exponents}
 use Rattle.expr_nodes.specs.declared.node.Typed.{Typed as Node}
-use Rattle.expr_nodes.specs.Kinds.{ValueKind, no_exponents}
-use Rattle.expr_nodes.specs.Typed.{Typed, kind, place_of}
+use Rattle.expr_nodes.specs.Typed.{Typed}
 use Rattle.expr_nodes.specs.Sizes.{size, multiplied, divided, is_wide}
 use Rattle.expr_nodes.specs.Parts.{of_one, of_two, is_whole, both_numbers}
-use Rattle.expr_nodes.specs.Operators.{constant_at, is_constant, constant_value, is_zero, can_divide, signed_like, reciprocal, reciprocal_of, exponents_in, product_exponents, product_of, quotient_exponents, quotient_rows}
+use Rattle.expr_nodes.specs.Operators.{is_constant, constant_value, is_zero, can_divide, signed_like, has_quotient, reciprocal_exponents, reciprocal_of, product_exponents, product_of, quotient_exponents, quotient_rows}
 use Rattle.expr_nodes.specs.Parts.{any_holds, is_scalar, on_two}
 use Rattle.expr_nodes.specs.Seen.{seen_part}
 use Rattle.expr_nodes.proofs.Results.{if_ok_more}
 use Rattle.expr_nodes.proofs.Settled.{settled}
-use Rattle.expr_eval.specs.DivisorValues.{divisor_value, is_zero_value, is_wide_by}
+use Rattle.expr_eval.specs.DivisorValues.{reciprocal_by, divisor_value, is_zero_value, is_wide_by}
 use Rattle.expr_eval.proofs.SoundQuotients.{reciprocal_narrow, Divides, quotient_says}
 
 -- ---- whole numbers
@@ -63,14 +61,14 @@ five p clash units varying nil wide =
 
 pub quotient_first : (p : Place) (a b : Option Typed) (v : Option Number) (other clash units varying nil wide : Bool) (f : Option Fault)
     → other ≡ of_two a b (λ x y. not (both_numbers x y)) → clash ≡ (is_whole a || (is_whole b || other))
-    → units ≡ of_two a b (λ x y. both_numbers x y && not (are_exponents (quotient_exponents x y))) → varying ≡ of_one b (λ y. not (is_constant y))
+    → units ≡ of_two a b (λ x y. both_numbers x y && not (has_quotient x y)) → varying ≡ of_one b (λ y. not (is_constant y))
     → nil ≡ is_zero_value v → wide ≡ is_wide_by a v → f ≡ first_fault (five p clash units varying nil wide) → v ≡ divisor_value b → f ≡ first_fault (quotient_rows p a b)
 quotient_first p a b v other clash units varying nil wide f o c u r z w is same =
     is
     ∙ ap (λ k. first_fault (five p k units varying nil wide)) (c ∙ ap (λ k. is_whole a || (is_whole b || k)) o)
     ∙ ap (λ k. first_fault (five p (is_whole a || (is_whole b || of_two a b (λ x y. not (both_numbers x y)))) k varying nil wide)) u
-    ∙ ap (λ k. first_fault (five p (is_whole a || (is_whole b || of_two a b (λ x y. not (both_numbers x y)))) (of_two a b (λ x y. both_numbers x y && not (are_exponents (quotient_exponents x y)))) k nil wide)) r
-    ∙ ap₂ (λ k l. first_fault (five p (is_whole a || (is_whole b || of_two a b (λ x y. not (both_numbers x y)))) (of_two a b (λ x y. both_numbers x y && not (are_exponents (quotient_exponents x y)))) (of_one b (λ y. not (is_constant y))) k l))
+    ∙ ap (λ k. first_fault (five p (is_whole a || (is_whole b || of_two a b (λ x y. not (both_numbers x y)))) (of_two a b (λ x y. both_numbers x y && not (has_quotient x y))) k nil wide)) r
+    ∙ ap₂ (λ k l. first_fault (five p (is_whole a || (is_whole b || of_two a b (λ x y. not (both_numbers x y)))) (of_two a b (λ x y. both_numbers x y && not (has_quotient x y))) (of_one b (λ y. not (is_constant y))) k l))
     (z ∙ ap is_zero_value same ∙ zero_same b) (w ∙ ap (is_wide_by a) same ∙ wide_same a b)
 
 -- ---- the typed form
@@ -81,19 +79,43 @@ sum_opposite a b = omega (arith, ints)
 pub exponents_same : (x y : Typed) → product_exponents x (reciprocal_of y) ≡ quotient_exponents x y
 exponents_same x y = simp sum_opposite
 
+first_limits : (a b : Bool) → (a && b) ≡ true → a ≡ true
+first_limits true b h = refl
+first_limits false b h = h
+
+second_limits : (a b : Bool) → (a && b) ≡ true → b ≡ true
+second_limits true b h = h
+second_limits false true h = refl
+second_limits false false h = h
+
+some_over : (q : Bool) (over made : Typed) → Some over ≡ cond q (Some made) None → q ≡ true → over ≡ made
+some_over true over made e h = cc
+some_over false over made e h = absurd (cc)
+
+none_over : (q : Bool) (made : Typed) → None ≡ cond q (Some made) None → q ≡ true → ⊥
+none_over true made e h = cc
+none_over false made e h = cc
+
 pub quotient_made : {E : Type 0} (r : Result (Option Node) E) (x y over : Typed) (v : Number) → is_wide (size x) ≡ false
-    → over ≡ constant_at (place_of y) (ValueKind.Number (each (λ a b. a -ℤ b) no_exponents (exponents_in (kind y)))) (reciprocal v)
+    → Some over ≡ cond (are_exponents (reciprocal_exponents y)) (Some (reciprocal_by y v)) None
     → IfOk r (λ t. are_exponents (product_exponents x over) ≡ true → is_wide (multiplied (size x) (size over)) ≡ false → seen_part t ≡ Some (product_of x over))
-    → IfOk r (λ t. v ≡ constant_value y → is_zero v ≡ false → are_exponents (quotient_exponents x y) ≡ true → is_wide (divided (size x) v) ≡ false → seen_part t ≡ Some (product_of x (reciprocal_of y)))
+    → IfOk r (λ t. v ≡ constant_value y → is_zero v ≡ false → has_quotient x y ≡ true → is_wide (divided (size x) v) ≡ false → seen_part t ≡ Some (product_of x (reciprocal_of y)))
 quotient_made r x y over v narrow is h = if_ok_more r
     (λ t. are_exponents (product_exponents x over) ≡ true → is_wide (multiplied (size x) (size over)) ≡ false → seen_part t ≡ Some (product_of x over))
-    (λ t. v ≡ constant_value y → is_zero v ≡ false → are_exponents (quotient_exponents x y) ≡ true → is_wide (divided (size x) v) ≡ false → seen_part t ≡ Some (product_of x (reciprocal_of y)))
+    (λ t. v ≡ constant_value y → is_zero v ≡ false → has_quotient x y ≡ true → is_wide (divided (size x) v) ≡ false → seen_part t ≡ Some (product_of x (reciprocal_of y)))
     (λ t made same some exponents fits.
-    let same_over : over ≡ reciprocal_of y = is ∙ ap (λ n. constant_at (place_of y) (ValueKind.Number (each (λ a b. a -ℤ b) no_exponents (exponents_in (kind y)))) (reciprocal n)) same in
-    made (ap (λ z. are_exponents (product_exponents x z)) same_over ∙ ap are_exponents (exponents_same x y) ∙ exponents)
+    let within = first_limits (are_exponents (quotient_exponents x y)) (are_exponents (reciprocal_exponents y)) exponents in
+    let over_within = second_limits (are_exponents (quotient_exponents x y)) (are_exponents (reciprocal_exponents y)) exponents in
+    let same_over : over ≡ reciprocal_of y = some_over (are_exponents (reciprocal_exponents y)) over (reciprocal_by y v) is over_within ∙ ap (reciprocal_by y) same in
+    made (ap (λ z. are_exponents (product_exponents x z)) same_over ∙ ap are_exponents (exponents_same x y) ∙ within)
     (ap (λ z. is_wide (multiplied (size x) (size z))) same_over ∙ reciprocal_narrow (size x) (constant_value y) _ refl narrow (ap (λ n. is_wide (divided (size x) n)) (sym same) ∙ fits))
     ∙ ap (λ z. Some (product_of x z)) same_over)
     h
+
+pub quotient_past : (t : Option Node) (x y : Typed) (v : Number) → None ≡ cond (are_exponents (reciprocal_exponents y)) (Some (reciprocal_by y v)) None
+    → v ≡ constant_value y → is_zero v ≡ false → has_quotient x y ≡ true → is_wide (divided (size x) v) ≡ false → seen_part t ≡ Some (product_of x (reciprocal_of y))
+quotient_past t x y v none same some exponents fits =
+    absurd (none_over (are_exponents (reciprocal_exponents y)) (reciprocal_by y v) none (second_limits (are_exponents (quotient_exponents x y)) (are_exponents (reciprocal_exponents y)) exponents))
 
 -- no row holds, if there is no fault
 quiet_of : (rows : List FaultRow) (x : Typed) → None ≡ first_fault rows → any_holds rows ≡ false
@@ -117,25 +139,25 @@ unchosen true w e h = cc
 unchosen false w e h = cc
 
 module _ (p : Place) (x y : Typed) (none : None ≡ first_fault (quotient_rows p (Some x) (Some y))) where
-  says : Divides (both_numbers x y) (both_numbers x y && not (are_exponents (quotient_exponents x y))) (is_constant y) (is_zero (constant_value y)) (is_wide (divided (size x) (constant_value y)))
-  says = quotient_says (not (is_scalar x)) (not (is_scalar y)) (both_numbers x y) (both_numbers x y && not (are_exponents (quotient_exponents x y))) (is_constant y) (is_zero (constant_value y))
+  says : Divides (both_numbers x y) (both_numbers x y && not (has_quotient x y)) (is_constant y) (is_zero (constant_value y)) (is_wide (divided (size x) (constant_value y)))
+  says = quotient_says (not (is_scalar x)) (not (is_scalar y)) (both_numbers x y) (both_numbers x y && not (has_quotient x y)) (is_constant y) (is_zero (constant_value y))
       (is_wide (divided (size x) (constant_value y))) (quiet_of (quotient_rows p (Some x) (Some y)) x none)
 
   pub constant_there : None ≡ divisor_value (Some y) → ⊥
   constant_there e = unchosen (is_constant y) (constant_value y) e says.is_constant
 
   pub settled_made : (t : Option Node) (v : Number)
-      → (v ≡ constant_value y → is_zero v ≡ false → are_exponents (quotient_exponents x y) ≡ true → is_wide (divided (size x) v) ≡ false → seen_part t ≡ Some (product_of x (reciprocal_of y)))
+      → (v ≡ constant_value y → is_zero v ≡ false → has_quotient x y ≡ true → is_wide (divided (size x) v) ≡ false → seen_part t ≡ Some (product_of x (reciprocal_of y)))
       → Some v ≡ divisor_value (Some y) → seen_part t ≡ Some (product_of x (reciprocal_of y))
   settled_made t v made e =
       let same = chosen (is_constant y) v (constant_value y) e says.is_constant in
-      made same (ap is_zero same ∙ says.some) (and_not (both_numbers x y) (are_exponents (quotient_exponents x y)) says.apart says.fits) (ap (λ n. is_wide (divided (size x) n)) same ∙ says.narrow)
+      made same (ap is_zero same ∙ says.some) (and_not (both_numbers x y) (has_quotient x y) says.apart says.fits) (ap (λ n. is_wide (divided (size x) n)) same ∙ says.narrow)
 
 pub quotient_settled : {E : Type 0} (r : Result (Option Node) E) (a b : Option Typed) (x y : Typed) (d : Option Number) (v : Number) → a ≡ Some x → b ≡ Some y → d ≡ Some v
-    → IfOk r (λ t. v ≡ constant_value y → is_zero v ≡ false → are_exponents (quotient_exponents x y) ≡ true → is_wide (divided (size x) v) ≡ false → seen_part t ≡ Some (product_of x (reciprocal_of y)))
+    → IfOk r (λ t. v ≡ constant_value y → is_zero v ≡ false → has_quotient x y ≡ true → is_wide (divided (size x) v) ≡ false → seen_part t ≡ Some (product_of x (reciprocal_of y)))
     → IfOk r (λ t. (p : Place) → d ≡ divisor_value b → None ≡ first_fault (quotient_rows p a b) → seen_part t ≡ on_two a b (λ x y. product_of x (reciprocal_of y)))
 quotient_settled r a b x y d v first second third h = rw (first, second, third) (if_ok_more r
-    (λ t. v ≡ constant_value y → is_zero v ≡ false → are_exponents (quotient_exponents x y) ≡ true → is_wide (divided (size x) v) ≡ false → seen_part t ≡ Some (product_of x (reciprocal_of y)))
+    (λ t. v ≡ constant_value y → is_zero v ≡ false → has_quotient x y ≡ true → is_wide (divided (size x) v) ≡ false → seen_part t ≡ Some (product_of x (reciprocal_of y)))
     (λ t. (p : Place) → Some v ≡ divisor_value (Some y) → None ≡ first_fault (quotient_rows p (Some x) (Some y)) → seen_part t ≡ Some (product_of x (reciprocal_of y)))
     (λ t made p e none. settled_made p x y none t v made e)
     h)

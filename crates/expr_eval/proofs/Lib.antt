@@ -11,3 +11,5 @@ pub mod TypedForms
 pub mod DivisorLaws
 pub mod LowestTerms
 pub mod ConstantValues
+pub mod Resolved
+pub mod Bounded

@@ -1,15 +1,12 @@
 -- Lowest terms: one number has one fraction in lowest terms.
-use Rattle.std.proofs.Common.{◌≡◌, ◌∙◌, refl, sym, ap, ap₂, subst, ℕ, zero, suc, ◌*◌, ◌/◌, ◌<◌, ◌≤◌, ◌^◌, arith, to_z}
-use Rattle.std.specs.Int.{w128}
-use Rattle.std.specs.Prelude.{ℤ, pos, negsuc, neg_ℤ, ◌*ℤ◌, ◌≤ℤ◌, unsigned_abs}
-use Rattle.std.specs.Int.{IsGcd, ◌∣◌}
-use Rattle.std.proofs.Math.IntN.{pos-*ℤ-pos, negsuc-*ℤ-pos, *ℤ_comm}
-use Rattle.std.proofs.Math.Nat.{mul_comm, mul-div-mul_right, mul-dvd-mul_right, div-mul_cancel, dvd-mul_left, dvd_trans, dvd_of_mul-dvd-mul_right, pos_of_dvd_of_pos, div-le_self}
-use Rattle.std.proofs.lemmas.Int.{ints, unsigned_abs-mul, to_z_pos}
+use Rattle.std.proofs.Common.{◌≡◌, ◌∙◌, refl, sym, ap, ap₂, subst, ℕ, zero, suc, ◌*◌, ◌/◌, ◌<◌, arith}
+use Rattle.std.specs.Prelude.{ℤ, pos, negsuc, neg_ℤ, ◌*ℤ◌, unsigned_abs}
+use Rattle.std.specs.Int.{◌∣◌}
+use Rattle.std.proofs.Math.IntN.{pos-*ℤ-pos, negsuc-*ℤ-pos}
+use Rattle.std.proofs.Math.Nat.{mul_comm, mul-div-mul_right, mul-dvd-mul_right, div-mul_cancel, dvd-mul_left, dvd_trans, dvd_of_mul-dvd-mul_right}
+use Rattle.std.proofs.lemmas.Int.{unsigned_abs-mul}
 use Rattle.std.proofs.lemmas.Nat.Gcd.{same_from_IsGcd}
-use Rattle.osc_base.specs.Number.{Number, IsSame}
 use Rattle.osc_base.specs.LowestTerms.{gcd, share, lowest}
-use Rattle.osc_base.proofs.Integers.{abs_above}
 use Rattle.expr_value.proofs.Scales.{gcd_is}
 
 module _ (a b k : ℕ) (above : 0 < k) where

@@ -25,7 +25,7 @@ use Rattle.expr_nodes.specs.Typed.{Typed, Constant, Read, Whole, Listed, Span, M
 use Rattle.expr_nodes.specs.Sizes.{info_at, constant_size, unit_size, is_wide}
 use Rattle.expr_nodes.specs.Parts.{is_scalar, any_holds, unless}
 use Rattle.expr_nodes.specs.Scope.{It, Label, Scope}
-use Rattle.expr_nodes.specs.Operators.{constant_at, number_typed, truth_typed, text_typed, physical_typed, count_in}
+use Rattle.expr_nodes.specs.Operators.{constant_at, number_rows, number_typed, truth_typed, text_typed, physical_typed, count_in}
 use Rattle.expr_nodes.specs.Names.{elements_from, held_at, Meaning, typed_meaning, member_at, member_meant, meaning_by_duration, meaning_by_label, meaning_by_field, meaning, label_named, name_rows, name_typed, it_at, dot_typed, field_meant, after_point, member_of_object, member_made, member_of_whole, duration_if, is_duration}
 use Rattle.expr_nodes.specs.SeenNames.{single_in, list_in}
 use Rattle.expr_nodes.specs.Sound.{is_sound, are_sound, is_lowest}
@@ -233,7 +233,8 @@ module _ (table : Table) where
   power_above places = one-le-pow places 10 (omega arith)
 
   pub number_good : (d : Digits) → Good (number_typed d)
-  number_good d = constant_good d.place plain (decimal_number d.digits d.places) refl (lowest_is (pos d.digits) (10 ^ d.places) (power_above d.places))
+  number_good d = unless_good (number_rows d) (Some (constant_at d.place plain (decimal_number d.digits d.places)))
+      (constant_good d.place plain (decimal_number d.digits d.places) refl (lowest_is (pos d.digits) (10 ^ d.places) (power_above d.places)))
 
   pub truth_good : (place : Place) (value : Bool) → Good (truth_typed place value)
   truth_good place true = sound_good _ (both _ _ (both _ _ (whole_is (pos 1)) refl) refl)

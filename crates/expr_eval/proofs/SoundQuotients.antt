@@ -9,13 +9,12 @@ use Rattle.osc_base.specs.declared.fault.Place.{Place}
 use Rattle.osc_base.specs.Number.{Number}
 use Rattle.osc_base.specs.LowestTerms.{gcd, lowest}
 use Rattle.osc_base.proofs.Multiples.{lowest_terms}
-use Rattle.units_si.specs.ExponentTests.{are_exponents}
 use Rattle.expr_nodes.specs.Kinds.{ValueKind, is_number}
 use Rattle.expr_nodes.specs.Typed.{Typed, kind, place_of}
 use Rattle.expr_nodes.specs.Value.{worth}
 use Rattle.expr_nodes.specs.Sizes.{Size, size, info_at, constant_size, multiplied, divided, is_wide}
 use Rattle.expr_nodes.specs.Parts.{is_scalar, both_numbers}
-use Rattle.expr_nodes.specs.Operators.{quotient_rows, quotient_typed, quotient_exponents, is_constant, constant_value, is_zero, signed_like, reciprocal, reciprocal_exponents, reciprocal_of, product_of, product_exponents}
+use Rattle.expr_nodes.specs.Operators.{quotient_rows, quotient_typed, has_quotient, is_constant, constant_value, is_zero, signed_like, reciprocal, reciprocal_exponents, reciprocal_of, product_of, product_exponents}
 use Rattle.expr_nodes.specs.Sound.{is_sound, is_lowest}
 use Rattle.expr_nodes.proofs.Divisors.{gcd_above}
 use Rattle.expr_eval.specs.Narrow.{is_narrow}
@@ -105,7 +104,7 @@ quotient_good p a b first second t is here =
     let x = m.left in
     let y = m.right in
     let v = constant_value y in
-    let e = quotient_says (not (is_scalar x)) (not (is_scalar y)) (both_numbers x y) (both_numbers x y && not (are_exponents (quotient_exponents x y))) (is_constant y) (is_zero v) (is_wide (divided (size x) v)) m.quiet in
+    let e = quotient_says (not (is_scalar x)) (not (is_scalar y)) (both_numbers x y) (both_numbers x y && not (has_quotient x y)) (is_constant y) (is_zero v) (is_wide (divided (size x) v)) m.quiet in
     let here' : is_asked (product_of x (reciprocal_of y)) ≡ true = ap is_asked m.made ∙ here in
     let narrow : (is_narrow x && is_narrow (reciprocal_of y)) ≡ true = only (is_narrow (product_of x (reciprocal_of y))) here' in
     let left : is_sound x ≡ true = first x m.left_is (asked x (left_of (is_narrow x) (is_narrow (reciprocal_of y)) narrow)) in

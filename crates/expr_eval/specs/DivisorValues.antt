@@ -2,9 +2,10 @@
 use Rattle.std.specs.Prelude.{◌&&◌, Bool, true, false, not, cond, Option, Some, None, option_map}
 use Rattle.osc_base.specs.Number.{Number}
 use Rattle.osc_base.specs.Fraction.{value}
-use Rattle.expr_nodes.specs.Typed.{Typed}
+use Rattle.expr_nodes.specs.Kinds.{ValueKind}
+use Rattle.expr_nodes.specs.Typed.{Typed, place_of}
 use Rattle.expr_nodes.specs.Sizes.{size, divided, is_wide}
-use Rattle.expr_nodes.specs.Operators.{is_constant, constant_value, is_zero}
+use Rattle.expr_nodes.specs.Operators.{constant_at, is_constant, constant_value, is_zero, reciprocal, reciprocal_exponents}
 use Rattle.expr_nodes.specs.Sound.{is_sound}
 use Rattle.expr_eval.specs.declared.divisor.Divisor.{Divisor}
 
@@ -26,6 +27,10 @@ is_zero_value (Some n) = is_zero n
 abbrev pub is_wide_by : Option Typed → Option Number → Bool
 is_wide_by (Some x) (Some n) = not (is_zero n) && is_wide (divided (size x) n)
 is_wide_by _ _ = false
+
+-- one over a constant of that value
+abbrev pub reciprocal_by : Typed → Number → Typed
+reciprocal_by y n = constant_at (place_of y) (ValueKind.Number (reciprocal_exponents y)) (reciprocal n)
 
 -- a part is sound, if it is there
 abbrev pub sound_part : Option Typed → Bool

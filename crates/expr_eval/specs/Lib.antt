@@ -4,3 +4,5 @@ pub mod Narrow
 pub mod TypeAnswers
 pub mod Known
 pub mod DivisorValues
+pub mod Resolved
+pub mod Bounded

@@ -26,14 +26,11 @@ fn faultless(alloc: Global, typed: Typed) -> Result<Checked, AllocError>
     })
 }
 
-/// A number without a unit. One with more than 18 places counts as out of memory; those of a source have at most 18.
+/// A number without a unit.
 pub(crate) fn number(alloc: Global, digits: &Digits) -> Result<Checked, AllocError>
     ensures { IfOk result (λ c. (table : Table) (sc : Names) → IsChecked table sc (ExprTree.Number digits.now) c) }
 {
-    if digits.places > 18 {
-        return Err(AllocError);
-    }
-    faultless(alloc, literals::number(digits))
+    literals::number(alloc, digits)
 }
 
 /// `true` or `false`.
@@ -55,7 +52,7 @@ pub(crate) fn text(
     faultless(alloc, literals::text(types, place, text))
 }
 
-/// A number with a unit. One with more than 18 places counts as out of memory; those of a source have at most 18.
+/// A number with a unit.
 pub(crate) fn physical_number(
     alloc: Global,
     types: &Types,
@@ -64,9 +61,6 @@ pub(crate) fn physical_number(
 ) -> Result<Checked, AllocError>
     ensures { IfOk result (λ c. (sc : Names) → IsChecked types.now.table sc (ExprTree.Physical digits.now unit.now) c) }
 {
-    if digits.places > 18 {
-        return Err(AllocError);
-    }
     physical::physical(alloc, types, digits, unit)
 }
 

@@ -4,6 +4,7 @@
 mod checks;
 mod divisor;
 mod items;
+mod laws;
 mod leaves;
 mod pairs;
 mod quotients;
@@ -12,4 +13,5 @@ mod typing;
 pub use checks::checked;
 pub use expr_nodes::parts::Checked;
 pub use expr_value::{Reading, value};
+pub use laws::{exponents_are_bounded, typed_or_refused};
 pub use typing::{TypeStop, type_of};

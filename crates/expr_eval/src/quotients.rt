@@ -1,52 +1,36 @@
 //! Products and quotients.
 
-ghost use Rattle.std.specs.Prelude.{◌≡◌, ◌&&◌, ◌<◌, ◌≤◌, ◌^◌, ◌-ℤ◌, ◌∷◌, [], true, false, not, Some, IfOk, unsigned_abs};
+ghost use Rattle.std.specs.Prelude.{◌≡◌, ◌&&◌, ◌<◌, ◌≤◌, ◌^◌, ◌∷◌, [], true, false, not, cond, Some, None, IfOk, unsigned_abs};
 ghost use Rattle.osc_base.specs.declared.fault.Place.{Place};
 ghost use Rattle.osc_base.specs.declared.fault.FaultCode.{FaultCode};
 ghost use Rattle.osc_base.specs.FaultRows.{first_fault, row};
 ghost use Rattle.osc_base.specs.Fraction.{value};
 ghost use Rattle.osc_base.specs.LowestTerms.{lowest as lowest_terms};
 ghost use Rattle.dsl_tree.specs.ExprTree.{ExprTree};
-ghost use Rattle.units_si.specs.Units.{each};
 ghost use Rattle.units_si.specs.ExponentTests.{are_exponents};
 ghost use Rattle.type_heads.specs.Table.{Table};
-ghost use Rattle.expr_nodes.specs.Kinds as Kinds;
-ghost use Rattle.expr_nodes.specs.Kinds.{no_exponents};
 ghost use Rattle.expr_nodes.specs.Scope.{Scope};
 ghost use Rattle.expr_nodes.specs.Sizes.{size, divided, is_wide};
 ghost use Rattle.expr_nodes.specs.Parts.{on_two};
-ghost use Rattle.expr_nodes.specs.Operators.{is_zero as zero, constant_at as constant_node, constant_value as value_of_constant, exponents_in, reciprocal as one_over, reciprocal_of, product_of, quotient_exponents, quotient_rows, quotient_typed, factor_rows, factor_typed};
+ghost use Rattle.expr_nodes.specs.Operators.{is_zero as zero, constant_value as value_of_constant, has_quotient, reciprocal as one_over, reciprocal_exponents as exponents_over, reciprocal_of, product_of, quotient_rows, quotient_typed, factor_rows, factor_typed};
 ghost use Rattle.expr_nodes.specs.Sound.{is_sound};
-ghost use Rattle.expr_nodes.specs.Seen.{seen, seen_kind, seen_part};
+ghost use Rattle.expr_nodes.specs.Seen.{seen, seen_part};
 ghost use Rattle.expr_nodes.specs.Checks.{IsChecked};
-ghost use Rattle.expr_eval.specs.DivisorValues.{seen_divisor, divisor_value, is_zero_value, is_wide_by, sound_part};
+ghost use Rattle.expr_eval.specs.DivisorValues.{reciprocal_by, seen_divisor, divisor_value, is_zero_value, is_wide_by, sound_part};
 
 use crate::divisor::Divisor;
 use dsl_tree::Operator;
 use expr_nodes::constants::is_constant;
 use expr_nodes::literals::constant_at;
 use expr_nodes::parts::{Checked, are_no_numbers, are_whole, fault_if, least};
-use expr_nodes::products::{exponents_of, product, product_pair};
-use expr_nodes::quotients::{are_past_limits, is_varying};
+use expr_nodes::products::{product, product_pair};
+use expr_nodes::quotients::{are_past_limits, is_varying, reciprocal_exponents};
 use expr_nodes::size::gcd;
 use expr_nodes::steps::with_parts;
 use expr_nodes::{Typed, ValueKind};
 use expr_value::constant;
 use osc_base::{Boxed, Fault, FaultCode, Fraction, Place};
 use std::alloc::{AllocError, Global};
-use units_si::Exponents;
-
-/// The exponents of a number without a unit.
-const NO_EXPONENTS: Exponents = Exponents {
-    kg: 0,
-    m: 0,
-    s: 0,
-    a: 0,
-    k: 0,
-    mol: 0,
-    cd: 0,
-    rad: 0,
-};
 
 /// The denominator, which is above 0.
 fn bottom_of(number: &Fraction) -> u128
@@ -177,43 +161,44 @@ fn reciprocal(divisor: &Divisor) -> Divisor
     Divisor { number }
 }
 
-/// One over a divisor other than 0, as a constant. It counts as out of memory if an exponent leaves its limits; those of
-/// a source don't.
+/// One over a divisor other than 0, as a constant. `None` when an exponent leaves its limits.
 fn reciprocal_at(
     alloc: Global,
-    place: Place,
-    kind: &ValueKind,
+    right: &Typed,
     divisor: &Divisor,
-) -> Result<Boxed<Typed>, AllocError>
+) -> Result<Option<Boxed<Typed>>, AllocError>
     requires { 0 < unsigned_abs divisor.now.number.num }
-    ensures { IfOk result (λ t. seen t ≡ constant_node place (Kinds.ValueKind.Number (each (λ a b. a -ℤ b) no_exponents (exponents_in (seen_kind kind.now)))) (one_over (value divisor.now.number))) }
+    ensures { IfOk result (λ t. seen_part t ≡ cond (are_exponents (exponents_over (seen right.now))) (Some (reciprocal_by (seen right.now) (value divisor.now.number))) None) }
 {
-    match NO_EXPONENTS.minus(&exponents_of(kind)) {
+    match reciprocal_exponents(right) {
         Some(exponents) => {
             let kind = ValueKind::Number(exponents);
             let number = reciprocal(divisor).number;
-            Boxed::new(alloc, constant_at(place, kind, number))
+            let constant = constant_at(right.info().place, kind, number);
+            Ok(Some(Boxed::new(alloc, constant)?))
         }
-        None => Err(AllocError),
+        None => Ok(None),
     }
 }
 
-/// The quotient, unless the divisor is 0, its exponents leave their limits, or it is too wide.
+/// The quotient, unless the divisor is 0, exponents leave their limits, or it is too wide.
 fn quotient_pair(
     alloc: Global,
     left: Boxed<Typed>,
     right: &Typed,
     divisor: &Divisor,
 ) -> Result<Option<Boxed<Typed>>, AllocError>
-    ensures { IfOk result (λ t. value divisor.now.number ≡ value_of_constant (seen right.now) → zero (value divisor.now.number) ≡ false → are_exponents (quotient_exponents (seen left) (seen right.now)) ≡ true → is_wide (divided (size (seen left)) (value divisor.now.number)) ≡ false → seen_part t ≡ Some (product_of (seen left) (reciprocal_of (seen right.now)))) }
+    ensures { IfOk result (λ t. value divisor.now.number ≡ value_of_constant (seen right.now) → zero (value divisor.now.number) ≡ false → has_quotient (seen left) (seen right.now) ≡ true → is_wide (divided (size (seen left)) (value divisor.now.number)) ≡ false → seen_part t ≡ Some (product_of (seen left) (reciprocal_of (seen right.now)))) }
 {
     if divisor.number.num == 0 {
         return Ok(None);
     }
-    let held = right.info();
-    let over = reciprocal_at(alloc, held.place, &held.kind, divisor)?;
-    product_pair(alloc, left, over)
+    match reciprocal_at(alloc, right, divisor)? {
+        Some(over) => product_pair(alloc, left, over),
+        None => Ok(None),
+    }
 }
+
 /// The quotient of what is known, if there is one.
 fn quotient_of(
     alloc: Global,

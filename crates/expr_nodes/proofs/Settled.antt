@@ -62,14 +62,15 @@ settled rows made typed is same = by (any_holds rows) refl
     by true e = let h : IsKept (first_fault rows) = loud rows e in absurd (rw (← is) at h)
     by false e = same
 
--- the third of three rows doesn't hold, if there is no fault
-no_holds : (rows : List FaultRow) → None ≡ first_fault rows → any_holds rows ≡ false
+-- no row holds, if there is no fault
+pub no_holds : (rows : List FaultRow) → None ≡ first_fault rows → any_holds rows ≡ false
 no_holds rows is = by (any_holds rows) refl
   where
     by : (b : Bool) → any_holds rows ≡ b → b ≡ false
     by true e = let h : IsKept (first_fault rows) = loud rows e in absurd (rw (← is) at h)
     by false e = refl
 
+-- the third of three rows doesn't hold, if there is no fault
 no_third : (r s t : FaultRow) → None ≡ first_fault (r ∷ s ∷ t ∷ []) → t.holds ≡ false
 no_third r s t is = by r.holds s.holds t.holds (no_holds (r ∷ s ∷ t ∷ []) is)
   where

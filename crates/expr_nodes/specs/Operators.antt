@@ -1,7 +1,7 @@
 -- The faults and the typed form of each operator, given its parts. An operator is at fault if its operands clash, if it asks for a value of
 -- another kind, or if its scale or reach passes the limit. Sums and relations ask for equal exponents too. A divisor is a constant other
 -- than 0, and an index is the number of an element.
-use Rattle.std.specs.Prelude.{ℕ, ℤ, pos, negsuc, neg_ℤ, ◌+ℤ◌, ◌-ℤ◌, ◌&&◌, ◌||◌, Bool, true, false, not, cond, List, [], ◌∷◌, ◌++◌, Option, Some, None, is_none, unsigned_abs, slice_get, bytes_eq, option_map, option_and_then, unwrap_or, nat_eq, length}
+use Rattle.std.specs.Prelude.{ℕ, ℤ, pos, negsuc, neg_ℤ, ◌+ℤ◌, ◌-ℤ◌, ◌&&◌, ◌||◌, Bool, true, false, not, cond, List, [], ◌∷◌, ◌++◌, Option, Some, None, is_none, unsigned_abs, slice_get, bytes_eq, option_map, option_and_then, unwrap_or, nat_eq, nat_lt, length}
 use Rattle.std.specs.Option.{option_map_or}
 use Rattle.std.specs.List.{list_any}
 use Rattle.std.specs.Ordering.{int_eq}
@@ -35,9 +35,17 @@ use Rattle.expr_nodes.specs.Parts.{of_one, of_two, on_one, on_two, unless, is_sc
 abbrev pub constant_at : Place → ValueKind → Number → Typed
 constant_at place kind n = Constant (info_at place kind (constant_size n)) n
 
+-- A number of more than 18 places is refused, as one that no field can hold. No source has such a number, since no token has more than 18 digits.
+abbrev pub is_long : Digits → Bool
+is_long d = nat_lt 18 d.places
+
+-- a number of too many places
+abbrev pub number_rows : Digits → List FaultRow
+number_rows d = row d.place FaultCode.TooLarge (is_long d) ∷ []
+
 -- a number without a unit
 abbrev pub number_typed : Digits → Option Typed
-number_typed d = Some (constant_at d.place plain (digits_number d))
+number_typed d = unless (number_rows d) (Some (constant_at d.place plain (digits_number d)))
 
 -- `true` or `false`
 abbrev pub truth_typed : Place → Bool → Option Typed
@@ -47,9 +55,9 @@ truth_typed place value = Some (Constant (info_at place ValueKind.Truth unit_siz
 abbrev pub text_typed : Table → Place → List ℕ → Option Typed
 text_typed table place text = Some (constant_at place ValueKind.Chars (whole (pos (unwrap_or (first_place (bytes_eq text) 0 table.texts) 0))))
 
--- a number with a unit, in thousandths of the base unit
+-- a number with a unit, in thousandths of the base unit; none if no field can hold it, or if it has too many places
 abbrev pub count_in : Digits → TableUnit → Option ℤ
-count_in d u = literal_count (digits_number d) u.factor u.offset
+count_in d u = cond (is_long d) None (literal_count (digits_number d) u.factor u.offset)
 
 -- a unit that isn't declared, and a number that no field can hold
 abbrev pub physical_rows : Table → Digits → List ℕ → List FaultRow
@@ -186,6 +194,11 @@ reciprocal_of y = constant_at (place_of y) (ValueKind.Number (reciprocal_exponen
 abbrev pub quotient_exponents : Typed → Typed → Exponents
 quotient_exponents x y = each (λ a b. a -ℤ b) (exponents_in (kind x)) (exponents_in (kind y))
 
+-- The exponents of a quotient, and those of one over its divisor, are within their limits. If the first are and the divisor is an expression of
+-- a source, the second are too.
+abbrev pub has_quotient : Typed → Typed → Bool
+has_quotient x y = are_exponents (quotient_exponents x y) && are_exponents (reciprocal_exponents y)
+
 -- a divisor is a constant other than 0
 abbrev pub can_divide : Typed → Bool
 can_divide y = is_constant y && not (is_zero (constant_value y))
@@ -194,7 +207,7 @@ can_divide y = is_constant y && not (is_zero (constant_value y))
 abbrev pub quotient_rows : Place → Option Typed → Option Typed → List FaultRow
 quotient_rows p a b =
     row p FaultCode.Clash (is_whole a || (is_whole b || of_two a b (λ x y. not (both_numbers x y))))
-    ∷ row p FaultCode.UnitClash (of_two a b (λ x y. both_numbers x y && not (are_exponents (quotient_exponents x y))))
+    ∷ row p FaultCode.UnitClash (of_two a b (λ x y. both_numbers x y && not (has_quotient x y)))
     ∷ row p FaultCode.NotConstant (of_one b (λ y. not (is_constant y)))
     ∷ row p FaultCode.ZeroDivisor (of_one b (λ y. is_constant y && is_zero (constant_value y)))
     ∷ row p FaultCode.Wide (of_two a b (λ x y. can_divide y && is_wide (divided (size x) (constant_value y))))

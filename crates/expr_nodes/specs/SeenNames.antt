@@ -1,5 +1,5 @@
 -- What the program's own scopes and meanings stand for in the definitions.
-use Rattle.std.specs.Prelude.{ℕ, ℤ, true, cond, List, Option, option_map, option_and_then, map, find, bytes_eq}
+use Rattle.std.specs.Prelude.{ℕ, ℤ, true, cond, List, Option, None, option_map, option_and_then, map, find, bytes_eq}
 use Rattle.osc_base.specs.declared.fault.Place.{Place}
 use Rattle.osc_base.specs.declared.path.Path.{Path}
 use Rattle.osc_base.specs.LowestTerms.{lowest}
@@ -13,7 +13,7 @@ use Rattle.expr_nodes.specs.declared.scope.It.{It}
 use Rattle.expr_nodes.specs.declared.scope.Label.{Label}
 use Rattle.expr_nodes.specs.declared.scope.Scope.{Scope}
 use Rattle.expr_nodes.specs.Kinds.{ValueKind, kind_of}
-use Rattle.expr_nodes.specs.Operators.{constant_at}
+use Rattle.expr_nodes.specs.Operators.{constant_at, is_long}
 use Rattle.expr_nodes.specs.Typed.{Typed, Whole, Read, Listed}
 use Rattle.expr_nodes.specs.Sizes.{info_at, unit_size, field_size}
 use Rattle.expr_nodes.specs.Scope as Scopes
@@ -55,7 +55,7 @@ list_in place path t f count = option_map (λ k. Listed (info_at place k unit_si
 
 -- a number in a unit, in thousandths of the base unit
 abbrev pub count_of : Digits → UnitParts → Option ℤ
-count_of d u = literal_count (digits_number d) u.factor u.offset
+count_of d u = cond (is_long d) None (literal_count (digits_number d) u.factor u.offset)
 
 -- the typed form of a number in a unit
 abbrev pub physical_of : Digits → UnitParts → Option Typed

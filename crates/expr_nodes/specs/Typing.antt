@@ -8,7 +8,7 @@ use Rattle.expr_nodes.specs.Typed as Types
 use Rattle.expr_nodes.specs.Typed.{Typed, TypedRow}
 use Rattle.expr_nodes.specs.Scope.{Scope}
 use Rattle.expr_nodes.specs.Names.{name_rows, name_typed, it_rows, it_typed, actor_rows, actor_typed, enum_name_rows, enum_name_typed, dot_rows, dot_typed}
-use Rattle.expr_nodes.specs.Operators.{number_typed, truth_typed, text_typed, physical_rows, physical_typed, not_rows, not_typed, logic_rows, and_typed, or_typed, implies_typed, minus_rows, minus_typed, sum_rows, sum_typed, factor_rows, factor_typed, relation_rows, relation_typed, part_rows, span_rows, span_typed, item_typed, list_typed, index_rows, index_typed, group_typed}
+use Rattle.expr_nodes.specs.Operators.{number_rows, number_typed, truth_typed, text_typed, physical_rows, physical_typed, not_rows, not_typed, logic_rows, and_typed, or_typed, implies_typed, minus_rows, minus_typed, sum_rows, sum_typed, factor_rows, factor_typed, relation_rows, relation_typed, part_rows, span_rows, span_typed, item_typed, list_typed, index_rows, index_typed, group_typed}
 
 -- the typed form; none if the expression or a part of it has a fault
 abbrev mutual
@@ -54,7 +54,7 @@ abbrev mutual
   expr_rows table sc (Minus p a) = minus_rows p (typed table sc a) ++ expr_rows table sc a
   expr_rows table sc (Dot head i) = dot_rows table (typed table sc head) i ++ expr_rows table sc head
   expr_rows table sc (Index p head index) = index_rows p (typed table sc head) index ++ expr_rows table sc head ++ expr_rows table sc index
-  expr_rows table sc (Number d) = []
+  expr_rows table sc (Number d) = number_rows d
   expr_rows table sc (Physical d unit) = physical_rows table d unit
   expr_rows table sc (Chars p text) = []
   expr_rows table sc (Truth p value) = []

@@ -1,19 +1,25 @@
 //! The typed form of literals.
 
-ghost use Rattle.std.specs.Prelude.{◌≡◌, ◌≤◌, ◌^◌, Some, bytes_eq, unsigned_abs, unwrap_or};
+ghost use Rattle.std.specs.Prelude.{◌≡◌, ◌≤◌, ◌^◌, Some, IfOk, bytes_eq, option_map, unsigned_abs, unwrap_or};
 ghost use Rattle.name_scope.specs.Declaring.{first_place};
 ghost use Rattle.osc_base.specs.LowestTerms.{decimal_number};
 ghost use Rattle.osc_base.specs.Fraction.{value};
-ghost use Rattle.expr_nodes.specs.Operators.{constant_at as constant_node, number_typed, text_typed, truth_typed};
-ghost use Rattle.expr_nodes.specs.Seen.{seen, seen_kind};
+ghost use Rattle.osc_base.specs.FaultRows.{first_fault};
+ghost use Rattle.expr_nodes.specs.Operators.{constant_at as constant_node, is_long as long_number, number_rows, number_typed, text_typed, truth_typed};
+ghost use Rattle.expr_nodes.specs.Seen.{seen, seen_kind, seen_part};
 
 use crate::fields::NO_EXPONENTS;
+use crate::parts::{Checked, fault_if};
 use crate::size::gcd;
 use crate::truths::truth_at;
 use crate::{Info, Size, Typed, ValueKind};
 use dsl_tree::Digits;
-use osc_base::{Fraction, Place, Text};
+use osc_base::{Boxed, FaultCode, Fraction, Place, Text};
+use std::alloc::{AllocError, Global};
 use type_model::Types;
+
+/// The most places that a number may have. A token of a source has at most 18 digits.
+const MOST_PLACES: u8 = 18;
 
 /// A constant.
 pub fn constant_at(place: Place, kind: ValueKind, number: Fraction) -> Typed
@@ -27,6 +33,13 @@ pub fn constant_at(place: Place, kind: ValueKind, number: Fraction) -> Typed
         size: Size::constant(&number),
     };
     Typed::Constant { info, number }
+}
+
+/// A number has too many places.
+pub(crate) fn is_long(digits: &Digits) -> bool
+    ensures { result ≡ long_number digits.now }
+{
+    digits.places > MOST_PLACES
 }
 
 /// A decimal in lowest terms.
@@ -45,13 +58,35 @@ pub(crate) fn decimal(digits: u64, places: u8) -> Fraction
     }
 }
 
-/// A number without a unit.
-pub fn number(digits: &Digits) -> Typed
-    requires { digits.now.places ≤ 18 }
-    ensures { Some (seen result) ≡ number_typed digits.now }
+/// The constant that a number without a unit is, unless it has too many places.
+fn number_node(digits: &Digits) -> Option<Typed>
+    ensures { option_map seen result ≡ number_typed digits.now }
 {
+    if is_long(digits) {
+        return None;
+    }
     let number = decimal(digits.digits, digits.places);
-    constant_at(digits.place, ValueKind::Number(NO_EXPONENTS), number)
+    let kind = ValueKind::Number(NO_EXPONENTS);
+    Some(constant_at(digits.place, kind, number))
+}
+
+fn number_part(alloc: Global, digits: &Digits) -> Result<Option<Boxed<Typed>>, AllocError>
+    ensures { IfOk result (λ t. seen_part t ≡ number_typed digits.now) }
+{
+    match number_node(digits) {
+        Some(typed) => Ok(Some(Boxed::new(alloc, typed)?)),
+        None => Ok(None),
+    }
+}
+
+/// A number without a unit. One of more than 18 places is refused with the code of numbers that no field can hold.
+pub fn number(alloc: Global, digits: &Digits) -> Result<Checked, AllocError>
+    ensures fault { IfOk result (λ c. c.fault ≡ first_fault (number_rows digits.now)) }
+    ensures typed { IfOk result (λ c. seen_part c.typed ≡ number_typed digits.now) }
+{
+    let fault = fault_if(digits.place, FaultCode::TooLarge, is_long(digits));
+    let typed = number_part(alloc, digits)?;
+    Ok(Checked { fault, typed })
 }
 
 /// `true` or `false`.

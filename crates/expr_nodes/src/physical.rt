@@ -10,7 +10,7 @@ ghost use Rattle.expr_nodes.specs.Operators.{physical_rows, physical_typed};
 ghost use Rattle.expr_nodes.specs.Seen.{seen, seen_part};
 ghost use Rattle.expr_nodes.specs.SeenNames.{count_of, physical_of};
 
-use crate::literals::{constant_at, decimal};
+use crate::literals::{constant_at, decimal, is_long};
 use crate::parts::{Checked, fault_if};
 use crate::size::gcd;
 use crate::{Typed, ValueKind};
@@ -27,11 +27,14 @@ fn slot_value(number: &Fraction, unit: &Unit) -> Option<i64>
     literal(number, unit)
 }
 
-/// A number with a unit, in thousandths of the base unit.
+/// A number with a unit, in thousandths of the base unit. `None` when no field can hold it, or when it has too many
+/// places.
 fn count_in(digits: &Digits, unit: &Unit) -> Option<i64>
-    requires { digits.now.places ≤ 18 }
     ensures { result ≡ count_of digits.now (shown_unit unit.now) }
 {
+    if is_long(digits) {
+        return None;
+    }
     slot_value(&decimal(digits.digits, digits.places), unit)
 }
 
@@ -51,7 +54,6 @@ fn thousandths(count: i64) -> Fraction
 }
 
 fn physical_node(digits: &Digits, unit: &Unit) -> Option<Typed>
-    requires { digits.now.places ≤ 18 }
     ensures { option_map seen result ≡ physical_of digits.now (shown_unit unit.now) }
 {
     match count_in(digits, unit) {
@@ -68,7 +70,6 @@ fn physical_part(
     digits: &Digits,
     unit: &Unit,
 ) -> Result<Option<Boxed<Typed>>, AllocError>
-    requires { digits.now.places ≤ 18 }
     ensures { IfOk result (λ t. seen_part t ≡ physical_of digits.now (shown_unit unit.now)) }
 {
     match physical_node(digits, unit) {
@@ -77,14 +78,14 @@ fn physical_part(
     }
 }
 
-/// A number with a unit.
+/// A number with a unit. A unit that isn't declared is refused, and so is a number that no field can hold, or that has
+/// more than 18 places.
 pub fn physical(
     alloc: Global,
     types: &Types,
     digits: &Digits,
     name: &str,
 ) -> Result<Checked, AllocError>
-    requires { digits.now.places ≤ 18 }
     ensures fault { IfOk result (λ c. c.fault ≡ first_fault (physical_rows types.now.table digits.now name.now)) }
     ensures typed { IfOk result (λ c. seen_part c.typed ≡ physical_typed types.now.table digits.now name.now) }
 {

@@ -3,11 +3,12 @@
 ghost use Rattle.std.specs.Prelude.{◌≡◌, ◌&&◌, not, cond, Some, None};
 ghost use Rattle.units_si.specs.ExponentTests.{are_exponents};
 ghost use Rattle.expr_nodes.specs.Parts.{of_one, of_two, both_numbers};
-ghost use Rattle.expr_nodes.specs.Operators.{is_constant as constant, quotient_exponents as exponents_of_quotient};
+ghost use Rattle.expr_nodes.specs.Operators.{has_quotient, is_constant as constant, quotient_exponents as exponents_of_quotient, reciprocal_exponents as exponents_over};
 ghost use Rattle.expr_nodes.specs.Seen.{seen, seen_part};
 
 use crate::Typed;
 use crate::constants::is_constant;
+use crate::fields::NO_EXPONENTS;
 use crate::parts::are_numbers;
 use crate::products::exponents_of;
 use osc_base::Boxed;
@@ -22,15 +23,43 @@ pub fn quotient_exponents(left: &Typed, right: &Typed) -> Option<Exponents>
     left.minus(&right)
 }
 
-fn is_past_limits(left: &Typed, right: &Typed) -> bool
-    ensures { result ≡ (both_numbers (seen left.now) (seen right.now) && not (are_exponents (exponents_of_quotient (seen left.now) (seen right.now)))) }
+/// The exponents of one over a number. `None` when one leaves its limits.
+pub fn reciprocal_exponents(number: &Typed) -> Option<Exponents>
+    ensures { result ≡ cond (are_exponents (exponents_over (seen number.now))) (Some (exponents_over (seen number.now))) None }
 {
-    are_numbers(left, right) && quotient_exponents(left, right).is_none()
+    NO_EXPONENTS.minus(&exponents_of(&number.info().kind))
 }
 
-/// The parts are numbers, and an exponent of their quotient leaves its limits.
+/// The exponents of a quotient are within their limits.
+fn is_quotient_within(left: &Typed, right: &Typed) -> bool
+    ensures { result ≡ are_exponents (exponents_of_quotient (seen left.now) (seen right.now)) }
+{
+    quotient_exponents(left, right).is_some()
+}
+
+/// The exponents of one over a number are within their limits.
+fn is_reciprocal_within(number: &Typed) -> bool
+    ensures { result ≡ are_exponents (exponents_over (seen number.now)) }
+{
+    reciprocal_exponents(number).is_some()
+}
+
+/// The exponents of a quotient, and those of one over its divisor, are within their limits.
+fn is_within_limits(left: &Typed, right: &Typed) -> bool
+    ensures { result ≡ has_quotient (seen left.now) (seen right.now) }
+{
+    is_quotient_within(left, right) && is_reciprocal_within(right)
+}
+
+fn is_past_limits(left: &Typed, right: &Typed) -> bool
+    ensures { result ≡ (both_numbers (seen left.now) (seen right.now) && not (has_quotient (seen left.now) (seen right.now))) }
+{
+    are_numbers(left, right) && !is_within_limits(left, right)
+}
+
+/// The parts are numbers, and an exponent of their quotient, or of one over the divisor, leaves its limits.
 pub fn are_past_limits(left: &Option<Boxed<Typed>>, right: &Option<Boxed<Typed>>) -> bool
-    ensures { result ≡ of_two (seen_part left.now) (seen_part right.now) (λ x y. both_numbers x y && not (are_exponents (exponents_of_quotient x y))) }
+    ensures { result ≡ of_two (seen_part left.now) (seen_part right.now) (λ x y. both_numbers x y && not (has_quotient x y)) }
 {
     match (left, right) {
         (Some(x), Some(y)) => is_past_limits(x.get(), y.get()),

@@ -1,15 +1,13 @@
 -- Counts: products, sums and comparisons within their reach.
-use Rattle.std.proofs.Common.{◌≡◌, ◌∙◌, refl, sym, ap, subst, ℕ, ◌*◌, ◌+◌, ◌/◌, ◌^◌, ◌<◌, ◌≤◌, Bool, true, false, nat_lt, arith, to_z, of_z, FitsSigned}
+use Rattle.std.proofs.Common.{◌≡◌, refl, ℕ, ◌*◌, ◌+◌, ◌/◌, ◌^◌, ◌≤◌, false, nat_lt, arith, to_z, FitsSigned}
 use Rattle.std.specs.Int.{w128}
-use Rattle.std.specs.Prelude.{ℤ, pos, ◌+ℤ◌, ◌*ℤ◌, ◌≤ℤ◌, ◌||◌, unsigned_abs}
+use Rattle.std.specs.Prelude.{ℤ, pos, ◌*ℤ◌, ◌||◌, unsigned_abs}
 use Rattle.std.proofs.Math.Nat.{div-le_self}
 use Rattle.std.proofs.lemmas.Nat.{mul-le}
 use Rattle.std.proofs.lemmas.Bool.Decides.{nat_tests}
-use Rattle.std.proofs.lemmas.Int.{ints, unsigned_abs-mul, fits_signed_mul, to_z_pos}
-use Rattle.osc_base.specs.LowestTerms.{gcd, lcm}
-use Rattle.osc_base.proofs.Fractions.{read_back}
+use Rattle.std.proofs.lemmas.Int.{unsigned_abs-mul, fits_signed_mul, to_z_pos}
+use Rattle.osc_base.specs.LowestTerms.{lcm}
 use Rattle.expr_nodes.specs.Sizes.{Size, is_wide, joined}
-use Rattle.expr_nodes.proofs.Divisors.{gcd_above, lcm_is}
 
 -- a product is at most the product of what its factors are at most
 pub product_within : (a b : ℤ) (m n : ℕ) → unsigned_abs a ≤ m → unsigned_abs b ≤ n → unsigned_abs (a *ℤ b) ≤ m * n

@@ -1,5 +1,5 @@
 -- Parts of a node are less deep than the node.
-use Rattle.std.proofs.Common.{◌≡◌, ◌∙◌, refl, sym, ap, ℕ, zero, suc, ◌+◌, ◌*◌, ◌<◌, ◌≤◌, List, [], ◌∷◌, arith, length, get_or}
+use Rattle.std.proofs.Common.{◌≡◌, refl, ap, ℕ, zero, suc, ◌+◌, ◌<◌, ◌≤◌, List, [], ◌∷◌, arith, length, get_or}
 use Rattle.std.specs.Prelude.{max, Bool}
 use denote.Param.Weighed.{most}
 use Rattle.expr_nodes.specs.declared.compare.Compare.{Compare}

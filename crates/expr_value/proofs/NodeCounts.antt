@@ -1,12 +1,11 @@
 -- The counts of nodes, of the counts of their parts.
 use Rattle.std.proofs.Common.{◌≡◌, ◌∙◌, refl, sym, ap, ap₂, subst, ℕ, ◌+◌, ◌<◌, List, [], ◌∷◌, Bool, true, false, ◌&&◌, not, map, drop, length, get_or, ◌⊎◌, inl, inr}
-use Rattle.std.specs.Prelude.{◌||◌, ◌≤◌, ℤ, pos, neg_ℤ, Option, unsigned_abs, unwrap_or}
+use Rattle.std.specs.Prelude.{◌||◌, ◌≤◌, ℤ, pos, neg_ℤ, Option, unsigned_abs}
 use Rattle.std.proofs.lemmas.List.{drop_more, drop_all}
 use Rattle.osc_base.specs.declared.path.Path.{Path}
 use Rattle.osc_base.specs.declared.fraction.Fraction.{Fraction}
 use Rattle.osc_base.specs.Fraction.{value}
 use Rattle.expr_nodes.specs.declared.compare.Compare.{Compare}
-use Rattle.expr_nodes.specs.declared.size.Size.{Size as Held}
 use Rattle.expr_nodes.specs.declared.node.Join.{Join}
 use Rattle.expr_nodes.specs.declared.node.Info.{Info}
 use Rattle.expr_nodes.specs.declared.node.Earlier.{Earlier}
@@ -19,7 +18,7 @@ use Rattle.expr_nodes.specs.Parts.{parts_of}
 use Rattle.expr_nodes.specs.Seen.{Reached, seen, seen_info, seen_size, reached, joined, grouped}
 use Rattle.expr_nodes.proofs.SeenNodes.{seen_joined, seen_listed, reached_is}
 use Rattle.expr_value.specs.declared.count.Count.{Count}
-use Rattle.expr_value.specs.Held.{in_reach, known}
+use Rattle.expr_value.specs.Held.{known}
 use Rattle.expr_value.specs.Counted.{counted, truth_count, is_full, compares_counts, counts_in, counts_item}
 use Rattle.expr_value.specs.Rows.{IsCount, join_size, join_count}
 use Rattle.expr_value.specs.Words.{Ready, ReadyItems, can_join_all, IsReady, IsCounted, IsReadyRow, IsCountedRow, CanJoinParts, IsFound, AreReady, IsFoundAmong}

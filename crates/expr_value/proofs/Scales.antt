@@ -1,13 +1,13 @@
 -- Numbers over a scale: how they are added, multiplied and compared.
-use Rattle.std.proofs.Common.{◌≡◌, ◌∙◌, refl, sym, ap, ap₂, subst, ℕ, zero, suc, ◌*◌, ◌/◌, ◌%◌, ◌<◌, ◌≤◌, Bool, true, false, ◌&&◌, not, cond, arith}
-use Rattle.std.specs.Prelude.{ℤ, pos, neg_ℤ, ◌+ℤ◌, ◌*ℤ◌, ◌≤ℤ◌, ◌<ℤ◌, ◌||◌, int_le, int_lt}
+use Rattle.std.proofs.Common.{◌≡◌, ◌∙◌, refl, sym, ap, ap₂, subst, ℕ, zero, suc, ◌*◌, ◌/◌, ◌%◌, ◌<◌, ◌≤◌, Bool, true, false, ◌&&◌, not, arith}
+use Rattle.std.specs.Prelude.{ℤ, pos, neg_ℤ, ◌+ℤ◌, ◌*ℤ◌, ◌≤ℤ◌, ◌<ℤ◌, int_le, int_lt}
 use Rattle.std.specs.Int.{◌∣◌, IsGcd}
 use Rattle.std.proofs.Math.IntN.{pos-*ℤ-pos, zero-*ℤ, *ℤ_comm}
 use Rattle.std.proofs.Math.Nat.{mul-div_cancel'}
 use Rattle.std.proofs.lemmas.Int.{ints, by_lt_z}
 use Rattle.std.proofs.lemmas.Nat.Gcd.{IsGcd-from_zero, IsGcd-from_mod}
-use Rattle.osc_base.specs.Number.{Number, plus, product, whole, IsLeastCommonMultiple}
-use Rattle.osc_base.specs.Comparisons.{same_number, is_same, is_less, is_at_most, is_between}
+use Rattle.osc_base.specs.Number.{Number, plus, product, IsLeastCommonMultiple}
+use Rattle.osc_base.specs.Comparisons.{is_at_most}
 use Rattle.osc_base.specs.LowestTerms.{gcd, lcm}
 use Rattle.osc_base.proofs.Integers.{assoc, spread, swap_last, le_times, lt_times, le_cancel, lt_cancel, product_above}
 use Rattle.osc_base.proofs.Multiples.{is_least_common_multiple, lowest_same}
@@ -15,7 +15,7 @@ use Rattle.osc_base.proofs.Numbers.{over_more, sum_same}
 use Rattle.expr_nodes.specs.declared.compare.Compare.{Compare}
 use Rattle.expr_nodes.specs.Value.{opposite, of_truth, is_one, compares}
 use Rattle.expr_nodes.proofs.Divisors.{gcd_step, gcd_end, lcm_is, lcm_above}
-use Rattle.expr_value.specs.Counted.{at_scale, truth_count, is_full, sum_count, orders, compares_counts}
+use Rattle.expr_value.specs.Counted.{at_scale, truth_count, is_full, sum_count, compares_counts}
 
 -- a count at a scale stands for a number
 pub record IsWorth (n : ℤ) (s : ℕ) (w : Number) : Type 0 where

@@ -1,5 +1,5 @@
 -- What the nodes of typed expressions are seen as.
-use Rattle.std.proofs.Common.{◌≡◌, ℕ, List, map, Bool}
+use Rattle.std.proofs.Common.{◌≡◌, ℕ}
 use Rattle.osc_base.specs.declared.path.Path.{Path}
 use Rattle.osc_base.specs.declared.fraction.Fraction.{Fraction}
 use Rattle.osc_base.specs.Fraction.{value}

@@ -1,6 +1,6 @@
 -- What a sound node says of its parts.
-use Rattle.std.proofs.Common.{◌≡◌, ◌∙◌, refl, sym, ap, ap₂, ℕ, List, [], ◌∷◌, Bool, true, false, ◌&&◌, not, nat_eq, true≢false, arith}
-use Rattle.std.specs.Prelude.{◌||◌, ◌≤◌, ℤ, pos, max, Option, Some, None, unsigned_abs, nat_lt, unwrap_or}
+use Rattle.std.proofs.Common.{◌≡◌, refl, sym, ap, ap₂, ℕ, List, [], ◌∷◌, Bool, true, false, ◌&&◌, not, nat_eq, true≢false, arith}
+use Rattle.std.specs.Prelude.{◌≤◌, ℤ, pos, max, Option, Some, None, unsigned_abs, nat_lt, unwrap_or}
 use Rattle.std.specs.Option.{option_map_or}
 use Rattle.std.specs.List.{list_all}
 use Rattle.std.proofs.lemmas.Bool.Decides.{nat_tests}
@@ -8,7 +8,7 @@ use Rattle.osc_base.specs.declared.path.Path.{Path}
 use Rattle.osc_base.specs.Number.{Number}
 use Rattle.expr_nodes.specs.declared.compare.Compare.{Compare}
 use Rattle.expr_nodes.specs.declared.node.Join.{Join}
-use Rattle.expr_nodes.specs.Typed.{Typed, Info, Constant, Read, Whole, Listed, Span, Minus, Not, Sum, Times, And, Or, Implies, Relation, Within, TypedRow, End, Item, row_of, items_of, kind, scale}
+use Rattle.expr_nodes.specs.Typed.{Typed, Info, Constant, Read, Span, Minus, Not, Implies, Relation, Within, row_of, items_of, kind, scale}
 use Rattle.expr_nodes.specs.Sizes.{Size, size, is_wide, unit_size, constant_size, joined as joined_size, multiplied}
 use Rattle.expr_nodes.specs.Parts.{parts_of, is_scalar}
 use Rattle.expr_nodes.specs.Kinds.{is_number, is_truth, same_units}

@@ -1,6 +1,6 @@
 -- The value of an expression, of its count.
 use Rattle.std.proofs.Common.{◌≡◌, ◌∙◌, refl, sym, ap, subst, ℕ, ◌≤◌, Bool, true, false, ◌&&◌}
-use Rattle.std.specs.Prelude.{ℤ, pos, ◌*ℤ◌, Option, Some, None, unwrap_or, unsigned_abs}
+use Rattle.std.specs.Prelude.{ℤ, pos, ◌*ℤ◌, Option, unsigned_abs}
 use Rattle.osc_base.specs.declared.path.Path.{Path}
 use Rattle.osc_base.specs.declared.fraction.Fraction.{Fraction}
 use Rattle.osc_base.specs.Number.{IsSame}

@@ -1,23 +1,22 @@
 -- The count of a sound expression, over its scale, is its value.
 use Rattle.std.proofs.Common.{◌≡◌, ◌∙◌, refl, sym, ap, ap₂, subst, ℕ, ◌<◌, Bool, true, false, ◌&&◌, not, nat_eq, arith}
-use Rattle.std.specs.Prelude.{ℤ, pos, ◌≤ℤ◌, ◌*ℤ◌, ◌||◌, int_le, unsigned_abs, Option, Some, None}
+use Rattle.std.specs.Prelude.{ℤ, pos, ◌≤ℤ◌, ◌*ℤ◌, ◌||◌, int_le, unsigned_abs}
 use Rattle.std.specs.List.{list_all}
 use Rattle.std.proofs.lemmas.Bool.Decides.{nat_tests}
 use Rattle.std.proofs.lemmas.Int.{ints}
 use Rattle.osc_base.specs.declared.path.Path.{Path}
 use Rattle.osc_base.specs.Number.{Number}
-use Rattle.osc_base.specs.Comparisons.{is_same, is_between}
 use Rattle.osc_base.specs.LowestTerms.{gcd, lcm}
 use Rattle.osc_base.proofs.Integers.{abs_above}
 use Rattle.expr_nodes.specs.declared.compare.Compare.{Compare}
-use Rattle.expr_nodes.specs.Kinds.{ValueKind, is_number, is_truth, same_units}
+use Rattle.expr_nodes.specs.Kinds.{is_number, is_truth, same_units}
 use Rattle.expr_nodes.specs.Typed.{Typed, Info, Constant, Read, Whole, Listed, Span, Minus, Not, Sum, Times, And, Or, Implies, Relation, Within, TypedRow, End, Item, kind, scale}
 use Rattle.expr_nodes.specs.Value.{worth, is_in, is_item, of_truth}
 use Rattle.expr_nodes.specs.Sizes.{Size, size, constant_size, field_size, duration_size, unit_size, joined, multiplied}
 use Rattle.expr_nodes.specs.Parts.{is_scalar, parts_of}
 use Rattle.expr_nodes.specs.Operators.{fit_for, fits_in, is_range_or_list}
 use Rattle.expr_nodes.specs.Sound.{is_sound, are_sound, has_size, is_lowest, is_constant_of, is_per, is_truth_info, are_truths, can_join}
-use Rattle.expr_value.specs.Counted.{counted, counts_in, counts_item, is_full, truth_count, compares_counts}
+use Rattle.expr_value.specs.Counted.{counted, counts_in, counts_item, truth_count}
 use Rattle.expr_value.proofs.SoundParts.{left_of, right_of, third_of, fourth_of, size_is, same_nat, truth_sized}
 use Rattle.expr_value.proofs.Scales.{IsWorth, truth_worth, full_one, sum_worth, compares_same, product_worth, opposite_worth}
 
@@ -139,3 +138,7 @@ module _ (held : Path → ℤ) where
         ap₂ (λ x y. x || y)
         (compares_same n s w (counted held item) (scale item) (worth held item) is (counted_worth item (left_of (is_sound item) (are_sound others) k)) Compare.Equal)
         (counted_item n s w others is (right_of (is_sound item) (are_sound others) k))
+
+-- the value of a sound expression has a denominator above 0, whatever its paths hold
+pub worth_above : (held : Path → ℤ) (t : Typed) → is_sound t ≡ true → pos 1 ≤ℤ (worth held t).denominator
+worth_above held t sound = (counted_worth held t sound).above

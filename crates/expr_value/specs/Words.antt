@@ -1,5 +1,5 @@
 -- What the walks ask and promise, as one word each. They are opaque, so that no search opens the tree of an expression.
-use Rattle.std.specs.Prelude.{◌≡◌, ℤ, ◌&&◌, Bool, true, false, not, List, map, Option}
+use Rattle.std.specs.Prelude.{◌≡◌, ℤ, Bool, true, not, List, map, Option}
 use Rattle.std.specs.List.{list_all}
 use Rattle.osc_base.specs.declared.path.Path.{Path}
 use Rattle.expr_nodes.specs.declared.node.Join.{Join}

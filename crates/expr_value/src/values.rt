@@ -16,10 +16,10 @@ use crate::reading::{Reading, Zeros};
 use expr_nodes::{Earlier, Typed};
 use osc_base::Fraction;
 
-/// Each path that the expression reads holds a number.
+/// Each path that the expression reads holds a number. Exactly then `value` gives a value.
 #[cycle(reads)]
 #[tactic(auto, using(crate::proofs::HeldParts::held_both))]
-fn is_held<R: Reading>(typed: &Typed, reading: &R) -> bool
+pub fn is_held<R: Reading>(typed: &Typed, reading: &R) -> bool
     ensures { result ≡ are_held (R.told reading.now) (seen typed.now) }
 {
     match typed {

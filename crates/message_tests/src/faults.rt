@@ -93,6 +93,19 @@ fn places_in_messages(rt: HostRuntime) -> Result<(), Fail> {
                 "    |          ^^^^^^^ the earlier declaration\n",
             ),
         ),
+    ];
+    for (source, want) in rows {
+        let called = call(rt.alloc(), &GENERATE, &[("main.osc", source.as_bytes())])?;
+        let got = called.message.as_str();
+        assert_eq!(rt; got.get(..want.len()).unwrap_or(got), want);
+    }
+    Ok(())
+}
+
+/// Messages of faults without an earlier or a later place, whose beginning is compared.
+#[test]
+fn single_places_in_messages(rt: HostRuntime) -> Result<(), Fail> {
+    let rows = [
         // no declaration is earlier than this one
         (
             "scenario int\n",
@@ -128,7 +141,7 @@ fn places_in_messages(rt: HostRuntime) -> Result<(), Fail> {
     Ok(())
 }
 
-/// Messages for faults that aren't told today.
+/// Messages that tell which declared name is near.
 #[test]
 fn names_that_are_near(rt: HostRuntime) -> Result<(), Fail> {
     let source =

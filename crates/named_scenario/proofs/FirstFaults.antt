@@ -84,3 +84,9 @@ unbuilt files (Err x) e at same = λ f is. built_fault files f (at f (sym same �
 -- a fault that is told is the one that is meant
 pub told_fault : (files : List AddedFile) (first : Fault) → fault_in files ≡ Some first → (f : Fault) → Stop.At first ≡ Stop.At f → fault_in files ≡ Some f
 told_fault files first is f same = let equal : first ≡ f = cc in is ∙ ap Some equal
+
+-- out of memory is no fault
+pub no_fault : {T : Type 0} (files : List AddedFile) (r : Result T (Stop Fault)) → IsErrAnd r (λ x. x ≡ Stop.Memory) →
+    IfErr r (λ stop. (f : Fault) → stop ≡ Stop.At f → fault_in files ≡ Some f)
+no_fault files (Ok x) same = tt
+no_fault files (Err x) same = λ f is. let never : Stop.Memory ≡ Stop.At f = sym same ∙ is in absurd cc

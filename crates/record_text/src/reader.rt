@@ -75,6 +75,7 @@ impl Reader {
 
     /// Sees that the text ends here; else it is read to its end.
     pub fn expect_end<H: Shelf>(&mut self, shelf: &mut H) -> Result<(), VerifyStop>
+        ensures lines { self.new.lines ≡ self.old.lines }
         ensures end { OnOk result ((rest : List ℕ) → rest_of self.old.unread (H.left shelf.old) ≡ Some rest → rest ≡ []) }
         ensures ended { OnOk result (NothingLeft (H.left shelf.new)) }
         ensures stop { IfErr result (λ stop. Stops stop (λ rest. rest ≢ []) self.old (H.left shelf.old) (H.left shelf.new)) }

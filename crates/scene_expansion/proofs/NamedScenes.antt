@@ -18,6 +18,9 @@ module _ (ts : Types) (t : ℕ) (setting : Setting) (before : List Node) (is_bef
   pub judged : (past answer : Bool) → past ≡ pass_limits setting.ticks before → past ≡ answer → is_too_large ts t setting ≡ answer
   judged past answer counted is = too_large_is ts t setting ∙ ap (pass_limits setting.ticks) (sym is_before) ∙ sym counted ∙ is
 
+  pub limits_are : (past : Bool) → past ≡ pass_limits setting.ticks before → past ≡ is_too_large ts t setting
+  limits_are past counted = counted ∙ ap (pass_limits setting.ticks) is_before ∙ sym (too_large_is ts t setting)
+
   -- the scene of the parts is the scenario's
   pub scene_is : (after : List Node) (s : Scene) → after ≡ closed_of ts (expansion ts t) → s ≡ with_readable (scene_laid setting ts.table.texts before after) → s ≡ scene ts t setting
   scene_is after s is_after is = is ∙ sym (laid_scene ts t setting before after is_before is_after)

@@ -19,8 +19,8 @@ use osc_base::{Place, Row, Text};
 use std::alloc::{AllocError, Global};
 use type_model::TypeId;
 
-/// What the works of a program hold, and what they come to.
-pub trait Layout<'p> {
+/// The works of a program, and how much each comes to.
+pub trait WorkLayout<'p> {
     ghost use Rattle.type_heads.specs.Types.{Types};
 
     ghost types: { Self → Types };
@@ -46,12 +46,15 @@ pub trait Layout<'p> {
         ensures { IfOk result (λ ws. map seen_work ws.items ≡ parts_of (types self.now) (seen_work work.now)) };
 
     /// How many objects, slots, rules and tokens a work has by itself, given the last tick.
-    fn counts(&self, work: &Work<'p>, last: u32) -> Counts
-        ensures { result ≡ counts_of last (node_of (types self.now) (seen_work work.now)) };
+    fn counts(&self, alloc: Global, work: &Work<'p>, last: u32) -> Result<Counts, AllocError>
+        ensures { IfOk result (λ c. c ≡ counts_of last (node_of (types self.now) (seen_work work.now))) };
+}
 
+/// What the works of a program hold.
+pub trait Layout<'p>: WorkLayout<'p> {
     /// The spot of a work.
     fn spot(&self, alloc: Global, work: &Work<'p>) -> Result<Spot, AllocError>
-        ensures { IfOk result (λ s. seen_spot s ≡ (node_of (types self.now) (seen_work work.now)).spot) };
+        ensures { IfOk result (λ s. seen_spot s ≡ (node_of (Self.types self.now) (seen_work work.now)).spot) };
 
     /// Puts the bindings that a work makes at the end.
     fn push_bindings(
@@ -60,7 +63,7 @@ pub trait Layout<'p> {
         bindings: &mut Row<Binding>,
         work: &Work<'p>,
     ) -> Result<(), AllocError>
-        ensures { OnOk result (map seen_binding bindings.new ≡ map seen_binding bindings.old ++ (node_of (types self.now) (seen_work work.now)).bindings) };
+        ensures { OnOk result (map seen_binding bindings.new ≡ map seen_binding bindings.old ++ (node_of (Self.types self.now) (seen_work work.now)).bindings) };
 
     /// Puts the constraints of a work at the end, with their paths at their homes in the scene.
     fn push_occurrences(
@@ -70,7 +73,7 @@ pub trait Layout<'p> {
         occurrences: &mut Vec<Occurrence>,
         work: &Work<'p>,
     ) -> Result<(), AllocError>
-        ensures { OnOk result (map seen_occurrence occurrences.new.items ≡ map seen_occurrence occurrences.old.items ++ map (occurrence_of (seen_scene scene.now).bindings) (node_of (types self.now) (seen_work work.now)).given) };
+        ensures { OnOk result (map seen_occurrence occurrences.new.items ≡ map seen_occurrence occurrences.old.items ++ map (occurrence_of (seen_scene scene.now).bindings) (node_of (Self.types self.now) (seen_work work.now)).given) };
 
     /// Puts the modifiers of a work at the end, with their paths at their homes in the scene.
     fn push_modifiers(
@@ -80,9 +83,9 @@ pub trait Layout<'p> {
         modifiers: &mut Vec<ModifierSpot>,
         work: &Work<'p>,
     ) -> Result<(), AllocError>
-        ensures { OnOk result (map seen_modifier modifiers.new.items ≡ map seen_modifier modifiers.old.items ++ map (modifier_at (seen_scene scene.now).bindings) (node_of (types self.now) (seen_work work.now)).modifiers) };
+        ensures { OnOk result (map seen_modifier modifiers.new.items ≡ map seen_modifier modifiers.old.items ++ map (modifier_at (seen_scene scene.now).bindings) (node_of (Self.types self.now) (seen_work work.now)).modifiers) };
 
     /// The texts that a field of type `string` may hold.
     fn texts(&self, alloc: Global) -> Result<Row<Text>, AllocError>
-        ensures { IfOk result (λ ts. ts ≡ (types self.now).table.texts) };
+        ensures { IfOk result (λ ts. ts ≡ (Self.types self.now).table.texts) };
 }

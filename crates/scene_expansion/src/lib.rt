@@ -3,6 +3,7 @@
 
 mod counts;
 mod laid;
+mod large;
 mod layout;
 mod limits;
 mod named;
@@ -13,7 +14,8 @@ mod whole;
 mod work;
 
 pub use counts::Counts;
-pub use layout::Layout;
+pub use large::is_too_large;
+pub use layout::{Layout, WorkLayout};
 pub use named::{ExpandStop, expand};
 pub use walk::MOST_WORKS;
 pub use work::{Call, Work};

@@ -30,7 +30,8 @@ fn scene_of<'p, L: Layout<'p>>(
     let Some(before) = all_before(alloc, layout, of)? else {
         return Ok(None);
     };
-    if pass_limits(layout, before.as_slice(), setting.ticks) {
+    let past = pass_limits(alloc, layout, before.as_slice(), setting.ticks)?;
+    if past {
         return Ok(None);
     }
     let Some(after) = all_after(alloc, layout, of)? else {

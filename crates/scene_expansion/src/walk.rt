@@ -5,7 +5,7 @@ ghost use Rattle.scene_expansion.specs.SeenWorks.{seen_work};
 ghost use Rattle.scene_expansion.specs.Walks.{nodes_after, nodes_before, nodes_done, whole_after, whole_before};
 ghost use Rattle.expansion_laws.specs.WorkNodes.{closed_for, node_of, nodes_for};
 
-use crate::layout::Layout;
+use crate::layout::WorkLayout;
 use crate::work::Work;
 use std::alloc::{AllocError, Global};
 
@@ -47,7 +47,7 @@ fn turned<'p>(alloc: Global, works: Vec<Work<'p>>) -> Result<Vec<Work<'p>>, Allo
 }
 
 /// Lays out a work: moves it to `done`, and puts the works in it on top of the others, the first one on top.
-fn lay_before<'p, L: Layout<'p>>(
+fn lay_before<'p, L: WorkLayout<'p>>(
     alloc: Global,
     layout: &L,
     work: Work<'p>,
@@ -63,7 +63,7 @@ fn lay_before<'p, L: Layout<'p>>(
 }
 
 /// Lays out a work: moves it to `done`, and puts the works in it on top of the others, the last one on top.
-fn lay_after<'p, L: Layout<'p>>(
+fn lay_after<'p, L: WorkLayout<'p>>(
     alloc: Global,
     layout: &L,
     work: Work<'p>,
@@ -79,7 +79,7 @@ fn lay_after<'p, L: Layout<'p>>(
 }
 
 /// A work and all works in it, each before the works in it. `None` if there are more than `MOST_WORKS`.
-pub(crate) fn laid_before<'p, L: Layout<'p>>(
+pub(crate) fn laid_before<'p, L: WorkLayout<'p>>(
     alloc: Global,
     layout: &L,
     root: Work<'p>,
@@ -102,7 +102,7 @@ pub(crate) fn laid_before<'p, L: Layout<'p>>(
 }
 
 /// A work and all works in it, each after the works in it. `None` if there are more than `MOST_WORKS`.
-pub(crate) fn laid_after<'p, L: Layout<'p>>(
+pub(crate) fn laid_after<'p, L: WorkLayout<'p>>(
     alloc: Global,
     layout: &L,
     root: Work<'p>,

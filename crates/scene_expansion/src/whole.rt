@@ -11,7 +11,7 @@ ghost use Rattle.expansion_laws.specs.Nodes.{closed_of, nodes_of};
 ghost use Rattle.scene_expansion.specs.Walks.{bare_scene, nodes_done};
 
 use crate::laid::{bindings_of, modifiers_of, occurrences_of, spots_of};
-use crate::layout::Layout;
+use crate::layout::{Layout, WorkLayout};
 use crate::readable::{readable_modifiers, readable_occurrences};
 use crate::walk::{laid_after, laid_before};
 use crate::work::Work;
@@ -21,7 +21,7 @@ use std::alloc::{AllocError, Global};
 use type_model::TypeId;
 
 /// All works of a scenario, each before the works in it. `None` if there are too many for a scene.
-pub(crate) fn all_before<'p, L: Layout<'p>>(
+pub(crate) fn all_before<'p, L: WorkLayout<'p>>(
     alloc: Global,
     layout: &L,
     of: TypeId,
@@ -35,7 +35,7 @@ pub(crate) fn all_before<'p, L: Layout<'p>>(
 }
 
 /// All works of a scenario, each after the works in it. `None` if there are too many for a scene.
-pub(crate) fn all_after<'p, L: Layout<'p>>(
+pub(crate) fn all_after<'p, L: WorkLayout<'p>>(
     alloc: Global,
     layout: &L,
     of: TypeId,

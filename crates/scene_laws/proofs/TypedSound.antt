@@ -16,7 +16,7 @@ use Rattle.dsl_tree.specs.declared.expr.Operator.{Operator}
 use Rattle.dsl_tree.specs.declared.expr.RelationSign.{RelationSign}
 use Rattle.dsl_tree.specs.ExprTree as Tree
 use Rattle.dsl_tree.specs.ExprTree.{ExprTree, ExprRow}
-use Rattle.units_si.specs.Literals.{times, add, nearest_thousandth, slot_value}
+use Rattle.units_si.specs.Literals.{times, add, nearest_thousandth, slot_value, literal_count}
 use Rattle.name_scope.specs.Declaring.{first_place}
 use Rattle.type_heads.specs.Form.{Form}
 use Rattle.type_heads.specs.Table.{Table, TableUnit, TableField, form, unit, has_members, owner, field_of, enums_with, enum_number, is_behaviour}
@@ -28,7 +28,7 @@ use Rattle.expr_nodes.specs.Sizes.{info_at, constant_size, field_size, field_rea
 use Rattle.expr_nodes.specs.Scope.{It, Label, Scope}
 use Rattle.expr_nodes.specs.Parts.{any_holds, is_scalar, unless}
 use Rattle.expr_nodes.specs.Names.{per_of, elements_from, held_at, duration_at, Meaning, Nothing, Something, typed_meaning, is_duration, field_meant, member_at, member_meant, label_named, label_at, meaning_by_duration, meaning_by_label, meaning_by_field, meaning, name_rows, name_typed, it_at, it_typed, actor_typed, enum_named, enum_name_typed, duration_if, member_of_object, member_made, member_of_phase, member_of_whole, after_point, dot_typed}
-use Rattle.expr_nodes.specs.Operators.{constant_at, truth_typed, text_typed, count_in, physical_typed, not_rows, logic_rows, truth_at, minus_rows, sum_rows, sum_of, product_rows, product_typed, product_of, quotient_rows, reciprocal_of, factor_typed, comparison_rows, comparison_typed, within_rows, within_typed, compare_of, relation_typed, part_rows, span_rows, span_typed, item_typed, row_kind, list_typed, index_of, element, index_typed, group_typed}
+use Rattle.expr_nodes.specs.Operators.{constant_at, is_long, number_rows, number_typed, truth_typed, text_typed, count_in, physical_typed, not_rows, logic_rows, truth_at, minus_rows, sum_rows, sum_of, product_rows, product_typed, product_of, quotient_rows, reciprocal_of, factor_typed, comparison_rows, comparison_typed, within_rows, within_typed, compare_of, relation_typed, part_rows, span_rows, span_typed, item_typed, row_kind, list_typed, index_of, element, index_typed, group_typed}
 use Rattle.expr_nodes.specs.Typing.{typed, typed_row}
 use Rattle.expr_nodes.specs.Sound.{has_size, is_lowest, is_constant_of, is_sound, are_sound}
 use Rattle.field_flatten.specs.Seen.{has_values, have_values}
@@ -83,6 +83,13 @@ number_good d h =
     at_most : (a b : ℕ) → nat_le a b ≡ true → a ≤ b
     at_most a b h = grind arith
 
+number_typed_good : (d : Digits) → is_short d ≡ true → (x : Typed) → number_typed d ≡ Some x → IsGood x
+number_typed_good d s x h = by (any_holds (number_rows d)) h
+  where
+    by : (b : Bool) → cond b None (Some (constant_at d.place plain (digits_number d))) ≡ Some x → IsGood x
+    by true e = cc
+    by false e = let same : constant_at d.place plain (digits_number d) ≡ x = cc in subst IsGood same (number_good d s)
+
 truth_good : (p : Place) (value : Bool) (t : Typed) → truth_typed p value ≡ Some t → IsGood t
 truth_good p true t h = let same : Constant (info_at p ValueKind.Truth unit_size) (whole (pos 1)) ≡ t = cc in subst IsGood same (record { sound = both _ _ (rw (lowest_whole (pos 1)) refl) refl; stands = refl })
 truth_good p false t h = let same : Constant (info_at p ValueKind.Truth unit_size) (whole (pos 0)) ≡ t = cc in subst IsGood same (record { sound = both _ _ (rw (lowest_whole (pos 0)) refl) refl; stands = refl })
@@ -118,11 +125,15 @@ ended f None y h = cc
 ended f (Some x) y h = (x, h)
 
 count_small : (d : Digits) (u : TableUnit) (n : ℤ) → count_in d u ≡ Some n → unsigned_abs n ≤ field_reach
-count_small d u n h =
-    let scaled = ended (λ s. option_and_then (λ moved. option_and_then slot_value (nearest_thousandth moved)) (add s u.offset)) (times (digits_number d) u.factor) n h in
-    let moved = ended (λ m. option_and_then slot_value (nearest_thousandth m)) (add scaled.0 u.offset) n scaled.1 in
-    let last = ended slot_value (nearest_thousandth moved.0) n moved.1 in
-    small_count last.0 n last.1
+count_small d u n h = by (is_long d) h
+  where
+    by : (b : Bool) → cond b None (literal_count (digits_number d) u.factor u.offset) ≡ Some n → unsigned_abs n ≤ field_reach
+    by true e = cc
+    by false e =
+        let scaled = ended (λ s. option_and_then (λ moved. option_and_then slot_value (nearest_thousandth moved)) (add s u.offset)) (times (digits_number d) u.factor) n e in
+        let moved = ended (λ m. option_and_then slot_value (nearest_thousandth m)) (add scaled.0 u.offset) n scaled.1 in
+        let last = ended slot_value (nearest_thousandth moved.0) n moved.1 in
+        small_count last.0 n last.1
 
 -- ---- what is read
 
@@ -431,7 +442,7 @@ module _ (table : Table) (small : IsSmallTable table) where
       typed_good (Tree.Minus p a) s x h = one_made IsGood (minus_rows p) (λ x. Minus (record (info x) { place = p }) x) (typed table sc a) (λ x i n. minus_good p x (typed_good a s x i) n) x h
       typed_good (Tree.Dot head i) s x h = dot_good (typed table sc head) i x h
       typed_good (Tree.Index p head index) s x h = index_good (typed table sc head) index (typed_good head s) x h
-      typed_good (Tree.Number d) s x h = let same : constant_at d.place plain (digits_number d) ≡ x = cc in subst IsGood same (number_good d s)
+      typed_good (Tree.Number d) s x h = number_typed_good d s x h
       typed_good (Tree.Physical d name) s x h = physical_good d name x h
       typed_good (Tree.Chars p text) s x h = text_good p text x h
       typed_good (Tree.Truth p value) s x h = truth_good p value x h

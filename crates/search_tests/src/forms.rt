@@ -102,3 +102,18 @@ pub fn no_root(alloc: Global) -> Result<Flat, AllocError> {
         .push(Rule::Equal(sum(alloc, square, nothing)?, whole(2)))?;
     Ok(flat)
 }
+
+/// Two numbers from 0 to 1,000,000, each of which is at one of its ends. No rule takes anything away before a decision.
+pub fn at_either_end(alloc: Global) -> Result<Flat, AllocError> {
+    let mut flat = slots(alloc, 2, 0, 1_000_000)?;
+    flat.rules.push(either_end(alloc, 0)?)?;
+    flat.rules.push(either_end(alloc, 1)?)?;
+    Ok(flat)
+}
+
+/// A slot that is 0 or 1,000,000.
+fn either_end(alloc: Global, number: u32) -> Result<Rule, AllocError> {
+    let least = Rule::Equal(slot(number), whole(0));
+    let greatest = Rule::Equal(slot(number), whole(1_000_000));
+    Ok(Rule::Either(Boxed::new(alloc, least)?, Boxed::new(alloc, greatest)?))
+}

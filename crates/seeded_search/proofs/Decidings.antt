@@ -1,10 +1,9 @@
 -- Decisions, and ways back from them.
-use Rattle.std.proofs.Common.{◌≡◌, ◌≢◌, refl, sym, ap, ap₂, ◌∙◌, subst, ℕ, zero, suc, ◌+◌, ◌-◌, ◌*◌, ◌/◌, ◌%◌, ◌<◌, ◌≤◌, max, Bool, true, false, cond, eqb, List, [], ◌∷◌, ◌++◌, length, take, get_or, arith, length-append, ℤ, pos, ◌+ℤ◌, ◌-ℤ◌, ◌<ℤ◌, ◌≤ℤ◌}
+use Rattle.std.proofs.Common.{◌≡◌, refl, sym, ap, ap₂, ◌∙◌, subst, ℕ, ◌+◌, ◌/◌, ◌%◌, ◌<◌, ◌≤◌, Bool, true, false, cond, eqb, List, [], ◌∷◌, ◌++◌, length, take, arith, ℤ, pos, ◌-ℤ◌, ◌<ℤ◌, ◌≤ℤ◌}
 use Rattle.std.proofs.lemmas.Int.{ints}
 use Rattle.std.specs.Prelude.{unsigned_abs}
-use Rattle.wake_ring.specs.Queue.{Queue, is_in}
+use Rattle.wake_ring.specs.Queue.{Queue}
 use Rattle.bound_trail.specs.History.{History, present, mark_of, with_box, back_to}
-use Rattle.box_eval.specs.declared.rule.Rule.{Rule}
 use Rattle.box_eval.specs.declared.bounds.Pair.{Pair}
 use Rattle.box_eval.specs.declared.cut.Cut.{Cut}
 use Rattle.box_eval.specs.declared.cut.Side.TheVariants.{Low, High}
@@ -17,7 +16,7 @@ use Rattle.box_eval.proofs.Parts.{first_part_inside}
 use Rattle.box_eval.proofs.Settled.{wide_there}
 use Rattle.search_laws.specs.declared.decision.Decision.{Decision}
 use Rattle.search_laws.specs.Answers.{IsRefutedAnswer, claim_of}
-use Rattle.search_laws.specs.State.{State, IsLively, IsSearching, IsClosed, IsStanding, decided_box}
+use Rattle.search_laws.specs.State.{IsLively, IsClosed, IsStanding, decided_box}
 use Rattle.search_laws.proofs.Ends.{refuted}
 use Rattle.search_laws.proofs.Lists.{last_front}
 use Rattle.search_laws.proofs.Lively.{settled_all}

@@ -3,7 +3,6 @@ pub mod MarkLists
 pub mod Narrowings
 pub mod Presents
 pub mod Probes
-pub mod Pushes
 pub mod Searches
 pub mod SlotLists
 pub mod Turnings

@@ -1,7 +1,6 @@
 -- Cuts in the turn of a rule.
-use Rattle.std.proofs.Common.{◌≡◌, ◌≢◌, refl, sym, ap, ap₂, ◌∙◌, subst, ◌⊎◌, inl, inr, ⊎_elim, ℕ, zero, suc, ◌+◌, ◌-◌, ◌*◌, ◌<◌, ◌≤◌, max, Bool, true, false, ◌||◌, eqb, List, [], ◌∷◌, ◌++◌, length, take, get_or, slice_get, Some, arith, append_assoc, length-append, ℤ, ◌<ℤ◌, ◌≤ℤ◌, ◌-ℤ◌}
+use Rattle.std.proofs.Common.{◌≡◌, ◌≢◌, refl, sym, ap, ap₂, ◌∙◌, subst, ◌⊎◌, ⊎_elim, ℕ, ◌+◌, ◌<◌, ◌≤◌, max, Bool, true, false, List, [], ◌∷◌, ◌++◌, length, slice_get, Some, arith, append_assoc, length-append, ℤ, ◌<ℤ◌, ◌≤ℤ◌, ◌-ℤ◌}
 use Rattle.std.proofs.lemmas.Int.{ints}
-use Rattle.std.proofs.lemmas.Bool.{false≢true, or_cases}
 use Rattle.std.specs.Prelude.{unsigned_abs}
 use Rattle.wake_ring.specs.Queue.{Queue, is_in}
 use Rattle.bound_trail.specs.History.{History, present, mark_of, with_box}
@@ -13,20 +12,18 @@ use Rattle.box_eval.specs.declared.record.Line.{Line}
 use Rattle.box_eval.specs.declared.record.Line.TheVariants as L
 use Rattle.box_eval.specs.Box.{low_at, high_at, cut_at, second_part}
 use Rattle.box_eval.specs.Record.{cut_line}
-use Rattle.box_eval.specs.Reads.{reads}
-use Rattle.search_laws.specs.Halves.{value_at, width, IsHalved, IsLongest}
-use Rattle.search_laws.specs.State.{State, IsSearching}
+use Rattle.search_laws.specs.Halves.{value_at, IsHalved, IsLongest}
+use Rattle.search_laws.specs.State.{IsSearching}
 use Rattle.search_laws.proofs.Halves.{half_done, longest_open}
 use Rattle.search_laws.proofs.Lists.{last_push}
 use Rattle.search_laws.proofs.Steps.{state, narrows_by}
 use Rattle.seeded_search.specs.declared.task.Task.{Task}
 use Rattle.seeded_search.specs.declared.work.Work.{Work}
 use Rattle.seeded_search.specs.declared.turns.Step.{Step}
-use Rattle.seeded_search.specs.declared.turns.Step.TheVariants as Step
 use Rattle.seeded_search.specs.Draws.{number_of}
 use Rattle.seeded_search.specs.Joined.{joined}
 use Rattle.seeded_search.specs.Listed.{slots_at, rules_at}
-use Rattle.seeded_search.specs.Runs.{state_of, IsRoomy, Runs, IsCutBy, IsStuck, IsSame, NoDeadEnd, Stepped}
+use Rattle.seeded_search.specs.Runs.{state_of, Runs, IsCutBy, IsStuck, IsSame, Stepped}
 use Rattle.seeded_search.specs.Waking.{IsWokenFrom}
 use Rattle.seeded_search.proofs.Working.{rule_there, slot_read, slot_there, waits_more, kept_in, out_parts, woken_in_turn}
 

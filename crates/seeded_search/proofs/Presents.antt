@@ -1,13 +1,10 @@
 -- What the present box says of its slots and rules.
-use Rattle.std.proofs.Common.{◌≡◌, ◌≢◌, refl, sym, ap, ◌∙◌, subst, inl, inr, ⊎_elim, ℕ, zero, suc, ◌+◌, ◌<◌, ◌≤◌, Bool, true, false, List, [], ◌∷◌, length, slice_get, Option, Some, None, ℤ, ◌<ℤ◌, ◌≤ℤ◌, arith}
-use Rattle.std.proofs.lemmas.Int.{ints}
+use Rattle.std.proofs.Common.{◌≡◌, sym, ap, ◌∙◌, ⊎_elim, ℕ, ◌<◌, false, List, length, Option}
 use Rattle.std.proofs.lemmas.Bool.{false≢true, cases_lt}
 use Rattle.std.specs.Option.{option_map_or}
 use Rattle.box_eval.specs.declared.rule.Rule.{Rule}
 use Rattle.box_eval.specs.declared.bounds.Pair.{Pair}
-use Rattle.box_eval.specs.declared.verdict.Verdict.{Verdict}
-use Rattle.box_eval.specs.declared.verdict.Verdict.TheVariants.{True, False, Open}
-use Rattle.box_eval.specs.Box.{low_at, high_at, IsBox, IsOnePoint}
+use Rattle.box_eval.specs.Box.{low_at, high_at, IsOnePoint}
 use Rattle.box_eval.specs.Verdict.{verdict_of}
 use Rattle.box_eval.specs.Record.{is_false, may_close}
 use Rattle.box_eval.specs.Guided.{NoneFalse}

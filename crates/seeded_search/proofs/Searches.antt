@@ -1,5 +1,5 @@
 -- Where a search begins, and what it answers at its end.
-use Rattle.std.proofs.Common.{◌≡◌, refl, sym, ap, ap₂, ◌∙◌, subst, ℕ, zero, suc, ◌+◌, ◌*◌, ◌<◌, ◌≤◌, Bool, true, false, List, [], ◌∷◌, ◌++◌, length, get_or, map, ℤ, pos, arith}
+use Rattle.std.proofs.Common.{◌≡◌, refl, sym, ap, ◌∙◌, subst, ℕ, zero, suc, ◌+◌, ◌*◌, ◌<◌, ◌≤◌, true, List, [], ◌∷◌, ◌++◌, length, get_or, ℤ, pos, arith}
 use Rattle.std.proofs.lemmas.List.{ext_get_or}
 use Rattle.wake_ring.specs.Queue.{Queue, is_in}
 use Rattle.bound_trail.specs.History.{History, present}

@@ -1,55 +1,20 @@
 -- Lists of slots and of rules as they are made.
-use Rattle.std.proofs.Common.{◌≡◌, refl, sym, ap, ap₂, ◌∙◌, subst, ◌⊎◌, inl, inr, ⊎_elim, ℕ, zero, suc, ◌+◌, ◌-◌, ◌<◌, ◌≤◌, Bool, true, false, ◌||◌, cond, eqb, List, [], ◌∷◌, ◌++◌, length, get_or, set, take, slice_get, Some, IsPermutation, IsSorted, arith, length-append}
+use Rattle.std.proofs.Common.{◌≡◌, refl, sym, ap, ◌∙◌, subst, ⊎_elim, ℕ, zero, suc, ◌+◌, ◌<◌, Bool, true, false, ◌||◌, cond, eqb, List, [], ◌∷◌, ◌++◌, length, get_or, set, take, slice_get, Some, arith, length-append}
 use Rattle.std.proofs.Math.ListN.{get_or-append}
 use Rattle.std.proofs.Math.Seq.{get_or-append_seam}
-use Rattle.std.proofs.lemmas.Bool.{false≢true, or_cases, or_parts, or_from, or_left, or_right, eq-eqb, ne_eqb, eqb-true, cases_eq, cases_lt}
+use Rattle.std.proofs.lemmas.Bool.{or_left, or_right, eq-eqb, ne_eqb, cases_eq, cases_lt}
 use Rattle.std.proofs.lemmas.Option.{slice_get_within}
 use Rattle.std.proofs.lemmas.List.{length-set, get_or-set_same, get_or-set_other, take_more, get_or-take, length-take-le}
-use Rattle.std.proofs.lemmas.List.Filters.{dedup_is}
 use Rattle.std.proofs.lemmas.List.Folds.{list_any-append}
-use Rattle.std.proofs.lemmas.List.Kept.{Contains-dedup_nat, Contains-from_dedup}
-use Rattle.std.proofs.lemmas.List.Sorted.{list_any-IsPermutation}
-use Rattle.std.proofs.lemmas.Map.Keys.{IsStrictlyIncreasing-dedup, sorted_from_strictly_increasing, below_from_sorted}
-use Rattle.std.proofs.lemmas.Map.Views.{list_any-from_Contains, Contains-from_any}
-use Rattle.std.specs.Cmp.{nat_eq_equiv}
-use Rattle.std.specs.List.{Contains, dedup}
-use Rattle.std.specs.List.Retain.{IsFiltered, DiffersFromLast}
+use Rattle.std.proofs.lemmas.Map.Keys.{sorted_from_strictly_increasing, below_from_sorted}
 use Rattle.std.specs.List.Sorted.{IsStrictlyIncreasing}
-use Rattle.std.specs.Ordering.{nat_cmp}
 use Rattle.wake_ring.specs.Queue.{is_in}
 use Rattle.wake_ring.specs.Order.{AllBelow}
 use Rattle.wake_ring.proofs.Members.{not_in, end_lacks, AllBelow-push}
 use Rattle.box_eval.specs.declared.rule.Rule.{Rule}
-use Rattle.box_eval.specs.Reads.{slots_read, reads}
-use Rattle.seeded_search.specs.SlotLists.{IsSlotList, AreSlotLists, AreFirstSlotLists, IsRuleList, AreRuleLists, IsEntered}
-
--- ---- the slots of one rule
-
-same_test : (a b : Bool) → (a ≡ true → b ≡ true) → (b ≡ true → a ≡ true) → a ≡ b
-same_test true true h k = refl
-same_test true false h k = sym (h refl)
-same_test false true h k = k refl
-same_test false false h k = refl
-
-contained : (k : ℕ) (xs : List ℕ) → is_in k xs ≡ true → Contains xs k
-contained k xs h = Contains-from_any {eq = eqb} (λ x y e. eqb-true x y e) k xs h
-
-is_contained : (k : ℕ) (xs : List ℕ) → Contains xs k → is_in k xs ≡ true
-is_contained k xs h = list_any-from_Contains nat_eq_equiv k xs h
-
-in_dedup : (k : ℕ) (xs : List ℕ) → is_in k (dedup eqb xs) ≡ is_in k xs
-in_dedup k xs = same_test (is_in k (dedup eqb xs)) (is_in k xs)
-    (λ h. is_contained k xs (Contains-from_dedup eqb xs k (contained k (dedup eqb xs) h)))
-    (λ h. is_contained k (dedup eqb xs) (Contains-dedup_nat xs k (contained k xs h)))
-
--- what is read, sorted, and then kept once each
-pub slot_list : (rule : Rule) (pushed sorted kept : List ℕ) → pushed ≡ slots_read rule → IsPermutation pushed sorted → IsSorted nat_cmp sorted → IsFiltered (DiffersFromLast eqb) [] sorted kept → IsSlotList rule kept
-slot_list rule pushed sorted kept read moved in_order filtered =
-    let once : kept ≡ dedup eqb sorted = dedup_is eqb sorted kept filtered in
-    record {
-      told = λ slot. ap (is_in slot) once ∙ (in_dedup slot sorted ∙ (sym (list_any-IsPermutation (eqb slot) pushed sorted moved) ∙ ap (is_in slot) read));
-      ascending = subst IsStrictlyIncreasing (sym once) (IsStrictlyIncreasing-dedup sorted in_order);
-    }
+use Rattle.box_eval.specs.Reads.{reads, IsSlotList}
+use Rattle.box_eval.proofs.SlotLists.{contained}
+use Rattle.seeded_search.specs.SlotLists.{AreSlotLists, AreFirstSlotLists, IsRuleList, AreRuleLists, IsEntered}
 
 -- ---- one for each rule
 

@@ -1,6 +1,6 @@
 -- What comes of the turn of a rule.
-use Rattle.std.proofs.Common.{◌≡◌, ◌≢◌, refl, sym, ap, ap₂, ◌∙◌, subst, ◌⊎◌, inl, inr, ⊎_elim, ℕ, zero, suc, ◌+◌, ◌<◌, ◌≤◌, Bool, true, false, ◌||◌, not, cond, eqb, List, [], ◌∷◌, ◌++◌, length, slice_get, Option, Some, arith}
-use Rattle.std.proofs.lemmas.Bool.{false≢true, or_parts, or_from, or_cases, eqb-true}
+use Rattle.std.proofs.Common.{◌≡◌, refl, sym, ap, ◌∙◌, subst, ℕ, Bool, true, false, ◌||◌, not, cond, eqb, List, [], ◌∷◌, ◌++◌, slice_get, Option, Some}
+use Rattle.std.proofs.lemmas.Bool.{false≢true, or_parts, or_from}
 use Rattle.std.proofs.lemmas.List.Folds.{list_any-append}
 use Rattle.std.specs.Option.{option_map_or}
 use Rattle.std.specs.Bool.{OnTrue, OnFalse}
@@ -8,22 +8,19 @@ use Rattle.wake_ring.specs.Queue.{Queue, is_in, without}
 use Rattle.bound_trail.specs.History.{History, present}
 use Rattle.box_eval.specs.declared.rule.Rule.{Rule}
 use Rattle.box_eval.specs.declared.bounds.Pair.{Pair}
-use Rattle.box_eval.specs.declared.cut.Side.{Side}
 use Rattle.box_eval.specs.declared.verdict.Verdict.TheVariants.{True, False}
 use Rattle.box_eval.specs.Verdict.{verdict_of}
 use Rattle.box_eval.specs.Record.{is_false, may_close}
-use Rattle.box_eval.specs.Guided.{IsDeadEnd, IsSettledFor}
+use Rattle.box_eval.specs.Guided.{IsSettledFor}
 use Rattle.box_eval.proofs.Settled.{true_settled, read_settled}
-use Rattle.search_laws.specs.State.{State, IsSearching}
 use Rattle.search_laws.proofs.Steps.{passed, marked}
 use Rattle.seeded_search.specs.declared.task.Task.{Task}
 use Rattle.seeded_search.specs.declared.work.Work.{Work}
-use Rattle.seeded_search.specs.declared.turns.Step.TheVariants as Step
 use Rattle.seeded_search.specs.declared.turns.Turned.TheVariants as Turned
 use Rattle.seeded_search.specs.Draws.{number_of}
 use Rattle.seeded_search.specs.Listed.{slots_at}
-use Rattle.seeded_search.specs.Rooms.{Marked, with_mark}
-use Rattle.seeded_search.specs.Runs.{state_of, IsRoomy, Runs, IsCutBy, IsRetired, IsStuck, IsSame, NoDeadEnd, TurnedTo}
+use Rattle.seeded_search.specs.Rooms.{with_mark}
+use Rattle.seeded_search.specs.Runs.{state_of, Runs, IsCutBy, IsRetired, IsStuck, IsSame, NoDeadEnd, TurnedTo}
 use Rattle.seeded_search.proofs.Working.{out_parts, kept_in, out_without, waits_more}
 
 -- the rule of a number closes the box where it is false there

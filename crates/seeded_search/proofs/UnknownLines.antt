@@ -1,5 +1,5 @@
 -- Lines that leave a box unknown, one more at a time.
-use Rattle.std.proofs.Common.{◌≡◌, refl, sym, ap, ◌∙◌, subst, ℕ, zero, suc, ◌+◌, List, [], ◌∷◌, ◌++◌, length, arith, append_assoc, length-append}
+use Rattle.std.proofs.Common.{◌≡◌, refl, ap, ◌∙◌, ℕ, zero, suc, ◌+◌, List, [], ◌∷◌, ◌++◌, length, arith, append_assoc}
 use Rattle.box_eval.specs.declared.record.Line.{Line}
 use Rattle.box_eval.specs.declared.record.Line.TheVariants as L
 use Rattle.search_laws.specs.Answers.{unknown_lines}

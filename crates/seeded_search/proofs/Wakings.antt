@@ -1,9 +1,8 @@
 -- What waking a list of rules one by one leaves in a queue.
-use Rattle.std.proofs.Common.{◌≡◌, refl, sym, ap, ◌∙◌, subst, ◌⊎◌, inl, inr, ℕ, zero, suc, ◌+◌, ◌<◌, Bool, true, false, ◌||◌, eqb, List, [], ◌∷◌, ◌++◌, length, get_or, take, arith}
+use Rattle.std.proofs.Common.{◌≡◌, refl, sym, ap, ◌∙◌, ◌⊎◌, inl, inr, ℕ, zero, suc, ◌+◌, ◌<◌, Bool, true, false, ◌||◌, eqb, List, [], ◌∷◌, ◌++◌, length, get_or, take, arith}
 use Rattle.std.proofs.lemmas.Bool.{false≢true, or_cases, eq-eqb, eqb-true}
 use Rattle.std.proofs.lemmas.List.{take_more}
 use Rattle.std.proofs.lemmas.List.Folds.{list_any-append}
-use Rattle.std.proofs.Math.Seq.{take-length}
 use Rattle.wake_ring.specs.Queue.{is_in}
 use Rattle.wake_ring.specs.Order.{AllBelow}
 use Rattle.seeded_search.specs.Waking.{IsWokenFrom}

@@ -1,7 +1,7 @@
 -- Two words of a seed's stream, one after the other.
-use Rattle.std.proofs.Common.{◌≡◌, refl, sym, ap, ap₂, ◌∙◌, subst, ℕ, ◌+◌, ◌*◌, ◌%◌, ◌^◌, ◌<◌, arith}
+use Rattle.std.proofs.Common.{◌≡◌, ap, ◌∙◌, ℕ, ◌+◌, ◌%◌, ◌^◌, ◌<◌, arith}
 use Rattle.rand_chacha.specs.ChaCha.{ChaCha, next_word}
-use Rattle.seeded_search.specs.Draws.{stream_at, word_of, number_of}
+use Rattle.seeded_search.specs.Draws.{stream_at, word_of}
 
 -- one word, and the stream after it
 pub word_taken : (seed place w : ℕ) (before after : ChaCha) → place + 1 < 2 ^ 68 → before ≡ stream_at seed place → (w, after) ≡ next_word 4 before

@@ -1,14 +1,10 @@
 -- What the state of the search says of its present box, its rules and its slots.
-use Rattle.std.proofs.Common.{◌≡◌, ◌≢◌, refl, sym, ap, ap₂, ◌∙◌, subst, ◌⊎◌, inl, inr, ⊎_elim, ℕ, zero, suc, ◌+◌, ◌-◌, ◌*◌, ◌^◌, ◌<◌, ◌≤◌, Bool, true, false, ◌||◌, not, eqb, List, [], ◌∷◌, ◌++◌, length, take, get_or, slice_get, Some, arith, length-append, ℤ, ◌<ℤ◌, ◌≤ℤ◌, ◌-ℤ◌}
-use Rattle.std.proofs.lemmas.Int.{ints}
+use Rattle.std.proofs.Common.{◌≡◌, refl, sym, ap, ◌∙◌, inl, inr, ℕ, zero, suc, ◌^◌, ◌<◌, ◌≤◌, Bool, true, false, ◌||◌, eqb, List, [], ◌∷◌, length, slice_get, Some, arith}
 use Rattle.std.proofs.lemmas.Bool.{false≢true, or_parts, or_from, eqb-true, cases_eq}
-use Rattle.std.specs.Prelude.{unsigned_abs}
 use Rattle.wake_ring.specs.Queue.{Queue, is_in, without}
 use Rattle.wake_ring.proofs.Order.{without_first, without_other}
 use Rattle.bound_trail.specs.History.{History, present, mark_of}
 use Rattle.box_eval.specs.declared.rule.Rule.{Rule}
-use Rattle.box_eval.specs.declared.bounds.Pair.{Pair}
-use Rattle.box_eval.specs.Box.{low_at, high_at, IsBox, IsInside}
 use Rattle.box_eval.specs.Rules.{CanJudge, AllFit}
 use Rattle.box_eval.specs.Reads.{reads}
 use Rattle.box_eval.proofs.Fits.{fits_at, fit_inside}
@@ -21,7 +17,7 @@ use Rattle.seeded_search.specs.Draws.{number_of}
 use Rattle.seeded_search.specs.Listed.{slots_at, rules_at}
 use Rattle.seeded_search.specs.SlotLists.{IsRuleList}
 use Rattle.seeded_search.specs.Probe.{IsProbe}
-use Rattle.seeded_search.specs.Runs.{state_of, IsRoomy, Runs}
+use Rattle.seeded_search.specs.Runs.{state_of, Runs}
 use Rattle.seeded_search.specs.Waking.{IsWokenFrom}
 
 -- the rule of a number below the number of rules

@@ -1,5 +1,5 @@
 -- What a desk holds that was made for a flat form and a greatest number of cuts.
-use Rattle.std.specs.Prelude.{◌≡◌, ℕ, ◌+◌, ◌*◌, List, [], length}
+use Rattle.std.specs.Prelude.{◌≡◌, ℕ, ◌+◌, ◌*◌, [], length}
 use Rattle.box_eval.specs.declared.flat.Flat.{Flat}
 use Rattle.seeded_search.specs.declared.desk.Desk.{Desk}
 use Rattle.seeded_search.specs.Listed.{IsListed}

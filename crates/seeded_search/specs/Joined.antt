@@ -1,6 +1,5 @@
 -- What comes of two looks at ends of slots, one after the other, where the first left cuts to make.
 use Rattle.seeded_search.specs.declared.turns.Step.{Step}
-use Rattle.seeded_search.specs.declared.turns.Step.TheVariants as Step
 
 abbrev pub joined : Step → Step → Step
 joined first Step.None = first

@@ -3,7 +3,6 @@ use Rattle.std.specs.Prelude.{⊤}
 use Rattle.box_eval.specs.declared.point.Point.{Point}
 use Rattle.box_eval.specs.declared.record.Record.{Record}
 use Rattle.seeded_search.specs.declared.outcome.Outcome.{Outcome}
-use Rattle.seeded_search.specs.declared.outcome.Outcome.TheVariants as Outcome
 
 -- the answer is a point, with this fact
 abbrev pub IfPoint : Outcome → (Point → Type 0) → Type 0

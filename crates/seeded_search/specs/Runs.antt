@@ -14,13 +14,9 @@ use Rattle.search_laws.specs.Answers.{IsRefutedAnswer, claim_of}
 use Rattle.seeded_search.specs.declared.task.Task.{Task}
 use Rattle.seeded_search.specs.declared.work.Work.{Work}
 use Rattle.seeded_search.specs.declared.turns.Step.{Step}
-use Rattle.seeded_search.specs.declared.turns.Step.TheVariants as Step
 use Rattle.seeded_search.specs.declared.turns.Turned.{Turned}
-use Rattle.seeded_search.specs.declared.turns.Turned.TheVariants as Turned
 use Rattle.seeded_search.specs.declared.course.Ran.{Ran}
-use Rattle.seeded_search.specs.declared.course.Ran.TheVariants as Ran
 use Rattle.seeded_search.specs.declared.course.End.{End}
-use Rattle.seeded_search.specs.declared.course.End.TheVariants as End
 use Rattle.seeded_search.specs.Draws.{number_of}
 use Rattle.seeded_search.specs.Listed.{IsListed, slots_at}
 

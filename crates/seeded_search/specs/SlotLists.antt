@@ -1,17 +1,12 @@
--- Lists of the slots that a rule reads, and of the rules that read a slot.
+-- For each rule the slots that it reads, and for each slot the rules that read it.
 use Rattle.std.specs.Prelude.{◌≡◌, ℕ, ◌<◌, List, [], ◌∷◌, ◌++◌, length, slice_index_or, slice_get, Some, if◌then◌else◌}
 use Rattle.std.specs.List.Sorted.{IsStrictlyIncreasing}
 use Rattle.wake_ring.specs.Queue.{is_in}
 use Rattle.wake_ring.specs.Order.{AllBelow}
 use Rattle.box_eval.specs.declared.rule.Rule.{Rule}
-use Rattle.box_eval.specs.Reads.{reads}
+use Rattle.box_eval.specs.Reads.{reads, IsSlotList}
 
--- the slots that a rule reads, ascending
-pub record IsSlotList (rule : Rule) (slots : List ℕ) : Type 0 where
-  pub told : (slot : ℕ) → is_in slot slots ≡ reads rule slot
-  pub ascending : IsStrictlyIncreasing slots
-
--- one for each rule
+-- for each rule, the slots that it reads, ascending
 pub record AreSlotLists (rules : List Rule) (lists : List (List ℕ)) : Type 0 where
   pub long : length lists ≡ length rules
   pub each : (k : ℕ) (rule : Rule) → slice_get rules k ≡ Some rule → IsSlotList rule (slice_index_or lists k [])

@@ -10,7 +10,6 @@ mod lists;
 mod marks;
 mod outcome;
 mod places;
-mod reading;
 mod retiring;
 mod script;
 mod searching;

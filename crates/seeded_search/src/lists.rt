@@ -5,10 +5,9 @@ ghost use Rattle.wake_ring.specs.Queue.{is_in};
 ghost use Rattle.wake_ring.specs.Order.{AllBelow};
 ghost use Rattle.box_eval.specs.declared.rule.Rule.{Rule};
 ghost use Rattle.box_eval.specs.Rules.{IsFlat};
-ghost use Rattle.seeded_search.specs.SlotLists.{IsSlotList, AreSlotLists, AreRuleLists, IsEntered};
+ghost use Rattle.seeded_search.specs.SlotLists.{AreSlotLists, AreRuleLists, IsEntered};
 
-use crate::reading::push_slots;
-use box_eval::{Flat, Rule};
+use box_eval::{Flat, Rule, slots_of};
 use osc_base::Row;
 use std::alloc::{AllocError, Global};
 
@@ -19,17 +18,6 @@ pub struct Lists {
     pub slots: Vec<Row<u32>>,
     /// For each slot, the rules that read it.
     pub rules: Vec<Row<u32>>,
-}
-
-/// The slots that a rule reads, ascending.
-fn slots_of(alloc: Global, rule: &Rule) -> Result<Row<u32>, AllocError>
-    ensures { IfOk result (IsSlotList rule.now) }
-{
-    let mut slots = Vec::new(alloc);
-    push_slots(rule, &mut slots)?;
-    slots.sort_unstable();
-    slots.dedup();
-    Ok(Row::of(slots))
 }
 
 /// For each rule, the slots that it reads, ascending.

@@ -1,4 +1,5 @@
 pub mod Hits
+pub mod EnumTables
 pub mod PlacedFiles
 pub mod NameTables
 pub mod Groups

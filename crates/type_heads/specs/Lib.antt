@@ -8,6 +8,7 @@ pub mod Told
 pub mod Seen
 pub mod Shown
 pub mod Names
+pub mod EnumNames
 pub mod Extending
 pub mod Grouped
 pub mod Gathered

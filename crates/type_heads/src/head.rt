@@ -1,10 +1,9 @@
-ghost use Rattle.std.specs.Prelude.{◌≡◌, ◌&&◌, bytes_eq, find, is_some, pos, option_copied, option_map};
-ghost use Rattle.type_heads.specs.Table.{enum_members, number_of};
+ghost use Rattle.std.specs.Prelude.{◌≡◌, ◌&&◌, bytes_eq, option_copied};
 ghost use Rattle.type_heads.specs.Seen.{seen_form, kept_form};
 ghost use Rattle.name_scope.specs.Declaring.{same_owner};
 
 use crate::form::OwnForm;
-use crate::{EnumEntry, Form, TypeId};
+use crate::{Form, TypeId};
 use osc_base::Text;
 use std::marker::Model;
 
@@ -87,28 +86,4 @@ impl Head {
             (None, Some(_)) | (Some(_), None) => false,
         }
     }
-
-    /// Whether it is an enum with a member of that name.
-    pub fn has_member(&self, name: &str) -> bool
-        ensures { result ≡ is_some (number_of (enum_members self.now.form) name.now) }
-    {
-        match self.form() {
-            Form::Enum(members) => member_number(members, name).is_some(),
-            _ => false,
-        }
-    }
-}
-
-/// The number of the first member of that name.
-pub fn member_number(members: &[EnumEntry], name: &str) -> Option<i64>
-    ensures { result ≡ option_map pos (number_of members.now name.now) }
-{
-    let member = member_named(members, name)?;
-    Some(member.value())
-}
-
-fn member_named<'a>(members: &'a [EnumEntry], name: &str) -> Option<&'a EnumEntry>
-    ensures { option_copied result ≡ find (λ m. bytes_eq m.name name.now) members.now }
-{
-    members.iter().find(|m| m.name() == name)
 }

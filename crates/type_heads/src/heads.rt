@@ -4,7 +4,7 @@ ghost use Rattle.type_heads.specs.Shown.{hit_of};
 ghost use Rattle.type_heads.specs.Table.{base, enum_number, enums_with, form, head, named, owner};
 
 use crate::declarations::Declarations;
-use crate::head::member_number;
+use crate::enum_index::EnumIndex;
 use crate::heads_build::own_heads;
 use crate::names::NameIndex;
 use crate::{EnumHit, Form, Head, TypeId};
@@ -17,6 +17,7 @@ use std::marker::Model;
 pub struct Heads {
     entries: Vec<Head>,
     names: NameIndex,
+    members: EnumIndex,
 }
 
 impl Model for Heads {
@@ -26,10 +27,11 @@ impl Model for Heads {
     ghost Value = { List TypeHead };
 
     ghost use Rattle.type_heads.specs.Grouped.{IsIndex};
+    ghost use Rattle.type_heads.specs.EnumNames.{IsEnumIndex};
 
     ghost view = { λ h. h.entries.items };
 
-    ghost invariant = { λ h. (length h.entries.items < 2 ^ 32) × IsIndex h.names h.entries.items };
+    ghost invariant = { λ h. (length h.entries.items < 2 ^ 32) × IsIndex h.names h.entries.items × IsEnumIndex h.members h.entries.items };
 }
 
 impl Heads {
@@ -53,7 +55,12 @@ impl Heads {
     {
         let names = NameIndex::of(alloc, declarations.types.as_slice())?;
         let entries = own_heads(alloc, declarations)?;
-        Ok(Heads { entries, names })
+        let members = EnumIndex::of(alloc, entries.as_slice())?;
+        Ok(Heads {
+            entries,
+            names,
+            members,
+        })
     }
 
     /// How many types there are.
@@ -111,32 +118,13 @@ impl Heads {
     pub fn enum_number(&self, of: TypeId, name: &str) -> Option<i64>
         ensures { result ≡ option_map pos (enum_number self.now of name.now) }
     {
-        match self.form(of) {
-            Form::Enum(members) => member_number(members, name),
-            _ => None,
-        }
+        self.members.number(of, name)
     }
 
     /// Which enum has a member of that name.
     pub fn enum_with(&self, name: &str) -> EnumHit
         ensures { result ≡ hit_of (enums_with self.now name.now) }
     {
-        hit_among(self.entries.as_slice(), name)
+        self.members.hit(name)
     }
-}
-
-/// Which of the heads is of an enum with a member of that name.
-fn hit_among(heads: &[Head], name: &str) -> EnumHit
-    requires { length heads.now < 2 ^ 32 }
-    ensures { result ≡ hit_of (enums_with heads.now name.now) }
-{
-    let mut hit = EnumHit::Absent;
-    let mut number: u32 = 0;
-    for head in heads {
-        if head.has_member(name) {
-            hit = hit.and(TypeId(number));
-        }
-        number += 1;
-    }
-    hit
 }

@@ -3,6 +3,7 @@
 ghost use Rattle.std.specs.Prelude.{◌≡◌, ◌<◌, ◌^◌, length, map, IfOk};
 ghost use Rattle.type_heads.specs.Bodied.{seen_body};
 ghost use Rattle.type_heads.specs.Gathered.{AreGathered, all_of};
+ghost use Rattle.type_heads.specs.UnitsPlaced.{units_in};
 ghost use Rattle.type_members.specs.Listed.{lists_of};
 ghost use Rattle.type_model.specs.Built.{AreBodies, AreMemberTables, AreProgramTables, texts_among};
 
@@ -10,12 +11,9 @@ use crate::refs::all_refs;
 use osc_base::{Row, Text};
 use std::alloc::{AllocError, Global};
 use string_texts::texts;
-use type_heads::{
-    Body, ConditionEntry, Declarations, FieldEntry, Heads, MemberRef, UnitEntry, bodies,
-    unit_entries,
-};
+use type_heads::{Body, ConditionEntry, Declarations, Heads, MemberRef, bodies, unit_entries};
 use type_members::{MemberLists, Subtypes};
-use type_tables::{all_conditions, all_fields, all_numbers};
+use type_tables::{FieldTable, UnitTable, all_conditions, all_fields, all_numbers};
 
 /// The bodies and the conditional subtypes of all types.
 #[derive(Drop)]
@@ -43,7 +41,7 @@ impl<'a> Bodies<'a> {
 /// What is worked out of the members of each type.
 #[derive(Drop)]
 pub struct MemberTables {
-    pub fields: Vec<Row<FieldEntry>>,
+    pub fields: Vec<FieldTable>,
     pub members: Vec<Row<MemberRef>>,
     pub conditions: Vec<Option<ConditionEntry>>,
 }
@@ -77,10 +75,18 @@ fn all_texts(alloc: Global, declarations: &Declarations<'_>) -> Result<Vec<Text>
     texts(alloc, declarations.placed.as_slice())
 }
 
+/// The units of the program, found by their names.
+fn unit_table(alloc: Global, declarations: &Declarations<'_>) -> Result<UnitTable, AllocError>
+    ensures { IfOk result (λ units. units ≡ units_in (all_of declarations.now)) }
+{
+    let entries = unit_entries(alloc, declarations)?;
+    UnitTable::of(alloc, entries)
+}
+
 /// What is worked out of the declarations of a program and the heads of its types.
 #[derive(Drop)]
 pub struct ProgramTables {
-    pub units: Vec<UnitEntry>,
+    pub units: UnitTable,
     pub texts: Vec<Text>,
     pub numbers: Vec<Row<i64>>,
 }
@@ -94,7 +100,7 @@ impl ProgramTables {
     ) -> Result<ProgramTables, AllocError>
         ensures { IfOk result (AreProgramTables (all_of declarations.now) heads.now) }
     {
-        let units = unit_entries(alloc, declarations)?;
+        let units = unit_table(alloc, declarations)?;
         let texts = all_texts(alloc, declarations)?;
         let numbers = all_numbers(alloc, heads)?;
         Ok(ProgramTables {

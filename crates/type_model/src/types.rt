@@ -1,4 +1,4 @@
-ghost use Rattle.std.specs.Prelude.{◌≡◌, ℕ, ℤ, bytes_eq, find, fold, List, Option, Some, None, map, length, pos, option_copied, option_map, slice_index_or};
+ghost use Rattle.std.specs.Prelude.{◌≡◌, ℕ, ℤ, fold, List, Option, Some, None, map, length, pos, option_copied, option_map, slice_index_or};
 ghost use Rattle.std.specs.Int.{int_min, int_max};
 ghost use Rattle.type_heads.specs.Bounds.{numbers_of, bounds, least_of, greatest_of};
 ghost use Rattle.type_heads.specs.Table.{base, enum_members, enums_with, field_of, form, head, named, owner};
@@ -10,10 +10,8 @@ use crate::parts::{MemberTables, ProgramTables};
 use dsl_tree::CompoundKind;
 use osc_base::{Row, Text};
 use std::marker::Model;
-use type_heads::{
-    ConditionEntry, EnumHit, FieldEntry, FieldType, Form, Heads, MemberRef, TypeId, TypeKind,
-    UnitEntry,
-};
+use type_heads::{ConditionEntry, EnumHit, FieldType, Form, Heads, MemberRef, TypeId, TypeKind};
+use type_tables::{FieldTable, UnitTable};
 use units_si::Unit;
 
 /// The greatest magnitude of what a field holds.
@@ -26,8 +24,8 @@ const GREATEST_VALUE: i64 = 1_000_000_000;
 #[derive(Drop)]
 pub struct Types {
     heads: Heads,
-    fields: Vec<Row<FieldEntry>>,
-    units: Vec<UnitEntry>,
+    fields: Vec<FieldTable>,
+    units: UnitTable,
     texts: Vec<Text>,
     members: Vec<Row<MemberRef>>,
     conditions: Vec<Option<ConditionEntry>>,
@@ -44,19 +42,19 @@ impl Model for Types {
     ghost use Rattle.type_model.specs.Kept.{AreKept};
 
     ghost view = { λ s. record {
-      table = record { heads = s.heads; fields = s.fields.items; units = s.units.items; texts = s.texts.items };
+      table = record { heads = s.heads; fields = s.fields.items; units = s.units; texts = s.texts.items };
       members = map (map shown_member) s.members.items;
       conditions = s.conditions.items;
     } };
 
-    ghost invariant = { λ s. AreKept s.heads s.numbers.items s.units.items s.texts.items };
+    ghost invariant = { λ s. AreKept s.heads s.numbers.items s.units s.texts.items };
 }
 
 impl Types {
     /// The types with these heads and tables.
     pub(crate) fn of(heads: Heads, members: MemberTables, program: ProgramTables) -> Types
-        requires { AreKept heads program.numbers.items program.units.items program.texts.items }
-        ensures { result ≡ record { table = record { heads = heads; fields = members.fields.items; units = program.units.items; texts = program.texts.items }; members = map (map shown_member) members.members.items; conditions = members.conditions.items } }
+        requires { AreKept heads program.numbers.items program.units program.texts.items }
+        ensures { result ≡ record { table = record { heads = heads; fields = members.fields.items; units = program.units; texts = program.texts.items }; members = map (map shown_member) members.members.items; conditions = members.conditions.items } }
     {
         Types {
             heads,
@@ -139,7 +137,7 @@ impl Types {
         ensures { result ≡ option_map shown_field (field_of self.now.table of name.now) }
     {
         let fields = self.fields.get(of.0 as usize)?;
-        let field = fields.as_slice().iter().find(|f| f.name() == name)?;
+        let field = fields.named(name)?;
         Some(field.of())
     }
 
@@ -147,7 +145,7 @@ impl Types {
     pub fn unit(&self, name: &str) -> Option<Unit>
         ensures { option_map shown_unit result ≡ option_map unit_parts (unit_in self.now.table name.now) }
     {
-        match unit_named(self.units.as_slice(), name) {
+        match self.units.named(name) {
             Some(unit) => unit.unit(),
             None => None,
         }
@@ -208,13 +206,6 @@ impl Types {
             Form::Compound(_) => (0, 0),
         }
     }
-}
-
-/// The first unit of that name.
-fn unit_named<'a>(units: &'a [UnitEntry], name: &str) -> Option<&'a UnitEntry>
-    ensures { option_copied result ≡ find (λ u. bytes_eq u.name name.now) units.now }
-{
-    units.iter().find(|u| u.name() == name)
 }
 
 /// The least and the greatest of some numbers, and 0 of none.

@@ -1,3 +1,4 @@
 mod Ascending
 mod FieldLists
 mod ListLengths
+mod Firsts

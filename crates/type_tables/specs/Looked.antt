@@ -7,10 +7,14 @@ use Rattle.type_heads.specs.Types.{TypeBody, Member, Field}
 use Rattle.type_heads.specs.Members.{fields_among, heir_condition}
 use Rattle.type_heads.specs.Conditions.{Condition, condition_value}
 
+-- the type of the first field of that name
+abbrev pub field_type_among : List TypeHead → List Member → List ℕ → Option ℕ
+field_type_among heads members name =
+    option_and_then (λ (f : Field). named heads None f.tree.of.text) (find (λ (f : Field). bytes_eq f.name.text name) (fields_among members))
+
 -- what the first field of that name holds
 abbrev pub field_form_among : List TypeHead → List Member → List ℕ → Option Form
-field_form_among heads members name =
-    option_map (form heads) (option_and_then (λ (f : Field). named heads None f.tree.of.text) (find (λ (f : Field). bytes_eq f.name.text name) (fields_among members)))
+field_form_among heads members name = option_map (form heads) (field_type_among heads members name)
 
 -- the condition of type t on a field among the members of its base
 abbrev pub condition_among : List TypeHead → List Member → ℕ → HeirCondition → Option Condition

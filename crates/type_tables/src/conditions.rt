@@ -1,43 +1,39 @@
 //! The conditions of conditional subtypes.
 
-ghost use Rattle.std.specs.Prelude.{◌≡◌, map, option_map, IfOk};
+ghost use Rattle.std.specs.Prelude.{◌≡◌, map, IfOk};
 ghost use Rattle.type_heads.specs.Bodied.{seen_body};
 ghost use Rattle.type_heads.specs.Conditions.{condition_value as value_in};
-ghost use Rattle.type_heads.specs.Seen.{seen_form};
-ghost use Rattle.type_heads.specs.Table.{all_types};
+ghost use Rattle.type_heads.specs.Table.{all_types, form};
 ghost use Rattle.type_members.specs.Listed.{lists_of, seen_listed};
-ghost use Rattle.type_tables.specs.Looked.{condition_among, condition_of, field_form_among};
+ghost use Rattle.type_tables.specs.Looked.{condition_among, condition_of, field_type_among};
 
 use crate::fields::field_named;
 use dsl_tree::{ConditionValue, HeirCondition};
 use osc_base::Text;
 use std::alloc::{AllocError, Global};
-use type_heads::{Body, ConditionEntry, Form, Heads, TypeId, member_number};
+use type_heads::{Body, ConditionEntry, Form, Heads, TypeId};
 use type_members::{ListedMember, MemberLists, heir_condition};
 
-/// The number of a value in what the field of a condition holds, if it holds such values.
-fn condition_value(form: Form<'_>, value: &ConditionValue) -> Option<i64>
-    ensures { result ≡ value_in (seen_form form.entry) value.now }
+/// The number of a value in a type that the field of a condition has, if such fields hold such values.
+fn condition_value(heads: &Heads, of: TypeId, value: &ConditionValue) -> Option<i64>
+    ensures { result ≡ value_in (form heads.now of) value.now }
 {
-    match (form, value) {
+    match (heads.form(of), value) {
         (Form::Truth, ConditionValue::Truth { place: _, value }) => Some(i64::from(*value)),
-        (Form::Enum(members), ConditionValue::Name(name)) => {
-            member_number(members, name.text.as_str())
-        }
-        (Form::Enum(members), ConditionValue::EnumName { of: _, member }) => {
-            member_number(members, member.text.as_str())
+        (Form::Enum(_), ConditionValue::Name(name)) => heads.enum_number(of, name.text.as_str()),
+        (Form::Enum(_), ConditionValue::EnumName { of: _, member }) => {
+            heads.enum_number(of, member.text.as_str())
         }
         _ => None,
     }
 }
 
-/// What the field of that name holds.
-fn field_form<'h>(heads: &'h Heads, members: &[ListedMember<'_>], name: &str) -> Option<Form<'h>>
-    ensures { option_map seen_form result ≡ field_form_among heads.entry.now (map seen_listed members.now) name.now }
+/// The type of the field of that name.
+fn field_type(heads: &Heads, members: &[ListedMember<'_>], name: &str) -> Option<TypeId>
+    ensures { result ≡ field_type_among heads.now (map seen_listed members.now) name.now }
 {
     let field = field_named(members, name)?;
-    let of = heads.named(None, field.of.text.as_str())?;
-    Some(heads.form(of))
+    heads.named(None, field.of.text.as_str())
 }
 
 /// The condition of a conditional subtype, among the members of its base.
@@ -51,10 +47,10 @@ fn condition_on(
     ensures { IfOk result (λ entry. entry ≡ condition_among heads.now (map seen_listed members.now) of condition.now) }
 {
     let name = condition.field.text.as_str();
-    let Some(form) = field_form(heads, members, name) else {
+    let Some(field_type) = field_type(heads, members, name) else {
         return Ok(None);
     };
-    let Some(value) = condition_value(form, &condition.value) else {
+    let Some(value) = condition_value(heads, field_type, &condition.value) else {
         return Ok(None);
     };
     let field = Text::copy(alloc, name)?;

@@ -8,8 +8,9 @@ ghost use Rattle.type_heads.specs.Types.{Field};
 ghost use Rattle.type_members.specs.Listed.{lists_of, seen_listed};
 ghost use Rattle.type_tables.specs.Entries.{entries, field_entries, member_entries, named_among, named_in};
 
+use crate::FieldTable;
 use dsl_tree::{Expr, FieldDecl, Ident, Member};
-use osc_base::{Row, Text};
+use osc_base::Text;
 use std::alloc::{AllocError, Global};
 use type_heads::{FieldEntry, FieldType, Heads, TypeId};
 use type_members::{ListedMember, MemberLists};
@@ -109,14 +110,26 @@ fn fields(
     alloc: Global,
     heads: &Heads,
     members: &[ListedMember<'_>],
-) -> Result<Row<FieldEntry>, AllocError>
-    ensures { IfOk result (λ fields. fields ≡ table_fields heads.now (map seen_listed members.now)) }
+) -> Result<Vec<FieldEntry>, AllocError>
+    ensures { IfOk result (λ fields. fields.items ≡ table_fields heads.now (map seen_listed members.now)) }
 {
     let mut into = Vec::new(alloc);
     for member in members {
         push_member(alloc, &mut into, heads, member)?;
     }
-    Ok(Row::of(into))
+    Ok(into)
+}
+
+/// The fields among members, found by their names.
+fn field_table(
+    alloc: Global,
+    heads: &Heads,
+    members: &[ListedMember<'_>],
+) -> Result<FieldTable, AllocError>
+    ensures { IfOk result (λ table. table ≡ table_fields heads.now (map seen_listed members.now)) }
+{
+    let entries = fields(alloc, heads, members)?;
+    FieldTable::of(alloc, entries)
 }
 
 /// The fields of each type.
@@ -124,12 +137,12 @@ pub fn all_fields(
     alloc: Global,
     heads: &Heads,
     lists: &MemberLists<'_>,
-) -> Result<Vec<Row<FieldEntry>>, AllocError>
+) -> Result<Vec<FieldTable>, AllocError>
     ensures { IfOk result (λ all. all.items ≡ map (table_fields heads.now) (lists_of lists.now)) }
 {
     let mut all = Vec::new(alloc);
     for members in lists.rows() {
-        all.push(fields(alloc, heads, members.as_slice())?)?;
+        all.push(field_table(alloc, heads, members.as_slice())?)?;
     }
     Ok(all)
 }

@@ -2,9 +2,14 @@
 #![tactic(auto)]
 
 mod conditions;
+mod field_table;
 mod fields;
+mod first_places;
 mod numbers;
+mod unit_table;
 
 pub use conditions::all_conditions;
+pub use field_table::FieldTable;
 pub use fields::{all_fields, field_named};
 pub use numbers::all_numbers;
+pub use unit_table::UnitTable;

@@ -5,13 +5,13 @@ ghost use Rattle.std.specs.Option.{option_map_or};
 ghost use Rattle.osc_base.specs.FaultRows.{first_from, row};
 ghost use Rattle.type_heads.specs.Form.{Form as FormOf};
 ghost use Rattle.type_heads.specs.Seen.{seen_form};
-ghost use Rattle.type_heads.specs.Table.{form, named, number_of};
+ghost use Rattle.type_heads.specs.Table.{enum_members, enum_number, form, named};
 ghost use Rattle.type_heads.specs.MemberFaults.{can_decide as decides, held_rows};
 
 use dsl_tree::{ConditionValue, FieldDecl, HeirCondition, Ident};
 use name_scope::with_fault;
 use osc_base::{Fault, FaultCode};
-use type_heads::{EnumEntry, Form, Heads, TypeId, member_number};
+use type_heads::{Form, Heads, TypeId};
 
 /// Whether a condition can look at a field of this type.
 pub fn can_decide(form: Form<'_>) -> bool
@@ -21,10 +21,10 @@ pub fn can_decide(form: Form<'_>) -> bool
 }
 
 /// Whether an enum has no member of that name.
-fn is_no_member(members: &[EnumEntry], name: &str) -> bool
-    ensures { result ≡ is_none (number_of members.now name.now) }
+fn is_no_member(heads: &Heads, of: TypeId, name: &str) -> bool
+    ensures { result ≡ is_none (enum_number heads.now of name.now) }
 {
-    member_number(members, name).is_none()
+    heads.enum_number(of, name).is_none()
 }
 
 /// Whether a name means no type, or another one.
@@ -42,22 +42,21 @@ fn with_enum_value(
     first: Option<Fault>,
     heads: &Heads,
     of: TypeId,
-    members: &[EnumEntry],
     value: &ConditionValue,
 ) -> Option<Fault>
-    ensures { result ≡ first_from first (held_rows heads.now of (FormOf.Enum members.now) value.now) }
+    ensures { result ≡ first_from first (held_rows heads.now of (FormOf.Enum (enum_members (form heads.now of))) value.now) }
 {
     match value {
         ConditionValue::Truth { place, value: _ } => {
             with_fault(first, *place, FaultCode::WrongKind, true)
         }
         ConditionValue::Name(name) => {
-            let is_unknown = is_no_member(members, name.text.as_str());
+            let is_unknown = is_no_member(heads, of, name.text.as_str());
             with_fault(first, name.place, FaultCode::Unknown, is_unknown)
         }
         ConditionValue::EnumName { of: owner, member } => {
             let is_wrong = is_other_type(heads, of, owner);
-            let is_unknown = is_no_member(members, member.text.as_str());
+            let is_unknown = is_no_member(heads, of, member.text.as_str());
             let first = with_fault(first, owner.place, FaultCode::WrongKind, is_wrong);
             with_fault(first, member.place, FaultCode::Unknown, is_unknown)
         }
@@ -84,18 +83,17 @@ fn with_truth(
 }
 
 /// Faults of the value of a condition on a field of type `of`.
-pub fn with_value(
+fn with_value(
     first: Option<Fault>,
     heads: &Heads,
     of: TypeId,
-    form: Form<'_>,
     value: &ConditionValue,
 ) -> Option<Fault>
-    ensures { result ≡ first_from first (held_rows heads.now of (seen_form form.entry) value.now) }
+    ensures { result ≡ first_from first (held_rows heads.now of (form heads.now of) value.now) }
 {
-    match form {
+    match heads.form(of) {
         Form::Truth => with_truth(first, heads, of, value),
-        Form::Enum(members) => with_enum_value(first, heads, of, members, value),
+        Form::Enum(_) => with_enum_value(first, heads, of, value),
         Form::Int
         | Form::Uint
         | Form::Float
@@ -115,8 +113,7 @@ pub fn with_decided(
 ) -> Option<Fault>
     ensures { result ≡ first_from first (row condition.now.field.place FaultCode.WrongKind (not (decides (form heads.now of)) || is_some field.now.list) ∷ held_rows heads.now of (form heads.now of) condition.now.value) }
 {
-    let form = heads.form(of);
-    let is_wrong = !can_decide(form) || field.list.is_some();
+    let is_wrong = !can_decide(heads.form(of)) || field.list.is_some();
     let first = with_fault(first, condition.field.place, FaultCode::WrongKind, is_wrong);
-    with_value(first, heads, of, form, &condition.value)
+    with_value(first, heads, of, &condition.value)
 }

@@ -1,4 +1,4 @@
-use Rattle.std.proofs.Common.{rules, ◌≡◌, ◌∙◌, ◌<◌, ◌+◌, ◌*◌, ◌/◌, ℕ, refl, sym, ap, map, true, false, arith}
+use Rattle.std.proofs.Common.{◌≡◌, ◌∙◌, ◌<◌, ◌+◌, ◌*◌, ap, arith}
 use Rattle.std.specs.Prelude.{pos, unwrap_or, max}
 use denote.Param.Weighed.{most}
 use Rattle.expr_nodes.specs.declared.node.Typed.TheViews.{size-Typed, size-Earlier}

@@ -1,9 +1,12 @@
 use Rattle.std.proofs.Common.{◌∙◌}
-use Rattle.named_scenario.proofs.FirstFaults.{told_fault, unbuilt, use_fault}
+use Rattle.named_scenario.proofs.FirstFaults.{no_fault, told_fault, unbuilt, use_fault}
 use Rattle.named_scenario.proofs.sound.sound_types.Goals as goal
 
 pub returns-in_err-types-clause-fault : goal.returns-in_err-types-clause-fault
 returns-in_err-types-clause-fault c = unbuilt c.args.program.now c.from_residual.result c.in_err-types.field-0.0 c.in_err-types.ensures.fault c.from_residual.ensures.1
+
+pub returns-in_err-fault-clause-fault : goal.returns-in_err-fault-clause-fault
+returns-in_err-fault-clause-fault c = no_fault c.args.program.now c.from_residual-in_err-fault.result c.from_residual-in_err-fault.ensures.1
 
 pub returns-in-Some-clause-fault : goal.returns-in-Some-clause-fault
 returns-in-Some-clause-fault c =

@@ -6,4 +6,4 @@ use Rattle.scene_expansion.specs.Walks.{modifier_at, nodes_done}
 use Rattle.scene_expansion.proofs.laid.modifiers_of.Given as goal
 
 abbrev pub invariant-loop-work : goal.invariant-loop-work
-invariant-loop-work g l = map seen_modifier l.modifiers.items ≡ map (modifier_at (seen_scene l.scene).bindings) (modifiers_laid (nodes_done (g.L.Layout.types l.layout) (take l.work-index l.works)))
+invariant-loop-work g l = map seen_modifier l.modifiers.items ≡ map (modifier_at (seen_scene l.scene).bindings) (modifiers_laid (nodes_done (g.L.WorkLayout.types l.layout) (take l.work-index l.works)))

@@ -7,4 +7,4 @@ use Rattle.scene_expansion.specs.Walks.{nodes_done}
 use Rattle.scene_expansion.proofs.laid.occurrences_of.Given as goal
 
 abbrev pub invariant-loop-work : goal.invariant-loop-work
-invariant-loop-work g l = map seen_occurrence l.occurrences.items ≡ map (occurrence_of (seen_scene l.scene).bindings) (givens_laid (nodes_done (g.L.Layout.types l.layout) (take l.work-index l.works)))
+invariant-loop-work g l = map seen_occurrence l.occurrences.items ≡ map (occurrence_of (seen_scene l.scene).bindings) (givens_laid (nodes_done (g.L.WorkLayout.types l.layout) (take l.work-index l.works)))

@@ -5,4 +5,4 @@ use Rattle.scene_expansion.specs.Walks.{nodes_done}
 use Rattle.scene_expansion.proofs.laid.spots_of.Given as goal
 
 abbrev pub invariant-loop-work : goal.invariant-loop-work
-invariant-loop-work g l = map seen_spot l.spots ≡ spots_laid (nodes_done (g.L.Layout.types l.layout) (take l.work-index l.works))
+invariant-loop-work g l = map seen_spot l.spots ≡ spots_laid (nodes_done (g.L.WorkLayout.types l.layout) (take l.work-index l.works))

@@ -6,6 +6,6 @@ use Rattle.scene_expansion.proofs.walk.laid_after.Goals as goal
 
 pub returns-clause-many : goal.returns-clause-many
 returns-clause-many g c =
-    λ none. many_after (g.L.Layout.types c.args.layout.now) c.loop-laid.done.items c.loop-laid.pending.items
-    (whole_after (g.L.Layout.types c.args.layout.now) (seen_work c.args.root) (map seen_work c.args.parts.items)) c.loop-laid._laid
+    λ none. many_after (g.L.WorkLayout.types c.args.layout.now) c.loop-laid.done.items c.loop-laid.pending.items
+    (whole_after (g.L.WorkLayout.types c.args.layout.now) (seen_work c.args.root) (map seen_work c.args.parts.items)) c.loop-laid._laid
     c.loop-laid.invariant.nodes c.loop-laid.invariant.laid (omega arith)

@@ -5,6 +5,6 @@ use Rattle.scene_expansion.proofs.walk.laid_before.Given as goal
 
 abbrev pub invariant-loop-laid : goal.invariant-loop-laid
 invariant-loop-laid g l = record {
-  nodes : nodes_before (g.L.Layout.types l.layout) l.done.items l.pending.items ≡ whole_before (g.L.Layout.types l.layout) (seen_work l.fn.root) (map seen_work l.fn.parts.items);
+  nodes : nodes_before (g.L.WorkLayout.types l.layout) l.done.items l.pending.items ≡ whole_before (g.L.WorkLayout.types l.layout) (seen_work l.fn.root) (map seen_work l.fn.parts.items);
   laid : length l.done.items ≡ l._laid + 1;
 }

@@ -3,5 +3,5 @@ use Rattle.scene_expansion.proofs.walk.lay_before.Goals as goal
 
 pub returns-clause-nodes : goal.returns-clause-nodes
 returns-clause-nodes g c =
-    laid_before_step c.stack.result (g.L.Layout.types c.args.layout.now) c.args.done.now.items c.args.pending.now.items c.in_ok-parts.parts.items c.push.new.self.items c.stack.new.pending.items c.args.work
+    laid_before_step c.stack.result (g.L.WorkLayout.types c.args.layout.now) c.args.done.now.items c.args.pending.now.items c.in_ok-parts.parts.items c.push.new.self.items c.stack.new.pending.items c.args.work
     c.in_ok-parts.ensures c.in_ok-push.ensures.items c.stack.ensures

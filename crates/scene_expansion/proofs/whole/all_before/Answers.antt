@@ -5,10 +5,10 @@ use Rattle.scene_expansion.proofs.whole.all_before.Goals as goal
 
 pub returns-clause-all : goal.returns-clause-all
 returns-clause-all g c =
-    before_all (g.L.Layout.types c.args.layout.now) c.args.of (seen_work c.in_ok-root.root) (map seen_work c.in_ok-parts.parts.items) c.in_ok-root.ensures c.in_ok-parts.ensures
+    before_all (g.L.WorkLayout.types c.args.layout.now) c.args.of (seen_work c.in_ok-root.root) (map seen_work c.in_ok-parts.parts.items) c.in_ok-root.ensures c.in_ok-parts.ensures
     c.laid_before.result (λ ws. ws.items) c.laid_before.ensures.all
 
 pub returns-clause-many : goal.returns-clause-many
 returns-clause-many g c =
-    before_many (g.L.Layout.types c.args.layout.now) c.args.of (seen_work c.in_ok-root.root) (map seen_work c.in_ok-parts.parts.items) c.in_ok-root.ensures c.in_ok-parts.ensures
+    before_many (g.L.WorkLayout.types c.args.layout.now) c.args.of (seen_work c.in_ok-root.root) (map seen_work c.in_ok-parts.parts.items) c.in_ok-root.ensures c.in_ok-parts.ensures
     c.laid_before.result (λ ws. ws.items) c.laid_before.ensures.many

@@ -9,7 +9,7 @@ use Rattle.scene_expansion.proofs.whole.whole.Goals as goal
 pub returns : goal.returns
 returns g c =
     c.with_asked.ensures
-    ∙ whole_is c.args.setting (g.L.Layout.types c.args.layout.now).table.texts (nodes_done (g.L.Layout.types c.args.layout.now) c.args.before.now) (nodes_done (g.L.Layout.types c.args.layout.now) c.args.after.now)
+    ∙ whole_is c.args.setting (g.L.WorkLayout.types c.args.layout.now).table.texts (nodes_done (g.L.WorkLayout.types c.args.layout.now) c.args.before.now) (nodes_done (g.L.WorkLayout.types c.args.layout.now) c.args.after.now)
     c.in_ok-scene.scene c.readable_occurrences-occurrences.result c.readable_modifiers-modifiers.result c.in_ok-scene.ensures
     (c.readable_occurrences-occurrences.ensures ∙ ap (filter (can_be_asked (seen_scene c.in_ok-scene.scene))) c.in_ok-occurrences.ensures)
     (c.readable_modifiers-modifiers.ensures ∙ ap (filter (can_apply (seen_scene c.in_ok-scene.scene))) c.in_ok-modifiers.ensures)

@@ -1,7 +1,6 @@
-use Rattle.std.proofs.Common.{◌≡◌, sym, ap, ◌∙◌, arith, pos, ◌<ℤ◌, ⊎_elim}
+use Rattle.std.proofs.Common.{sym, ap, ◌∙◌, arith}
 use Rattle.std.proofs.lemmas.Int.{ints}
 use Rattle.box_eval.specs.declared.bounds.Pair.{Pair}
-use Rattle.box_eval.specs.Guided.{IsDeadEnd}
 use Rattle.bound_trail.specs.History.{present}
 use Rattle.search_laws.proofs.Halves.{no_dead_end}
 use Rattle.seeded_search.proofs.halving.longest.Goals as goal

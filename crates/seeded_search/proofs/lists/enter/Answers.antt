@@ -1,4 +1,4 @@
-use Rattle.std.proofs.Common.{◌<◌, arith, refl, get_or}
+use Rattle.std.proofs.Common.{arith, refl, get_or}
 use Rattle.seeded_search.proofs.SlotLists.{entered_more}
 use Rattle.seeded_search.proofs.Wakings.{below_at}
 use Rattle.seeded_search.proofs.lists.enter.Goals as goal

@@ -1,4 +1,4 @@
-use Rattle.std.proofs.Common.{◌≡◌, ◌∙◌, ap, sym, arith, refl}
+use Rattle.std.proofs.Common.{arith}
 use Rattle.seeded_search.proofs.SlotLists.{item_at, slot_lists_more, slot_lists_all}
 use Rattle.seeded_search.proofs.lists.slots_by_rule.Goals as goal
 

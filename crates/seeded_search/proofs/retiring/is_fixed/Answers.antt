@@ -1,4 +1,3 @@
-use Rattle.bound_trail.specs.History.{present}
 use Rattle.seeded_search.proofs.Wakings.{below_at}
 use Rattle.seeded_search.proofs.retiring.is_fixed.Goals as goal
 

@@ -1,4 +1,4 @@
-use Rattle.std.proofs.Common.{◌≡◌, ◌<◌, ◌∙◌, sym, subst, arith, length, [], List, ℕ}
+use Rattle.std.proofs.Common.{◌≡◌, ◌∙◌, sym, subst, arith, length, [], List, ℕ}
 use Rattle.bound_trail.specs.History.{present}
 use Rattle.wake_ring.specs.Order.{AllBelow}
 use Rattle.box_eval.proofs.ReadBounds.{read_below}

@@ -1,4 +1,4 @@
-use Rattle.std.proofs.Common.{◌≡◌, ◌+◌, ap, arith, length}
+use Rattle.std.proofs.Common.{◌+◌, ap, arith, length}
 use Rattle.seeded_search.proofs.Searches.{started, point_answer, undecided_answer}
 use Rattle.seeded_search.proofs.searching.search.Goals as goal
 

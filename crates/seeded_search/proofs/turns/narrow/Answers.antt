@@ -1,5 +1,4 @@
-use Rattle.std.proofs.Common.{◌≡◌, ◌∙◌, arith, to_z, of_z, w64, rules}
-use Rattle.std.proofs.lemmas.Int.{ints}
+use Rattle.std.proofs.Common.{◌≡◌, ◌∙◌, to_z, of_z, w64, rules}
 use Rattle.seeded_search.proofs.Working.{probe}
 use Rattle.seeded_search.proofs.Narrowings.{is_longest, stuck}
 use Rattle.seeded_search.proofs.turns.narrow.Goals as goal

@@ -1,6 +1,5 @@
-use Rattle.std.proofs.Common.{◌≡◌, ◌∙◌, ap, subst, sym, inl, inr, ◌⊎◌, ℕ, ◌+◌, ◌<◌, ◌≤◌, List, [], length, get_or, take, true, arith}
+use Rattle.std.proofs.Common.{◌≡◌, ◌∙◌, ap, subst, sym, ℕ, ◌+◌, ◌<◌, List, [], length, get_or, take, true, arith}
 use Rattle.std.proofs.Math.Seq.{take-length}
-use Rattle.box_eval.specs.declared.cut.Side.{Side}
 use Rattle.wake_ring.specs.Queue.{is_in}
 use Rattle.seeded_search.specs.declared.turns.Step.{Step}
 use Rattle.seeded_search.specs.Listed.{slots_at}

@@ -1,4 +1,4 @@
-use Rattle.std.proofs.Common.{◌≡◌, ◌<◌, ◌∙◌, ap, sym, arith, get_or, length, [], List, ℕ}
+use Rattle.std.proofs.Common.{◌≡◌, ◌∙◌, ap, arith, get_or, length, [], List, ℕ}
 use Rattle.seeded_search.specs.Listed.{rules_at}
 use Rattle.seeded_search.proofs.Wakings.{below_at, list_at}
 use Rattle.seeded_search.proofs.turns.wake.Goals as goal

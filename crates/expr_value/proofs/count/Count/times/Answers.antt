@@ -1,4 +1,4 @@
-use Rattle.std.proofs.Common.{◌≡◌, ◌≤◌, ◌*ℤ◌, SFits, sym, subst, rules, unsigned_abs}
+use Rattle.std.proofs.Common.{◌≤◌, ◌*ℤ◌, SFits, sym, subst, rules, unsigned_abs}
 use Rattle.std.specs.Int.{w128}
 use Rattle.std.proofs.lemmas.Int.{to_z-of_z}
 use Rattle.expr_value.proofs.Bounds.{product_within, product_fits}

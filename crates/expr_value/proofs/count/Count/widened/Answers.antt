@@ -1,4 +1,4 @@
-use Rattle.std.proofs.Common.{◌≡◌, ◌≤◌, ◌/◌, ◌*ℤ◌, pos, SFits, rules, arith}
+use Rattle.std.proofs.Common.{◌/◌, ◌*ℤ◌, pos, SFits, rules, arith}
 use Rattle.std.specs.Int.{w128}
 use Rattle.std.proofs.lemmas.Int.{ints, to_z-of_z}
 use Rattle.expr_value.proofs.Bounds.{share_small, share_is, wide_within, wide_fits}

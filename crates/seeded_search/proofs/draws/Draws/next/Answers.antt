@@ -1,5 +1,5 @@
-use Rattle.std.proofs.Common.{◌≡◌, ◌<◌, ◌+◌, ◌*◌, ℕ, ap, ap₂, sym, ◌∙◌, arith}
-use Rattle.seeded_search.specs.Draws.{word_of, number_of}
+use Rattle.std.proofs.Common.{◌≡◌, ◌<◌, ◌+◌, ◌*◌, ap, ap₂, arith}
+use Rattle.seeded_search.specs.Draws.{number_of}
 use Rattle.seeded_search.specs.Rooms.{Drawing}
 use Rattle.seeded_search.proofs.Words.{word_taken}
 use Rattle.seeded_search.proofs.draws.Draws.next.Goals as goal

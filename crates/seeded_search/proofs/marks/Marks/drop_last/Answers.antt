@@ -1,4 +1,4 @@
-use Rattle.std.proofs.Common.{◌≡◌, ◌∷◌, [], ◌++◌, arith}
+use Rattle.std.proofs.Common.{arith}
 use Rattle.seeded_search.proofs.MarkLists.{last_below, mark_less}
 use Rattle.seeded_search.proofs.marks.Marks.drop_last.Goals as goal
 

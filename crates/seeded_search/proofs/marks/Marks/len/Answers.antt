@@ -1,4 +1,4 @@
-use Rattle.std.proofs.Common.{ap, arith, length}
+use Rattle.std.proofs.Common.{ap, arith}
 use Rattle.seeded_search.specs.Rooms.{Marked}
 use Rattle.seeded_search.proofs.MarkLists.{marks_few}
 use Rattle.seeded_search.proofs.marks.Marks.len.Goals as goal

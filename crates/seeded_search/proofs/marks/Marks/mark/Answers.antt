@@ -1,4 +1,4 @@
-use Rattle.std.proofs.Common.{◌≡◌, ◌<◌, ◌∙◌, ap, sym, subst, arith, false, length, ℕ, List}
+use Rattle.std.proofs.Common.{◌∙◌, ap, arith}
 use Rattle.wake_ring.specs.Queue.{is_in}
 use Rattle.seeded_search.specs.Rooms.{Marked}
 use Rattle.seeded_search.proofs.MarkLists.{mark_room, mark_more}

@@ -1,4 +1,4 @@
-use Rattle.std.proofs.Common.{◌≡◌, ◌∙◌, ap, ℕ, List, [], ◌∷◌, ◌++◌, length, arith, length-append}
+use Rattle.std.proofs.Common.{◌∙◌, ap, List, [], ◌∷◌, ◌++◌, length, arith, length-append}
 use Rattle.box_eval.specs.declared.record.Line.{Line}
 use Rattle.box_eval.specs.declared.record.Line.TheVariants as L
 use Rattle.search_laws.specs.Answers.{unknown_lines}

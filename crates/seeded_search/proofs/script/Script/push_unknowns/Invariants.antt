@@ -1,4 +1,4 @@
-use Rattle.std.proofs.Common.{◌≡◌, ◌≤◌, ◌++◌}
+use Rattle.std.proofs.Common.{◌≡◌, ◌++◌}
 use Rattle.search_laws.specs.Answers.{unknown_lines}
 use Rattle.seeded_search.proofs.script.Script.push_unknowns.Given as goal
 

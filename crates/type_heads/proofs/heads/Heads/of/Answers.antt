@@ -1,4 +1,5 @@
-use Rattle.std.proofs.Common.{◌∙◌, sym, ap, map}
+use Rattle.std.proofs.Common.{◌∙◌, sym, ap, map, subst}
+use Rattle.type_heads.specs.EnumNames.{IsEnumIndex}
 use Rattle.type_heads.specs.Table.{named}
 use Rattle.type_heads.specs.DeclaredTypes.{Declared}
 use Rattle.type_heads.specs.Placing.{seen_type}
@@ -14,6 +15,7 @@ invariant_of-result c =
           ∙ ap (λ ts. named (map (λ (d : Declared). d.head) (map seen_type ts)) owner name) c.as_slice.ensures.value
           ∙ sym (ap (λ hs. named hs owner name) c.in_ok-entries.ensures.heads
           ∙ named_same (heads_of c.args.declarations.now) c.args.declarations.now.added.items 0 (map seen_type types) owner name 0),
+      subst (IsEnumIndex c.in_ok-members.members) c.as_slice-2.ensures.value c.in_ok-members.ensures,
     )
 
 pub returns : goal.returns

@@ -8,8 +8,6 @@ use Rattle.type_model.proofs.types.Types.unit.Goals as goal
 
 pub returns-in-Some : goal.returns-in-Some
 returns-in-Some c =
-    let found : Some c.in-Some.unit.now ≡ find (λ (u : TableUnit). bytes_eq u.name c.args.name.now) c.as_slice.result.now = search rules in
-    let is : Some c.in-Some.unit.now ≡ find (λ (u : TableUnit). bytes_eq u.name c.args.name.now) c.self.inside.units.items
-    = found ∙ ap (find (λ (u : TableUnit). bytes_eq u.name c.args.name.now)) c.as_slice.ensures.value in
-    unit_found c.self.inside.units.items c.args.name.now c.in-Some.unit.now (option_map shown_unit c.unit.result) (c.self.invariant.sound_units c.args.name.now) is c.unit.ensures
+    let is : Some c.in-Some.unit.now ≡ find (λ (u : TableUnit). bytes_eq u.name c.args.name.now) c.self.inside.units = search rules in
+    unit_found c.self.inside.units c.args.name.now c.in-Some.unit.now (option_map shown_unit c.unit.result) (c.self.invariant.sound_units c.args.name.now) is c.unit.ensures
     ∙ ap (λ (told : Told). option_map unit_parts (find (λ (u : TableUnit). bytes_eq u.name c.args.name.now) told.table.units)) c.self.view_is

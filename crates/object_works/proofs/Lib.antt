@@ -1,0 +1,3 @@
+pub mod ElementSteps
+pub mod WorkParts
+pub mod ArgumentSteps

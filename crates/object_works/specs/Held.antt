@@ -1,0 +1,24 @@
+-- What a field of a type holds.
+use Rattle.std.specs.Prelude.{ℕ, ◌&&◌, not, List, [], ◌++◌, ◌∷◌, Option, cond, flat_map, option_to_list}
+use Rattle.osc_base.specs.declared.path.Path.{Path}
+use Rattle.dsl_tree.specs.FileTree.{FieldTree}
+use Rattle.type_heads.specs.Table.{form, is_object}
+use Rattle.type_heads.specs.Types.{Types}
+use Rattle.type_heads.specs.Members.{list_length}
+use Rattle.composition.specs.declared.guard.Guard.{Guard}
+use Rattle.composition.specs.Homes.{is_bound}
+use Rattle.composition.specs.Ranges.{range_of}
+use Rattle.composition.specs.Scenes.{Binding}
+use Rattle.expansion_laws.specs.Works.{Work, Object, value_works}
+
+-- its object, unless it is bound
+abbrev pub held_objects : ℕ → Types → List Binding → Path → List Guard → ℕ → List Work
+held_objects steps ts bindings path guards of = cond (is_object (form ts.table.heads of) && not (is_bound bindings path)) (Object steps path of guards [] ∷ []) []
+
+-- its values
+abbrev pub held_values : Types → Path → List Guard → FieldTree → ℕ → List Work
+held_values ts path guards f of = flat_map (value_works path guards (list_length f)) (option_to_list (range_of (form ts.table.heads of)))
+
+-- both
+abbrev pub held_works : ℕ → Types → List Binding → Path → List Guard → FieldTree → ℕ → List Work
+held_works steps ts bindings path guards f of = held_objects steps ts bindings path guards of ++ held_values ts path guards f of

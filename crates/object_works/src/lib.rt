@@ -1,0 +1,12 @@
+//! The works in a work of an expansion: the objects and values of fields, and the phases of a `do`.
+#![tactic(auto)]
+
+mod bindings;
+mod calls;
+mod copies;
+mod fields;
+mod within;
+mod works_in;
+
+pub use within::Within;
+pub use works_in::{parts, root, root_parts};

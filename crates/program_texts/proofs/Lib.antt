@@ -1,0 +1,4 @@
+pub mod TypeRows
+pub mod ConditionSteps
+pub mod ExprKinds
+pub mod NamedFields

@@ -1,0 +1,9 @@
+use Rattle.std.proofs.Common.{◌∙◌, ap}
+use Rattle.type_heads.specs.Told.{Told}
+use Rattle.cond_inherit.specs.SubtypeConditions.{condition_at}
+use Rattle.program_texts.specs.SeenTexts.{types_in}
+use Rattle.program_texts.proofs.TypeRows.{condition_is}
+use Rattle.program_texts.proofs.texts.ProgramTexts.condition.Goals as goal
+
+pub returns : goal.returns
+returns c = c.in_ok-found.ensures ∙ ap (λ (t : Told). condition_at t c.args.of) c.args.self.now.told_is ∙ condition_is (types_in c.args.self.now) c.args.of

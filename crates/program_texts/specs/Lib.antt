@@ -1,0 +1,4 @@
+pub mod SeenFields
+pub mod SeenTexts
+pub mod Ranges
+pub mod SeenConditions

@@ -1,0 +1,21 @@
+-- Conditions, one conditional subtype at a time.
+use Rattle.std.specs.Prelude.{ℕ, ◌∷◌, [], ◌++◌, List, flat_map, option_to_list}
+use Rattle.osc_base.specs.declared.path.Path.{Path}
+use Rattle.osc_base.specs.Paths.{then_name}
+use Rattle.type_heads.specs.Conditions.{Condition, condition}
+use Rattle.type_heads.specs.Members.{field}
+use Rattle.type_heads.specs.Types.{Field, Types}
+use Rattle.cond_inherit.specs.Conditions.{conditions_within}
+use Rattle.composition.specs.declared.guard.Guard.{Guard}
+
+-- a condition after those that its field is under
+abbrev pub with_earlier : ℕ → Types → ℕ → Condition → List Condition
+with_earlier steps ts t c = flat_map (λ (f : Field). conditions_within steps ts t f.under) (option_to_list (field ts t c.field)) ++ c ∷ []
+
+-- the condition of a conditional subtype, after those that its field is under
+abbrev pub conditions_after : ℕ → Types → ℕ → ℕ → List Condition
+conditions_after steps ts t subtype = flat_map (with_earlier steps ts t) (option_to_list (condition ts subtype))
+
+-- the guard of a condition on an object
+abbrev pub guard_of : Path → Condition → Guard
+guard_of object c = Guard.Value (then_name object c.field) c.value

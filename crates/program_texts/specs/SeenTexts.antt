@@ -1,0 +1,17 @@
+-- What the program's own texts of types are seen as.
+use Rattle.type_heads.specs.Bodied.{seen_body}
+use Rattle.type_heads.specs.Table.{Table}
+use Rattle.type_heads.specs.Types.{Types}
+use Rattle.type_members.specs.Listed.{lists_of}
+use Rattle.std.specs.Prelude.{map}
+use Rattle.program_members.specs.declared.members.ProgramMembers.{ProgramMembers}
+use Rattle.program_texts.specs.declared.texts.ProgramTexts.{ProgramTexts}
+use Rattle.program_texts.specs.SeenFields.{types_of_parts}
+
+-- the types of the texts
+abbrev pub types_in : ProgramTexts → Types
+types_in t = types_of_parts t.bodies.now t.library t.lists.now t.types.now.table
+
+-- the types with these members and that table
+abbrev pub types_with : ProgramMembers → Table → Types
+types_with m table = record { bodies = map seen_body m.bodies.items; library = m.library; members = lists_of m.lists; table = table }

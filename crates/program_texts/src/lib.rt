@@ -1,0 +1,12 @@
+//! What a program declares, type by type, with its trees: fields, the `do`, what fields hold, and under which conditions
+//! members are there.
+#![tactic(auto)]
+
+mod conditions;
+mod field_parts;
+mod gathered;
+mod queries;
+mod texts;
+
+pub use field_parts::{list_items, list_length, range_of};
+pub use texts::{ProgramTexts, TypeDo, TypeField};

@@ -1,0 +1,199 @@
+//! What is asked of the types of a program.
+
+ghost use Rattle.std.specs.Prelude.{◌≡◌, find, map, option_copied, option_map, IfOk};
+ghost use Rattle.composition.specs.SceneFaults.{named_scenario};
+ghost use Rattle.composition.specs.Expanded as expanded;
+ghost use Rattle.dsl_tree.specs.Views.{field_tree};
+ghost use Rattle.type_heads.specs.Members.{body, declared_type, fields_among, fields_declared};
+ghost use Rattle.type_heads.specs.Members as told;
+ghost use Rattle.type_heads.specs.Told.{told as all_told};
+ghost use Rattle.type_heads.specs.Table.{form};
+ghost use Rattle.type_heads.specs.Table as table;
+ghost use Rattle.type_members.specs.Listed.{seen_listed};
+ghost use Rattle.program_texts.specs.Ranges.{object_kind};
+ghost use Rattle.program_texts.specs.SeenFields.{fields_named, has_name, seen_do, seen_field};
+ghost use Rattle.program_texts.specs.SeenTexts.{types_in, types_with};
+
+use crate::gathered::{fields_of, first_do};
+use crate::texts::{ProgramTexts, TypeDo, TypeField};
+use dsl_tree::{FieldDecl, HeirCondition, Member};
+use osc_base::{Place, Row};
+use program_members::ProgramMembers;
+use std::alloc::{AllocError, Global};
+use type_members::heir_condition;
+use type_model::{ListedMember, TypeId, TypeKind, Types};
+
+/// The place of what no file declares.
+const NOWHERE: Place = Place {
+    file: 0,
+    line: 0,
+    column: 0,
+    token: 0,
+};
+
+impl<'a> ProgramTexts<'a> {
+    /// The texts of a program with these types and members. Both are those of one program.
+    pub fn of(types: &'a Types, members: &'a ProgramMembers<'a>) -> ProgramTexts<'a>
+        requires built { types.now ≡ all_told (types_with members.now types.now.table) }
+        ensures { types_in result ≡ types_with members.entry.now types.entry.now.table }
+    {
+        ProgramTexts {
+            types,
+            library: members.library,
+            bodies: members.bodies.as_slice(),
+            lists: members.lists.rows(),
+        }
+    }
+
+    /// The types.
+    pub fn types(&self) -> &'a Types
+        ensures { result.now.table ≡ (types_in self.now).table }
+    {
+        self.types
+    }
+
+    /// The fields of a type, name by name.
+    pub fn fields(&self, alloc: Global, of: TypeId) -> Result<Row<TypeField<'a>>, AllocError>
+        ensures { IfOk result (λ fs. map seen_field fs ≡ told.fields (types_in self.now) of) }
+    {
+        fields_of(alloc, self.members(of))
+    }
+
+    /// The `do` of a type, its own or an inherited one.
+    pub fn the_do(&self, of: TypeId) -> Option<TypeDo<'a>>
+        ensures { option_map seen_do result ≡ told.the_do (types_in self.now) of }
+    {
+        first_do(self.members(of))
+    }
+
+    /// The members of a type, in order.
+    pub fn members(&self, of: TypeId) -> &'a [ListedMember<'a>]
+        ensures { map seen_listed result.now ≡ told.members (types_in self.now) of }
+    {
+        match self.lists.get(of.0 as usize) {
+            Some(members) => members.as_slice(),
+            None => &[],
+        }
+    }
+
+    /// The place of the name of a type.
+    pub fn place(&self, of: TypeId) -> Place
+        ensures { result ≡ (body (types_in self.now).bodies of).place }
+    {
+        match self.bodies.get(of.0 as usize) {
+            Some(body) => body.place,
+            None => NOWHERE,
+        }
+    }
+
+    /// The condition under which a type inherits, as written.
+    pub fn heir_condition(&self, of: TypeId) -> Option<&'a HeirCondition>
+        ensures { option_copied result ≡ told.heir_condition (types_in self.now).bodies of }
+    {
+        heir_condition(self.bodies, of)
+    }
+
+    /// The field of that name of a type.
+    pub fn field(&self, of: TypeId, name: &str) -> Option<TypeField<'a>>
+        ensures { option_map seen_field result ≡ told.field (types_in self.now) of name.now }
+    {
+        named_among(self.members(of), name)
+    }
+
+    /// The type of a field, or of the elements of a list.
+    pub fn declared_type(&self, decl: &FieldDecl) -> Option<TypeId>
+        ensures { result ≡ declared_type (types_in self.now) (field_tree decl.now) }
+    {
+        self.types.named(None, decl.of.text.as_str())
+    }
+
+    /// Whether what a field of the type holds is an object.
+    pub fn is_object(&self, of: TypeId) -> bool
+        ensures { result ≡ table.is_object (form (types_in self.now).table.heads of) }
+    {
+        is_object_kind(self.types.kind(of))
+    }
+
+    /// The scenario of that name, with its owner if it has one.
+    pub fn scenario(&self, owner: Option<&str>, name: &str) -> Option<TypeId>
+        ensures { result ≡ named_scenario (types_in self.now) (option_copied owner.entry) name.now }
+    {
+        let found = self.types.named(owner, name)?;
+        match self.types.kind(found) {
+            TypeKind::Scenario => Some(found),
+            _ => None,
+        }
+    }
+
+    /// Whether the type is the library's `vehicle` or inherits from it.
+    pub fn is_vehicle(&self, of: TypeId) -> bool
+        ensures { result ≡ expanded.is_vehicle (types_in self.now) of }
+    {
+        program_calls::is_vehicle(self.types, self.library.is_some(), of)
+    }
+}
+
+/// Whether a type of that kind has objects.
+fn is_object_kind(kind: TypeKind) -> bool
+    ensures { result ≡ object_kind kind }
+{
+    match kind {
+        TypeKind::Struct | TypeKind::Actor => true,
+        TypeKind::Int
+        | TypeKind::Uint
+        | TypeKind::Float
+        | TypeKind::Bool
+        | TypeKind::Chars
+        | TypeKind::Physical(_)
+        | TypeKind::Enum
+        | TypeKind::Action
+        | TypeKind::Scenario => false,
+    }
+}
+
+/// The first field of that name that a member declares.
+fn named_in<'a>(listed: &'a ListedMember<'a>, name: &str) -> Option<TypeField<'a>>
+    ensures { option_map seen_field result ≡ find (has_name name.now) (fields_declared (seen_listed listed.entry.now) (seen_listed listed.entry.now).written.member) }
+{
+    match listed.written.member {
+        Member::Field(decl) => {
+            let under = listed.under.as_slice();
+            named_of(decl, listed.holder.0, under, name)
+        }
+        Member::Rule(_) | Member::Do { .. } => None,
+    }
+}
+
+/// The field of that name of a declaration.
+fn named_of<'a>(
+    decl: &'a FieldDecl,
+    holder: u32,
+    under: &'a [TypeId],
+    name: &str,
+) -> Option<TypeField<'a>>
+    ensures { option_map seen_field result ≡ find (has_name name.now) (fields_named (field_tree decl.entry.now) holder under.entry.now decl.entry.now.names) }
+{
+    for own in decl.names.as_slice() {
+        if own.text.as_str() == name {
+            return Some(TypeField {
+                name: own,
+                decl,
+                holder,
+                under,
+            });
+        }
+    }
+    None
+}
+
+/// The first field of that name that members declare.
+fn named_among<'a>(members: &'a [ListedMember<'a>], name: &str) -> Option<TypeField<'a>>
+    ensures { option_map seen_field result ≡ find (has_name name.now) (fields_among (map seen_listed members.entry.now)) }
+{
+    for listed in members {
+        if let Some(found) = named_in(listed, name) {
+            return Some(found);
+        }
+    }
+    None
+}

@@ -1,0 +1,5 @@
+pub mod Sound
+pub mod Truths
+pub mod Watches
+pub mod Overridden
+pub mod Narrow

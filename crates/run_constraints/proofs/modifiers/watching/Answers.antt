@@ -1,0 +1,35 @@
+use Rattle.std.proofs.Common.{◌∙◌, ap, []}
+use Rattle.std.specs.Prelude.{unwrap_or}
+use Rattle.osc_base.specs.Fraction.{value}
+use Rattle.composition.specs.SeenParts.{seen_modifier}
+use Rattle.composition.specs.Items.{other_of}
+use Rattle.composition.specs.TimedRuns.{samples_in}
+use Rattle.run_values.specs.SeenCourses.{sample_at}
+use Rattle.run_values.specs.SeenNumbers.{scene_in, run_in}
+use Rattle.run_constraints.proofs.Sound.{low_sound, high_sound}
+use Rattle.run_constraints.proofs.Watches.{watch_same}
+use Rattle.run_constraints.proofs.Narrow.{has_ends, range_narrow, measured_at}
+use Rattle.run_constraints.proofs.modifiers.watching.Goals as goal
+
+pub end_at-requires : goal.end_at-requires
+end_at-requires c = λ r. low_sound (scene_in c.args.numbers.now) (seen_modifier c.args.modifier.now) c.requires.sound r
+
+pub end_at-requires-2 : goal.end_at-requires-2
+end_at-requires-2 c = λ r. high_sound (scene_in c.args.numbers.now) (seen_modifier c.args.modifier.now) c.requires.sound r
+
+pub returns : goal.returns
+returns c =
+    let others = c.samples-2.ensures ∙ ap (λ p. unwrap_or (samples_in (run_in c.args.numbers.now) p) []) c.other_of.ensures in
+    record {
+      same = watch_same (scene_in c.args.numbers.now) (run_in c.args.numbers.now) (seen_modifier c.args.modifier.now) c.start_of.result c.end_of.result
+          c.end_at.result c.end_at-2.result c.samples.result.now c.samples-2.result.now c.start_of.ensures c.end_of.ensures
+          (λ r. (c.end_at.ensures r).end) (λ r. (c.end_at-2.ensures r).end) c.samples.ensures others;
+      comparable = record {
+        at = λ tick.
+            has_ends c.args.modifier.now.kind (sample_at c.samples.result.now tick) (sample_at c.samples-2.result.now tick) (value c.end_at.result) (value c.end_at-2.result)
+            (λ r. range_narrow (scene_in c.args.numbers.now) (run_in c.args.numbers.now) (seen_modifier c.args.modifier.now) (value c.end_at.result) (value c.end_at-2.result)
+            c.requires.sound c.requires.narrow r (c.end_at.ensures r) (c.end_at-2.ensures r))
+            (measured_at (scene_in c.args.numbers.now) (run_in c.args.numbers.now) c.args.numbers.now.within (seen_modifier c.args.modifier.now).own c.samples.result.now tick c.samples.ensures)
+            (measured_at (scene_in c.args.numbers.now) (run_in c.args.numbers.now) c.args.numbers.now.within (other_of (seen_modifier c.args.modifier.now)) c.samples-2.result.now tick others);
+      };
+    }

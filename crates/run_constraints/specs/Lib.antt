@@ -1,0 +1,2 @@
+pub mod FirstConstraints
+pub mod Watched

@@ -1,0 +1,3 @@
+pub mod PathForms
+pub mod Told
+pub mod Keys

@@ -1,0 +1,3 @@
+pub mod PathForms
+pub mod RunShape
+pub mod RunReading

@@ -1,0 +1,130 @@
+//! The numbers that a run holds at the paths of its scene.
+
+ghost use Rattle.std.specs.Prelude.{◌≡◌, ◌≤◌, ◌*◌, length, pos, option_map};
+ghost use Rattle.composition.specs.Numbers.{text_number, thousandths};
+ghost use Rattle.composition.specs.SeenScenes.{seen_scene};
+ghost use Rattle.run_entries.specs.SeenRuns.{seen_run};
+ghost use Rattle.run_values.specs.Frames.{IsWithin};
+
+use composition::{Held, Scene, Source};
+use expr_value::Reading;
+use osc_base::{Path, Text};
+use run_entries::Entries;
+
+/// The numbers of a run that is within the limits of its scene.
+#[derive(Drop)]
+pub struct Numbers<'a> {
+    pub(crate) scene: &'a Scene,
+    pub(crate) run: &'a Entries<'a>,
+    ghost within: { IsWithin (seen_scene scene.now) (seen_run run.now) },
+}
+
+impl<'a> Numbers<'a> {
+    ghost use Rattle.std.specs.Prelude.{◌≡◌, ◌≤◌, ◌*◌, pos, option_map, option_and_then, position, bytes_eq};
+    ghost use Rattle.composition.specs.Numbers.{number_at, number_of, thousandths, text_number};
+    ghost use Rattle.composition.specs.SeenScenes.{seen_scene};
+    ghost use Rattle.composition.specs.TimedRuns.{span_in, held_in};
+    ghost use Rattle.run_entries.specs.SeenRuns.{seen_run};
+    ghost use Rattle.run_values.specs.Frames.{IsWithin};
+    ghost use Rattle.run_values.specs.SeenNumbers.{scene_in, run_in};
+
+    /// The numbers of a run.
+    pub fn of(scene: &'a Scene, run: &'a Entries<'a>) -> Numbers<'a>
+        requires { IsWithin (seen_scene scene.now) (seen_run run.now) }
+        ensures scene { scene_in result ≡ seen_scene scene.now }
+        ensures run { run_in result ≡ seen_run run.now }
+    {
+        Numbers { scene, run }
+    }
+
+    /// The scene.
+    pub fn scene(&self) -> &Scene
+        ensures { seen_scene result.now ≡ scene_in self.now }
+    {
+        self.scene
+    }
+
+    /// The run.
+    pub fn run(&self) -> &Entries<'a>
+        ensures { seen_run result.now ≡ run_in self.now }
+    {
+        self.run
+    }
+
+    /// The number that the run holds at a path: the value of the field there, or a duration in thousandths of a second.
+    pub fn number(&self, path: &Path) -> Option<i64>
+        ensures { result ≡ number_at (scene_in self.now) (run_in self.now) path.now }
+    {
+        match self.scene.source(path) {
+            Source::Run => Some(self.length()),
+            Source::Phase(phase) => self.length_of(phase),
+            Source::Value => self.held_number(path),
+        }
+    }
+
+    /// How long the run is.
+    fn length(&self) -> i64
+        ensures { result ≡ thousandths (run_in self.now).tick (pos 0) (pos (run_in self.now).end) }
+    {
+        over_ticks(self.run.tick(), 0, self.run.end())
+    }
+
+    /// How long the phase is.
+    fn length_of(&self, phase: &Path) -> Option<i64>
+        ensures { result ≡ option_map (λ s. thousandths (run_in self.now).tick (pos s.start) (pos s.end)) (span_in (run_in self.now) phase.now) }
+    {
+        match self.run.span(phase) {
+            Some(span) => Some(over_ticks(self.run.tick(), span.start, span.end)),
+            None => None,
+        }
+    }
+
+    /// The number that stands for what the field holds.
+    fn held_number(&self, path: &Path) -> Option<i64>
+        ensures { result ≡ option_and_then (number_of (scene_in self.now).texts) (held_in (run_in self.now) path.now) }
+    {
+        match self.run.held(path) {
+            Some(Held::Number(number)) => Some(*number),
+            Some(Held::Chars(text)) => number_of_text(self.scene.texts(), text),
+            None => None,
+        }
+    }
+}
+
+impl Reading for Numbers<'_> {
+    ghost use Rattle.composition.specs.Numbers.{number_at};
+    ghost use Rattle.run_values.specs.SeenNumbers.{scene_in, run_in};
+
+    ghost told = { λ s. number_at (scene_in s) (run_in s) };
+
+    fn held(&self, path: &Path) -> Option<i64> {
+        self.number(path)
+    }
+}
+
+/// The place of the text among the texts.
+fn place_of_text(texts: &[Text], text: &Text) -> Option<usize>
+    ensures { result ≡ text_number texts.now text.now }
+{
+    texts.iter().position(|other| text == other)
+}
+
+/// The number of the text, which is its place among the texts.
+fn number_of_text(texts: &[Text], text: &Text) -> Option<i64>
+    requires { length texts.now ≤ 1000000000 }
+    ensures { result ≡ option_map pos (text_number texts.now text.now) }
+{
+    match place_of_text(texts, text) {
+        Some(place) => Some(place as i64),
+        None => None,
+    }
+}
+
+/// How long it is from one tick to another, in thousandths of a second.
+fn over_ticks(tick: u32, start: u32, end: u32) -> i64
+    requires ordered { start ≤ end }
+    requires small { tick * end ≤ 60000 }
+    ensures { result ≡ thousandths tick (pos start) (pos end) }
+{
+    i64::from(tick) * (i64::from(end) - i64::from(start))
+}

@@ -1,0 +1,4 @@
+pub mod FirstPlaces
+pub mod SlotNumbers
+pub mod QuerySteps
+pub mod NameSteps

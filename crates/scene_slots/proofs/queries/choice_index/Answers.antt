@@ -1,0 +1,7 @@
+use Rattle.std.proofs.Common.{subst, IfOk, List}
+use Rattle.path_index.specs.Places.{Places}
+use Rattle.composition.specs.declared.spot.ChoiceSpot.{ChoiceSpot}
+use Rattle.scene_slots.proofs.queries.choice_index.Goals as goal
+
+pub returns : goal.returns
+returns c = subst (λ (xs : List ChoiceSpot). IfOk c.of.result (λ t. Places t (λ p. p) (λ c. c.path) xs)) c.choices.ensures c.of.ensures.places

@@ -1,0 +1,6 @@
+pub mod NameRows
+pub mod Numbers
+pub mod Places
+pub mod SeenSlots
+pub mod Tracks
+pub mod Founds

@@ -1,0 +1,14 @@
+//! The slots of a scene: their names, and their numbers by path.
+#![tactic(auto)]
+
+mod counts;
+mod names;
+mod queries;
+mod reads;
+mod slots;
+mod track;
+
+pub use names::slot_names;
+pub use reads::{Found, Slots};
+pub use slots::SceneSlots;
+pub use track::Track;

@@ -1,0 +1,43 @@
+-- First places, and what stands there.
+use Rattle.std.proofs.Common.{◌≡◌, ◌∙◌, refl, sym, ap, ℕ, ◌+◌, ◌<◌, ◌≤◌, List, [], ◌∷◌, ◌++◌, Bool, true, false, cond, Option, Some, None, length, take, arith, bytes_eq, get_or, length-append, append_assoc, Bor, option_copied}
+use Rattle.std.specs.Prelude.{slice_get, find, option_and_then}
+use Rattle.std.specs.Option.{option_or}
+use Rattle.std.specs.Slice.{IsItemAt}
+use Rattle.std.proofs.lemmas.Option.{slice_get_past, slice_get-get_or}
+use Rattle.name_scope.specs.Declaring.{first_place}
+use Rattle.name_scope.proofs.Tables.{place_next}
+
+-- what stands at the first place is the first that passes
+at_end : {X : Type 0} (before : List X) (x : X) (xs : List X) → slice_get (before ++ x ∷ xs) (length before) ≡ Some x
+at_end [] x xs = refl
+at_end (b ∷ bs) x xs = at_end bs x xs
+
+find_from : {X : Type 0} (test : X → Bool) (before xs : List X) → find test xs ≡ option_and_then (slice_get (before ++ xs)) (first_place test (length before) xs)
+find_from test before [] = refl
+find_from {X} test before (x ∷ xs) = by (test x) (find_from test (before ++ x ∷ []) xs)
+  where
+    longer : length (before ++ x ∷ []) ≡ length before + 1
+    longer = length-append before (x ∷ [])
+
+    by : (b : Bool) → find test xs ≡ option_and_then (slice_get ((before ++ x ∷ []) ++ xs)) (first_place test (length (before ++ x ∷ [])) xs) →
+        cond b (Some x) (find test xs) ≡ option_and_then (slice_get (before ++ x ∷ xs)) (cond b (Some (length before)) (first_place test (length before + 1) xs))
+    by true h = sym (at_end before x xs)
+    by false h = h ∙ (λ k. option_and_then (slice_get (append_assoc before (x ∷ []) xs k)) (first_place test (longer k) xs))
+
+pub find_is : {X : Type 0} (test : X → Bool) (xs : List X) → find test xs ≡ option_and_then (slice_get xs) (first_place test 0 xs)
+find_is test xs = find_from test [] xs
+
+pub item_is : {X : Type 0} (xs : List X) (i : ℕ) (r : Option (Bor X)) → IsItemAt xs i r → option_copied r ≡ slice_get xs i
+item_is xs i None h = sym (slice_get_past xs i h.3)
+item_is xs i (Some x) h = let n : i ≤ i = omega arith in ap Some (h.4 n x.now) ∙ sym (slice_get-get_or xs i x.now h.3.0)
+
+-- the places of some things, after one thing more
+pub noted : {X : Type 0} (f g : List ℕ → Option ℕ) (name_of : X → List ℕ) (xs : List X) (i : ℕ) (x : X) (place : ℕ) (key : List ℕ)
+    → i < length xs → x ≡ get_or xs i x → place ≡ i → key ≡ name_of x
+    → ((name : List ℕ) → f name ≡ first_place (λ y. bytes_eq (name_of y) name) 0 (take i xs))
+    → ((name : List ℕ) → g name ≡ option_or (f name) (cond (bytes_eq key name) (Some place) None))
+    → (name : List ℕ) → g name ≡ first_place (λ y. bytes_eq (name_of y) name) 0 (take (i + 1) xs)
+noted f g name_of xs i x place key lt is at named before after name =
+    after name
+    ∙ (λ k. option_or (before name k) (cond (bytes_eq (named k) name) (Some place) None))
+    ∙ place_next (λ y. bytes_eq (name_of y) name) xs i place x lt at is

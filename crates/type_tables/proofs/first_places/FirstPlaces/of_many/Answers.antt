@@ -1,0 +1,17 @@
+use Rattle.std.proofs.Common.{◌+◌, ◌∙◌, ap, bytes_eq, take_all}
+use Rattle.name_scope.specs.Declaring.{first_place}
+use Rattle.type_tables.specs.Places.{place_in}
+use Rattle.type_tables.proofs.Firsts.{noted}
+use Rattle.type_tables.proofs.first_places.FirstPlaces.of_many.Goals as goal
+
+pub loop-thing-preserved : goal.loop-thing-preserved
+loop-thing-preserved g c = record {
+  count = c.in_ok-place.ensures.next ∙ ap (λ n. n + 1) c.loop-thing.invariant.count;
+  small = c.in_ok-place.ensures.small;
+  places = noted (place_in c.loop-thing.index) (place_in c.note.new.self) g.T.HasName.name_of c.args.things.now c.loop-thing.thing-index c.thing-item.result c.loop-thing.place c.own_name.result.now
+      c.loop-thing-test.true c.thing-item.is c.loop-thing.invariant.count c.own_name.ensures c.loop-thing.invariant.places c.in_ok-note.ensures;
+}
+
+pub returns : goal.returns
+returns g c = λ name. c.loop-thing.invariant.places name
+    ∙ ap (first_place (λ x. bytes_eq (g.T.HasName.name_of x) name) 0) (take_all c.loop-thing.thing-index c.args.things.now c.loop-thing-test.false)

@@ -1,0 +1,17 @@
+-- The place of each name in a list.
+use Rattle.std.specs.Prelude.{◌≡◌, ℕ, ◌<◌, List, Option, bytes_eq, length}
+use Rattle.std.specs.HashMap.{get_by_text}
+use Rattle.name_scope.specs.Declaring.{first_place}
+use Rattle.type_tables.specs.declared.first_places.FirstPlaces.{FirstPlaces}
+
+-- the place that is kept for a name
+abbrev pub place_in : FirstPlaces → List ℕ → Option ℕ
+place_in t name = get_by_text t.places name
+
+-- the first place of each name of the things of a list is kept
+abbrev pub HasPlaces : {T : Type 0} → FirstPlaces → (T → List ℕ) → List T → Type 0
+HasPlaces t name_of things = (name : List ℕ) → place_in t name ≡ first_place (λ x. bytes_eq (name_of x) name) 0 things
+
+-- the same, unless there are few things
+abbrev pub Places : {T : Type 0} → FirstPlaces → (T → List ℕ) → List T → Type 0
+Places t name_of things = 8 < length things → HasPlaces t name_of things

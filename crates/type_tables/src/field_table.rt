@@ -1,0 +1,53 @@
+//! The fields of one type.
+
+ghost use Rattle.std.specs.Prelude.{◌≡◌, option_copied, IfOk};
+ghost use Rattle.type_heads.specs.Table.{field_in};
+
+use crate::first_places::{FirstPlaces, HasName, found};
+use std::alloc::{AllocError, Global};
+use std::marker::Model;
+use type_heads::FieldEntry;
+
+impl HasName for FieldEntry {
+    ghost name_of = { λ f. f.name };
+
+    fn own_name(&self) -> &str {
+        self.name()
+    }
+}
+
+/// The fields of a type, and the place of each name. Contracts see them as the list of the fields.
+#[derive(Drop)]
+pub struct FieldTable {
+    entries: Vec<FieldEntry>,
+    places: FirstPlaces,
+}
+
+impl Model for FieldTable {
+    ghost use Rattle.std.specs.Prelude.{List};
+    ghost use Rattle.type_heads.specs.Table.{TableField};
+    ghost use Rattle.type_tables.specs.Places.{Places};
+
+    ghost Value = { List TableField };
+
+    ghost view = { λ t. t.entries.items };
+
+    ghost invariant = { λ t. Places t.places (λ (f : TableField). f.name) t.entries.items };
+}
+
+impl FieldTable {
+    /// These fields. More of them than a `u32` counts are out of memory.
+    pub fn of(alloc: Global, entries: Vec<FieldEntry>) -> Result<FieldTable, AllocError>
+        ensures { IfOk result (λ table. table ≡ entries.items) }
+    {
+        let places = FirstPlaces::of(alloc, entries.as_slice())?;
+        Ok(FieldTable { entries, places })
+    }
+
+    /// The first field of that name.
+    pub fn named(&self, name: &str) -> Option<&FieldEntry>
+        ensures { option_copied result ≡ field_in self.now name.now }
+    {
+        found(&self.places, self.entries.as_slice(), name)
+    }
+}

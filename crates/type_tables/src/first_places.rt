@@ -1,0 +1,119 @@
+//! The first place of each name in a list.
+
+ghost use Rattle.std.specs.Prelude.{◌≡◌, ℕ, ◌+◌, ◌<◌, ◌^◌, List, None, Some, bytes_eq, cond, find, option_copied, IfOk, OnOk};
+ghost use Rattle.std.specs.Option.{option_or};
+ghost use Rattle.type_tables.specs.Places.{HasPlaces, Places, place_in};
+
+use indexmap::IndexMap;
+use std::alloc::{AllocError, Global};
+
+/// What has a name.
+pub trait HasName {
+    ghost name_of: { Self → List ℕ };
+
+    /// The name.
+    fn own_name(&self) -> &str
+        ensures { result.now ≡ name_of self.now };
+}
+
+/// A list of so few things is gone over. No places are kept for it, which saves memory for types with few fields.
+const FEW: usize = 8;
+
+/// The first place of each name in a list of fewer than 2^32 things. Those of a list of few things aren't kept.
+#[derive(Drop)]
+pub struct FirstPlaces {
+    places: IndexMap<String, u32>,
+}
+
+/// The next place. A place that a `u32` doesn't hold counts as out of memory.
+fn next_place(place: u32) -> Result<u32, AllocError>
+    ensures next { IfOk result (λ n. n ≡ place + 1) }
+    ensures small { IfOk result (λ n. n < 2 ^ 32) }
+{
+    place.checked_add(1).ok_or(AllocError)
+}
+
+impl FirstPlaces {
+    fn new(alloc: Global) -> FirstPlaces
+        ensures { (name : List ℕ) → place_in result name ≡ None }
+    {
+        FirstPlaces {
+            places: IndexMap::new(alloc),
+        }
+    }
+
+    fn get(&self, name: &str) -> Option<u32>
+        ensures { result ≡ place_in self.now name.now }
+    {
+        self.places.get(name).copied()
+    }
+
+    /// Keeps the place for the name, if it has none yet.
+    fn note(&mut self, alloc: Global, name: &str, place: u32) -> Result<(), AllocError>
+        ensures { OnOk result ((other : List ℕ) → place_in self.new other ≡ option_or (place_in self.old other) (cond (bytes_eq name.now other) (Some place) None)) }
+    {
+        if self.places.contains_key(name) {
+            return Ok(());
+        }
+        let key = String::from_str(alloc, name)?;
+        self.places.insert(key, place)?;
+        Ok(())
+    }
+
+    /// The first place of each name, unless there are few things. More things than a `u32` counts are out of memory.
+    pub fn of<T: HasName>(alloc: Global, things: &[T]) -> Result<FirstPlaces, AllocError>
+        ensures { IfOk result (λ t. Places t T.name_of things.now) }
+    {
+        if things.len() <= FEW {
+            return Ok(FirstPlaces::new(alloc));
+        }
+        let places = FirstPlaces::of_many(alloc, things)?;
+        Ok(places)
+    }
+
+    /// The first place of each name.
+    fn of_many<T: HasName>(alloc: Global, things: &[T]) -> Result<FirstPlaces, AllocError>
+        ensures { IfOk result (λ t. HasPlaces t T.name_of things.now) }
+    {
+        let mut index = FirstPlaces::new(alloc);
+        let mut place: u32 = 0;
+        for thing in things {
+            index.note(alloc, thing.own_name(), place)?;
+            place = next_place(place)?;
+        }
+        Ok(index)
+    }
+}
+
+/// The first of the things of that name, by the places of their names.
+pub fn found<'a, T: HasName>(places: &FirstPlaces, things: &'a [T], name: &str) -> Option<&'a T>
+    requires { Places places.now T.name_of things.now }
+    ensures { option_copied result ≡ find (λ x. bytes_eq (T.name_of x) name.now) things.now }
+{
+    if things.len() <= FEW {
+        return first_named(things, name);
+    }
+    found_by_place(places, things, name)
+}
+
+/// The first of the things of that name.
+fn first_named<'a, T: HasName>(things: &'a [T], name: &str) -> Option<&'a T>
+    ensures { option_copied result ≡ find (λ x. bytes_eq (T.name_of x) name.now) things.now }
+{
+    things.iter().find(|x| x.own_name() == name)
+}
+
+/// The first of the things of that name, whose places are kept.
+fn found_by_place<'a, T: HasName>(
+    places: &FirstPlaces,
+    things: &'a [T],
+    name: &str,
+) -> Option<&'a T>
+    requires { HasPlaces places.now T.name_of things.now }
+    ensures { option_copied result ≡ find (λ x. bytes_eq (T.name_of x) name.now) things.now }
+{
+    match places.get(name) {
+        Some(place) => things.get(place as usize),
+        None => None,
+    }
+}

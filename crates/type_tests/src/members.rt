@@ -1,0 +1,84 @@
+use crate::built::{PARTS, built, loaded};
+use program_members::ProgramMembers;
+use std::alloc::{AllocError, Global};
+use std::test::Fail;
+use type_model::{MemberLists, MemberRef, TypeId, member_lists};
+
+/// Members as text: declaration, number there, and the conditional subtype that each is under.
+fn shown(alloc: Global, members: &[MemberRef]) -> Result<String, AllocError> {
+    let mut text = String::new(alloc);
+    for member in members {
+        let under = match member.under {
+            Some(of) => of.0,
+            None => 0,
+        };
+        let line = format!(in alloc; "{}.{}/{} ", member.decl.index, member.index, under)?;
+        text.push_str(line.as_str())?;
+    }
+    Ok(text)
+}
+
+/// The members of its base come first, then its own, those of its conditional subtypes, and those of its extensions.
+#[test]
+fn in_order(rt: HostRuntime) -> Result<(), Fail> {
+    let alloc = rt.alloc();
+    let Some(types) = built(alloc, PARTS)? else {
+        return Ok(assert!(rt; false, "the program has types"));
+    };
+    let rows: [(u32, &str); 4] = [
+        (6, ""),
+        (7, "4.0/0 4.1/0 5.0/8 7.0/0 "),
+        (8, "4.0/0 4.1/0 7.0/0 5.0/0 "),
+        (9, "4.0/0 4.1/0 5.0/8 7.0/0 6.0/0 "),
+    ];
+    for (of, want) in &rows {
+        let text = shown(alloc, types.members(TypeId(*of)))?;
+        assert_eq!(rt; text.as_str(), *want);
+    }
+    Ok(())
+}
+
+/// Each member with the type that holds it, and how many conditional subtypes it is under.
+fn holders(alloc: Global, lists: &MemberLists<'_>) -> Result<String, AllocError> {
+    let mut text = String::new(alloc);
+    for row in lists.rows() {
+        for member in row.as_slice() {
+            let under = member.under.as_slice().len();
+            let line = format!(in alloc; "{}/{under} ", member.holder.0)?;
+            text.push_str(line.as_str())?;
+        }
+    }
+    Ok(text)
+}
+
+const HOLDERS: &str = "7/0 7/0 8/1 7/0 7/0 7/0 7/0 8/0 7/0 7/0 8/1 7/0 9/0 ";
+
+#[test]
+fn with_holders(rt: HostRuntime) -> Result<(), Fail> {
+    let alloc = rt.alloc();
+    let Some(program) = loaded(alloc, PARTS)? else {
+        return Ok(assert!(rt; false, "the program is loaded"));
+    };
+    let lists = member_lists(alloc, &program)?;
+    let text = holders(alloc, &lists)?;
+    assert_eq!(rt; text.as_str(), HOLDERS);
+    Ok(())
+}
+
+/// The program has no library, and a body for each type.
+#[test]
+fn with_bodies(rt: HostRuntime) -> Result<(), Fail> {
+    let alloc = rt.alloc();
+    let Some(program) = loaded(alloc, PARTS)? else {
+        return Ok(assert!(rt; false, "the program is loaded"));
+    };
+    let None = program.wanted() else {
+        return Ok(assert!(rt; false, "the program is whole"));
+    };
+    let members = ProgramMembers::of(alloc, &program)?;
+    assert!(rt; members.library.is_none());
+    assert!(rt; members.bodies.len() == 13);
+    let text = holders(alloc, &members.lists)?;
+    assert_eq!(rt; text.as_str(), HOLDERS);
+    Ok(())
+}

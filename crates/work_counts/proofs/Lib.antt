@@ -1,0 +1,4 @@
+pub mod Sums
+pub mod TextLaws
+pub mod InitialForms
+pub mod HeirForms
