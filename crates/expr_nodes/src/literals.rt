@@ -1,7 +1,6 @@
 //! The typed form of literals.
 
-ghost use Rattle.std.specs.Prelude.{◌≡◌, ◌≤◌, ◌^◌, Some, IfOk, bytes_eq, option_map, unsigned_abs, unwrap_or};
-ghost use Rattle.name_scope.specs.Declaring.{first_place};
+ghost use Rattle.std.specs.Prelude.{◌≡◌, ◌≤◌, ◌^◌, Some, IfOk, option_map, unsigned_abs};
 ghost use Rattle.osc_base.specs.LowestTerms.{decimal_number};
 ghost use Rattle.osc_base.specs.Fraction.{value};
 ghost use Rattle.osc_base.specs.FaultRows.{first_fault};
@@ -14,7 +13,7 @@ use crate::size::gcd;
 use crate::truths::truth_at;
 use crate::{Info, Size, Typed, ValueKind};
 use dsl_tree::Digits;
-use osc_base::{Boxed, FaultCode, Fraction, Place, Text};
+use osc_base::{Boxed, FaultCode, Fraction, Place};
 use std::alloc::{AllocError, Global};
 use type_model::Types;
 
@@ -103,26 +102,12 @@ pub fn truth(place: Place, value: bool) -> Typed
     }
 }
 
-/// The number of a text in the ordered list of texts, and 0 of another.
-fn text_number(texts: &[Text], text: &str) -> usize
-    ensures { result ≡ unwrap_or (first_place (bytes_eq text.now) 0 texts.now) 0 }
-{
-    let mut number: usize = 0;
-    for other in texts {
-        if text == other.as_str() {
-            return number;
-        }
-        number += 1;
-    }
-    0
-}
-
 /// A text is its number in the ordered list of texts.
 pub fn text(types: &Types, place: Place, text: &str) -> Typed
     ensures { Some (seen result) ≡ text_typed types.now.table place text.now }
 {
     let number = Fraction {
-        num: text_number(types.texts(), text) as i128,
+        num: types.text_number(text) as i128,
         den: 1,
     };
     constant_at(place, ValueKind::Chars, number)

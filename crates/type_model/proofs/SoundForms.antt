@@ -161,7 +161,7 @@ unfolding units_in
 sound_units all h name = found (λ (u : TableUnit). bytes_eq u.name name) (λ (u : TableUnit). is_some u.exponents) (units_in all) (units all h)
 
 pub kept : (all : List Placed) (heads : List TypeHead) (t : ProgramTables) → HeadingsAreSound all → AreOfProgram all → heads ≡ all_heads all → AreProgramTables all heads t →
-    AreKept heads t.numbers.items t.units t.texts.items
+    AreKept heads t.numbers.items t.units t.texts
 kept all heads t sound (p, same) heads_are tables = record {
   sound = λ n. ap (λ hs. is_sound (form hs n)) heads_are ∙ sound_forms all all_have n;
   sound_units = λ name. ap (λ us. is_sound_unit us name) tables.units ∙ sound_units all all_have name;

@@ -99,14 +99,14 @@ pub told_parts : (p : Program) (all : List Placed) (of_program : all ≡ placed 
     (m : MemberTables) → AreMemberTables heads (map seen_body slice) lists m → (t : ProgramTables) → AreProgramTables all heads t →
     ◌≡◌ {A = Told}
     (record {
-      table = record { heads = heads; fields = m.fields.items; units = t.units; texts = t.texts.items };
+      table = record { heads = heads; fields = m.fields.items; units = t.units; texts = t.texts };
       members = map (map shown_member) m.members.items;
       conditions = m.conditions.items;
     })
     (told (types_of p))
 told_parts p all of_program heads same_heads entries slice same same_bodies lists same_lists m members t program =
     told_types p all of_program heads same_heads (map seen_body entries) same_bodies lists same_lists
-    m.fields.items t.units t.texts.items (map (map shown_member) m.members.items) m.conditions.items
+    m.fields.items t.units t.texts (map (map shown_member) m.members.items) m.conditions.items
     members.fields program.units program.texts members.members
     (members.conditions ∙ ap (λ bs. map (condition_of heads (map seen_body bs) lists) (all_types heads)) same)
 

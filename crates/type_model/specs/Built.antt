@@ -40,8 +40,8 @@ pub record AreMemberTables (heads : List TypeHead) (bodies : List TypeBody) (lis
 -- what is worked out of the declarations alone
 pub record AreProgramTables (all : List Placed) (heads : List TypeHead) (t : ProgramTables) : Type 0 where
   pub units : t.units ≡ units_in all
-  pub texts : t.texts.items ≡ texts_among all
-  pub few : length t.texts.items < 2 ^ 32
+  pub texts : t.texts ≡ texts_among all
+  pub few : length t.texts < 2 ^ 32
   pub numbers : t.numbers.items ≡ all_numbers heads
 
 -- Programs with these declarations

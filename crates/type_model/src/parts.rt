@@ -13,7 +13,7 @@ use std::alloc::{AllocError, Global};
 use string_texts::texts;
 use type_heads::{Body, ConditionEntry, Declarations, Heads, MemberRef, bodies, unit_entries};
 use type_members::{MemberLists, Subtypes};
-use type_tables::{FieldTable, UnitTable, all_conditions, all_fields, all_numbers};
+use type_tables::{FieldTable, TextTable, UnitTable, all_conditions, all_fields, all_numbers};
 
 /// The bodies and the conditional subtypes of all types.
 #[derive(Drop)]
@@ -67,6 +67,15 @@ impl MemberTables {
     }
 }
 
+/// The texts that a string may hold, found by what they say.
+fn text_table(alloc: Global, declarations: &Declarations<'_>) -> Result<TextTable, AllocError>
+    ensures texts { IfOk result (λ table. table ≡ texts_among (all_of declarations.now)) }
+    ensures few { IfOk result (λ table. length table < 2 ^ 32) }
+{
+    let texts = all_texts(alloc, declarations)?;
+    TextTable::of(alloc, texts)
+}
+
 /// The texts that a string may hold, each once, in byte order.
 fn all_texts(alloc: Global, declarations: &Declarations<'_>) -> Result<Vec<Text>, AllocError>
     ensures texts { IfOk result (λ texts. texts.items ≡ texts_among (all_of declarations.now)) }
@@ -87,7 +96,7 @@ fn unit_table(alloc: Global, declarations: &Declarations<'_>) -> Result<UnitTabl
 #[derive(Drop)]
 pub struct ProgramTables {
     pub units: UnitTable,
-    pub texts: Vec<Text>,
+    pub texts: TextTable,
     pub numbers: Vec<Row<i64>>,
 }
 
@@ -101,7 +110,7 @@ impl ProgramTables {
         ensures { IfOk result (AreProgramTables (all_of declarations.now) heads.now) }
     {
         let units = unit_table(alloc, declarations)?;
-        let texts = all_texts(alloc, declarations)?;
+        let texts = text_table(alloc, declarations)?;
         let numbers = all_numbers(alloc, heads)?;
         Ok(ProgramTables {
             units,

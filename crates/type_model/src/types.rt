@@ -1,5 +1,6 @@
-ghost use Rattle.std.specs.Prelude.{◌≡◌, ℕ, ℤ, fold, List, Option, Some, None, map, length, pos, option_copied, option_map, slice_index_or};
+ghost use Rattle.std.specs.Prelude.{◌≡◌, ℕ, ℤ, bytes_eq, fold, List, Option, Some, None, map, length, pos, option_copied, option_map, slice_index_or, unwrap_or};
 ghost use Rattle.std.specs.Int.{int_min, int_max};
+ghost use Rattle.name_scope.specs.Declaring.{first_place};
 ghost use Rattle.type_heads.specs.Bounds.{numbers_of, bounds, least_of, greatest_of};
 ghost use Rattle.type_heads.specs.Table.{base, enum_members, enums_with, field_of, form, head, named, owner};
 ghost use Rattle.type_heads.specs.Table.{enum_number as number_in, unit as unit_in};
@@ -11,7 +12,7 @@ use dsl_tree::CompoundKind;
 use osc_base::{Row, Text};
 use std::marker::Model;
 use type_heads::{ConditionEntry, EnumHit, FieldType, Form, Heads, MemberRef, TypeId, TypeKind};
-use type_tables::{FieldTable, UnitTable};
+use type_tables::{FieldTable, TextTable, UnitTable};
 use units_si::Unit;
 
 /// The greatest magnitude of what a field holds.
@@ -26,7 +27,7 @@ pub struct Types {
     heads: Heads,
     fields: Vec<FieldTable>,
     units: UnitTable,
-    texts: Vec<Text>,
+    texts: TextTable,
     members: Vec<Row<MemberRef>>,
     conditions: Vec<Option<ConditionEntry>>,
     numbers: Vec<Row<i64>>,
@@ -42,19 +43,19 @@ impl Model for Types {
     ghost use Rattle.type_model.specs.Kept.{AreKept};
 
     ghost view = { λ s. record {
-      table = record { heads = s.heads; fields = s.fields.items; units = s.units; texts = s.texts.items };
+      table = record { heads = s.heads; fields = s.fields.items; units = s.units; texts = s.texts };
       members = map (map shown_member) s.members.items;
       conditions = s.conditions.items;
     } };
 
-    ghost invariant = { λ s. AreKept s.heads s.numbers.items s.units s.texts.items };
+    ghost invariant = { λ s. AreKept s.heads s.numbers.items s.units s.texts };
 }
 
 impl Types {
     /// The types with these heads and tables.
     pub(crate) fn of(heads: Heads, members: MemberTables, program: ProgramTables) -> Types
-        requires { AreKept heads program.numbers.items program.units program.texts.items }
-        ensures { result ≡ record { table = record { heads = heads; fields = members.fields.items; units = program.units; texts = program.texts.items }; members = map (map shown_member) members.members.items; conditions = members.conditions.items } }
+        requires { AreKept heads program.numbers.items program.units program.texts }
+        ensures { result ≡ record { table = record { heads = heads; fields = members.fields.items; units = program.units; texts = program.texts }; members = map (map shown_member) members.members.items; conditions = members.conditions.items } }
     {
         Types {
             heads,
@@ -189,7 +190,14 @@ impl Types {
     pub fn texts(&self) -> &[Text]
         ensures { result.now ≡ self.now.table.texts }
     {
-        self.texts.as_slice()
+        self.texts.all()
+    }
+
+    /// The number of a text in the list of texts, and 0 of one that isn't in it.
+    pub fn text_number(&self, text: &str) -> usize
+        ensures { result ≡ unwrap_or (first_place (bytes_eq text.now) 0 self.now.table.texts) 0 }
+    {
+        self.texts.place(text).unwrap_or(0)
     }
 
     /// The least and the greatest number that a field of that type may hold: of a float or physical type in
@@ -201,7 +209,7 @@ impl Types {
             Form::Int | Form::Float | Form::Physical(_) => (-GREATEST_VALUE, GREATEST_VALUE),
             Form::Uint => (0, GREATEST_VALUE),
             Form::Truth => (0, 1),
-            Form::Chars => (0, self.texts.len().saturating_sub(1) as i64),
+            Form::Chars => (0, self.texts.all().len().saturating_sub(1) as i64),
             Form::Enum(_) => ends(self.numbers(of)),
             Form::Compound(_) => (0, 0),
         }

@@ -3,6 +3,7 @@ use Rattle.std.proofs.Common.{◌≡◌, ◌∙◌, refl, sym, ap, ℕ, ◌+◌,
 use Rattle.std.specs.Prelude.{slice_get, find, option_and_then}
 use Rattle.std.specs.Option.{option_or}
 use Rattle.std.specs.Slice.{IsItemAt}
+use Rattle.std.proofs.lemmas.Slice.Eq.{bytes_eq-Decides}
 use Rattle.std.proofs.lemmas.Option.{slice_get_past, slice_get-get_or}
 use Rattle.name_scope.specs.Declaring.{first_place}
 use Rattle.name_scope.proofs.Tables.{place_next}
@@ -41,3 +42,20 @@ noted f g name_of xs i x place key lt is at named before after name =
     after name
     ∙ (λ k. option_or (before name k) (cond (bytes_eq (named k) name) (Some place) None))
     ∙ place_next (λ y. bytes_eq (name_of y) name) xs i place x lt at is
+
+-- a test that is turned round
+same_test : (r s : Bool) → (r ≡ true → s ≡ true) → (s ≡ true → r ≡ true) → r ≡ s
+same_test true true f g = refl
+same_test true false f g = sym (f refl)
+same_test false true f g = g refl
+same_test false false f g = refl
+
+text_turned : (a b : List ℕ) → bytes_eq a b ≡ bytes_eq b a
+text_turned a b =
+    same_test (bytes_eq a b) (bytes_eq b a)
+    (λ e. (bytes_eq-Decides b a).1 (sym ((bytes_eq-Decides a b).0 e)))
+    (λ e. (bytes_eq-Decides a b).1 (sym ((bytes_eq-Decides b a).0 e)))
+
+pub text_place : (text : List ℕ) (n : ℕ) (xs : List (List ℕ)) → first_place (λ x. bytes_eq x text) n xs ≡ first_place (bytes_eq text) n xs
+text_place text n [] = refl
+text_place text n (x ∷ xs) = λ k. cond (text_turned x text k) (Some n) (text_place text (n + 1) xs k)

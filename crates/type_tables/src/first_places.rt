@@ -2,6 +2,7 @@
 
 ghost use Rattle.std.specs.Prelude.{◌≡◌, ℕ, ◌+◌, ◌<◌, ◌^◌, List, None, Some, bytes_eq, cond, find, option_copied, IfOk, OnOk};
 ghost use Rattle.std.specs.Option.{option_or};
+ghost use Rattle.name_scope.specs.Declaring.{first_place};
 ghost use Rattle.type_tables.specs.Places.{HasPlaces, Places, place_in};
 
 use indexmap::IndexMap;
@@ -116,4 +117,29 @@ fn found_by_place<'a, T: HasName>(
         Some(place) => things.get(place as usize),
         None => None,
     }
+}
+
+/// The place of the first of the things of that name, counted from 0.
+pub fn place_of<T: HasName>(places: &FirstPlaces, things: &[T], name: &str) -> Option<usize>
+    requires { Places places.now T.name_of things.now }
+    ensures { result ≡ first_place (λ x. bytes_eq (T.name_of x) name.now) 0 things.now }
+{
+    if things.len() <= FEW {
+        return place_among(things, name);
+    }
+    places.get(name).map(|place| place as usize)
+}
+
+/// The place of the first of the things of that name, which are gone over.
+fn place_among<T: HasName>(things: &[T], name: &str) -> Option<usize>
+    ensures { result ≡ first_place (λ x. bytes_eq (T.name_of x) name.now) 0 things.now }
+{
+    let mut place: usize = 0;
+    for thing in things {
+        if thing.own_name() == name {
+            return Some(place);
+        }
+        place += 1;
+    }
+    None
 }

@@ -6,10 +6,12 @@ mod field_table;
 mod fields;
 mod first_places;
 mod numbers;
+mod text_table;
 mod unit_table;
 
 pub use conditions::all_conditions;
 pub use field_table::FieldTable;
 pub use fields::{all_fields, field_named};
 pub use numbers::all_numbers;
+pub use text_table::TextTable;
 pub use unit_table::UnitTable;

@@ -101,6 +101,8 @@ fn texts_are(rt: &impl Abort, types: &Types) {
         [none, a, b] => assert!(rt; none.as_str() == "" && a.as_str() == "a" && b.as_str() == "b"),
         _ => assert!(rt; false),
     }
+    assert!(rt; types.text_number("b") == 2);
+    assert!(rt; types.text_number("c") == 0);
     assert!(rt; types.bounds(CHARS) == (0, 2));
     assert!(rt; types.bounds(PAINT) == (0, 6));
     assert!(rt; types.bounds(PACE) == (-1_000_000_000, 1_000_000_000));
