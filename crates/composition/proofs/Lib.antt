@@ -1,3 +1,4 @@
 pub mod SpotSorts
 pub mod Sources
 pub mod HomeSteps
+pub mod TextPlaces

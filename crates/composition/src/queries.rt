@@ -2,6 +2,7 @@
 
 ghost use Rattle.std.specs.Prelude.{◌≡◌, find, map, option_copied, IfOk, None, Some};
 ghost use Rattle.osc_base.specs.Paths.{same_path};
+ghost use Rattle.composition.specs.Numbers.{text_number};
 ghost use Rattle.composition.specs.SeenParts.{scene_of, seen_occurrence, seen_modifier, seen_spot};
 ghost use Rattle.composition.specs.SeenScenes.{seen_scene};
 ghost use Rattle.composition.specs.SeenSources.{first_read, is_root_timed, seen_source};
@@ -15,6 +16,7 @@ use crate::{ChoiceSpot, Guard, PhaseSpot, Setting, ValueSpot};
 use osc_base::{Path, Row, Step, Text};
 use path_index::{PathIndex, found, found_timed};
 use std::alloc::{AllocError, Global};
+use type_tables::TextTable;
 
 impl Scene {
     /// A scene of these parts. The spots stand in the order of expansion, at their homes.
@@ -25,7 +27,7 @@ impl Scene {
         occurrences: Row<Occurrence>,
         modifiers: Row<ModifierSpot>,
         setting: Setting,
-        texts: Row<Text>,
+        texts: TextTable,
     ) -> Result<Scene, AllocError>
         ensures { IfOk result (λ s. seen_scene s ≡ scene_of spots bindings occurrences modifiers setting texts) }
     {
@@ -168,7 +170,14 @@ impl Scene {
     pub fn texts(&self) -> &[Text]
         ensures { result.now ≡ (seen_scene self.now).texts }
     {
-        self.texts.as_slice()
+        self.texts.all()
+    }
+
+    /// The place of a text among the texts.
+    pub fn text_place(&self, text: &Text) -> Option<usize>
+        ensures { result ≡ text_number (seen_scene self.now).texts text.now }
+    {
+        self.texts.place(text.as_str())
     }
 }
 

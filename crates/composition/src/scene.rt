@@ -7,8 +7,9 @@ ghost use Rattle.path_index.specs.Places.{Places};
 
 use crate::part::{Binding, ModifierSpot, Occurrence, Spot};
 use crate::{ChoiceSpot, PhaseSpot, Setting, ValueSpot};
-use osc_base::{Path, Row, Text};
+use osc_base::{Path, Row};
 use path_index::PathIndex;
+use type_tables::TextTable;
 
 /// Everything that may be there in a run of a scenario, in the order of expansion. All paths in it are home paths. The
 /// texts are those that a field of type `string` may hold.
@@ -21,7 +22,7 @@ pub struct Scene {
     pub(crate) occurrences: Row<Occurrence>,
     pub(crate) modifiers: Row<ModifierSpot>,
     pub(crate) setting: Setting,
-    pub(crate) texts: Row<Text>,
+    pub(crate) texts: TextTable,
     pub(crate) choices: Row<ChoiceSpot>,
     pub(crate) values: Row<ValueSpot>,
     pub(crate) phases: Row<PhaseSpot>,

@@ -57,24 +57,24 @@ pub fn value_in_range(scene: &Scene, value: &Value) -> bool
     ensures { result ≡ value_fits (seen_scene scene.now) value.now }
 {
     match scene.value(&value.path) {
-        Some(spot) => may_hold(scene.texts(), &spot.range, &value.held),
+        Some(spot) => may_hold(scene, &spot.range, &value.held),
         None => false,
     }
 }
 
 /// A field with this range may hold it.
-fn may_hold(texts: &[Text], range: &ValueRange, held: &Held) -> bool
-    ensures { result ≡ in_range texts.now range.now held.now }
+fn may_hold(scene: &Scene, range: &ValueRange, held: &Held) -> bool
+    ensures { result ≡ in_range (seen_scene scene.now).texts range.now held.now }
 {
     match held {
-        Held::Number(number) => may_be(range, *number, texts),
-        Held::Chars(text) => may_read(range, text, texts),
+        Held::Number(number) => may_be(range, *number, scene),
+        Held::Chars(text) => may_read(range, text, scene),
     }
 }
 
 /// A field with this range may hold the number.
-fn may_be(range: &ValueRange, number: i64, texts: &[Text]) -> bool
-    ensures { result ≡ in_range texts.now range.now (Held.Number number) }
+fn may_be(range: &ValueRange, number: i64, scene: &Scene) -> bool
+    ensures { result ≡ in_range (seen_scene scene.now).texts range.now (Held.Number number) }
 {
     match range {
         ValueRange::Between { low, high } => lies_between(*low, *high, number),
@@ -91,20 +91,20 @@ fn is_among(numbers: &[i64], number: i64) -> bool
 }
 
 /// A field with this range may hold the text.
-fn may_read(range: &ValueRange, text: &Text, texts: &[Text]) -> bool
-    ensures { result ≡ in_range texts.now range.now (Held.Chars text.now) }
+fn may_read(range: &ValueRange, text: &Text, scene: &Scene) -> bool
+    ensures { result ≡ in_range (seen_scene scene.now).texts range.now (Held.Chars text.now) }
 {
     match range {
-        ValueRange::Chars => is_text_among(texts, text),
+        ValueRange::Chars => is_text_of(scene, text),
         ValueRange::Between { .. } | ValueRange::Among { .. } => false,
     }
 }
 
-/// The text is one of those.
-fn is_text_among(texts: &[Text], text: &Text) -> bool
-    ensures { result ≡ list_any (bytes_eq text.now) texts.now }
+/// The text is one of the scene's.
+fn is_text_of(scene: &Scene, text: &Text) -> bool
+    ensures { result ≡ list_any (bytes_eq text.now) (seen_scene scene.now).texts }
 {
-    texts.iter().any(|other| text == other)
+    scene.text_place(text).is_some()
 }
 
 /// All samples of the trace are in range.

@@ -85,7 +85,7 @@ impl<'a> Numbers<'a> {
     {
         match self.run.held(path) {
             Some(Held::Number(number)) => Some(*number),
-            Some(Held::Chars(text)) => number_of_text(self.scene.texts(), text),
+            Some(Held::Chars(text)) => number_of_text(self.scene, text),
             None => None,
         }
     }
@@ -102,22 +102,12 @@ impl Reading for Numbers<'_> {
     }
 }
 
-/// The place of the text among the texts.
-fn place_of_text(texts: &[Text], text: &Text) -> Option<usize>
-    ensures { result ≡ text_number texts.now text.now }
-{
-    texts.iter().position(|other| text == other)
-}
-
 /// The number of the text, which is its place among the texts.
-fn number_of_text(texts: &[Text], text: &Text) -> Option<i64>
-    requires { length texts.now ≤ 1000000000 }
-    ensures { result ≡ option_map pos (text_number texts.now text.now) }
+fn number_of_text(scene: &Scene, text: &Text) -> Option<i64>
+    requires { length (seen_scene scene.now).texts ≤ 1000000000 }
+    ensures { result ≡ option_map pos (text_number (seen_scene scene.now).texts text.now) }
 {
-    match place_of_text(texts, text) {
-        Some(place) => Some(place as i64),
-        None => None,
-    }
+    scene.text_place(text).map(|place| place as i64)
 }
 
 /// How long it is from one tick to another, in thousandths of a second.

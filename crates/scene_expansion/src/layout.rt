@@ -15,9 +15,10 @@ ghost use Rattle.scene_expansion.specs.Walks.{modifier_at};
 use crate::counts::Counts;
 use crate::work::Work;
 use composition::{Binding, ModifierSpot, Occurrence, Scene, Spot};
-use osc_base::{Place, Row, Text};
+use osc_base::{Place, Row};
 use std::alloc::{AllocError, Global};
 use type_model::TypeId;
+use type_tables::TextTable;
 
 /// The works of a program, and how much each comes to.
 pub trait WorkLayout<'p> {
@@ -86,6 +87,6 @@ pub trait Layout<'p>: WorkLayout<'p> {
         ensures { OnOk result (map seen_modifier modifiers.new.items ≡ map seen_modifier modifiers.old.items ++ map (modifier_at (seen_scene scene.now).bindings) (node_of (Self.types self.now) (seen_work work.now)).modifiers) };
 
     /// The texts that a field of type `string` may hold.
-    fn texts(&self, alloc: Global) -> Result<Row<Text>, AllocError>
+    fn texts(&self, alloc: Global) -> Result<TextTable, AllocError>
         ensures { IfOk result (λ ts. ts ≡ (Self.types self.now).table.texts) };
 }

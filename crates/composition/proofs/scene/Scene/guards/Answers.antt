@@ -1,4 +1,4 @@
-use Rattle.std.proofs.Common.{◌∙◌, sym, ap, Some, None, refl, []}
+use Rattle.std.proofs.Common.{◌∙◌, sym, ap, refl, []}
 use Rattle.std.specs.Option.{option_map_or}
 use Rattle.composition.specs.declared.part.Spot.{Spot}
 use Rattle.composition.specs.SeenScenes.{seen_scene}
