@@ -13,7 +13,7 @@ use Rattle.command_words.specs.Words.{GenerateAsked, Wanted}
 use Rattle.scenario_tool.specs.declared.replies.Reply.{Reply}
 use Rattle.scenario_tool.specs.declared.status.Status.{Status}
 use Rattle.scenario_tool.specs.Replies.{done, failed_shelf, status_number, refused_source, words_refused}
-use Rattle.scenario_tool.specs.PairForm.{not_built}
+use Rattle.scenario_tool.specs.SceneLimits.{not_generated, scene_setting}
 use Rattle.scenario_tool.specs.Answers.{AnswersOrShelfFails, answers, shelf_fails, Call, CallEnds, written, sink_fails, no_memory, CountsOnce, Generates, Inputs, IsReplyIn, OnProgram, not_loaded, loaded, SomeInputs}
 
 module _ (told : Option (List NamedBytes)) where
@@ -61,7 +61,7 @@ module _ (told : Option (List NamedBytes)) where
 
   module _ {E : Type 0} (asked : GenerateAsked) (before after : ℕ) where
     pub loaded_reply : (program : List AddedFile) (r : Result Reply E) → SomeFiles told (λ files. IsLoaded files asked.source.file program) →
-        IfOk r (OnProgram program asked.source not_built Generates) → after ≡ before → IfOk r (Replies (Wanted.Generate asked) before after)
+        IfOk r (OnProgram program asked.source (not_generated (scene_setting asked.setting)) Generates) → after ≡ before → IfOk r (Replies (Wanted.Generate asked) before after)
     loaded_reply program (Ok reply) some is steady = of_sources (λ files. IsLoaded files asked.source.file program) (Told asked before after reply) some (λ inputs its. answers (loaded program its is) steady)
     loaded_reply program (Err e) some is steady = tt
 

@@ -25,7 +25,8 @@ use Rattle.program_load.specs.Loading.{IsLoaded}
 use Rattle.program_load.proofs.Total.{some_load}
 use Rattle.command_words.specs.Shared.{Source}
 use Rattle.command_words.specs.Words.{Wanted, request}
-use Rattle.scenario_tool.specs.PairForm.{not_built, whole_number, range_of, held_range, ranged_fields}
+use Rattle.scenario_tool.specs.PairForm.{whole_number, range_of, held_range, ranged_fields}
+use Rattle.scenario_tool.specs.SceneLimits.{not_generated, scene_setting}
 use Rattle.scenario_tool.specs.declared.replies.Reply.{Reply}
 use Rattle.scenario_tool.specs.Programs.{first_refusal, scenario_named, scenario_refusal}
 use Rattle.scenario_tool.specs.Replies.{done, refused_source, words_refused}
@@ -124,7 +125,7 @@ some_generate program scenario none =
 
 some_wanted : (inputs : Inputs) (wanted : Wanted) → ((reply : Reply) → AnswersTo inputs wanted reply → ⊥) → ⊥
 some_wanted inputs (Wanted.Help text) none = none (done text) refl
-some_wanted inputs (Wanted.Generate asked) none = some_on_source not_built Generates some_generate inputs.sources asked.source none
+some_wanted inputs (Wanted.Generate asked) none = some_on_source (not_generated (scene_setting asked.setting)) Generates some_generate inputs.sources asked.source none
 some_wanted inputs Wanted.Refused none = none words_refused refl
 
 pub some_answer : SomeAnswer

@@ -23,8 +23,9 @@ use Rattle.scenario_tool.specs.declared.replies.Reply.{Reply}
 use Rattle.type_heads.specs.Types.{Types}
 use Rattle.named_scenario.specs.Naming.{types_in}
 use Rattle.named_scenario.specs.Own.{own_members}
-use Rattle.scenario_tool.specs.PairForm.{not_built, ranged_fields}
+use Rattle.scenario_tool.specs.PairForm.{ranged_fields}
 use Rattle.scenario_tool.specs.Programs.{first_refusal, scenario_named}
+use Rattle.scenario_tool.specs.SceneLimits.{not_generated, scene_setting}
 use Rattle.scenario_tool.specs.Replies.{done, failed_shelf, status_number, refused_source, words_refused}
 
 -- ---- Answers
@@ -56,7 +57,7 @@ pub data Generates (program : List AddedFile) (scenario : ℕ) (reply : Reply) :
 -- the right answers to what the words ask for
 abbrev pub AnswersTo : Inputs → Wanted → Reply → Type 0
 AnswersTo inputs (Wanted.Help text) reply = reply ≡ done text
-AnswersTo inputs (Wanted.Generate asked) reply = OnSource inputs.sources asked.source not_built Generates reply
+AnswersTo inputs (Wanted.Generate asked) reply = OnSource inputs.sources asked.source (not_generated (scene_setting asked.setting)) Generates reply
 AnswersTo inputs Wanted.Refused reply = reply ≡ words_refused
 
 -- ---- Answers, or a shelf that fails

@@ -4,3 +4,4 @@ pub mod PairForm
 pub mod Programs
 pub mod Ranges
 pub mod Replies
+pub mod SceneLimits

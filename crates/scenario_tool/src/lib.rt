@@ -6,6 +6,7 @@ mod laws;
 mod pair_form;
 mod replies;
 mod scenarios;
+mod settings;
 mod status;
 mod top;
 

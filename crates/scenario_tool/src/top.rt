@@ -70,7 +70,7 @@ fn reply_to_generate<H: Shelf>(
     ensures files_kept { H.files shelf.new ≡ H.files shelf.old }
 {
     match load(alloc, shelf, asked.source.file) {
-        Ok(program) => generate(alloc, &program, asked.source),
+        Ok(program) => generate(alloc, &program, asked),
         Err(LoadStop::At(refusal)) => refused_source(alloc, asked.source.file, &refusal),
         Err(LoadStop::Shelf(name)) => failed_shelf(alloc, name.as_str()),
         Err(LoadStop::Memory) => Err(AllocError),

@@ -1,0 +1,6 @@
+mod Ends
+mod Nodes
+mod ArgumentLaws
+mod ArgumentSteps
+mod PhaseLaws
+mod WorkForms

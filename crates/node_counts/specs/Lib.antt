@@ -1,0 +1,3 @@
+pub mod OwnCounts
+pub mod Arguments
+pub mod Parts

@@ -1,0 +1,7 @@
+use Rattle.std.proofs.Common.{◌∙◌, ap}
+use Rattle.composition.specs.SceneFaults.{is_too_large}
+use Rattle.type_heads.specs.Types.{Types}
+use Rattle.program_scenes.proofs.large.is_large_among.Goals as goal
+
+pub returns : goal.returns
+returns c = c.in_ok-past.ensures ∙ ap (λ (ts : Types). is_too_large ts c.args.of c.args.setting) c.of-layout.ensures

@@ -1,0 +1,49 @@
+//! Whether a scenario of a program is too large for a scene.
+
+ghost use Rattle.std.specs.Prelude.{◌≡◌, IfOk, None};
+ghost use Rattle.composition.specs.SceneFaults.{is_too_large as too_large};
+ghost use Rattle.name_scope.specs.FileNumbers.{wanted_name};
+ghost use Rattle.named_scenario.specs.Naming.{types_in};
+ghost use Rattle.program_texts.specs.SeenTexts.{types_with};
+ghost use Rattle.type_heads.specs.Told.{told};
+
+use crate::layout::ProgramLayout;
+use composition::Setting;
+use name_scope::Program;
+use named_scenario::NamedScenario;
+use program_members::ProgramMembers;
+use std::alloc::{AllocError, Global};
+use type_model::{TypeId, Types};
+
+/// Whether a scenario that was found in a program has more objects, slots, rules or copied tokens than a scene can have, in
+/// runs as long as the setting says. It makes no part of the scene.
+pub fn is_too_large(
+    alloc: Global,
+    program: &Program,
+    named: &NamedScenario<'_>,
+    setting: Setting,
+) -> Result<bool, AllocError>
+    requires whole { wanted_name program.now ≡ None }
+    requires same_types { named.now.types ≡ told (types_in program.now) }
+    ensures { IfOk result (λ large. large ≡ too_large (types_in program.now) named.now.id setting) }
+{
+    let members = ProgramMembers::of(alloc, program)?;
+    let large = is_large_among(alloc, &named.types, &members, named.id, setting)?;
+    Ok(large)
+}
+
+/// Whether a scenario among types with these members is too large for a scene. Both are those of one program.
+fn is_large_among(
+    alloc: Global,
+    types: &Types,
+    members: &ProgramMembers<'_>,
+    of: TypeId,
+    setting: Setting,
+) -> Result<bool, AllocError>
+    requires built { types.now ≡ told (types_with members.now types.now.table) }
+    ensures { IfOk result (λ past. past ≡ too_large (types_with members.now types.now.table) of setting) }
+{
+    let layout = ProgramLayout::of(types, members);
+    let past = scene_expansion::is_too_large(alloc, &layout, of, setting)?;
+    Ok(past)
+}

@@ -1,0 +1,62 @@
+//! The works of a program.
+
+ghost use Rattle.std.specs.Prelude.{◌≡◌};
+ghost use Rattle.program_texts.specs.SeenTexts.{types_in, types_with};
+ghost use Rattle.type_heads.specs.Told.{told};
+
+use node_counts::counts;
+use object_works::{parts, root, root_parts};
+use osc_base::Place;
+use program_members::ProgramMembers;
+use program_texts::ProgramTexts;
+use scene_expansion::{Counts, Work, WorkLayout};
+use std::alloc::{AllocError, Global};
+use type_model::{TypeId, Types};
+
+/// The works of the scenarios of a program, read from its texts.
+#[derive(Drop)]
+pub struct ProgramLayout<'p> {
+    texts: ProgramTexts<'p>,
+}
+
+impl<'p> ProgramLayout<'p> {
+    /// The works of the scenarios of a program with these types and members. Both are those of one program.
+    pub fn of(types: &'p Types, members: &'p ProgramMembers<'p>) -> ProgramLayout<'p>
+        requires built { types.now ≡ told (types_with members.now types.now.table) }
+        ensures { types_in result.texts ≡ types_with members.entry.now types.entry.now.table }
+    {
+        ProgramLayout {
+            texts: ProgramTexts::of(types, members),
+        }
+    }
+}
+
+impl<'p> WorkLayout<'p> for ProgramLayout<'p> {
+    ghost use Rattle.program_texts.specs.SeenTexts.{types_in};
+
+    ghost types = { λ l. types_in l.texts };
+
+    fn scenario(&self, owner: Option<&str>, name: &str) -> Option<TypeId> {
+        self.texts.scenario(owner, name)
+    }
+
+    fn place(&self, of: TypeId) -> Place {
+        self.texts.place(of)
+    }
+
+    fn root(&self, alloc: Global, of: TypeId) -> Result<Work<'p>, AllocError> {
+        root(alloc, &self.texts, of)
+    }
+
+    fn root_parts(&self, alloc: Global, of: TypeId) -> Result<Vec<Work<'p>>, AllocError> {
+        root_parts(alloc, &self.texts, of)
+    }
+
+    fn parts(&self, alloc: Global, work: &Work<'p>) -> Result<Vec<Work<'p>>, AllocError> {
+        parts(alloc, &self.texts, work)
+    }
+
+    fn counts(&self, alloc: Global, work: &Work<'p>, last: u32) -> Result<Counts, AllocError> {
+        counts(alloc, &self.texts, work, last)
+    }
+}

@@ -1,0 +1,8 @@
+//! What the scenarios of a program come to as scenes.
+#![tactic(auto)]
+
+mod large;
+mod layout;
+
+pub use large::is_too_large;
+pub use layout::ProgramLayout;
