@@ -1,0 +1,321 @@
+-- Each modifier of a scene has a phase, its vehicles, and the ends of its range.
+use Rattle.std.proofs.Common.{◌≡◌, ℕ, refl, sym, ap, ◌∙◌, subst, inl, List, [], ◌∷◌, ◌++◌, Bool, true, false, ◌&&◌, ◌||◌, not, Option, Some, None, map, true≢false}
+use Rattle.std.specs.Prelude.{flat_map, option_to_list, option_map, option_and_then, is_some, is_none, codes}
+use Rattle.std.specs.Option.{option_map_or}
+use Rattle.std.specs.List.{list_any, list_all}
+use Rattle.osc_base.specs.declared.path.Path.{Path}
+use Rattle.osc_base.specs.declared.modifier.Kind.{Kind}
+use Rattle.osc_base.specs.declared.fault.FaultCode.{FaultCode}
+use Rattle.osc_base.specs.FaultRows.{row}
+use Rattle.osc_base.specs.Paths.{root, same_path, then_name}
+use Rattle.dsl_tree.specs.declared.parts.Ident.{Ident}
+use Rattle.dsl_tree.specs.declared.phases.InvokeHead.{InvokeHead}
+use Rattle.dsl_tree.specs.ExprTree.{ExprTree}
+use Rattle.dsl_tree.specs.PhaseTree.{ArgumentTree, PartTree, PhaseTree, Comp, Invoke, Wait}
+use Rattle.type_heads.specs.Table.{TableField, form, owner, field_of, is_object}
+use Rattle.type_heads.specs.Types.{Types, Do}
+use Rattle.type_heads.specs.Members.{the_do}
+use Rattle.expr_nodes.specs.Kinds.{ValueKind, Made, is_number, are_alike, object_type}
+use Rattle.expr_nodes.specs.Typed as Nodes
+use Rattle.expr_nodes.specs.Typed.{Typed, Info, Whole, kind, moved}
+use Rattle.expr_nodes.specs.Scope.{It, Label}
+use Rattle.expr_nodes.specs.Sizes.{unit_size}
+use Rattle.expr_nodes.specs.Parts.{any_holds, of_one, is_scalar}
+use Rattle.expr_nodes.specs.Fits.{is_kind, modifier_fit_rows}
+use Rattle.expr_nodes.specs.Sound.{has_size, is_sound, each_read}
+use Rattle.expr_nodes.specs.Typing.{typed, expr_rows, first, is_path}
+use Rattle.composition.specs.declared.guard.Guard.{Guard}
+use Rattle.composition.specs.declared.setting.Setting.{Setting}
+use Rattle.composition.specs.declared.spot.PhaseSpot.{PhaseSpot}
+use Rattle.composition.specs.Calls.{Turn, PhaseHere, phases_in, made, labels_at, leads_into, label_of, scope_at, invoked}
+use Rattle.composition.specs.ModifierLines.{is_modifier as is_modifier_name, modifier_form}
+use Rattle.composition.specs.Uses.{compared_kind, compared_exprs, isnt_path_to, is_vehicle_object, is_drive, form_rows}
+use Rattle.composition.specs.Homes.{home}
+use Rattle.composition.specs.Scenes.{Content, Spot, Scene, Binding, Occurrence, ModifierSpot, source, phase_spot, phases, has_phase, vehicles}
+use Rattle.composition.specs.There.{read_by}
+use Rattle.composition.specs.Givens.{from_root, typed_here}
+use Rattle.composition.specs.Expansion.{GivenModifier, Calling, calling, here_in, object_at, low_end, high_end, invocation, phase_part, expand_within, expansion}
+use Rattle.composition.specs.Expanded.{is_vehicle, spot, spots_of, modifiers_of, modifier_of, bindings_of, is_driven, is_readable, can_apply, scene_from, scene}
+use Rattle.composition.specs.Invariants.{is_read, has_range, has_other, is_end, is_modifier}
+use Rattle.field_flatten.specs.Exactness.{expressions}
+use Rattle.field_flatten.proofs.Tests.{left_of, right_of, both, two_ways, In, in_left, in_right, in_map, map_in, in_flat_map, flat_map_in, in_filter, all_at, all_from, any_from, path_self}
+use Rattle.scene_laws.specs.Premises.{IsSmallTable}
+use Rattle.scene_laws.proofs.FaultRows.{no_left, no_right, rows_left, rows_right, rows_among, holds_not}
+use Rattle.scene_laws.proofs.Picked.{of_option, filter_map_in}
+use Rattle.scene_laws.proofs.EachSpot.{invoked_kind, invoked_members}
+use Rattle.scene_laws.proofs.WholeRun.{filter_in}
+use Rattle.scene_laws.proofs.MovedPaths.{kind_moved, scalar_moved, sound_moved}
+use Rattle.scene_laws.proofs.TypedSound.{typed_good}
+use Rattle.scene_laws.proofs.MemberPhases.{Resolves}
+use Rattle.scene_laws.proofs.PlacedObjects.{IsAcyclic, Placed, phase_in, field_placed, call_placed}
+use Rattle.checkable_scenes.proofs.Inherited.{option_in}
+use Rattle.checkable_scenes.proofs.TypedTotal.{IsTold, typed_total}
+use Rattle.checkable_scenes.proofs.EachText.{each_text}
+use Rattle.checkable_scenes.proofs.ShortTexts.{AreShort, form_values}
+use Rattle.checkable_scenes.proofs.NarrowModifiers.{GivenBy, given_by, form_judged, moved_kind}
+use Rattle.checkable_scenes.proofs.ReadObjects.{AllKnown, object_of}
+use Rattle.checkable_scenes.proofs.WholeObjects.{path_clear}
+use Rattle.checkable_scenes.proofs.ModifierShapes.{HasParts, form_parts, form_compared}
+
+-- ---- scopes tell what their labels make
+
+pub scope_told : (ts : Types) → Resolves ts → (holder : ℕ) (way : List Turn) (it : Option It) → ((i : It) → it ≡ Some i → (t : ℕ) × (n : Option ℕ) × (i ≡ It.Of t n)) → IsTold (scope_at ts holder it way)
+scope_told ts resolves holder way it f = record { it = f; labels = λ l i e. label l i e }
+  where
+    label : (l : Label) → In l (scope_at ts holder it way).labels → l.made ≡ Made.Unknown → ⊥
+    label l i e =
+        let d = flat_map_in (labels_at ts way) (option_to_list (the_do ts holder)) l i in
+        let p = filter_map_in (λ (p : PhaseHere). option_map (λ (i : Ident). record { name = i.text; path = p.path; made = made ts d.0.holder p.phase; hidden = not (leads_into way p.way) }) (label_of p.phase)) (phases_in d.0.phase) l d.2 in
+        by d.0 (of_option (the_do ts holder) d.0 d.1) p.0 p.1 p.0.phase refl (sym (is d.0 p.0 (label_of p.0.phase) p.2) ∙ e)
+      where
+        is : (d : Do) (p : PhaseHere) (o : Option Ident) → option_map (λ (i : Ident). record { name = i.text; path = p.path; made = made ts d.holder p.phase; hidden = not (leads_into way p.way) }) o ≡ Some l → l.made ≡ made ts d.holder p.phase
+        is d p None g = cc
+        is d p (Some j) g = let same : record { name = j.text; path = p.path; made = made ts d.holder p.phase; hidden = not (leads_into way p.way) } ≡ l = cc in sym (ap (λ (z : Label). z.made) same)
+
+        by : (d : Do) → the_do ts holder ≡ Some d → (p : PhaseHere) → In p (phases_in d.phase) → (phase : PhaseTree) → p.phase ≡ phase → made ts d.holder p.phase ≡ Made.Unknown → ⊥
+        by d at p j (Comp label place kind arguments members) g h = nothing (sym (ap (made ts d.holder) g) ∙ h)
+          where
+            nothing : Made.Nothing ≡ Made.Unknown → ⊥
+            nothing q = cc
+        by d at p j (Wait label place elapsed) g h = nothing (sym (ap (made ts d.holder) g) ∙ h)
+          where
+            nothing : Made.Nothing ≡ Made.Unknown → ⊥
+            nothing q = cc
+        by d at p j (Invoke label head names arguments parts) g h =
+            let r = resolves holder d at p j label head names arguments parts g in
+            makes r.0 (sym (ap (λ o. option_map_or Made.Makes o Made.Unknown) r.1) ∙ sym (ap (made ts d.holder) g) ∙ h)
+          where
+            makes : (of : ℕ) → Made.Makes of ≡ Made.Unknown → ⊥
+            makes of q = cc
+
+-- ---- ends
+
+-- one sound number
+pub record IsNumberEnd (t : Typed) : Type 0 where
+  pub number : is_number (kind t) ≡ true
+  pub scalar : is_scalar t ≡ true
+  pub sound : is_sound t ≡ true
+
+end_moved : (to : Path → Path) (t : Typed) → IsNumberEnd t → IsNumberEnd (moved to t)
+end_moved to t e = record { number = ap is_number (kind_moved to t) ∙ e.number; scalar = scalar_moved to t ∙ e.scalar; sound = sound_moved to t ∙ e.sound }
+
+alike_number : (k v : ValueKind) → is_number k ≡ true → are_alike k v ≡ true → is_number v ≡ true
+alike_number (ValueKind.Number x) (ValueKind.Number y) p q = refl
+alike_number (ValueKind.Number x) ValueKind.Truth p q = absurd (true≢false (sym q))
+alike_number (ValueKind.Number x) (ValueKind.Member y) p q = absurd (true≢false (sym q))
+alike_number (ValueKind.Number x) ValueKind.Chars p q = absurd (true≢false (sym q))
+alike_number (ValueKind.Number x) (ValueKind.Object y) p q = absurd (true≢false (sym q))
+alike_number (ValueKind.Number x) (ValueKind.Phase y) p q = absurd (true≢false (sym q))
+alike_number ValueKind.Truth v p q = absurd (true≢false (sym p))
+alike_number (ValueKind.Member x) v p q = absurd (true≢false (sym p))
+alike_number ValueKind.Chars v p q = absurd (true≢false (sym p))
+alike_number (ValueKind.Object x) v p q = absurd (true≢false (sym p))
+alike_number (ValueKind.Phase x) v p q = absurd (true≢false (sym p))
+
+compared_number : (k : Kind) → is_number (compared_kind k) ≡ true
+compared_number Kind.Speed = refl
+compared_number Kind.FasterThan = refl
+compared_number Kind.SlowerThan = refl
+compared_number Kind.Position = refl
+compared_number Kind.AheadOf = refl
+compared_number Kind.Behind = refl
+compared_number Kind.SameSpeed = refl
+compared_number Kind.Lane = refl
+compared_number Kind.SameLane = refl
+compared_number Kind.LeftOf = refl
+compared_number Kind.RightOf = refl
+
+or_false : (a : Bool) → a || false ≡ true → a ≡ true
+or_false true h = refl
+or_false false h = h
+
+single_end : (k : ValueKind) → is_number k ≡ true → (x : Typed) → is_scalar x ≡ true → is_sound x ≡ true → are_alike k (kind x) || false ≡ true → IsNumberEnd x
+single_end k n x c s h = record { number = alike_number k (kind x) n (or_false (are_alike k (kind x)) h); scalar = c; sound = s }
+
+ends_number : (k : ValueKind) → is_number k ≡ true → (x : Typed) → is_sound x ≡ true → is_kind true k x ≡ true → IsNumberEnd (low_end x) × IsNumberEnd (high_end x)
+ends_number k n (Nodes.Span i low high) s h =
+    let ends = right_of (is_number k) _ h in
+    let parts = right_of (has_size i unit_size) _ (right_of (is_scalar low && is_scalar high) _ s) in
+    let scalars = left_of (is_scalar low && is_scalar high) _ s in
+    let none = not_any (is_number (kind low)) (is_number (kind high)) ends in
+    (record { number = none.0; scalar = left_of (is_scalar low) _ scalars; sound = left_of (is_sound low) _ parts }, record { number = none.1; scalar = right_of (is_scalar low) _ scalars; sound = right_of (is_sound low) _ parts })
+  where
+    not_any : (a b : Bool) → not (not a || (not b || false)) ≡ true → (a ≡ true) × (b ≡ true)
+    not_any true true e = (refl, refl)
+    not_any true false e = absurd (true≢false (sym e))
+    not_any false b e = absurd (true≢false (sym e))
+ends_number k n (Nodes.Whole i path) s h = absurd (true≢false (sym h))
+ends_number k n (Nodes.Listed i f items) s h = absurd (true≢false (sym h))
+ends_number k n (Nodes.Constant i m) s h = let e = single_end k n (Nodes.Constant i m) refl s h in (e, e)
+ends_number k n (Nodes.Read i path per) s h = let e = single_end k n (Nodes.Read i path per) refl s h in (e, e)
+ends_number k n (Nodes.Minus i a) s h = let e = single_end k n (Nodes.Minus i a) refl s h in (e, e)
+ends_number k n (Nodes.Not i a) s h = let e = single_end k n (Nodes.Not i a) refl s h in (e, e)
+ends_number k n (Nodes.Sum i l r) s h = let e = single_end k n (Nodes.Sum i l r) refl s h in (e, e)
+ends_number k n (Nodes.Times i l r) s h = let e = single_end k n (Nodes.Times i l r) refl s h in (e, e)
+ends_number k n (Nodes.And i l r) s h = let e = single_end k n (Nodes.And i l r) refl s h in (e, e)
+ends_number k n (Nodes.Or i l r) s h = let e = single_end k n (Nodes.Or i l r) refl s h in (e, e)
+ends_number k n (Nodes.Implies i l r) s h = let e = single_end k n (Nodes.Implies i l r) refl s h in (e, e)
+ends_number k n (Nodes.Relation i g l r) s h = let e = single_end k n (Nodes.Relation i g l r) refl s h in (e, e)
+ends_number k n (Nodes.Within i l r) s h = let e = single_end k n (Nodes.Within i l r) refl s h in (e, e)
+
+-- what is known of a modifier from its text
+pub record IsMade (m : ModifierSpot) : Type 0 where
+  pub other : has_other m.kind ≡ true → is_some m.other ≡ true
+  pub ends : has_range m.kind ≡ true → (l : Typed) × (h : Typed) × (m.low ≡ Some l) × (m.high ≡ Some h) × IsNumberEnd l × IsNumberEnd h
+
+module _ (ts : Types) (k : AllKnown ts) (resolves : Resolves ts) (short : AreShort ts) (small : IsSmallTable ts.table)
+    (lone : (t : ℕ) (name : List ℕ) (f : TableField) → field_of ts.table t name ≡ Some f → (n : ℕ) → f.length ≡ Some n → is_object (form ts.table.heads f.of) ≡ false) where
+  given_made : (call : Calling) (of : ℕ) (m : GivenModifier) → GivenBy ts call of m → IsMade m.modifier
+  given_made call of m g =
+      subst (λ (z : GivenModifier). IsMade z.modifier) (sym g.is)
+      (record { other = λ o. by_other g.shape.other refl (parts.other o); ends = λ r. by_range g.shape.range refl (parts.range r) })
+    where
+      parts : HasParts g.shape
+      parts = form_parts g.tree g.shape g.formed
+
+      told : IsTold (scope_at ts call.holder (Some (It.Of of None)) call.way)
+      told = scope_told ts resolves call.holder call.way (Some (It.Of of None)) (λ i e. (of, None, is_of i e))
+        where
+          is_of : (i : It) → Some (It.Of of None) ≡ Some i → i ≡ It.Of of None
+          is_of i e = let same : It.Of of None ≡ i = cc in sym same
+
+      rows : any_holds (form_rows ts (scope_at ts call.holder (Some (It.Of of None)) call.way) g.shape) ≡ false
+      rows = form_judged ts k.inherited k.uses short call of m g
+
+      compared : any_holds (flat_map (expr_rows ts.table (scope_at ts call.holder (Some (It.Of of None)) call.way)) (flat_map compared_exprs g.tree.arguments)) ≡ false
+      compared =
+          rows_left (flat_map (expr_rows ts.table (scope_at ts call.holder (Some (It.Of of None)) call.way)) (flat_map compared_exprs g.tree.arguments)) (option_map_or (form_rows ts (scope_at ts call.holder (Some (It.Of of None)) call.way)) (modifier_form g.tree) [])
+          (no_right (is_modifier_name g.tree.name.text && is_none (modifier_form g.tree)) _ (no_right (not (is_drive ts of)) _ (no_right (not (is_modifier_name g.tree.name.text)) _ g.rows)))
+
+      by_other : (o : Option ExprTree) → g.shape.other ≡ o → is_some g.shape.other ≡ true → is_some (option_and_then object_at (option_and_then (typed_here ts (here_in ts call (Some (It.Of of None)))) g.shape.other)) ≡ true
+      by_other None e h = absurd (true≢false (sym h ∙ ap is_some e))
+      by_other (Some c) e h =
+          let inside = (form_compared g.tree g.shape g.formed).1 c e in
+          let x = typed_total ts.table k.kinds (scope_at ts call.holder (Some (It.Of of None)) call.way) told c (rows_among (expr_rows ts.table (scope_at ts call.holder (Some (It.Of of None)) call.way)) (flat_map compared_exprs g.tree.arguments) compared c inside) in
+          let judged = no_left (isnt_path_to ts.table (scope_at ts call.holder (Some (It.Of of None)) call.way) (is_vehicle_object ts) c) false (subst (λ o. any_holds (option_map_or (λ c. row (first c) FaultCode.WrongKind (isnt_path_to ts.table (scope_at ts call.holder (Some (It.Of of None)) call.way) (is_vehicle_object ts) c) ∷ []) o []) ≡ false) e (rows_right (option_map_or (λ e. modifier_fit_rows (compared_kind g.shape.kind) (first e) (typed ts.table (scope_at ts call.holder (Some (It.Of of None)) call.way) e)) g.shape.range []) _ rows)) in
+          let path = holds_not (is_path c) (no_left (not (is_path c)) _ judged) in
+          let vehicle = holds_not (is_vehicle_object ts x.0) (subst (λ o. of_one o (λ t. not (is_vehicle_object ts t)) ≡ false) x.1 (no_right (not (is_path c)) (of_one (typed ts.table (scope_at ts call.holder (Some (It.Of of None)) call.way) c) (λ t. not (is_vehicle_object ts t))) judged)) in
+          let u = object_of (kind x.0) (is_vehicle ts) vehicle in
+          let w = (path_clear ts.table k.reads.fields.held lone (scope_at ts call.holder (Some (It.Of of None)) call.way) (λ t n q. alone t n q) c path x.0 x.1).whole u.0 (ap object_type u.1) in
+          ap (λ o. is_some (option_and_then object_at (option_and_then (typed_here ts (here_in ts call (Some (It.Of of None)))) o))) e
+          ∙ ap (λ o. is_some (option_and_then object_at (option_map (moved (from_root (here_in ts call (Some (It.Of of None))))) o))) (x.1 ∙ ap Some w.2)
+        where
+          alone : (t : ℕ) (n : Option ℕ) → Some (It.Of of None) ≡ Some (It.Of t n) → n ≡ None
+          alone t n q = let same : None ≡ n = cc in sym same
+
+      by_range : (o : Option ExprTree) → g.shape.range ≡ o → is_some g.shape.range ≡ true
+          → (l : Typed) × (h : Typed) × (option_map low_end (option_and_then (typed_here ts (here_in ts call (Some (It.Of of None)))) g.shape.range) ≡ Some l)
+          × (option_map high_end (option_and_then (typed_here ts (here_in ts call (Some (It.Of of None)))) g.shape.range) ≡ Some h) × IsNumberEnd l × IsNumberEnd h
+      by_range None e h = absurd (true≢false (sym h ∙ ap is_some e))
+      by_range (Some c) e h =
+          let inside = (form_compared g.tree g.shape g.formed).0 c e in
+          let x = typed_total ts.table k.kinds (scope_at ts call.holder (Some (It.Of of None)) call.way) told c (rows_among (expr_rows ts.table (scope_at ts call.holder (Some (It.Of of None)) call.way)) (flat_map compared_exprs g.tree.arguments) compared c inside) in
+          let fits = subst (λ o. any_holds (option_map_or (λ e. modifier_fit_rows (compared_kind g.shape.kind) (first e) (typed ts.table (scope_at ts call.holder (Some (It.Of of None)) call.way) e)) o []) ≡ false) e (rows_left (option_map_or (λ e. modifier_fit_rows (compared_kind g.shape.kind) (first e) (typed ts.table (scope_at ts call.holder (Some (It.Of of None)) call.way) e)) g.shape.range []) _ rows) in
+          let judged = subst (λ o. any_holds (modifier_fit_rows (compared_kind g.shape.kind) (first c) o) ≡ false) x.1 fits in
+          let good = typed_good ts.table small (scope_at ts call.holder (Some (It.Of of None)) call.way) c (g.short c ((form_values g.tree g.shape g.formed).0 c e)) x.0 x.1 in
+          let ends = ends_number (compared_kind g.shape.kind) (compared_number g.shape.kind) x.0 good.sound (holds_not (is_kind true (compared_kind g.shape.kind) x.0) (no_left (not (is_kind true (compared_kind g.shape.kind) x.0)) _ judged)) in
+          let to = from_root (here_in ts call (Some (It.Of of None))) in
+          let same = moved_kind to x.0 in (
+            moved to (low_end x.0),
+            moved to (high_end x.0),
+            ap (λ o. option_map low_end (option_and_then (typed_here ts (here_in ts call (Some (It.Of of None)))) o)) e ∙ ap (λ o. option_map low_end (option_map (moved to) o)) x.1 ∙ ap Some same.0,
+            ap (λ o. option_map high_end (option_and_then (typed_here ts (here_in ts call (Some (It.Of of None)))) o)) e ∙ ap (λ o. option_map high_end (option_map (moved to) o)) x.1 ∙ ap Some same.1,
+            end_moved to (low_end x.0) ends.0,
+            end_moved to (high_end x.0) ends.1,
+          )
+
+  module _ (a : IsAcyclic ts) (whole : ℕ) (setting : Setting) (first_object : Placed ts a (spots_of ts (expansion ts whole)) root whole [] [])
+      (actor : (x : ℕ) → owner ts.table.heads whole ≡ Some x → Placed ts a (spots_of ts (expansion ts whole)) (then_name root (codes "actor")) x [] [])
+      (right : list_all (λ (x : Typed). each_read (λ i path per. is_read (scene ts whole setting) i path per (source (scene ts whole setting) path)) x) (expressions (scene ts whole setting)) ≡ true) where
+    abbrev spots : List Spot
+    spots = spots_of ts (expansion ts whole)
+
+    abbrev here : Scene
+    here = scene ts whole setting
+
+    abbrev IsPlacedModifier : GivenModifier → Type 0
+    IsPlacedModifier m = IsMade m.modifier × (has_phase here m.modifier.phase ≡ true)
+
+    invocation_there : (path : Path) (t : ℕ) (gs : List Guard) (bindings : List Binding) → Placed ts a spots path t gs bindings → (d : Do) → the_do ts t ≡ Some d → (p : PhaseHere) → In p (phases_in d.phase)
+        → (label : Option Ident) (head : InvokeHead) (names : List Ident) (arguments : List ArgumentTree) (parts : List PartTree) → p.phase ≡ Invoke label head names arguments parts → (of : ℕ) → invoked ts d.holder head names ≡ Some of
+        → has_phase here (calling bindings path gs d p).path ≡ true
+    invocation_there path t gs bindings placed d is p i label head names arguments parts e of to =
+        let call = calling bindings path gs d p in
+        let part = invocation (λ q of c b. expand_within placed.steps ts q of c b []) ts call head names arguments parts of in
+        let s = spot call.path call.guards (Content.Phase (invoked_kind ts (is_some (the_do ts of))) (invoked_members ts call.path (is_some (the_do ts of)))) in
+        let there = phase_in ts a spots path t gs bindings placed d is p i part
+        (subst (λ z. In part (phase_part (λ q of c b. expand_within placed.steps ts q of c b []) ts call z)) (sym e)
+        (in_map (invocation (λ q of c b. expand_within placed.steps ts q of c b []) ts call head names arguments parts) (option_to_list (invoked ts d.holder head names)) of (option_in (invoked ts d.holder head names) of to))) s (inl refl) in
+        any_from (λ (q : PhaseSpot). same_path q.path call.path) (phases here) (record { path = call.path; kind = invoked_kind ts (is_some (the_do ts of)); members = invoked_members ts call.path (is_some (the_do ts of)) })
+        (filter_in (λ (s : Spot). phase_spot s.path s.content) spots s (record { path = call.path; kind = invoked_kind ts (is_some (the_do ts of)); members = invoked_members ts call.path (is_some (the_do ts of)) }) there refl) (path_self call.path)
+
+    all_placed : (m : GivenModifier) → In m (modifiers_of (expansion ts whole)) → IsPlacedModifier m
+    all_placed = (each_text ts (λ path t gs bindings. Placed ts a spots path t gs bindings) (λ g. Unit {0}) IsPlacedModifier (λ b. Unit {0})
+        (λ path t gs bindings q g i. tt)
+        (λ path t gs bindings q d is p i label place kind arguments members e g j. tt)
+        (λ path t gs bindings q d is p i label place elapsed e. tt)
+        (λ path t gs bindings q d is p i label head names arguments parts e of to g j. tt)
+        (λ path t gs bindings q d is p i label head names arguments parts e of to m j.
+        let g = given_by ts k.inherited k.uses short path t gs bindings d is p i label head names arguments parts e of to m j in
+        (given_made (calling bindings path gs d p) of m g, subst (λ (z : GivenModifier). has_phase here z.modifier.phase ≡ true) (sym g.is) (invocation_there path t gs bindings q d is p i label head names arguments parts e of to)))
+        (λ path t gs bindings q d is p i label head names arguments parts e of to b j. tt)
+        (λ path t gs bindings q f i of typed test. field_placed ts a spots path t gs bindings q f i of typed test)
+        (λ path t gs bindings q d is p i label head names arguments parts e of to. call_placed ts a spots path t gs bindings q d is p i label head names arguments parts e of to)
+        whole first_object actor).modifiers
+
+    abbrev bound : List Binding
+    bound = bindings_of (expansion ts whole)
+
+    or_right : (a b : Bool) → b ≡ true → a || b ≡ true
+    or_right true b h = refl
+    or_right false b h = h
+
+    end_right : (t : Typed) → IsNumberEnd t → In (moved (home bound) t) (expressions here) → is_end here (moved (home bound) t) ≡ true
+    end_right t e i =
+        let m = end_moved (home bound) t e in
+        both (is_number (kind (moved (home bound) t))) _ m.number (both (is_scalar (moved (home bound) t)) _ m.scalar
+        (both (is_sound (moved (home bound) t)) _ m.sound (all_at (λ (x : Typed). each_read (λ i path per. is_read (scene ts whole setting) i path per (source (scene ts whole setting) path)) x) (expressions here) right (moved (home bound) t) i)))
+
+    one_right : (g : ModifierSpot) → IsMade g → has_phase here g.phase ≡ true → In (modifier_of bound g) here.modifiers → can_apply (scene_from ts setting (expansion ts whole)) (modifier_of bound g) ≡ true → is_modifier here (modifier_of bound g) ≡ true
+    one_right g made phase inside applied =
+        let m = modifier_of bound g in
+        let driven = left_of (list_all (is_driven here) ((modifier_of bound g).own ∷ option_to_list (modifier_of bound g).other)) (list_all (is_readable here) (read_by (modifier_of bound g).low ++ read_by (modifier_of bound g).high)) applied in
+        both (has_phase here g.phase && list_any (same_path (home bound g.own)) (vehicles here)) _
+        (both (has_phase here g.phase) (list_any (same_path (home bound g.own)) (vehicles here)) phase (left_of (is_driven here (home bound g.own)) _ driven))
+        (both (not (has_other g.kind) || option_map_or (λ (v : Path). list_any (same_path v) (vehicles here)) (option_map (home bound) g.other) false) _
+        (by_other g.other refl (right_of (is_driven here (home bound g.own)) (list_all (is_driven here) (option_to_list (option_map (home bound) g.other))) driven))
+        (two_ways (has_range g.kind) (λ e. ranged e (made.ends e)) (λ e. unranged e)))
+      where
+        by_other : (o : Option Path) → g.other ≡ o → list_all (is_driven here) (option_to_list (option_map (home bound) g.other)) ≡ true
+            → not (has_other g.kind) || option_map_or (λ (v : Path). list_any (same_path v) (vehicles here)) (option_map (home bound) g.other) false ≡ true
+        by_other None e h = two_ways (has_other g.kind) (λ q. absurd (true≢false (sym (made.other q) ∙ ap is_some e))) (λ q. rw q refl)
+        by_other (Some v) e h =
+            or_right (not (has_other g.kind)) _ (subst (λ o. option_map_or (λ (v : Path). list_any (same_path v) (vehicles here)) (option_map (home bound) o) false ≡ true) (sym e)
+            (left_of (is_driven here (home bound v)) true (subst (λ o. list_all (is_driven here) (option_to_list (option_map (home bound) o)) ≡ true) e h)))
+
+        unranged : has_range g.kind ≡ false
+            → not (has_range g.kind) || (option_map_or (is_end here) (option_map (moved (home bound)) g.low) false && option_map_or (is_end here) (option_map (moved (home bound)) g.high) false) ≡ true
+        unranged e = rw e refl
+
+        listed : (t : Typed) → In t (option_to_list (option_map (moved (home bound)) g.low) ++ option_to_list (option_map (moved (home bound)) g.high)) → In t (expressions here)
+        listed t i = in_right t (flat_map (λ (o : Occurrence). option_to_list o.typed) here.occurrences) (flat_map (λ (m : ModifierSpot). option_to_list m.low ++ option_to_list m.high) here.modifiers)
+            (in_flat_map (λ (m : ModifierSpot). option_to_list m.low ++ option_to_list m.high) here.modifiers (modifier_of bound g) t inside i)
+
+        ranged : has_range g.kind ≡ true → (l : Typed) × (h : Typed) × (g.low ≡ Some l) × (g.high ≡ Some h) × IsNumberEnd l × IsNumberEnd h
+            → not (has_range g.kind) || (option_map_or (is_end here) (option_map (moved (home bound)) g.low) false && option_map_or (is_end here) (option_map (moved (home bound)) g.high) false) ≡ true
+        ranged e r =
+            let low : option_map (moved (home bound)) g.low ≡ Some (moved (home bound) r.0) = ap (λ o. option_map (moved (home bound)) o) r.2 in
+            let high : option_map (moved (home bound)) g.high ≡ Some (moved (home bound) r.1) = ap (λ o. option_map (moved (home bound)) o) r.3 in
+            or_right (not (has_range g.kind)) _ (both (option_map_or (is_end here) (option_map (moved (home bound)) g.low) false) _
+            (subst (λ o. option_map_or (is_end here) o false ≡ true) (sym low) (end_right r.0 r.4 (listed (moved (home bound) r.0)
+            (in_left (moved (home bound) r.0) (option_to_list (option_map (moved (home bound)) g.low)) (option_to_list (option_map (moved (home bound)) g.high)) (option_in (option_map (moved (home bound)) g.low) (moved (home bound) r.0) low)))))
+            (subst (λ o. option_map_or (is_end here) o false ≡ true) (sym high) (end_right r.1 r.5 (listed (moved (home bound) r.1)
+            (in_right (moved (home bound) r.1) (option_to_list (option_map (moved (home bound)) g.low)) (option_to_list (option_map (moved (home bound)) g.high)) (option_in (option_map (moved (home bound)) g.high) (moved (home bound) r.1) high))))))
+
+    pub modifiers_right : list_all (is_modifier here) here.modifiers ≡ true
+    modifiers_right = all_from (is_modifier here) here.modifiers (λ m i.
+        let f = in_filter (can_apply (scene_from ts setting (expansion ts whole))) (map (λ (g : GivenModifier). modifier_of bound g.modifier) (modifiers_of (expansion ts whole))) m i in
+        let n = map_in (λ (g : GivenModifier). modifier_of bound g.modifier) (modifiers_of (expansion ts whole)) m f.0 in
+        let known = all_placed n.0 n.1 in
+        subst (λ z. is_modifier here z ≡ true) (sym n.2)
+        (one_right n.0.modifier known.0 known.1 (subst (λ z. In z here.modifiers) n.2 i) (subst (λ z. can_apply (scene_from ts setting (expansion ts whole)) z ≡ true) n.2 f.1)))
