@@ -1,3 +1,4 @@
 pub mod ElementSteps
 pub mod WorkParts
 pub mod ArgumentSteps
+pub mod BoundPaths

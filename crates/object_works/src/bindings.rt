@@ -55,7 +55,7 @@ fn labels_of(
 }
 
 /// The scope of the arguments of a call, in which `it` is the object that the call makes.
-fn call_scope(
+pub fn call_scope(
     alloc: Global,
     texts: &ProgramTexts<'_>,
     call: &Call,
@@ -95,7 +95,7 @@ fn whole_path(typed: &Typed) -> Option<&Path>
 }
 
 /// The path of what an expression leads to, if it is a whole object or phase.
-fn object_at(typed: &Option<Boxed<Typed>>) -> Option<&Path>
+pub fn object_at(typed: &Option<Boxed<Typed>>) -> Option<&Path>
     ensures { option_copied result ≡ option_and_then Expansion.object_at (seen_part typed.now) }
 {
     match typed {

@@ -24,7 +24,7 @@ pub(crate) fn copy_guard(alloc: Global, guard: &Guard) -> Result<Guard, AllocErr
 }
 
 /// Equal conditions.
-pub(crate) fn copy_guards(alloc: Global, guards: &[Guard]) -> Result<Row<Guard>, AllocError>
+pub fn copy_guards(alloc: Global, guards: &[Guard]) -> Result<Row<Guard>, AllocError>
     ensures { IfOk result (λ gs. gs ≡ guards.now) }
 {
     let mut copies = Row::new(alloc);
@@ -35,7 +35,7 @@ pub(crate) fn copy_guards(alloc: Global, guards: &[Guard]) -> Result<Row<Guard>,
 }
 
 /// An equal binding.
-fn copy_binding(alloc: Global, binding: &Binding) -> Result<Binding, AllocError>
+pub fn copy_binding(alloc: Global, binding: &Binding) -> Result<Binding, AllocError>
     ensures { IfOk result (λ b. b ≡ binding.now) }
 {
     Ok(Binding {
@@ -45,7 +45,7 @@ fn copy_binding(alloc: Global, binding: &Binding) -> Result<Binding, AllocError>
 }
 
 /// Equal bindings.
-pub(crate) fn copy_bindings(alloc: Global, bindings: &[Binding]) -> Result<Row<Binding>, AllocError>
+pub fn copy_bindings(alloc: Global, bindings: &[Binding]) -> Result<Row<Binding>, AllocError>
     ensures { IfOk result (λ bs. bs ≡ bindings.now) }
 {
     let mut copies = Row::new(alloc);
@@ -87,7 +87,7 @@ fn copy_numbers(alloc: Global, numbers: &[i64]) -> Result<Row<i64>, AllocError>
 }
 
 /// An equal range.
-pub(crate) fn copy_range(alloc: Global, range: &ValueRange) -> Result<ValueRange, AllocError>
+pub fn copy_range(alloc: Global, range: &ValueRange) -> Result<ValueRange, AllocError>
     ensures { IfOk result (λ r. r ≡ range.now) }
 {
     match range {

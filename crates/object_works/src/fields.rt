@@ -15,7 +15,7 @@ ghost use Rattle.object_works.specs.Held.{held_objects, held_values, held_works}
 
 use crate::copies::{copy_guard, copy_guards, copy_range};
 use crate::within::Within;
-use composition::{Binding, Guard, ValueRange};
+use composition::{Guard, ValueRange};
 use dsl_tree::FieldDecl;
 use osc_base::{Path, Row};
 use program_texts::{ProgramTexts, TypeField, list_length, range_of};
@@ -24,16 +24,13 @@ use scene_texts::{then_index, then_name};
 use std::alloc::{AllocError, Global};
 use type_model::TypeId;
 
-/// Whether a parameter is another name of its argument.
-pub(crate) fn is_bound(bindings: &[Binding], path: &Path) -> bool
-    ensures { result ≡ homes.is_bound (map seen_binding bindings.now) path.now }
-{
-    for binding in bindings {
-        if binding.at.is(path) {
-            return true;
-        }
+impl Within<'_> {
+    /// Whether a parameter is another name of its argument.
+    fn is_bound(&self, path: &Path) -> bool
+        ensures { result ≡ homes.is_bound (map seen_binding self.now.bindings.now) path.now }
+    {
+        self.bound.get(path).is_some()
     }
-    false
 }
 
 /// Puts a value at the end.
@@ -122,7 +119,7 @@ fn push_held_object<'p>(
 ) -> Result<(), AllocError>
     ensures { OnOk result (map seen_work into.new.items ≡ map seen_work into.old.items ++ held_objects within.now.steps (types_in texts.now) (map seen_binding within.now.bindings.now) path.now guards.now of) }
 {
-    if !texts.is_object(of) || is_bound(within.bindings, path) {
+    if !texts.is_object(of) || within.is_bound(path) {
         return Ok(());
     }
     let guards = copy_guards(alloc, guards)?;

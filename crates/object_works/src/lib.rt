@@ -8,5 +8,6 @@ mod fields;
 mod within;
 mod works_in;
 
-pub use within::Within;
+pub use bindings::{call_scope, object_at};
+pub use copies::{copy_binding, copy_bindings, copy_guards, copy_range};
 pub use works_in::{parts, root, root_parts};

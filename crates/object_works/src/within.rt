@@ -1,16 +1,21 @@
 //! The object whose parts are laid out.
 
+ghost use Rattle.path_index.specs.Places.{Places};
+
 use composition::{Binding, Guard};
 use osc_base::Path;
+use path_index::PathIndex;
 use type_model::TypeId;
 
 /// An object of a type at a path, its conditions and the bindings of its parameters, and how many objects may stand in one
-/// another in it.
+/// another in it. `bound` has the place of each parameter among the bindings.
 #[derive(Clone, Copy)]
-pub struct Within<'w> {
-    pub steps: u32,
-    pub object: &'w Path,
-    pub of: TypeId,
-    pub guards: &'w [Guard],
-    pub bindings: &'w [Binding],
+pub(crate) struct Within<'w> {
+    pub(crate) steps: u32,
+    pub(crate) object: &'w Path,
+    pub(crate) of: TypeId,
+    pub(crate) guards: &'w [Guard],
+    pub(crate) bindings: &'w [Binding],
+    pub(crate) bound: &'w PathIndex,
+    ghost places: { Places bound.now (λ p. p) (λ b. b.at) bindings.now },
 }

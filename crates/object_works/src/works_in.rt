@@ -15,6 +15,7 @@ use crate::fields::push_fields;
 use crate::within::Within;
 use composition::Binding;
 use osc_base::{Path, Row};
+use path_index::PathIndex;
 use program_texts::ProgramTexts;
 use scene_expansion::{Call, Work};
 use scene_texts::then_name;
@@ -52,6 +53,7 @@ fn object_parts<'p>(
         of: within.of,
         guards: within.guards,
         bindings: within.bindings,
+        bound: within.bound,
     };
     push_parts(alloc, texts, &mut into, &inner)?;
     Ok(into)
@@ -96,12 +98,15 @@ pub fn parts<'p>(
             guards,
             bindings,
         } => {
+            let bindings = bindings.as_slice();
+            let bound = PathIndex::of(alloc, bindings)?;
             let within = Within {
                 steps: *steps,
                 object: path,
                 of: *of,
                 guards: guards.as_slice(),
-                bindings: bindings.as_slice(),
+                bindings,
+                bound: &bound,
             };
             object_parts(alloc, texts, &within)
         }
@@ -189,12 +194,15 @@ fn push_root<'p>(
     ensures { OnOk result (map seen_work into.new.items ≡ map seen_work into.old.items ++ works.object_works steps (types_in texts.now) paths.root of [] []) }
 {
     let path = root_path(alloc);
+    let bindings: &[Binding] = &[];
+    let bound = PathIndex::of(alloc, bindings)?;
     let within = Within {
         steps,
         object: &path,
         of,
         guards: &[],
-        bindings: &[],
+        bindings,
+        bound: &bound,
     };
     push_parts(alloc, texts, into, &within)
 }

@@ -1,4 +1,5 @@
 pub mod TypeRows
 pub mod ConditionSteps
+pub mod AskedOnce
 pub mod ExprKinds
 pub mod NamedFields

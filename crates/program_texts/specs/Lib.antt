@@ -2,3 +2,4 @@ pub mod SeenFields
 pub mod SeenTexts
 pub mod Ranges
 pub mod SeenConditions
+pub mod Asked

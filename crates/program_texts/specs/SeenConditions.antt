@@ -8,9 +8,13 @@ use Rattle.type_heads.specs.Types.{Field, Types}
 use Rattle.cond_inherit.specs.Conditions.{conditions_within}
 use Rattle.composition.specs.declared.guard.Guard.{Guard}
 
+-- the conditions that a field is under
+abbrev pub conditions_of_field : ℕ → Types → ℕ → List ℕ → List Condition
+conditions_of_field steps ts t name = flat_map (λ (f : Field). conditions_within steps ts t f.under) (option_to_list (field ts t name))
+
 -- a condition after those that its field is under
 abbrev pub with_earlier : ℕ → Types → ℕ → Condition → List Condition
-with_earlier steps ts t c = flat_map (λ (f : Field). conditions_within steps ts t f.under) (option_to_list (field ts t c.field)) ++ c ∷ []
+with_earlier steps ts t c = conditions_of_field steps ts t c.field ++ c ∷ []
 
 -- the condition of a conditional subtype, after those that its field is under
 abbrev pub conditions_after : ℕ → Types → ℕ → ℕ → List Condition

@@ -2,6 +2,7 @@
 //! members are there.
 #![tactic(auto)]
 
+mod asked;
 mod conditions;
 mod field_parts;
 mod gathered;

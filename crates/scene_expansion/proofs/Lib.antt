@@ -5,3 +5,4 @@ pub mod CountLimits
 pub mod ReadRows
 pub mod WholeScenes
 pub mod NamedScenes
+pub mod DrivenPaths

@@ -2,3 +2,4 @@ pub mod SeenWorks
 pub mod Walks
 pub mod AllCounts
 pub mod Readable
+pub mod Vehicles

@@ -2,6 +2,7 @@
 #![tactic(auto)]
 
 mod counts;
+mod driven;
 mod laid;
 mod large;
 mod layout;

@@ -1,21 +1,22 @@
 //! The scene of the works that are laid out.
 
-ghost use Rattle.std.specs.Prelude.{◌≡◌, IfOk, IfSome, None, true};
-ghost use Rattle.composition.specs.Expanded.{with_readable};
+ghost use Rattle.std.specs.Prelude.{◌≡◌, filter, map, IfOk, IfSome, None, true};
+ghost use Rattle.composition.specs.Expanded.{can_apply, with_readable};
 ghost use Rattle.composition.specs.Expansion.{expansion};
 ghost use Rattle.composition.specs.SceneFaults.{is_too_large};
+ghost use Rattle.composition.specs.SeenParts.{seen_modifier};
 ghost use Rattle.composition.specs.SeenScenes.{seen_scene};
 ghost use Rattle.composition.specs.declared.setting.Setting.{Setting};
-ghost use Rattle.expansion_laws.specs.Laid.{scene_laid};
+ghost use Rattle.expansion_laws.specs.Laid.{modifiers_laid, scene_laid};
 ghost use Rattle.expansion_laws.specs.Nodes.{closed_of, nodes_of};
-ghost use Rattle.scene_expansion.specs.Walks.{bare_scene, nodes_done};
+ghost use Rattle.scene_expansion.specs.Walks.{bare_scene, modifier_at, nodes_done};
 
 use crate::laid::{bindings_of, modifiers_of, occurrences_of, spots_of};
 use crate::layout::{Layout, WorkLayout};
 use crate::readable::{readable_modifiers, readable_occurrences};
 use crate::walk::{laid_after, laid_before};
 use crate::work::Work;
-use composition::{Scene, Setting};
+use composition::{ModifierSpot, Scene, Setting};
 use osc_base::Row;
 use std::alloc::{AllocError, Global};
 use type_model::TypeId;
@@ -72,6 +73,20 @@ fn bare<'p, L: Layout<'p>>(
     )
 }
 
+/// The modifiers of works that can be there, at their homes in the scene.
+fn applied<'p, L: Layout<'p>>(
+    alloc: Global,
+    layout: &L,
+    scene: &Scene,
+    works: &[Work<'p>],
+) -> Result<Row<ModifierSpot>, AllocError>
+    ensures { IfOk result (λ ms. map seen_modifier ms ≡ filter (can_apply (seen_scene scene.now)) (map (modifier_at (seen_scene scene.now).bindings) (modifiers_laid (nodes_done (L.types layout.now) works.now)))) }
+{
+    let modifiers = modifiers_of(alloc, layout, scene, works)?;
+    let applied = readable_modifiers(alloc, scene, modifiers)?;
+    Ok(applied)
+}
+
 /// The scene of works, which stand in one list before the works in them, and in the other after them.
 pub(crate) fn whole<'p, L: Layout<'p>>(
     alloc: Global,
@@ -84,8 +99,7 @@ pub(crate) fn whole<'p, L: Layout<'p>>(
 {
     let scene = bare(alloc, layout, setting, before)?;
     let occurrences = occurrences_of(alloc, layout, &scene, after)?;
-    let modifiers = modifiers_of(alloc, layout, &scene, before)?;
+    let modifiers = applied(alloc, layout, &scene, before)?;
     let occurrences = readable_occurrences(&scene, occurrences);
-    let modifiers = readable_modifiers(&scene, modifiers);
     Ok(scene.with_asked(occurrences, modifiers))
 }

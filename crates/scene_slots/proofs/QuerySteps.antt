@@ -15,8 +15,8 @@ use Rattle.composition.specs.Slots.{slot_names}
 use Rattle.box_eval.specs.FlatRules.{FlatTerm, Whole, Slot, Less, times}
 use Rattle.composition.specs.Scenes.{Source, OfRun, OfPhase, OfValue}
 use Rattle.field_flatten.specs.Shapes.{Layout, read_term}
-use Rattle.scene_slots.specs.declared.reads.Found.{Found}
-use Rattle.scene_slots.specs.Founds.{found_term}
+use Rattle.flat_shapes.specs.declared.slots.Found.{Found}
+use Rattle.flat_shapes.specs.Founds.{found_term}
 use Rattle.field_flatten.specs.Ends.{slot_in}
 use Rattle.field_flatten.specs.Rules.{end_term}
 use Rattle.scene_slots.specs.declared.track.Track.{Track}

@@ -3,4 +3,3 @@ pub mod Numbers
 pub mod Places
 pub mod SeenSlots
 pub mod Tracks
-pub mod Founds

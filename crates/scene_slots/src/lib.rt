@@ -9,6 +9,5 @@ mod slots;
 mod track;
 
 pub use names::slot_names;
-pub use reads::{Found, Slots};
 pub use slots::SceneSlots;
 pub use track::Track;

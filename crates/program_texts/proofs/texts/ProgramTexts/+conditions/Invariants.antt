@@ -1,16 +1,17 @@
-use Rattle.std.proofs.Common.{◌≡◌, ◌++◌, ◌+◌, ◌*◌, ◌-◌, drop, flat_map, map}
-use Rattle.cond_inherit.specs.SubtypeConditions.{seen_condition}
+use Rattle.std.proofs.Common.{◌+◌, ◌*◌, ◌-◌, flat_map, take}
+use Rattle.program_texts.specs.Asked.{IsGathered}
 use Rattle.program_texts.specs.SeenConditions.{conditions_after}
 use Rattle.program_texts.specs.SeenTexts.{types_in}
 use Rattle.program_texts.proofs.texts.ProgramTexts.+conditions.Given as goal
 
-abbrev pub decreases-push_conditions : goal.decreases-push_conditions
-decreases-push_conditions l = 2 * l.steps
+abbrev pub decreases-gather : goal.decreases-gather
+decreases-gather l = 3 * l.steps
 
-abbrev pub decreases-push_subtype : goal.decreases-push_subtype
-decreases-push_subtype l = 2 * l.steps + 1
+abbrev pub decreases-gather_subtype : goal.decreases-gather_subtype
+decreases-gather_subtype l = 3 * l.steps + 2
 
-abbrev pub invariant-push_conditions-loop-subtype : goal.invariant-push_conditions-loop-subtype
-invariant-push_conditions-loop-subtype l =
-    map seen_condition l.into.items ++ flat_map (conditions_after (l.steps - 1) (types_in l.self) l.of) (drop l.subtype-index l.under)
-    ≡ map seen_condition l.fn.into.items ++ flat_map (conditions_after (l.steps - 1) (types_in l.self) l.of) l.under
+abbrev pub decreases-gather_field : goal.decreases-gather_field
+decreases-gather_field l = 3 * l.steps + 1
+
+abbrev pub invariant-gather-loop-subtype : goal.invariant-gather-loop-subtype
+invariant-gather-loop-subtype l = IsGathered (types_in l.self) l.of l.fn.into l.into (flat_map (conditions_after (l.steps - 1) (types_in l.self) l.of) (take l.subtype-index l.under))

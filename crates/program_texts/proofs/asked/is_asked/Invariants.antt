@@ -1,0 +1,9 @@
+use Rattle.std.proofs.Common.{◌≡◌, drop, map}
+use Rattle.std.specs.List.{list_any}
+use Rattle.cond_inherit.specs.Conditions.{same_condition}
+use Rattle.cond_inherit.specs.SubtypeConditions.{seen_condition}
+use Rattle.program_texts.proofs.asked.is_asked.Given as goal
+
+abbrev pub invariant-loop-other : goal.invariant-loop-other
+invariant-loop-other l =
+    list_any (same_condition (seen_condition l.condition)) (map seen_condition (drop l.other-index l.conditions)) ≡ list_any (same_condition (seen_condition l.condition)) (map seen_condition l.conditions)

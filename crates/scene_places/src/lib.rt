@@ -1,0 +1,8 @@
+//! Where the paths of a text lead in a scene: the homes of paths, and expressions with their paths at their homes.
+#![tactic(auto)]
+
+mod expressions;
+mod places;
+
+pub use expressions::moved;
+pub use places::Places;

@@ -1,0 +1,7 @@
+use Rattle.std.proofs.Common.{◌≡◌, map, take}
+use Rattle.composition.specs.SeenScenes.{seen_scene}
+use Rattle.field_flatten.specs.Ends.{ends_of}
+use Rattle.slot_ends.proofs.ends.ends_of_all.Given as goal
+
+abbrev pub invariant-names : goal.invariant-names
+invariant-names l = l.pairs ≡ map (ends_of (seen_scene l.scene)) (take l.name-index l.names)

@@ -1,0 +1,6 @@
+//! The ends of the slots of a scene.
+#![tactic(auto)]
+
+mod ends;
+
+pub use ends::{bounds, ends_of};

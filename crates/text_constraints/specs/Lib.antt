@@ -1,0 +1,4 @@
+pub mod Sites
+pub mod Kept
+pub mod Elements
+pub mod OwnTexts

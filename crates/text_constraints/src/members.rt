@@ -1,0 +1,319 @@
+//! The own constraints of an object, member by member.
+
+ghost use Rattle.std.specs.Prelude.{◌≡◌, ◌++◌, ◌∷◌, [], flat_map, is_some, map, option_map, option_to_list, IfOk, OnOk};
+ghost use Rattle.composition.specs.SeenParts.{seen_occurrence};
+ghost use Rattle.composition.specs.SeenScenes.{seen_scene};
+ghost use Rattle.dsl_tree.specs.FileTree.{MemberTree};
+ghost use Rattle.dsl_tree.specs.Views.{expr_tree, field_tree, rule_tree};
+ghost use Rattle.expr_nodes.specs.SeenNames.{seen_it, seen_scope};
+ghost use Rattle.program_calls.specs.SeenLabels.{do_labels, seen_phase_label};
+ghost use Rattle.program_texts.specs.SeenTexts.{types_in};
+ghost use Rattle.type_members.specs.Listed.{seen_listed};
+ghost use Rattle.expansion_laws.specs.WorkNodes.{own_within};
+ghost use Rattle.composition.specs.Expanded.{occurrence_of};
+ghost use Rattle.text_constraints.specs.Kept.{seen_owner};
+ghost use Rattle.text_constraints.specs.OwnTexts.{HasIt, IsTextScope, conditions_kept, initials_kept, it_given, listed_kept, member_kept, name_kept, own_rule_kept, texts_kept, without_it};
+ghost use Rattle.text_constraints.specs.Sites.{seen_site};
+
+use crate::conditions::push_conditions;
+use crate::homes::Homes;
+use crate::initials::push_initial;
+use crate::rules::{Owner, push_rule, push_rules};
+use crate::targets::TextSite;
+use composition::{Guard, Occurrence, Scene};
+use dsl_tree::{Expr, FieldDecl, Ident, Member, RuleDecl};
+use expr_nodes::{It, Scope};
+use osc_base::{Path, Place};
+use program_calls::{PhaseLabel, phase_labels, phases_in, scope_at};
+use program_texts::{ProgramTexts, list_length};
+use scene_texts::then_name;
+use std::alloc::{AllocError, Global};
+use type_model::{FieldType, ListedMember, TypeId};
+
+/// An object of a type, and the scene in which it stands.
+#[derive(Clone, Copy)]
+pub struct Standing<'a> {
+    pub object: &'a Path,
+    pub of: TypeId,
+    pub scene: &'a Scene,
+}
+
+/// Puts what the conditions of the type of a field give at the end, if the type is declared.
+fn push_declared(
+    alloc: Global,
+    texts: &ProgramTexts<'_>,
+    text: &TextSite<'_, '_>,
+    owner: &Owner<'_, '_>,
+    into: &mut Vec<Occurrence>,
+    place: Place,
+    of: &Option<TypeId>,
+) -> Result<(), AllocError>
+    ensures { OnOk result (map seen_occurrence into.new.items ≡ map seen_occurrence into.old.items ++ flat_map (conditions_kept (types_in texts.now) (seen_site text.now) (seen_owner owner.now) place) (option_to_list of.now)) }
+{
+    match of {
+        Some(of) => push_conditions(alloc, texts, text, owner, into, place, *of),
+        None => Ok(()),
+    }
+}
+
+/// Puts what the initial value of a field gives at the end, if it has one.
+fn push_value(
+    alloc: Global,
+    texts: &ProgramTexts<'_>,
+    text: &TextSite<'_, '_>,
+    owner: &Owner<'_, '_>,
+    into: &mut Vec<Occurrence>,
+    of: &Option<TypeId>,
+    decl: &FieldDecl,
+) -> Result<(), AllocError>
+    ensures { OnOk result (HasIt of.now (field_tree decl.now) (seen_site text.now) → map seen_occurrence into.new.items ≡ map seen_occurrence into.old.items ++ flat_map (initials_kept (types_in texts.now).table (seen_site text.now) (seen_owner owner.now) (is_some decl.now.list)) (option_to_list (option_map expr_tree decl.now.initial))) }
+{
+    match &decl.initial {
+        Some(value) => {
+            let is_list = decl.list.is_some();
+            push_initial(alloc, texts.types(), text, owner, into, of, is_list, value)
+        }
+        None => Ok(()),
+    }
+}
+
+/// Puts what the texts of a field give at the end: the conditions of its type, its `with:`, and its initial value.
+fn push_texts(
+    alloc: Global,
+    texts: &ProgramTexts<'_>,
+    text: &TextSite<'_, '_>,
+    owner: &Owner<'_, '_>,
+    into: &mut Vec<Occurrence>,
+    of: &Option<TypeId>,
+    decl: &FieldDecl,
+) -> Result<(), AllocError>
+    ensures { OnOk result (HasIt of.now (field_tree decl.now) (seen_site text.now) → map seen_occurrence into.new.items ≡ map seen_occurrence into.old.items ++ texts_kept (types_in texts.now) (seen_site text.now) (seen_owner owner.now) of.now (field_tree decl.now)) }
+{
+    push_declared(alloc, texts, text, owner, into, decl.of.place, of)?;
+    push_rules(
+        alloc,
+        texts.types(),
+        text,
+        owner,
+        into,
+        decl.rules.as_slice(),
+    )?;
+    push_value(alloc, texts, text, owner, into, of, decl)
+}
+
+/// What `it` is in the texts of a field.
+fn it_of(texts: &ProgramTexts<'_>, decl: &FieldDecl) -> Result<Option<It>, AllocError>
+    ensures { IfOk result (λ it. option_map seen_it it ≡ it_given (types_in texts.now) (field_tree decl.now)) }
+{
+    let length = list_length(decl)?;
+    match texts.declared_type(decl) {
+        Some(of) => Ok(Some(It::Of(FieldType { of, length }))),
+        None => Ok(None),
+    }
+}
+
+/// Puts what one name of a field gives at the end.
+fn push_name(
+    alloc: Global,
+    texts: &ProgramTexts<'_>,
+    standing: &Standing<'_>,
+    scope: &Scope,
+    under: &[Guard],
+    into: &mut Vec<Occurrence>,
+    name: &Ident,
+    decl: &FieldDecl,
+) -> Result<(), AllocError>
+    ensures { OnOk result ((seen_scope scope.now).it ≡ it_given (types_in texts.now) (field_tree decl.now) → map seen_occurrence into.new.items ≡ map seen_occurrence into.old.items ++ name_kept (types_in texts.now) (seen_scene standing.now.scene.now).bindings standing.now.object.now (seen_scope scope.now) under.now name.now (field_tree decl.now)) }
+{
+    let it = then_name(alloc, standing.object, name.text.as_str())?;
+    let homes = Homes {
+        object: standing.object,
+        it: &it,
+        scene: standing.scene,
+    };
+    let text = TextSite { homes, scope };
+    let owner = Owner {
+        holder: standing.object,
+        under,
+    };
+    let of = texts.declared_type(decl);
+    push_texts(alloc, texts, &text, &owner, into, &of, decl)
+}
+
+/// Puts what each name of a field gives at the end.
+fn push_names(
+    alloc: Global,
+    texts: &ProgramTexts<'_>,
+    standing: &Standing<'_>,
+    scope: &Scope,
+    under: &[Guard],
+    into: &mut Vec<Occurrence>,
+    decl: &FieldDecl,
+) -> Result<(), AllocError>
+    ensures { OnOk result ((seen_scope scope.now).it ≡ it_given (types_in texts.now) (field_tree decl.now) → map seen_occurrence into.new.items ≡ map seen_occurrence into.old.items ++ flat_map (λ i. name_kept (types_in texts.now) (seen_scene standing.now.scene.now).bindings standing.now.object.now (seen_scope scope.now) under.now i (field_tree decl.now)) decl.now.names) }
+{
+    for name in decl.names.as_slice() {
+        push_name(alloc, texts, standing, scope, under, into, name, decl)?;
+    }
+    Ok(())
+}
+
+/// Puts what a rule of the object gives at the end.
+fn push_own_rule(
+    alloc: Global,
+    texts: &ProgramTexts<'_>,
+    standing: &Standing<'_>,
+    scope: &Scope,
+    under: &[Guard],
+    into: &mut Vec<Occurrence>,
+    rule: &RuleDecl,
+) -> Result<(), AllocError>
+    ensures { OnOk result (map seen_occurrence into.new.items ≡ map seen_occurrence into.old.items ++ own_rule_kept (types_in texts.now).table (seen_scene standing.now.scene.now).bindings standing.now.object.now (seen_scope scope.now) under.now (rule_tree rule.now) ∷ []) }
+{
+    let homes = Homes {
+        object: standing.object,
+        it: standing.object,
+        scene: standing.scene,
+    };
+    let text = TextSite { homes, scope };
+    let owner = Owner {
+        holder: standing.object,
+        under,
+    };
+    push_rule(alloc, texts.types(), &text, &owner, into, rule)
+}
+
+/// Puts what a field of the object gives at the end. The scope becomes that of its texts.
+fn push_field(
+    alloc: Global,
+    texts: &ProgramTexts<'_>,
+    standing: &Standing<'_>,
+    scope: &mut Scope,
+    listed: &ListedMember<'_>,
+    into: &mut Vec<Occurrence>,
+    decl: &FieldDecl,
+) -> Result<(), AllocError>
+    ensures scope { without_it (seen_scope scope.new) ≡ without_it (seen_scope scope.old) }
+    ensures kept { OnOk result (IsTextScope (types_in texts.now) listed.now.holder (seen_scope scope.old) → map seen_occurrence into.new.items ≡ map seen_occurrence into.old.items ++ member_kept (types_in texts.now) (seen_scene standing.now.scene.now).bindings standing.now.object.now standing.now.of (seen_listed listed.now) (MemberTree.Field (field_tree decl.now))) }
+{
+    let it = it_of(texts, decl)?;
+    let under = texts.guards_under(alloc, standing.object, standing.of, listed.under.as_slice())?;
+    scope.it = it;
+    push_names(alloc, texts, standing, scope, under.as_slice(), into, decl)
+}
+
+/// Puts what a rule among the object's members gives at the end. In the scope, `it` becomes nothing.
+fn push_member_rule(
+    alloc: Global,
+    texts: &ProgramTexts<'_>,
+    standing: &Standing<'_>,
+    scope: &mut Scope,
+    listed: &ListedMember<'_>,
+    into: &mut Vec<Occurrence>,
+    rule: &RuleDecl,
+) -> Result<(), AllocError>
+    ensures scope { without_it (seen_scope scope.new) ≡ without_it (seen_scope scope.old) }
+    ensures kept { OnOk result (IsTextScope (types_in texts.now) listed.now.holder (seen_scope scope.old) → map seen_occurrence into.new.items ≡ map seen_occurrence into.old.items ++ member_kept (types_in texts.now) (seen_scene standing.now.scene.now).bindings standing.now.object.now standing.now.of (seen_listed listed.now) (MemberTree.Rule (rule_tree rule.now))) }
+{
+    let under = texts.guards_under(alloc, standing.object, standing.of, listed.under.as_slice())?;
+    scope.it = None;
+    push_own_rule(alloc, texts, standing, scope, under.as_slice(), into, rule)
+}
+
+/// Puts what a member of the object gives at the end. The scope is that of the member's text, and changes in `it` alone.
+fn push_member(
+    alloc: Global,
+    texts: &ProgramTexts<'_>,
+    standing: &Standing<'_>,
+    scope: &mut Scope,
+    listed: &ListedMember<'_>,
+    into: &mut Vec<Occurrence>,
+) -> Result<(), AllocError>
+    ensures scope { without_it (seen_scope scope.new) ≡ without_it (seen_scope scope.old) }
+    ensures kept { OnOk result (IsTextScope (types_in texts.now) listed.now.holder (seen_scope scope.old) → map seen_occurrence into.new.items ≡ map seen_occurrence into.old.items ++ listed_kept (types_in texts.now) (seen_scene standing.now.scene.now).bindings standing.now.object.now standing.now.of (seen_listed listed.now)) }
+{
+    match listed.written.member {
+        Member::Field(decl) => push_field(alloc, texts, standing, scope, listed, into, decl),
+        Member::Rule(rule) => push_member_rule(alloc, texts, standing, scope, listed, into, rule),
+        Member::Do { .. } => Ok(()),
+    }
+}
+
+/// The labels of the `do` of a type.
+pub fn text_labels(
+    alloc: Global,
+    texts: &ProgramTexts<'_>,
+    of: TypeId,
+) -> Result<Vec<PhaseLabel>, AllocError>
+    ensures { IfOk result (λ ls. map seen_phase_label ls.items ≡ do_labels (types_in texts.now) of) }
+{
+    let Some(behaviour) = texts.the_do(of) else {
+        return Ok(Vec::new(alloc));
+    };
+    let phases = phases_in(alloc, behaviour.phase)?;
+    phase_labels(
+        alloc,
+        texts.types(),
+        TypeId(behaviour.holder),
+        phases.as_slice(),
+    )
+}
+
+/// The scope of the text of a type outside its `do`.
+fn text_scope(alloc: Global, texts: &ProgramTexts<'_>, holder: TypeId) -> Result<Scope, AllocError>
+    ensures { IfOk result (λ s. IsTextScope (types_in texts.now) holder (seen_scope s)) }
+{
+    let labels = text_labels(alloc, texts, holder)?;
+    let scope = scope_at(alloc, holder, None, labels.as_slice(), &[])?;
+    Ok(scope)
+}
+
+/// The scope of the text of a type outside its `do`, given one of the text of some type.
+fn scope_for(
+    alloc: Global,
+    texts: &ProgramTexts<'_>,
+    scope: Scope,
+    holder: TypeId,
+) -> Result<Scope, AllocError>
+    ensures { IfOk result (λ s. IsTextScope (types_in texts.now) scope.holder (seen_scope scope) → IsTextScope (types_in texts.now) holder (seen_scope s)) }
+{
+    if scope.holder == holder {
+        return Ok(scope);
+    }
+    text_scope(alloc, texts, holder)
+}
+
+/// Puts what members of the object give at the end. The labels of a text are made once for members in a row.
+fn push_members(
+    alloc: Global,
+    texts: &ProgramTexts<'_>,
+    standing: &Standing<'_>,
+    into: &mut Vec<Occurrence>,
+    members: &[ListedMember<'_>],
+) -> Result<(), AllocError>
+    ensures { OnOk result (map seen_occurrence into.new.items ≡ map seen_occurrence into.old.items ++ flat_map (listed_kept (types_in texts.now) (seen_scene standing.now.scene.now).bindings standing.now.object.now standing.now.of) (map seen_listed members.now)) }
+{
+    let mut scope = text_scope(alloc, texts, standing.of)?;
+    for listed in members {
+        scope = scope_for(alloc, texts, scope, listed.holder)?;
+        push_member(alloc, texts, standing, &mut scope, listed, into)?;
+    }
+    Ok(())
+}
+
+/// Puts the own constraints of an object with so many steps left at the end.
+pub fn push_own(
+    alloc: Global,
+    texts: &ProgramTexts<'_>,
+    standing: &Standing<'_>,
+    steps: u32,
+    into: &mut Vec<Occurrence>,
+) -> Result<(), AllocError>
+    ensures { OnOk result (map seen_occurrence into.new.items ≡ map seen_occurrence into.old.items ++ map (occurrence_of (seen_scene standing.now.scene.now).bindings) (own_within steps (types_in texts.now) standing.now.object.now standing.now.of)) }
+{
+    if steps == 0 {
+        return Ok(());
+    }
+    push_members(alloc, texts, standing, into, texts.members(standing.of))?;
+    Ok(())
+}

@@ -1,0 +1,41 @@
+//! The bindings that a work makes.
+
+ghost use Rattle.std.specs.Prelude.{◌≡◌, ◌++◌, map, OnOk};
+ghost use Rattle.composition.specs.SeenParts.{seen_binding};
+ghost use Rattle.expansion_laws.specs.WorkNodes.{node_of};
+ghost use Rattle.scene_expansion.specs.SeenWorks.{seen_work};
+ghost use Rattle.type_heads.specs.Types.{Types};
+
+use composition::Binding;
+use object_works::copy_binding;
+use osc_base::Row;
+use scene_expansion::Work;
+use std::alloc::{AllocError, Global};
+
+/// Puts copies of bindings at the end.
+fn push_copies(
+    alloc: Global,
+    bindings: &mut Row<Binding>,
+    more: &[Binding],
+) -> Result<(), AllocError>
+    ensures { OnOk result (map seen_binding bindings.new ≡ map seen_binding bindings.old ++ map seen_binding more.now) }
+{
+    for binding in more {
+        bindings.push(copy_binding(alloc, binding)?)?;
+    }
+    Ok(())
+}
+
+/// Puts the bindings that a work makes at the end. Only an invocation makes any.
+pub fn push_bindings(
+    alloc: Global,
+    bindings: &mut Row<Binding>,
+    work: &Work<'_>,
+) -> Result<(), AllocError>
+    ensures { OnOk result ((ts : Types) → map seen_binding bindings.new ≡ map seen_binding bindings.old ++ (node_of ts (seen_work work.now)).bindings) }
+{
+    match work {
+        Work::Invoke { bindings: made, .. } => push_copies(alloc, bindings, made.as_slice()),
+        Work::Object { .. } | Work::Value { .. } | Work::Comp { .. } | Work::Wait { .. } => Ok(()),
+    }
+}

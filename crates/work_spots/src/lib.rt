@@ -1,0 +1,15 @@
+//! The spot of a work of an expansion, the bindings that it makes, and the texts of the program.
+#![tactic(auto)]
+
+mod all_texts;
+mod arguments;
+mod bindings;
+mod kinds;
+mod members;
+mod spots;
+
+pub use all_texts::texts;
+pub use arguments::argument_named;
+pub use bindings::push_bindings;
+pub use kinds::composition_kind;
+pub use spots::spot;
