@@ -1,1 +1,2 @@
 mod SameTypes
+pub mod SceneFound

@@ -4,14 +4,19 @@ ghost use Rattle.std.specs.Prelude.{◌≡◌};
 ghost use Rattle.program_texts.specs.SeenTexts.{types_in, types_with};
 ghost use Rattle.type_heads.specs.Told.{told};
 
+use composition::{Binding, ModifierSpot, Occurrence, Scene, Spot};
 use node_counts::counts;
 use object_works::{parts, root, root_parts};
-use osc_base::Place;
+use osc_base::{Place, Row};
 use program_members::ProgramMembers;
 use program_texts::ProgramTexts;
-use scene_expansion::{Counts, Work, WorkLayout};
+use scene_expansion::{Counts, Layout, Work, WorkLayout};
 use std::alloc::{AllocError, Global};
 use type_model::{TypeId, Types};
+use type_tables::TextTable;
+use work_constraints::push_occurrences;
+use work_modifiers::push_modifiers;
+use work_spots::{push_bindings, spot, texts};
 
 /// The works of the scenarios of a program, read from its texts.
 #[derive(Drop)]
@@ -58,5 +63,44 @@ impl<'p> WorkLayout<'p> for ProgramLayout<'p> {
 
     fn counts(&self, alloc: Global, work: &Work<'p>, last: u32) -> Result<Counts, AllocError> {
         counts(alloc, &self.texts, work, last)
+    }
+}
+
+impl<'p> Layout<'p> for ProgramLayout<'p> {
+    fn spot(&self, alloc: Global, work: &Work<'p>) -> Result<Spot, AllocError> {
+        spot(alloc, &self.texts, work)
+    }
+
+    fn push_bindings(
+        &self,
+        alloc: Global,
+        bindings: &mut Row<Binding>,
+        work: &Work<'p>,
+    ) -> Result<(), AllocError> {
+        push_bindings(alloc, bindings, work)
+    }
+
+    fn push_occurrences(
+        &self,
+        alloc: Global,
+        scene: &Scene,
+        occurrences: &mut Vec<Occurrence>,
+        work: &Work<'p>,
+    ) -> Result<(), AllocError> {
+        push_occurrences(alloc, &self.texts, scene, occurrences, work)
+    }
+
+    fn push_modifiers(
+        &self,
+        alloc: Global,
+        scene: &Scene,
+        modifiers: &mut Vec<ModifierSpot>,
+        work: &Work<'p>,
+    ) -> Result<(), AllocError> {
+        push_modifiers(alloc, &self.texts, scene, modifiers, work)
+    }
+
+    fn texts(&self, alloc: Global) -> Result<TextTable, AllocError> {
+        texts(alloc, &self.texts)
     }
 }

@@ -3,6 +3,8 @@
 
 mod large;
 mod layout;
+mod scenes;
 
 pub use large::is_too_large;
 pub use layout::ProgramLayout;
+pub use scenes::scene_of;

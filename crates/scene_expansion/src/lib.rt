@@ -17,6 +17,6 @@ mod work;
 pub use counts::Counts;
 pub use large::is_too_large;
 pub use layout::{Layout, WorkLayout};
-pub use named::{ExpandStop, expand};
+pub use named::{ExpandStop, expand, scene_of};
 pub use walk::MOST_WORKS;
 pub use work::{Call, Work};

@@ -18,8 +18,8 @@ use type_model::TypeId;
 /// Why there is no scene: the scenario isn't there, or it is too large. Or out of memory.
 pub type ExpandStop = Stop<Fault>;
 
-/// The scene of a scenario. `None` if it is too large.
-fn scene_of<'p, L: Layout<'p>>(
+/// The scene of a scenario. `None` exactly if it has more objects, slots, rules or copied tokens than a scene can have.
+pub fn scene_of<'p, L: Layout<'p>>(
     alloc: Global,
     layout: &L,
     of: TypeId,

@@ -1,0 +1,3 @@
+pub mod RequiredTexts
+pub mod InvocationTexts
+pub mod ArgumentSteps

@@ -1,0 +1,205 @@
+//! The constraints of a work.
+
+ghost use Rattle.std.specs.Prelude.{◌≡◌, ◌++◌, ◌∷◌, [], None, codes, map, option_map, option_to_list, IfOk, OnOk};
+ghost use Rattle.composition.specs.Calls as Calls;
+ghost use Rattle.composition.specs.Expanded.{occurrence_of};
+ghost use Rattle.composition.specs.Expansion.{argument_named, given_duration};
+ghost use Rattle.composition.specs.SeenParts.{seen_occurrence};
+ghost use Rattle.composition.specs.SeenScenes.{seen_scene};
+ghost use Rattle.dsl_tree.specs.Views.{argument_tree, expr_tree, part_tree};
+ghost use Rattle.expansion_laws.specs.WorkNodes.{node_of};
+ghost use Rattle.expr_nodes.specs.SeenNames.{seen_scope};
+ghost use Rattle.program_calls.specs.PlacedPhases.{seen_turn};
+ghost use Rattle.program_texts.specs.SeenTexts.{types_in};
+ghost use Rattle.scene_expansion.specs.SeenWorks.{seen_call, seen_work};
+ghost use Rattle.work_constraints.specs.CallTexts.{has_argument_name, invoke_kept, phase_holder};
+ghost use Rattle.text_constraints.specs.Kept.{seen_owner};
+ghost use Rattle.text_constraints.specs.Sites.{seen_expr};
+
+use crate::arguments::push_invocation;
+use crate::required::push_duration;
+use composition::{Occurrence, Scene};
+use dsl_tree::{Argument, CompNode, Expr, InvokeNode};
+use expr_nodes::Scope;
+use program_calls::scope_at;
+use program_texts::ProgramTexts;
+use scene_expansion::{Call, Work};
+use std::alloc::{AllocError, Global};
+use text_constraints::{Homes, Owner, Standing, TextSite, push_own, text_labels};
+use type_model::TypeId;
+
+/// The scope of the texts of a phase, in which `it` is nothing.
+fn call_scope(alloc: Global, texts: &ProgramTexts<'_>, call: &Call) -> Result<Scope, AllocError>
+    ensures { IfOk result (λ s. seen_scope s ≡ Calls.scope_at (types_in texts.now) call.now.holder None (map seen_turn call.now.way)) }
+{
+    let labels = text_labels(alloc, texts, call.holder)?;
+    let scope = scope_at(
+        alloc,
+        call.holder,
+        None,
+        labels.as_slice(),
+        call.way.as_slice(),
+    )?;
+    Ok(scope)
+}
+
+/// A phase, whose constraints are under no conditions of their own.
+fn owner_of(call: &Call) -> Owner<'_, '_>
+    ensures { seen_owner result ≡ phase_holder call.now.path }
+{
+    Owner {
+        holder: &call.path,
+        under: &[],
+    }
+}
+
+/// The value of the first argument of that name.
+fn named_argument<'t>(arguments: &'t [Argument], name: &str) -> Option<&'t Expr>
+    ensures { option_map seen_expr result ≡ argument_named name.now (map argument_tree arguments.entry.now) }
+{
+    for argument in arguments {
+        if is_named(argument, name) {
+            return Some(&argument.value);
+        }
+    }
+    None
+}
+
+/// Whether an argument has that name.
+fn is_named(argument: &Argument, name: &str) -> bool
+    ensures { result ≡ has_argument_name name.now (argument_tree argument.now) }
+{
+    match &argument.name {
+        Some(own) => own.text.as_str() == name,
+        None => false,
+    }
+}
+
+/// Puts a stated duration of a phase at the end.
+fn push_stated(
+    alloc: Global,
+    texts: &ProgramTexts<'_>,
+    scene: &Scene,
+    into: &mut Vec<Occurrence>,
+    call: &Call,
+    value: &Expr,
+) -> Result<(), AllocError>
+    ensures { OnOk result (map seen_occurrence into.new.items ≡ map seen_occurrence into.old.items ++ occurrence_of (seen_scene scene.now).bindings (given_duration (types_in texts.now) (seen_call call.now) (expr_tree value.now)) ∷ []) }
+{
+    let scope = call_scope(alloc, texts, call)?;
+    let homes = Homes {
+        object: &call.object,
+        it: &call.path,
+        scene,
+    };
+    let text = TextSite {
+        homes,
+        scope: &scope,
+    };
+    let owner = owner_of(call);
+    push_duration(alloc, texts.types(), &text, &owner, into, value)
+}
+
+/// Puts the stated duration of a composition at the end, if it states one.
+fn push_comp(
+    alloc: Global,
+    texts: &ProgramTexts<'_>,
+    scene: &Scene,
+    into: &mut Vec<Occurrence>,
+    call: &Call,
+    node: &CompNode,
+) -> Result<(), AllocError>
+    ensures { OnOk result (map seen_occurrence into.new.items ≡ map seen_occurrence into.old.items ++ map (occurrence_of (seen_scene scene.now).bindings) (map (given_duration (types_in texts.now) (seen_call call.now)) (option_to_list (argument_named (codes "duration") (map argument_tree node.now.arguments))))) }
+{
+    match named_argument(node.arguments.as_slice(), "duration") {
+        Some(value) => push_stated(alloc, texts, scene, into, call, value),
+        None => Ok(()),
+    }
+}
+
+/// Puts what an invocation of a type gives at the end.
+fn push_invoke(
+    alloc: Global,
+    texts: &ProgramTexts<'_>,
+    scene: &Scene,
+    into: &mut Vec<Occurrence>,
+    call: &Call,
+    node: &InvokeNode,
+    of: TypeId,
+) -> Result<(), AllocError>
+    ensures { OnOk result (map seen_occurrence into.new.items ≡ map seen_occurrence into.old.items ++ invoke_kept (types_in texts.now) (seen_scene scene.now).bindings (seen_call call.now) of (map argument_tree node.now.arguments) (map part_tree node.now.parts)) }
+{
+    let mut scope = call_scope(alloc, texts, call)?;
+    let fields = texts.fields(alloc, of)?;
+    let homes = Homes {
+        object: &call.object,
+        it: &call.path,
+        scene,
+    };
+    let owner = owner_of(call);
+    push_invocation(
+        alloc,
+        texts.types(),
+        &homes,
+        &owner,
+        &mut scope,
+        of,
+        fields.as_slice(),
+        into,
+        node,
+    )
+}
+
+/// Puts what an invocation of a type gives at the end. One without arguments and parts gives nothing.
+fn push_invoked(
+    alloc: Global,
+    texts: &ProgramTexts<'_>,
+    scene: &Scene,
+    into: &mut Vec<Occurrence>,
+    call: &Call,
+    node: &InvokeNode,
+    of: TypeId,
+) -> Result<(), AllocError>
+    ensures { OnOk result (map seen_occurrence into.new.items ≡ map seen_occurrence into.old.items ++ invoke_kept (types_in texts.now) (seen_scene scene.now).bindings (seen_call call.now) of (map argument_tree node.now.arguments) (map part_tree node.now.parts)) }
+{
+    match (node.arguments.as_slice(), node.parts.as_slice()) {
+        ([], []) => Ok(()),
+        ([_argument, ..], _) => push_invoke(alloc, texts, scene, into, call, node, of),
+        ([], [_part, ..]) => push_invoke(alloc, texts, scene, into, call, node, of),
+    }
+}
+
+/// Puts the constraints of a work at the end, with their paths at their homes in the scene.
+pub fn push_occurrences(
+    alloc: Global,
+    texts: &ProgramTexts<'_>,
+    scene: &Scene,
+    occurrences: &mut Vec<Occurrence>,
+    work: &Work<'_>,
+) -> Result<(), AllocError>
+    ensures { OnOk result (map seen_occurrence occurrences.new.items ≡ map seen_occurrence occurrences.old.items ++ map (occurrence_of (seen_scene scene.now).bindings) (node_of (types_in texts.now) (seen_work work.now)).given) }
+{
+    match work {
+        Work::Object {
+            steps,
+            path,
+            of,
+            ..
+        } => {
+            let standing = Standing {
+                object: path,
+                of: *of,
+                scene,
+            };
+            push_own(alloc, texts, &standing, *steps, occurrences)
+        }
+        Work::Value { .. } => Ok(()),
+        Work::Comp { call, node } => push_comp(alloc, texts, scene, occurrences, call, node),
+        Work::Invoke { call, node, of, .. } => {
+            push_invoked(alloc, texts, scene, occurrences, call, node, *of)
+        }
+        Work::Wait { call, node } => {
+            push_stated(alloc, texts, scene, occurrences, call, &node.elapsed)
+        }
+    }
+}
