@@ -7,8 +7,6 @@ use std::test::Fail;
 
 /// How many codes there are.
 const CODES: usize = 29;
-/// The codes that `generate` doesn't tell today. Their examples give the fault 298.
-const UNTOLD: [u16; 1] = [323];
 
 const GENERATE: [&str; 3] = ["generate", "main.osc", "top"];
 
@@ -59,15 +57,11 @@ fn each_example_gives_its_fault(rt: HostRuntime) -> Result<(), Fail> {
         let source = source_of(alloc, *code)?;
         let called = call(alloc, &GENERATE, &[("main.osc", source.as_slice())])?;
         assert_eq!(rt; called.status, 3);
-        let (number, answer) = (code.number(), fault_text(*code).answer);
-        let want = if UNTOLD.contains(&number) {
-            format!(in alloc; "fault 298 main.osc:")?
-        } else {
-            format!(in alloc; "{answer}\n")?
-        };
+        let want = format!(in alloc; "{}\n", fault_text(*code).answer)?;
         assert!(rt;
-            called.written.as_str().starts_with(want.as_str()),
-            "{number}"
+            called.written.as_str() == want.as_str(),
+            "{}",
+            code.number()
         );
     }
     Ok(())

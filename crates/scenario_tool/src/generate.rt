@@ -11,37 +11,64 @@ ghost use Rattle.scenario_tool.specs.Answers.{Generates, OnProgram};
 ghost use Rattle.scenario_tool.specs.Found.{OnScenario, is_ranged_declared};
 ghost use Rattle.scenario_tool.specs.PairForm.{not_built, ranged_fields};
 ghost use Rattle.scenario_tool.specs.Replies.{done};
-ghost use Rattle.name_scope.specs.Declaring.{behaviour_name};
+ghost use Rattle.scenario_tool.specs.SceneLimits.{not_generated, scene_setting};
 ghost use Rattle.name_scope.specs.FileNumbers.{wanted_name};
 ghost use Rattle.type_heads.specs.Shown.{members_told};
 ghost use Rattle.type_heads.specs.Told.{told};
 
 use crate::pair_form::{go_in_pairs, least_values};
 use crate::replies::{Reply, done};
-use crate::scenarios::{Found, fault_in, scenario_of};
-use command_words::Source;
-use composition::Run;
-use dsl_tree::{CompoundDecl, Member};
+use crate::scenarios::{Found, fault_in, name_place, scenario_of};
+use crate::settings::scene_setting;
+use command_words::GenerateWords;
+use composition::{Run, Setting};
+use dsl_tree::Member;
 use name_scope::Program;
 use named_scenario::NamedScenario;
-use osc_base::{Fault, FaultCode, Place, Row};
+use osc_base::{Fault, FaultCode, Row};
+use program_scenes::is_too_large;
 use run_check::write_run;
 use std::alloc::{AllocError, Global};
 
-/// What `generate` replies about a program that was loaded of this source.
-pub fn generate(alloc: Global, program: &Program, source: Source<'_>) -> Result<Reply, AllocError>
+/// What `generate` replies about a program that was loaded, given what it is asked for.
+pub fn generate(
+    alloc: Global,
+    program: &Program,
+    asked: GenerateWords<'_>,
+) -> Result<Reply, AllocError>
     requires main { program.now ≢ [] }
     requires whole { wanted_name program.now ≡ None }
-    ensures { IfOk result (OnProgram program.now (source_by source.entry) not_built Generates) }
+    ensures { IfOk result (OnProgram program.now (source_by asked.entry.source) (not_generated (scene_setting asked.entry.setting)) Generates) }
 {
-    match scenario_of(alloc, program, source.scenario)? {
-        Found::Scenario(named) => generate_named(alloc, program, &named),
+    let setting = scene_setting(asked.setting);
+    match scenario_of(alloc, program, asked.source.scenario)? {
+        Found::Scenario(named) => generate_named(alloc, program, &named, setting),
         Found::Refused(reply) => Ok(reply),
     }
 }
 
 /// What `generate` replies about a scenario of the program.
 fn generate_named(
+    alloc: Global,
+    program: &Program,
+    named: &NamedScenario<'_>,
+    setting: Setting,
+) -> Result<Reply, AllocError>
+    requires whole { wanted_name program.now ≡ None }
+    requires same_types { named.now.types ≡ told (types_in program.now) }
+    requires declared { IsDeclaredBy (types_in program.now) named.now.id (compound_tree named.now.declaration.now) }
+    ensures { IfOk result (OnScenario (not_generated setting) Generates program.now named.now.id) }
+{
+    let large = is_too_large(alloc, program, named, setting)?;
+    if large {
+        let (place, code) = (name_place(named.declaration), FaultCode::TooMany);
+        return fault_in(alloc, program, Fault { place, code });
+    }
+    generate_small(alloc, program, named)
+}
+
+/// What `generate` replies about a scenario that isn't too large.
+fn generate_small(
     alloc: Global,
     program: &Program,
     named: &NamedScenario<'_>,
@@ -67,16 +94,6 @@ fn is_ranged(named: &NamedScenario<'_>) -> bool
         && declaration.heir.is_none()
         && named.types.members(named.id).len() == members.len()
         && go_in_pairs(members)
-}
-
-/// Where the name of a scenario stands that a declaration declares.
-fn name_place(declaration: &CompoundDecl) -> Place
-    ensures { result ≡ (behaviour_name declaration.now.name.first declaration.now.name.second).place }
-{
-    match &declaration.name.second {
-        Some(name) => name.place,
-        None => declaration.name.first.place,
-    }
 }
 
 /// Writes a run in which each field holds its least number.

@@ -1,0 +1,191 @@
+//! What `command` says of runs.
+use crate::answers::{Outside, RUN, SOUND, SOURCE, answer};
+use std::alloc::AllocGlobal;
+use std::process::Abort;
+use std::test::Fail;
+
+const CHECK: [&str; 4] = ["check", "main.osc", "top", "run.json"];
+
+/// A vehicle that drives at 10 metres a second at each tick but the last.
+const DRIVE: &str =
+    "import osc.standard\nscenario top:\n    ego: vehicle\n    do ego.drive() with:\n        speed(10mps)\n";
+
+/// A struct that has a load exactly if it is a truck, and is one.
+const CARGO: &str =
+    "enum kind: [car, truck]\nstruct body:\n    k: kind\nstruct cargo inherits body(k == truck):\n    load: int with:\n        keep(it in [2..2])\nscenario top:\n    b: body\n    keep(b.k == truck)\n";
+
+/// The answers to `check main.osc top run.json --ticks 1` over this source and these runs.
+fn checks_are(
+    rt: &(impl Abort + AllocGlobal),
+    source: &str,
+    rows: &[(&str, &str)],
+) -> Result<(), Fail> {
+    let words = ["check", "main.osc", "top", "run.json", "--ticks", "1"];
+    for (run, want) in rows {
+        let files = [
+            ("main.osc", source.as_bytes()),
+            ("run.json", run.as_bytes()),
+        ];
+        let got = answer(rt.alloc(), &words, &files, SOUND)?;
+        assert_eq!(rt; got.as_str(), *want, "{run}");
+    }
+    Ok(())
+}
+
+#[test]
+fn runs_of_a_field(rt: HostRuntime) -> Result<(), Fail> {
+    let rows: [(&str, &str); 6] = [
+        (RUN, "0 yes\n"),
+        (
+            "{\"choices\":[],\"end\":0,\"form\":1,\"phases\":[],\"traces\":[],\"values\":[[\"x\",4]]}\n",
+            "1 no hard . main.osc:3:5\n",
+        ),
+        (
+            "{\"choices\":[],\"end\":0,\"form\":1,\"phases\":[],\"traces\":[],\"values\":[[\"x\",1000000001]]}\n",
+            "1 no bounds x\n",
+        ),
+        (
+            "{\"choices\":[],\"end\":0,\"form\":1,\"phases\":[],\"traces\":[],\"values\":[]}\n",
+            "1 no listed x\n",
+        ),
+        (
+            "{\"choices\":[],\"end\":1,\"form\":1,\"phases\":[],\"traces\":[],\"values\":[[\"x\",3]]}\n",
+            "1 no end .\n",
+        ),
+        (
+            "{\"values\": [[\"x\", 3]], \"choices\": [], \"end\": 0, \"form\": 1, \"phases\": [], \"traces\": []}",
+            "0 yes\n",
+        ),
+    ];
+    checks_are(&rt, SOURCE, &rows)
+}
+
+#[test]
+fn runs_of_a_conditional_member(rt: HostRuntime) -> Result<(), Fail> {
+    let rows: [(&str, &str); 3] = [
+        (
+            "{\"choices\":[],\"end\":0,\"form\":1,\"phases\":[],\"traces\":[],\"values\":[[\"b.k\",1],[\"b.load\",2]]}\n",
+            "0 yes\n",
+        ),
+        (
+            "{\"choices\":[],\"end\":0,\"form\":1,\"phases\":[],\"traces\":[],\"values\":[[\"b.k\",1]]}\n",
+            "1 no listed b.load\n",
+        ),
+        (
+            "{\"choices\":[],\"end\":0,\"form\":1,\"phases\":[],\"traces\":[],\"values\":[[\"b.k\",0]]}\n",
+            "1 no hard . main.osc:9:5\n",
+        ),
+    ];
+    checks_are(&rt, CARGO, &rows)
+}
+
+#[test]
+fn runs_of_a_vehicle(rt: HostRuntime) -> Result<(), Fail> {
+    let rows: [(&str, &str); 6] = [
+        (
+            "{\"choices\":[],\"end\":1,\"form\":1,\"phases\":[[\"do\",0,1]],\"traces\":[[\"ego\",[[1,0,10000],[1,1000000,10000]]]],\"values\":[[\"ego.max_speed\",50000],[\"ego.max_acceleration\",10000]]}\n",
+            "0 yes\n",
+        ),
+        (
+            "{\"choices\":[],\"end\":1,\"form\":1,\"phases\":[[\"do\",0,1]],\"traces\":[[\"ego\",[[1,0,10000],[1,1000000,11000]]]],\"values\":[[\"ego.max_speed\",50000],[\"ego.max_acceleration\",10000]]}\n",
+            "0 yes\n",
+        ),
+        (
+            "{\"choices\":[],\"end\":1,\"form\":1,\"phases\":[[\"do\",0,1]],\"traces\":[[\"ego\",[[1,0,10000],[1,1000000,11001]]]],\"values\":[[\"ego.max_speed\",50000],[\"ego.max_acceleration\",10000]]}\n",
+            "1 no motion ego\n",
+        ),
+        (
+            "{\"choices\":[],\"end\":1,\"form\":1,\"phases\":[[\"do\",0,1]],\"traces\":[[\"ego\",[[1,0,9999],[1,999900,10000]]]],\"values\":[[\"ego.max_speed\",50000],[\"ego.max_acceleration\",10000]]}\n",
+            "1 no modifier do main.osc:5:9\n",
+        ),
+        ("{\"choices\":[", "5 text json\n"),
+        (
+            "{\"choices\":[],\"end\":\"1\",\"form\":1,\"phases\":[[\"do\",0,1]],\"traces\":[[\"ego\",[[1,0,10000],[1,1000000,10000]]]],\"values\":[[\"ego.max_speed\",50000],[\"ego.max_acceleration\",10000]]}\n",
+            "5 text /end\n",
+        ),
+    ];
+    checks_are(&rt, DRIVE, &rows)
+}
+
+#[test]
+fn texts_that_are_no_run(rt: HostRuntime) -> Result<(), Fail> {
+    let rows: [(&str, &str); 4] = [
+        ("", "5 text json\n"),
+        ("{}", "5 text /choices\n"),
+        (
+            "{\"a\":0,\"choices\":[],\"end\":0,\"form\":1,\"phases\":[],\"traces\":[],\"values\":[[\"x\",3]]}\n",
+            "5 text /a\n",
+        ),
+        (
+            "{\"choices\":[],\"end\":0,\"form\":2,\"phases\":[],\"traces\":[],\"values\":[[\"x\",3]]}\n",
+            "5 text /form\n",
+        ),
+    ];
+    checks_are(&rt, SOURCE, &rows)
+}
+
+/// The source is refused before the file of the run is looked for.
+#[test]
+fn refusals_before_the_run(rt: HostRuntime) -> Result<(), Fail> {
+    let alloc = rt.alloc();
+    let rows: [(&[&str], &str, &str); 5] = [
+        (&CHECK, SOURCE, "6 missing run.json\n"),
+        (&CHECK, "scenario other\n", "3 fault 324 main.osc:2:1\n"),
+        (
+            &CHECK,
+            "scenario top:\n    x int\n",
+            "3 fault 201 main.osc:2:7\n",
+        ),
+        (&["check", "main.osc", "top"], SOURCE, "4 words\n"),
+        (
+            &["check", "none.osc", "top", "run.json"],
+            SOURCE,
+            "6 missing none.osc\n",
+        ),
+    ];
+    for (words, source, want) in rows {
+        let got = answer(alloc, words, &[("main.osc", source.as_bytes())], SOUND)?;
+        assert_eq!(rt; got.as_str(), want);
+    }
+    Ok(())
+}
+
+#[test]
+fn files_of_runs(rt: HostRuntime) -> Result<(), Fail> {
+    let alloc = rt.alloc();
+    let long = vec![in alloc; b' '; 16_777_217]?;
+    let rows: [(&[u8], &str); 3] = [
+        (long.as_slice(), "6 long run.json\n"),
+        (&long[1..], "5 text json\n"),
+        (b"\xff".as_slice(), "5 text json\n"),
+    ];
+    for (bytes, want) in rows {
+        let files = [("main.osc", SOURCE.as_bytes()), ("run.json", bytes)];
+        let got = answer(alloc, &CHECK, &files, SOUND)?;
+        assert_eq!(rt; got.as_str(), want);
+    }
+    Ok(())
+}
+
+#[test]
+fn shelf_that_fails_at_the_run(rt: HostRuntime) -> Result<(), Fail> {
+    let alloc = rt.alloc();
+    let files = [
+        ("main.osc", SOURCE.as_bytes()),
+        ("run.json", RUN.as_bytes()),
+    ];
+    for call in 0..6 {
+        let fails = Outside {
+            shelf_failing: &[call],
+            ..SOUND
+        };
+        let got = answer(alloc, &CHECK, &files, fails)?;
+        let want = if call < 3 {
+            "6 shelf main.osc\n"
+        } else {
+            "6 shelf run.json\n"
+        };
+        assert_eq!(rt; got.as_str(), want, "call {call} of the shelf");
+    }
+    Ok(())
+}
