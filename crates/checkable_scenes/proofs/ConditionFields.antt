@@ -174,6 +174,18 @@ module _ (ts : Types) (k : IsInherited ts) where
       above j = in_right x (option_map_or (λ (f : Field). f.under) (condition_field ts s) []) (filter (is_conditional ts.bodies) (bases ts.table.heads s))
           (filter_in (is_conditional ts.bodies) (bases ts.table.heads s) x (subst (In x) (sym (bases_step ts.table.heads k.based k.unlooped s b is)) j) cond)
 
+  -- a field of a type is a field of each type below it, by the same text
+  pub field_again : (t b : ℕ) → t < length ts.table.heads → Up ts.table.heads k.based k.unlooped b t → (f : Field) → In f (fields ts b) → (g : Field) × (field ts t f.name.text ≡ Some g) × (g.tree ≡ f.tree)
+  field_again t b below up f i =
+      let g = member_field b f i in
+      let c = comes b g.0 g.1 in
+      let at_base = member_below b g.0 g.1 in
+      let here = chain_member ts.table.heads k.based k.unlooped ts.bodies t c.top c.chain g.0.holder g.0.written below (up_trans ts.table.heads k.based k.unlooped t b c.top up c.up) c.down (members_written ts.table.heads ts.bodies b g.0 at_base.1) in
+      let again = declared_again f g.0 here.0 here.2 g.2 in
+      let listed : In here.0 (members ts t) = subst (In here.0) (sym (k.listed t below)) here.1 in
+      let inside : In again.again (fields ts t) = in_flat_map (λ (m : Member). fields_declared m m.written.member) (members ts t) here.0 again.again listed again.inside in
+      (again.again, subst (λ z. field ts t z ≡ Some again.again) (ap (λ (z : Ident). z.text) again.name) (k.found t again.again inside), again.tree)
+
   same_name : (a b : List ℕ) → bytes_eq a b ≡ true → a ≡ b
   same_name a b e = (bytes_eq-Decides a b).0 e
 

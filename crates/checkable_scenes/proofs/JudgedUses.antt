@@ -16,6 +16,7 @@ use Rattle.expr_nodes.specs.Parts.{any_holds, of_one}
 use Rattle.expr_nodes.specs.Scope.{Label, Scope}
 use Rattle.expr_nodes.specs.Names.{label_named, is_label, dot_rows, dot_typed}
 use Rattle.expr_nodes.specs.Typing.{typed, expr_rows}
+use Rattle.expr_eval.proofs.TypedForms.{typed_or_refused}
 use Rattle.composition.specs.Calls.{PhaseHere, phases_in, Callee, last_of, callee, actor_type, owned_behaviour, behaviour_named, without_labels, invoked, called, scope_at}
 use Rattle.composition.specs.Uses.{begins_with_label, callee_rows, call_rows, part_rows, it_made, phase_rows, member_use_rows, text_rows, invocation_row, use_rows}
 use Rattle.field_flatten.proofs.Tests.{In, in_left, in_right}
@@ -26,7 +27,7 @@ use Rattle.scene_laws.proofs.FullPhases.{do_is}
 use Rattle.scene_laws.proofs.MemberPhases.{Resolves}
 use Rattle.checkable_scenes.proofs.Inherited.{up_below, Chain, member_comes}
 use Rattle.checkable_scenes.proofs.ConditionFields.{IsInherited, member_below}
-use Rattle.checkable_scenes.proofs.TypedTotal.{HasKinds, IsTold, any_some, typed_total}
+use Rattle.checkable_scenes.proofs.ResolvedScopes.{HasKinds, any_some, bare_resolved}
 
 -- ---- paths to actors
 
@@ -88,12 +89,18 @@ module _ (table : Table) (sc : Scope) where
   path_same (Tree.RangeCall q a b) p h = absurd p
   path_same (Tree.Start a) p h = absurd p
 
--- what stands outside all labels is told
-bare_told : (t : ℕ) → IsTold (without_labels t)
-bare_told t = record { it = λ i e. cc; labels = λ l i. absurd i }
+-- the path to an actor has no fault without labels either, and is read as with them
+pub actor_uses : (ts : Types) (sc : Scope) (head : InvokeHead) (names : List Ident) (actor : ExprTree) (name : Ident) → callee head names ≡ Callee.Owned actor name → any_holds (callee_rows ts sc (Callee.Owned actor name)) ≡ false
+    → (typed ts.table sc actor ≡ typed ts.table (without_labels sc.holder) actor) × (any_holds (expr_rows ts.table (without_labels sc.holder) actor) ≡ false)
+actor_uses ts sc head names actor name e g =
+    let heads = ts.table.heads in
+    let first = no_left (begins_with_label ts.table sc actor || of_one (typed ts.table sc actor) (λ x. is_none (actor_type heads (Some x)))) _ g in
+    let rest = no_right (begins_with_label ts.table sc actor || of_one (typed ts.table sc actor) (λ x. is_none (actor_type heads (Some x)))) _ g in
+    let same = path_same ts.table sc actor (callee_path head names actor name e) (no_left (begins_with_label ts.table sc actor) _ first) in
+    (same.0, subst (λ (l : List FaultRow). any_holds l ≡ false) same.1 (no_right (option_map_or (λ a. is_none (owned_behaviour heads name.text a)) (actor_type heads (typed ts.table (without_labels sc.holder) actor)) false) _ rest))
 
 -- an invocation without a fault is of something
-callee_called : (ts : Types) → HasKinds ts.table → (sc : Scope) (head : InvokeHead) (names : List Ident) → any_holds (callee_rows ts sc (callee head names)) ≡ false → (of : ℕ) × (called ts sc.holder (callee head names) ≡ Some of)
+pub callee_called : (ts : Types) → HasKinds ts.table → (sc : Scope) (head : InvokeHead) (names : List Ident) → any_holds (callee_rows ts sc (callee head names)) ≡ false → (of : ℕ) × (called ts sc.holder (callee head names) ≡ Some of)
 callee_called ts kinds sc head names h = by (callee head names) refl h
   where
     by : (c : Callee) → callee head names ≡ c → any_holds (callee_rows ts sc c) ≡ false → (of : ℕ) × (called ts sc.holder c ≡ Some of)
@@ -103,11 +110,10 @@ callee_called ts kinds sc head names h = by (callee head names) refl h
         let heads = ts.table.heads in
         let first = no_left (begins_with_label ts.table sc actor || of_one (typed ts.table sc actor) (λ x. is_none (actor_type heads (Some x)))) _ g in
         let rest = no_right (begins_with_label ts.table sc actor || of_one (typed ts.table sc actor) (λ x. is_none (actor_type heads (Some x)))) _ g in
-        let same = path_same ts.table sc actor (callee_path head names actor name e) (no_left (begins_with_label ts.table sc actor) _ first) in
         let row = no_left (option_map_or (λ a. is_none (owned_behaviour heads name.text a)) (actor_type heads (typed ts.table (without_labels sc.holder) actor)) false) _ rest in
-        let rows = subst (λ (l : List FaultRow). any_holds l ≡ false) same.1 (no_right (option_map_or (λ a. is_none (owned_behaviour heads name.text a)) (actor_type heads (typed ts.table (without_labels sc.holder) actor)) false) _ rest) in
-        let x = typed_total ts.table kinds (without_labels sc.holder) (bare_told sc.holder) actor rows in
-        let found : typed ts.table sc actor ≡ Some x.0 = same.0 ∙ x.1 in
+        let bare = actor_uses ts sc head names actor name e g in
+        let x = typed_or_refused ts.table (without_labels sc.holder) (bare_resolved ts.table kinds sc.holder) actor bare.1 in
+        let found : typed ts.table sc actor ≡ Some x.0 = bare.0 ∙ x.1 in
         let a = any_some (actor_type heads (Some x.0)) (sym (ap (λ o. of_one o (λ x. is_none (actor_type heads (Some x)))) found) ∙ no_right (begins_with_label ts.table sc actor) _ first) in
         let resolved : actor_type heads (typed ts.table (without_labels sc.holder) actor) ≡ Some a.0 = ap (actor_type heads) x.1 ∙ a.1 in
         let b = any_some (owned_behaviour heads name.text a.0) (sym (ap (λ o. option_map_or (λ a. is_none (owned_behaviour heads name.text a)) o false) resolved) ∙ row) in

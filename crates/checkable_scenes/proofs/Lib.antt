@@ -7,8 +7,9 @@ pub mod EachText
 pub mod HeldConstraints
 pub mod FewMembers
 pub mod SmallConditions
-pub mod TypedTotal
+pub mod ResolvedScopes
 pub mod JudgedUses
+pub mod TypedExpressions
 pub mod ProgramFacts
 pub mod PlacedScenarios
 pub mod VehicleLimits
@@ -27,3 +28,7 @@ pub mod WholeObjects
 pub mod ModifierShapes
 pub mod SoundModifiers
 pub mod SoundConstraints
+pub mod SoundFields
+pub mod SoundConditions
+pub mod SoundTexts
+pub mod TypedScenes

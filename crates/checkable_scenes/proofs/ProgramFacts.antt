@@ -31,8 +31,8 @@ use Rattle.scene_laws.proofs.FieldNames.{AreCounted, program_counted, number_in,
 use Rattle.scene_laws.proofs.OwnedHeads.{program_owned, do_scenario}
 use Rattle.scene_laws.proofs.HeldTypes.{AreBased, program_based, program_members, held_acyclic, calls_acyclic}
 use Rattle.scene_laws.proofs.PlacedObjects.{IsAcyclic}
-use Rattle.checkable_scenes.proofs.ConditionFields.{IsInherited}
-use Rattle.checkable_scenes.proofs.TypedTotal.{HasKinds}
+use Rattle.checkable_scenes.proofs.ConditionFields.{IsInherited, member_below}
+use Rattle.checkable_scenes.proofs.ResolvedScopes.{HasKinds}
 
 -- ---- what inherits has members
 
@@ -149,6 +149,16 @@ module _ (ts : Types) (counted : AreCounted ts) (rows : any_holds (member_fault_
       let third = flat_map (λ (m : Member). initial_rows ts.table.heads m.written.member) (members ts s) in
       rows_right (first ++ second ++ third) (condition_rows ts s) (type_no_fault ts counted rows s below)
 
+  -- the initial values of a type's fields are of the right form
+  initials_judged : (s : ℕ) → s < length ts.table.heads → (m : Member) → In m (members ts s) → any_holds (initial_rows ts.table.heads m.written.member) ≡ false
+  initials_judged s below m i =
+      let f = form ts.table.heads s in
+      let first = repeated_rows (names_given f) (names_among (members ts s)) in
+      let second = do_rows f false (dos ts s) in
+      let third = flat_map (λ (m : Member). initial_rows ts.table.heads m.written.member) (members ts s) in
+      rows_among (λ (m : Member). initial_rows ts.table.heads m.written.member) (members ts s)
+      (rows_right (first ++ second) third (rows_left (first ++ second ++ third) (condition_rows ts s) (type_no_fault ts counted rows s below))) m i
+
   condition_judged : (s : ℕ) → s < length ts.table.heads → (c : HeirCondition) → heir_condition ts.bodies s ≡ Some c → (returns (length ts.table.heads) (depends_on ts) s ≡ false) × (any_holds (field_rows ts c (condition_field ts s)) ≡ false)
   condition_judged s below c e = by (heir_condition ts.bodies s) e (conditions_judged s below)
     where
@@ -180,6 +190,9 @@ program_inherited p faults =
       decided = λ s below c e. (condition_judged ts counted faults.members s below c e).1;
       steady = steady ts counted faults.members;
     }
+
+pub program_begun : (p : Program) → NoFaults p (types_of p) → IsInherited (types_of p) → (t : ℕ) (m : Member) → In m (members (types_of p) t) → any_holds (initial_rows (types_of p).table.heads m.written.member) ≡ false
+program_begun p faults k t m i = initials_judged (types_of p) k.counted faults.members t (member_below (types_of p) k t m i).0 m i
 
 pub program_acyclic : (p : Program) → NoFaults p (types_of p) → IsAcyclic (types_of p)
 program_acyclic p faults =

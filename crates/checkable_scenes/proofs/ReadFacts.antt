@@ -1,8 +1,8 @@
 -- What is known of the fields and kinds of a program's types.
-use Rattle.std.proofs.Common.{◌≡◌, ℕ, zero, suc, ◌+◌, refl, sym, ap, ◌∙◌, subst, inl, inr, List, [], ◌∷◌, ◌++◌, Bool, true, false, not, Option, Some, None, map, length, true≢false}
-use Rattle.std.specs.Prelude.{flat_map, filter_map, is_none, slice_index_or, bytes_eq, codes, option_map, option_and_then}
+use Rattle.std.proofs.Common.{◌≡◌, ℕ, zero, suc, ◌+◌, refl, sym, ap, ◌∙◌, subst, inl, inr, List, [], ◌∷◌, ◌++◌, Bool, true, false, not, cond, Option, Some, None, map, length, true≢false}
+use Rattle.std.specs.Prelude.{flat_map, filter_map, find, is_none, slice_index_or, bytes_eq, codes, option_map, option_and_then}
 use Rattle.std.specs.Option.{option_map_or}
-use Rattle.std.specs.List.{list_all}
+use Rattle.std.specs.List.{list_all, cons_option}
 use Rattle.std.proofs.lemmas.Slice.Eq.{bytes_eq-Decides}
 use Rattle.dsl_tree.specs.declared.parts.Ident.{Ident}
 use Rattle.dsl_tree.specs.declared.parts.QName.{QName}
@@ -25,7 +25,7 @@ use Rattle.scene_laws.proofs.DeclaredNames.{SameNames, names_kept}
 use Rattle.scene_laws.proofs.WrittenMembers.{members_pass, all_members}
 use Rattle.checkable_scenes.proofs.Inherited.{Up, chain_up, member_comes}
 use Rattle.checkable_scenes.proofs.ConditionFields.{IsInherited, member_below}
-use Rattle.checkable_scenes.proofs.TypedTotal.{any_some}
+use Rattle.checkable_scenes.proofs.ResolvedScopes.{any_some}
 use Rattle.checkable_scenes.proofs.TypedShapes.{FieldsKnown}
 
 -- ---- the rows of headings, by declaration
@@ -108,7 +108,32 @@ index_map f e [] n = sym e
 index_map f e (x ∷ xs) zero = refl
 index_map f e (x ∷ xs) (suc n) = index_map f e xs n
 
-table_is : (p : Program) (t : ℕ) → slice_index_or (types_of p).table.fields t [] ≡ table_fields (types_of p).table.heads (members (types_of p) t)
+-- a field of a type is one of the table
+pub table_found : (heads : List TypeHead) (fs : List Field) (name : List ℕ) (g : Field) → find (λ (f : Field). bytes_eq f.name.text name) fs ≡ Some g → (v : ℕ) → named heads None g.tree.of.text ≡ Some v
+    → find (λ (x : TableField). bytes_eq x.name name) (filter_map (table_field heads) fs) ≡ Some (record { name = g.name.text; of = v; length = list_length g.tree })
+table_found heads [] name g h v is = cc
+table_found heads (f ∷ fs) name g h v is = by (bytes_eq f.name.text name) refl (named heads None f.tree.of.text) refl h (λ r. table_found heads fs name g r v is)
+  where
+    by : (b : Bool) → bytes_eq f.name.text name ≡ b → (o : Option ℕ) → named heads None f.tree.of.text ≡ o → cond b (Some f) (find (λ (f : Field). bytes_eq f.name.text name) fs) ≡ Some g
+        → (find (λ (f : Field). bytes_eq f.name.text name) fs ≡ Some g → find (λ (x : TableField). bytes_eq x.name name) (filter_map (table_field heads) fs) ≡ Some (record { name = g.name.text; of = v; length = list_length g.tree }))
+        → find (λ (x : TableField). bytes_eq x.name name) (cons_option (option_map (λ (u : ℕ). record { name = f.name.text; of = u; length = list_length f.tree }) o) (filter_map (table_field heads) fs))
+        ≡ Some (record { name = g.name.text; of = v; length = list_length g.tree })
+    by true e None n k rest = let same : f ≡ g = cc in absurd (never (sym n ∙ ap (λ (z : Field). named heads None z.tree.of.text) same ∙ is))
+      where
+        never : None ≡ Some v → ⊥
+        never q = cc
+    by true e (Some u) n k rest =
+        let same : f ≡ g = cc in
+        let one : u ≡ v = some_same (sym n ∙ ap (λ (z : Field). named heads None z.tree.of.text) same ∙ is) in
+        ap (λ b. cond b (Some (record { name = f.name.text; of = u; length = list_length f.tree })) (find (λ (x : TableField). bytes_eq x.name name) (filter_map (table_field heads) fs))) e
+        ∙ ap (λ (z : Field). Some (record { name = z.name.text; of = u; length = list_length z.tree })) same ∙ ap (λ z. Some (record { name = g.name.text; of = z; length = list_length g.tree })) one
+      where
+        some_same : {x y : ℕ} → Some x ≡ Some y → x ≡ y
+        some_same q = cc
+    by false e None n k rest = rest k
+    by false e (Some u) n k rest = ap (λ b. cond b (Some (record { name = f.name.text; of = u; length = list_length f.tree })) (find (λ (x : TableField). bytes_eq x.name name) (filter_map (table_field heads) fs))) e ∙ rest k
+
+pub table_is : (p : Program) (t : ℕ) → slice_index_or (types_of p).table.fields t [] ≡ table_fields (types_of p).table.heads (members (types_of p) t)
 unfolding types_of
 table_is p t =
     let all = placed p in

@@ -39,7 +39,7 @@ use Rattle.scene_laws.proofs.PhasePaths.{do_within}
 use Rattle.scene_laws.proofs.EachSpot.{call_bindings}
 use Rattle.scene_laws.proofs.PlacedObjects.{scenario_behaves}
 use Rattle.checkable_scenes.proofs.ConditionFields.{IsInherited}
-use Rattle.checkable_scenes.proofs.TypedTotal.{HasKinds}
+use Rattle.checkable_scenes.proofs.ResolvedScopes.{HasKinds}
 use Rattle.checkable_scenes.proofs.JudgedUses.{phase_uses}
 use Rattle.checkable_scenes.proofs.PhaseSteps.{OnlyPhases, IsThing, named_thing, only_both, IsBinding, AreBindings, thing_home}
 use Rattle.checkable_scenes.proofs.TypedShapes.{IsObjectAt, PathsKnown, typed_shape}
@@ -105,6 +105,28 @@ object_of (ValueKind.Number x) test h = absurd (true≢false (sym h))
 object_of (ValueKind.Member x) test h = absurd (true≢false (sym h))
 object_of ValueKind.Chars test h = absurd (true≢false (sym h))
 object_of (ValueKind.Phase x) test h = absurd (true≢false (sym h))
+
+-- an argument goes to a field of what is invoked
+pub assigned_in : (ts : Types) (of n : ℕ) (name : Option Ident) (f : Field) → assigned ts of n name ≡ Assigned.Given f → In f (fields ts of)
+assigned_in ts of n None f g = by (slice_get (fields ts of) n) refl g
+  where
+    at_index : (fs : List Field) (m : ℕ) (x : Field) → slice_get fs m ≡ Some x → In x fs
+    at_index [] m x h = cc
+    at_index (y ∷ ys) zero x h = let same : y ≡ x = cc in inl (sym same)
+    at_index (y ∷ ys) (suc m) x h = inr (at_index ys m x h)
+
+    by : (o : Option Field) → slice_get (fields ts of) n ≡ o → option_map_or Assigned.Given o Assigned.Surplus ≡ Assigned.Given f → In f (fields ts of)
+    by None q h = cc
+    by (Some x) q h = let same : x ≡ f = cc in subst (λ z. In z (fields ts of)) same (at_index (fields ts of) n x q)
+assigned_in ts of n (Some name) f g = by_name (bytes_eq name.text (codes "duration")) g
+  where
+    by : (o : Option Field) → field ts of name.text ≡ o → option_map_or Assigned.Given o (Assigned.Unknown name) ≡ Assigned.Given f → In f (fields ts of)
+    by None q h = cc
+    by (Some x) q h = let same : x ≡ f = cc in subst (λ z. In z (fields ts of)) same (found_in (λ (f : Field). bytes_eq f.name.text name.text) (fields ts of) x q).0
+
+    by_name : (b : Bool) → cond b Assigned.Duration (option_map_or Assigned.Given (field ts of name.text) (Assigned.Unknown name)) ≡ Assigned.Given f → In f (fields ts of)
+    by_name true h = cc
+    by_name false h = by (field ts of name.text) refl h
 
 module _ (ts : Types) (k : AllKnown ts) where
   pub field_thing : (path : Path) (t : ℕ) (bindings : List Binding) → At ts path t bindings → (f : Field) → In f (fields ts t) → IsThing (then_name path f.name.text).steps
@@ -236,27 +258,6 @@ module _ (ts : Types) (k : AllKnown ts) where
               let fits = subst (λ o. any_holds (option_map_or (λ k. argument_fit_rows k (field_size (per_of (form ts.table.heads t))) (first x.value) (typed ts.table (scope_at ts d.holder None p.way) x.value)) o []) ≡ false) kd.1 r in
               absurd (true≢false (subst (λ o. any_holds (argument_fit_rows kd.0 (field_size (per_of (form ts.table.heads t))) (first x.value) o) ≡ false) bare fits))
 
-      assigned_in : (n : ℕ) (name : Option Ident) (f : Field) → assigned ts of n name ≡ Assigned.Given f → In f (fields ts of)
-      assigned_in n None f g = by (slice_get (fields ts of) n) refl g
-        where
-          at_index : (fs : List Field) (m : ℕ) (x : Field) → slice_get fs m ≡ Some x → In x fs
-          at_index [] m x h = cc
-          at_index (y ∷ ys) zero x h = let same : y ≡ x = cc in inl (sym same)
-          at_index (y ∷ ys) (suc m) x h = inr (at_index ys m x h)
-
-          by : (o : Option Field) → slice_get (fields ts of) n ≡ o → option_map_or Assigned.Given o Assigned.Surplus ≡ Assigned.Given f → In f (fields ts of)
-          by None q h = cc
-          by (Some x) q h = let same : x ≡ f = cc in subst (λ z. In z (fields ts of)) same (at_index (fields ts of) n x q)
-      assigned_in n (Some name) f g = by_name (bytes_eq name.text (codes "duration")) g
-        where
-          by : (o : Option Field) → field ts of name.text ≡ o → option_map_or Assigned.Given o (Assigned.Unknown name) ≡ Assigned.Given f → In f (fields ts of)
-          by None q h = cc
-          by (Some x) q h = let same : x ≡ f = cc in subst (λ z. In z (fields ts of)) same (found_in (λ (f : Field). bytes_eq f.name.text name.text) (fields ts of) x q).0
-
-          by_name : (b : Bool) → cond b Assigned.Duration (option_map_or Assigned.Given (field ts of name.text) (Assigned.Unknown name)) ≡ Assigned.Given f → In f (fields ts of)
-          by_name true h = cc
-          by_name false h = by (field ts of name.text) refl h
-
       arguments_bound : (earlier : List (List ℕ)) (n : ℕ) (xs : List ArgumentTree) → any_holds (arguments_rows ts (scope_at ts d.holder None p.way) of earlier n xs) ≡ false → (b : Binding)
           → In b (of_arguments ts of (argument_binding ts (calling bindings path gs d p) (here_in ts (calling bindings path gs d p) (Some (It.Of of None)))) n xs) → IsBinding b
       arguments_bound earlier n [] rows b j = absurd j
@@ -280,7 +281,7 @@ module _ (ts : Types) (k : AllKnown ts) where
           by (Assigned.Given f) g r s l =
               let here = here_in ts (calling bindings path gs d p) (Some (It.Of of None)) in
               let w = of_whole ts (calling bindings path gs d p) here f.name.text x.value b l in
-              let inside = assigned_in n x.name f g in
+              let inside = assigned_in ts of n x.name f g in
               made_binding here f.name.text x.value b w (not_do f.name.text (k.free of f inside)) (k.untimed of of_behaves f inside) (argument_thing f inside earlier x r s w.info w.path w.typed_is)
 
       pub call_bound : AreBindings (call_bindings ts (calling bindings path gs d p) head names arguments of)

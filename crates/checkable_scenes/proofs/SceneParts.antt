@@ -1,8 +1,8 @@
 -- The laws, from their lemmas.
-use Rattle.std.proofs.Common.{◌≡◌, ℕ, ◌≤◌, refl, ◌∙◌, inl, inr, subst, List, [], true, Option, Some, None, length, arith}
+use Rattle.std.proofs.Common.{◌≡◌, ℕ, ◌≤◌, refl, ◌∙◌, inl, inr, subst, List, [], true, false, Option, Some, None, length, arith}
 use Rattle.std.specs.Prelude.{codes, nat_le}
 use Rattle.osc_base.specs.Paths.{root, then_name}
-use Rattle.type_heads.specs.Table.{form, owner}
+use Rattle.type_heads.specs.Table.{TableField, form, owner, field_of, is_object}
 use Rattle.type_heads.specs.Types.{Program}
 use Rattle.type_heads.specs.DeclaredTypes.{types_of}
 use Rattle.expr_nodes.specs.Sizes.{field_reach}
@@ -18,25 +18,33 @@ use Rattle.scene_laws.proofs.PlacedObjects.{IsAcyclic, Placed, scenario_behaves}
 use Rattle.scene_laws.proofs.MemberPhases.{Resolves, all_members_hold}
 use Rattle.scene_laws.proofs.SceneFields.{IsJudged, program_judged, scenes_have_ranges, scenes_are_laid_out, scenes_are_few, conditions_are_grounded, conditions_are_small}
 use Rattle.checkable_scenes.specs.Premises.{IsLoadedProgram}
-use Rattle.checkable_scenes.specs.CheckableLaws.{ScenesAreGrounded, VehiclesAreLimited, RangesAreNarrow, ScenesAreLimited, ScenesAreExpanded, ScenesHaveReads, ModifiersAreSound, ScenesAreCheckable}
+use Rattle.checkable_scenes.specs.CheckableLaws.{ScopesAreResolved, ExpressionsAreTyped, ScenesAreGrounded, VehiclesAreLimited, RangesAreNarrow, ScenesAreLimited, ScenesAreExpanded, ScenesHaveReads, ModifiersAreSound, ScenesAreTyped, ScenesAreCheckable}
 use Rattle.checkable_scenes.proofs.ConditionFields.{IsInherited}
 use Rattle.checkable_scenes.proofs.GroundedSpots.{spots_grounded}
 use Rattle.checkable_scenes.proofs.HeldConstraints.{all_held}
 use Rattle.checkable_scenes.proofs.FewMembers.{all_few_members}
 use Rattle.checkable_scenes.proofs.SmallConditions.{spots_small, unders_small}
+use Rattle.checkable_scenes.proofs.ResolvedScopes.{bare_resolved, scope_resolved}
+use Rattle.checkable_scenes.proofs.TypedExpressions.{all_typed}
 use Rattle.checkable_scenes.proofs.JudgedUses.{invocations_resolve}
-use Rattle.checkable_scenes.proofs.ProgramFacts.{program_inherited, program_acyclic, program_kinds}
+use Rattle.checkable_scenes.proofs.ProgramFacts.{base_members, program_inherited, program_begun, program_acyclic, program_kinds}
 use Rattle.checkable_scenes.proofs.PlacedScenarios.{named_is, whole_placed, actor_placed}
 use Rattle.checkable_scenes.proofs.VehicleLimits.{all_limited}
 use Rattle.checkable_scenes.proofs.ShortTexts.{program_short}
 use Rattle.checkable_scenes.proofs.NarrowModifiers.{all_narrow}
 use Rattle.checkable_scenes.proofs.PhaseSteps.{named_thing}
-use Rattle.checkable_scenes.proofs.ReadFacts.{program_holds, program_declared, program_alike, of_table, fields_known}
+use Rattle.checkable_scenes.proofs.ReadFacts.{program_holds, program_declared, program_alike, of_table, table_is, fields_known}
 use Rattle.checkable_scenes.proofs.KnownPaths.{words_apart, actor_still}
 use Rattle.checkable_scenes.proofs.ReadObjects.{AllKnown}
 use Rattle.checkable_scenes.proofs.ReadScenes.{expressions_right}
 use Rattle.checkable_scenes.proofs.WholeObjects.{program_lone}
-use Rattle.checkable_scenes.proofs.SoundModifiers.{modifiers_right}
+use Rattle.checkable_scenes.proofs.SoundModifiers.{modifiers_right, modifiers_valued}
+use Rattle.checkable_scenes.proofs.SoundFields.{TextsKnown}
+use Rattle.checkable_scenes.proofs.TypedScenes.{occurrences_right, all_valued}
+
+-- the invocations of a program without faults are each of something
+resolved : (p : Program) → NoFaults p (types_of p) → Resolves (types_of p)
+resolved p faults = invocations_resolve (types_of p) (program_inherited p faults) faults.uses (program_kinds p faults.headings)
 
 -- what is known of a program without faults
 record Known (p : Program) : Type 0 where
@@ -49,14 +57,7 @@ record Known (p : Program) : Type 0 where
 known : (p : Program) → is_spelled_program p ≡ true → declaration_fault p (types_of p) ≡ None → Known p
 known p spelled none =
     let faults = no_faults p (types_of p) none in
-    let inherited = program_inherited p faults in
-    record {
-      faults = faults;
-      judged = program_judged p spelled none;
-      acyclic = program_acyclic p faults;
-      inherited = inherited;
-      resolves = invocations_resolve (types_of p) inherited faults.uses (program_kinds p faults.headings);
-    }
+    record { faults = faults; judged = program_judged p spelled none; acyclic = program_acyclic p faults; inherited = program_inherited p faults; resolves = resolved p faults }
 
 -- where the objects of a named scenario begin
 record Begun (p : Program) (k : Known p) (t : ℕ) : Type 0 where
@@ -73,6 +74,15 @@ few n h = grind arith
 
 small : (p : Program) → IsLoadedProgram p → NoFaults p (types_of p) → IsSmallTable (types_of p).table
 small p l faults = small_table (types_of p) (program_enums p l.spelled faults.headings) (few (length (types_of p).table.texts) l.few_texts)
+
+pub scopes_are_resolved : ScopesAreResolved
+scopes_are_resolved p none =
+    let faults = no_faults p (types_of p) none in
+    let kinds = program_kinds p faults.headings in
+    record { labelled = scope_resolved (types_of p) kinds (resolved p faults); bare = bare_resolved (types_of p).table kinds }
+
+pub expressions_are_typed : ExpressionsAreTyped
+expressions_are_typed p none = let faults = no_faults p (types_of p) none in all_typed (types_of p) (program_kinds p faults.headings) (resolved p faults) faults.uses
 
 pub scenes_are_grounded : ScenesAreGrounded
 scenes_are_grounded p t owner name setting spelled none is =
@@ -151,18 +161,48 @@ scenes_have_reads p t owner name setting l none is =
       bound = λ b i. absurd i;
     })
 
+-- no list holds objects
+lone : (p : Program) → Known p → (t : ℕ) (name : List ℕ) (x : TableField) → field_of (types_of p).table t name ≡ Some x → (n : ℕ) → x.length ≡ Some n → is_object (form (types_of p).table.heads x.of) ≡ false
+lone p k t name x e n h = let o = of_table p t name x e in program_lone p k.faults.headings t o.f o.inside x.of o.typed n (o.count ∙ h)
+
 pub modifiers_are_sound : ModifiersAreSound
 modifiers_are_sound p t owner name setting l none is =
     let ts = types_of p in
     let k = known p l.spelled none in
     let b = begun p k t owner name is in
     modifiers_right ts (all_known p k) k.resolves (program_short p l.spelled) (small p l k.faults)
-    (λ t name x e n h. let o = of_table p t name x e in program_lone p k.faults.headings t o.f o.inside x.of o.typed n (o.count ∙ h))
+    (λ t name x e n h. lone p k t name x e n h)
     k.acyclic t setting b.first b.actor (scenes_have_reads p t owner name setting l none is)
 
-pub scenes_are_expanded : ScenesAreExpanded
-scenes_are_expanded p t owner name setting l none is large fits typed =
+-- all that is known of the texts of a program
+texts_known : (p : Program) → IsLoadedProgram p → (k : Known p) → TextsKnown (types_of p)
+texts_known p l k = record {
+  known = all_known p k;
+  resolves = k.resolves;
+  short = program_short p l.spelled;
+  small = small p l k.faults;
+  tabled = λ t. table_is p t;
+  lone = λ t f i of typed n e. program_lone p k.faults.headings t f i of typed n e;
+  begun = λ t m i. program_begun p k.faults k.inherited t m i;
+  heirs = λ t b e. base_members p t b e;
+}
+
+pub scenes_are_typed : ScenesAreTyped
+scenes_are_typed p t owner name setting l none is =
     let ts = types_of p in
+    let k = known p l.spelled none in
+    let b = begun p k t owner name is in
+    let x = texts_known p l k in
+    let reads = scenes_have_reads p t owner name setting l none is in
+    record {
+      occurrences = occurrences_right ts x t setting reads;
+      all_values = all_valued ts x t setting reads (modifiers_valued ts x.known k.resolves x.short x.small (λ t name x e n h. lone p k t name x e n h) k.acyclic t setting b.first b.actor reads);
+    }
+
+pub scenes_are_expanded : ScenesAreExpanded
+scenes_are_expanded p t owner name setting l none is large fits =
+    let ts = types_of p in
+    let typed = scenes_are_typed p t owner name setting l none is in
     let g = scenes_are_grounded p t owner name setting l.spelled none is in
     let r = scenes_have_ranges p t setting l.spelled none in
     let a = scenes_are_laid_out p t owner name setting l.spelled none is in

@@ -23,6 +23,8 @@ use Rattle.expr_nodes.specs.Fits as Fits
 use Rattle.expr_nodes.specs.Names.{duration_at}
 use Rattle.expr_nodes.specs.Sound.{is_sound, is_truth_info}
 use Rattle.expr_nodes.specs.Typing.{typed, expr_rows, first, is_path}
+use Rattle.expr_eval.specs.Resolved.{IsResolved}
+use Rattle.expr_eval.proofs.TypedForms.{typed_or_refused}
 use Rattle.composition.specs.declared.guard.Guard.{Guard}
 use Rattle.composition.specs.Uses.{isnt_path_to, default_rows, rule_rows}
 use Rattle.composition.specs.Givens.{Here, Given, from_root, typed_here, read_at, strength_of, given_rule, required, given_required}
@@ -34,7 +36,6 @@ use Rattle.scene_laws.proofs.FaultRows.{no_left, no_right, rows_left, rows_right
 use Rattle.scene_laws.proofs.MovedPaths.{kind_moved, scalar_moved, sound_moved, values_moved}
 use Rattle.scene_laws.proofs.IsSound.{IsGood, scalar_values, truth_info, comparison_good, within_good}
 use Rattle.scene_laws.proofs.TypedSound.{typed_good}
-use Rattle.checkable_scenes.proofs.TypedTotal.{HasKinds, IsTold, typed_total}
 
 -- one sound truth value
 pub record IsConstraint (x : Typed) : Type 0 where
@@ -57,13 +58,13 @@ constraint_moved to x g s t = record {
 
 -- ---- rules
 
-pub rule_sound : (ts : Types) → HasKinds ts.table → IsSmallTable ts.table → (here : Here) → IsTold here.scope → (holder : Path) (under : List Guard) (r : RuleTree) → any_holds (rule_rows ts.table here.scope r) ≡ false
+pub rule_sound : (ts : Types) → IsSmallTable ts.table → (here : Here) → IsResolved ts.table here.scope → (holder : Path) (under : List Guard) (r : RuleTree) → any_holds (rule_rows ts.table here.scope r) ≡ false
     → ((e : ExprTree) → In e (rule_exprs r) → are_short e ≡ true) → GivenSound (given_rule ts here holder under r)
-rule_sound ts kinds small here told holder under (RuleTree.Keep place keep e) rows short =
+rule_sound ts small here resolved holder under (RuleTree.Keep place keep e) rows short =
     let first_rows = expr_rows ts.table here.scope e in
     let second_rows = constraint_rows (first e) (typed ts.table here.scope e) in
     let both_rows = rows_left (first_rows ++ second_rows) (default_rows ts.table here.scope keep e) rows in
-    let x = typed_total ts.table kinds here.scope told e (rows_left first_rows second_rows both_rows) in
+    let x = typed_or_refused ts.table here.scope resolved e (rows_left first_rows second_rows both_rows) in
     let judged = subst (λ o. any_holds (constraint_rows (first e) o) ≡ false) x.1 (rows_right first_rows second_rows both_rows) in
     let right = holds_not (is_scalar x.0 && is_truth (kind x.0)) (no_left (not (is_scalar x.0 && is_truth (kind x.0))) false judged) in
     let good = typed_good ts.table small here.scope e (short e (inl refl)) x.0 x.1 in
@@ -82,9 +83,9 @@ rule_sound ts kinds small here told holder under (RuleTree.Keep place keep e) ro
       where
         soft : Strength.Default ≡ Strength.Remove → ⊥
         soft h = cc
-rule_sound ts kinds small here told holder under (RuleTree.Remove place path) rows short =
+rule_sound ts small here resolved holder under (RuleTree.Remove place path) rows short =
     let judged = no_left (isnt_path_to ts.table here.scope Fits.is_read path) (any_holds (expr_rows ts.table here.scope path)) rows in
-    let x = typed_total ts.table kinds here.scope told path (no_right (isnt_path_to ts.table here.scope Fits.is_read path) (any_holds (expr_rows ts.table here.scope path)) rows) in
+    let x = typed_or_refused ts.table here.scope resolved path (no_right (isnt_path_to ts.table here.scope Fits.is_read path) (any_holds (expr_rows ts.table here.scope path)) rows) in
     let is = holds_not (is_path path) (no_left (not (is_path path)) _ judged) in
     let read = holds_not (Fits.is_read x.0) (subst (λ o. of_one o (λ t. not (Fits.is_read t)) ≡ false) x.1 (no_right (not (is_path path)) (of_one (typed ts.table here.scope path) (λ t. not (Fits.is_read t))) judged)) in
     let target = of_read x.0 read in
@@ -108,13 +109,13 @@ rule_sound ts kinds small here told holder under (RuleTree.Remove place path) ro
 
 -- ---- values that are given to something
 
-or_false : (a : Bool) → a || false ≡ true → a ≡ true
+pub or_false : (a : Bool) → a || false ≡ true → a ≡ true
 or_false true h = refl
 or_false false h = h
 
 -- what fits something of a kind and size can be compared with it
 module _ (p : Place) (x : Typed) (scalar : is_scalar x ≡ true) where
-  single_compared : (q : Place) (y : Typed) → is_scalar y ≡ true → are_alike (kind x) (kind y) ≡ true → differs (kind x) y || false ≡ false → is_wide (joined (size x) (size y)) || false ≡ false
+  pub single_compared : (q : Place) (y : Typed) → is_scalar y ≡ true → are_alike (kind x) (kind y) ≡ true → differs (kind x) y || false ≡ false → is_wide (joined (size x) (size y)) || false ≡ false
       → any_holds (comparison_rows q Compare.Equal (Some x) (Some y)) ≡ false
   single_compared q y s alike units wide =
       rows (not (is_scalar x) || (not (is_scalar y) || not (are_alike (kind x) (kind y)))) (both_numbers x y && not (same_units (kind x) (kind y))) (is_wide (joined (size x) (size y)))
@@ -269,11 +270,11 @@ given_sound ts small here phase p l good scalar value v is short fits =
     hard h = cc
 
 -- a stated duration that fits
-pub duration_sound : (ts : Types) → HasKinds ts.table → IsSmallTable ts.table → (call : Calling) → IsTold (here_in ts call None).scope → (value : ExprTree)
+pub duration_sound : (ts : Types) → IsSmallTable ts.table → (call : Calling) → IsResolved ts.table (here_in ts call None).scope → (value : ExprTree)
     → any_holds (duration_fit_rows (first value) (typed ts.table (here_in ts call None).scope value) ++ expr_rows ts.table (here_in ts call None).scope value) ≡ false → are_short value ≡ true → GivenSound (given_duration ts call value)
-duration_sound ts kinds small call told value rows short =
+duration_sound ts small call resolved value rows short =
     let here = here_in ts call None in
     let fit = duration_fit_rows (first value) (typed ts.table here.scope value) in
-    let v = typed_total ts.table kinds here.scope told value (rows_right fit (expr_rows ts.table here.scope value) rows) in
+    let v = typed_or_refused ts.table here.scope resolved value (rows_right fit (expr_rows ts.table here.scope value) rows) in
     let fits = subst (λ o. any_holds (duration_fit_rows (first value) o) ≡ false) v.1 (rows_left fit (expr_rows ts.table here.scope value) rows) in
     given_sound ts small here call.path (first value) (duration_at (first value) (then_duration (then_name root (codes "it")))) (record { sound = refl; stands = refl }) refl value v.0 v.1 short fits

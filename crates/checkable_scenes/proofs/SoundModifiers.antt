@@ -1,5 +1,5 @@
 -- Each modifier of a scene has a phase, its vehicles, and the ends of its range.
-use Rattle.std.proofs.Common.{◌≡◌, ℕ, refl, sym, ap, ◌∙◌, subst, inl, List, [], ◌∷◌, ◌++◌, Bool, true, false, ◌&&◌, ◌||◌, not, Option, Some, None, map, true≢false}
+use Rattle.std.proofs.Common.{◌≡◌, ℕ, refl, sym, ap, ◌∙◌, subst, inl, inr, List, [], ◌∷◌, ◌++◌, Bool, true, false, ◌&&◌, ◌||◌, not, Option, Some, None, map, true≢false}
 use Rattle.std.specs.Prelude.{flat_map, option_to_list, option_map, option_and_then, is_some, is_none, codes}
 use Rattle.std.specs.Option.{option_map_or}
 use Rattle.std.specs.List.{list_any, list_all}
@@ -11,23 +11,25 @@ use Rattle.osc_base.specs.Paths.{root, same_path, then_name}
 use Rattle.dsl_tree.specs.declared.parts.Ident.{Ident}
 use Rattle.dsl_tree.specs.declared.phases.InvokeHead.{InvokeHead}
 use Rattle.dsl_tree.specs.ExprTree.{ExprTree}
-use Rattle.dsl_tree.specs.PhaseTree.{ArgumentTree, PartTree, PhaseTree, Comp, Invoke, Wait}
+use Rattle.dsl_tree.specs.PhaseTree.{ArgumentTree, PartTree, Invoke}
 use Rattle.type_heads.specs.Table.{TableField, form, owner, field_of, is_object}
 use Rattle.type_heads.specs.Types.{Types, Do}
 use Rattle.type_heads.specs.Members.{the_do}
-use Rattle.expr_nodes.specs.Kinds.{ValueKind, Made, is_number, are_alike, object_type}
+use Rattle.expr_nodes.specs.Kinds.{ValueKind, is_number, are_alike, object_type}
 use Rattle.expr_nodes.specs.Typed as Nodes
 use Rattle.expr_nodes.specs.Typed.{Typed, Info, Whole, kind, moved}
-use Rattle.expr_nodes.specs.Scope.{It, Label}
+use Rattle.expr_nodes.specs.Scope.{It}
 use Rattle.expr_nodes.specs.Sizes.{unit_size}
 use Rattle.expr_nodes.specs.Parts.{any_holds, of_one, is_scalar}
 use Rattle.expr_nodes.specs.Fits.{is_kind, modifier_fit_rows}
 use Rattle.expr_nodes.specs.Sound.{has_size, is_sound, each_read}
 use Rattle.expr_nodes.specs.Typing.{typed, expr_rows, first, is_path}
+use Rattle.expr_eval.specs.Resolved.{IsResolved}
+use Rattle.expr_eval.proofs.TypedForms.{typed_or_refused}
 use Rattle.composition.specs.declared.guard.Guard.{Guard}
 use Rattle.composition.specs.declared.setting.Setting.{Setting}
 use Rattle.composition.specs.declared.spot.PhaseSpot.{PhaseSpot}
-use Rattle.composition.specs.Calls.{Turn, PhaseHere, phases_in, made, labels_at, leads_into, label_of, scope_at, invoked}
+use Rattle.composition.specs.Calls.{PhaseHere, phases_in, made, scope_at, invoked}
 use Rattle.composition.specs.ModifierLines.{is_modifier as is_modifier_name, modifier_form}
 use Rattle.composition.specs.Uses.{compared_kind, compared_exprs, isnt_path_to, is_vehicle_object, is_drive, form_rows}
 use Rattle.composition.specs.Homes.{home}
@@ -38,18 +40,19 @@ use Rattle.composition.specs.Expansion.{GivenModifier, Calling, calling, here_in
 use Rattle.composition.specs.Expanded.{is_vehicle, spot, spots_of, modifiers_of, modifier_of, bindings_of, is_driven, is_readable, can_apply, scene_from, scene}
 use Rattle.composition.specs.Invariants.{is_read, has_range, has_other, is_end, is_modifier}
 use Rattle.field_flatten.specs.Exactness.{expressions}
-use Rattle.field_flatten.proofs.Tests.{left_of, right_of, both, two_ways, In, in_left, in_right, in_map, map_in, in_flat_map, flat_map_in, in_filter, all_at, all_from, any_from, path_self}
+use Rattle.field_flatten.specs.Seen.{has_values}
+use Rattle.field_flatten.proofs.Tests.{left_of, right_of, both, two_ways, In, in_left, in_right, in_either, in_map, map_in, in_flat_map, flat_map_in, in_filter, all_at, all_from, any_from, path_self}
 use Rattle.scene_laws.specs.Premises.{IsSmallTable}
 use Rattle.scene_laws.proofs.FaultRows.{no_left, no_right, rows_left, rows_right, rows_among, holds_not}
-use Rattle.scene_laws.proofs.Picked.{of_option, filter_map_in}
 use Rattle.scene_laws.proofs.EachSpot.{invoked_kind, invoked_members}
 use Rattle.scene_laws.proofs.WholeRun.{filter_in}
-use Rattle.scene_laws.proofs.MovedPaths.{kind_moved, scalar_moved, sound_moved}
+use Rattle.scene_laws.proofs.IsSound.{IsGood, scalar_values}
+use Rattle.scene_laws.proofs.MovedPaths.{kind_moved, scalar_moved, sound_moved, values_moved}
 use Rattle.scene_laws.proofs.TypedSound.{typed_good}
 use Rattle.scene_laws.proofs.MemberPhases.{Resolves}
 use Rattle.scene_laws.proofs.PlacedObjects.{IsAcyclic, Placed, phase_in, field_placed, call_placed}
 use Rattle.checkable_scenes.proofs.Inherited.{option_in}
-use Rattle.checkable_scenes.proofs.TypedTotal.{IsTold, typed_total}
+use Rattle.checkable_scenes.proofs.ResolvedScopes.{scope_resolved}
 use Rattle.checkable_scenes.proofs.EachText.{each_text}
 use Rattle.checkable_scenes.proofs.ShortTexts.{AreShort, form_values}
 use Rattle.checkable_scenes.proofs.NarrowModifiers.{GivenBy, given_by, form_judged, moved_kind}
@@ -57,47 +60,17 @@ use Rattle.checkable_scenes.proofs.ReadObjects.{AllKnown, object_of}
 use Rattle.checkable_scenes.proofs.WholeObjects.{path_clear}
 use Rattle.checkable_scenes.proofs.ModifierShapes.{HasParts, form_parts, form_compared}
 
--- ---- scopes tell what their labels make
-
-pub scope_told : (ts : Types) → Resolves ts → (holder : ℕ) (way : List Turn) (it : Option It) → ((i : It) → it ≡ Some i → (t : ℕ) × (n : Option ℕ) × (i ≡ It.Of t n)) → IsTold (scope_at ts holder it way)
-scope_told ts resolves holder way it f = record { it = f; labels = λ l i e. label l i e }
-  where
-    label : (l : Label) → In l (scope_at ts holder it way).labels → l.made ≡ Made.Unknown → ⊥
-    label l i e =
-        let d = flat_map_in (labels_at ts way) (option_to_list (the_do ts holder)) l i in
-        let p = filter_map_in (λ (p : PhaseHere). option_map (λ (i : Ident). record { name = i.text; path = p.path; made = made ts d.0.holder p.phase; hidden = not (leads_into way p.way) }) (label_of p.phase)) (phases_in d.0.phase) l d.2 in
-        by d.0 (of_option (the_do ts holder) d.0 d.1) p.0 p.1 p.0.phase refl (sym (is d.0 p.0 (label_of p.0.phase) p.2) ∙ e)
-      where
-        is : (d : Do) (p : PhaseHere) (o : Option Ident) → option_map (λ (i : Ident). record { name = i.text; path = p.path; made = made ts d.holder p.phase; hidden = not (leads_into way p.way) }) o ≡ Some l → l.made ≡ made ts d.holder p.phase
-        is d p None g = cc
-        is d p (Some j) g = let same : record { name = j.text; path = p.path; made = made ts d.holder p.phase; hidden = not (leads_into way p.way) } ≡ l = cc in sym (ap (λ (z : Label). z.made) same)
-
-        by : (d : Do) → the_do ts holder ≡ Some d → (p : PhaseHere) → In p (phases_in d.phase) → (phase : PhaseTree) → p.phase ≡ phase → made ts d.holder p.phase ≡ Made.Unknown → ⊥
-        by d at p j (Comp label place kind arguments members) g h = nothing (sym (ap (made ts d.holder) g) ∙ h)
-          where
-            nothing : Made.Nothing ≡ Made.Unknown → ⊥
-            nothing q = cc
-        by d at p j (Wait label place elapsed) g h = nothing (sym (ap (made ts d.holder) g) ∙ h)
-          where
-            nothing : Made.Nothing ≡ Made.Unknown → ⊥
-            nothing q = cc
-        by d at p j (Invoke label head names arguments parts) g h =
-            let r = resolves holder d at p j label head names arguments parts g in
-            makes r.0 (sym (ap (λ o. option_map_or Made.Makes o Made.Unknown) r.1) ∙ sym (ap (made ts d.holder) g) ∙ h)
-          where
-            makes : (of : ℕ) → Made.Makes of ≡ Made.Unknown → ⊥
-            makes of q = cc
-
 -- ---- ends
 
--- one sound number
+-- one sound number that is a value
 pub record IsNumberEnd (t : Typed) : Type 0 where
   pub number : is_number (kind t) ≡ true
   pub scalar : is_scalar t ≡ true
   pub sound : is_sound t ≡ true
+  pub values : has_values t ≡ true
 
 end_moved : (to : Path → Path) (t : Typed) → IsNumberEnd t → IsNumberEnd (moved to t)
-end_moved to t e = record { number = ap is_number (kind_moved to t) ∙ e.number; scalar = scalar_moved to t ∙ e.scalar; sound = sound_moved to t ∙ e.sound }
+end_moved to t e = record { number = ap is_number (kind_moved to t) ∙ e.number; scalar = scalar_moved to t ∙ e.scalar; sound = sound_moved to t ∙ e.sound; values = values_moved to t ∙ e.values }
 
 alike_number : (k v : ValueKind) → is_number k ≡ true → are_alike k v ≡ true → is_number v ≡ true
 alike_number (ValueKind.Number x) (ValueKind.Number y) p q = refl
@@ -129,55 +102,61 @@ or_false : (a : Bool) → a || false ≡ true → a ≡ true
 or_false true h = refl
 or_false false h = h
 
-single_end : (k : ValueKind) → is_number k ≡ true → (x : Typed) → is_scalar x ≡ true → is_sound x ≡ true → are_alike k (kind x) || false ≡ true → IsNumberEnd x
-single_end k n x c s h = record { number = alike_number k (kind x) n (or_false (are_alike k (kind x)) h); scalar = c; sound = s }
+single_end : (k : ValueKind) → is_number k ≡ true → (x : Typed) → is_scalar x ≡ true → IsGood x → are_alike k (kind x) || false ≡ true → IsNumberEnd x
+single_end k n x c g h = record { number = alike_number k (kind x) n (or_false (are_alike k (kind x)) h); scalar = c; sound = g.sound; values = scalar_values x c g.stands }
 
-ends_number : (k : ValueKind) → is_number k ≡ true → (x : Typed) → is_sound x ≡ true → is_kind true k x ≡ true → IsNumberEnd (low_end x) × IsNumberEnd (high_end x)
-ends_number k n (Nodes.Span i low high) s h =
+ends_number : (k : ValueKind) → is_number k ≡ true → (x : Typed) → IsGood x → is_kind true k x ≡ true → IsNumberEnd (low_end x) × IsNumberEnd (high_end x)
+ends_number k n (Nodes.Span i low high) g h =
     let ends = right_of (is_number k) _ h in
-    let parts = right_of (has_size i unit_size) _ (right_of (is_scalar low && is_scalar high) _ s) in
-    let scalars = left_of (is_scalar low && is_scalar high) _ s in
-    let none = not_any (is_number (kind low)) (is_number (kind high)) ends in
-    (record { number = none.0; scalar = left_of (is_scalar low) _ scalars; sound = left_of (is_sound low) _ parts }, record { number = none.1; scalar = right_of (is_scalar low) _ scalars; sound = right_of (is_sound low) _ parts })
+    let parts = right_of (has_size i unit_size) _ (right_of (is_scalar low && is_scalar high) _ g.sound) in
+    let scalars = left_of (is_scalar low && is_scalar high) _ g.sound in
+    let none = not_any (is_number (kind low)) (is_number (kind high)) ends in (
+      record { number = none.0; scalar = left_of (is_scalar low) _ scalars; sound = left_of (is_sound low) _ parts; values = left_of (has_values low) (has_values high) g.stands },
+      record { number = none.1; scalar = right_of (is_scalar low) _ scalars; sound = right_of (is_sound low) _ parts; values = right_of (has_values low) (has_values high) g.stands },
+    )
   where
     not_any : (a b : Bool) → not (not a || (not b || false)) ≡ true → (a ≡ true) × (b ≡ true)
     not_any true true e = (refl, refl)
     not_any true false e = absurd (true≢false (sym e))
     not_any false b e = absurd (true≢false (sym e))
-ends_number k n (Nodes.Whole i path) s h = absurd (true≢false (sym h))
-ends_number k n (Nodes.Listed i f items) s h = absurd (true≢false (sym h))
-ends_number k n (Nodes.Constant i m) s h = let e = single_end k n (Nodes.Constant i m) refl s h in (e, e)
-ends_number k n (Nodes.Read i path per) s h = let e = single_end k n (Nodes.Read i path per) refl s h in (e, e)
-ends_number k n (Nodes.Minus i a) s h = let e = single_end k n (Nodes.Minus i a) refl s h in (e, e)
-ends_number k n (Nodes.Not i a) s h = let e = single_end k n (Nodes.Not i a) refl s h in (e, e)
-ends_number k n (Nodes.Sum i l r) s h = let e = single_end k n (Nodes.Sum i l r) refl s h in (e, e)
-ends_number k n (Nodes.Times i l r) s h = let e = single_end k n (Nodes.Times i l r) refl s h in (e, e)
-ends_number k n (Nodes.And i l r) s h = let e = single_end k n (Nodes.And i l r) refl s h in (e, e)
-ends_number k n (Nodes.Or i l r) s h = let e = single_end k n (Nodes.Or i l r) refl s h in (e, e)
-ends_number k n (Nodes.Implies i l r) s h = let e = single_end k n (Nodes.Implies i l r) refl s h in (e, e)
-ends_number k n (Nodes.Relation i g l r) s h = let e = single_end k n (Nodes.Relation i g l r) refl s h in (e, e)
-ends_number k n (Nodes.Within i l r) s h = let e = single_end k n (Nodes.Within i l r) refl s h in (e, e)
+ends_number k n (Nodes.Whole i path) g h = absurd (true≢false (sym h))
+ends_number k n (Nodes.Listed i f items) g h = absurd (true≢false (sym h))
+ends_number k n (Nodes.Constant i m) g h = let e = single_end k n (Nodes.Constant i m) refl g h in (e, e)
+ends_number k n (Nodes.Read i path per) g h = let e = single_end k n (Nodes.Read i path per) refl g h in (e, e)
+ends_number k n (Nodes.Minus i a) g h = let e = single_end k n (Nodes.Minus i a) refl g h in (e, e)
+ends_number k n (Nodes.Not i a) g h = let e = single_end k n (Nodes.Not i a) refl g h in (e, e)
+ends_number k n (Nodes.Sum i l r) g h = let e = single_end k n (Nodes.Sum i l r) refl g h in (e, e)
+ends_number k n (Nodes.Times i l r) g h = let e = single_end k n (Nodes.Times i l r) refl g h in (e, e)
+ends_number k n (Nodes.And i l r) g h = let e = single_end k n (Nodes.And i l r) refl g h in (e, e)
+ends_number k n (Nodes.Or i l r) g h = let e = single_end k n (Nodes.Or i l r) refl g h in (e, e)
+ends_number k n (Nodes.Implies i l r) g h = let e = single_end k n (Nodes.Implies i l r) refl g h in (e, e)
+ends_number k n (Nodes.Relation i s l r) g h = let e = single_end k n (Nodes.Relation i s l r) refl g h in (e, e)
+ends_number k n (Nodes.Within i l r) g h = let e = single_end k n (Nodes.Within i l r) refl g h in (e, e)
 
 -- what is known of a modifier from its text
 pub record IsMade (m : ModifierSpot) : Type 0 where
   pub other : has_other m.kind ≡ true → is_some m.other ≡ true
   pub ends : has_range m.kind ≡ true → (l : Typed) × (h : Typed) × (m.low ≡ Some l) × (m.high ≡ Some h) × IsNumberEnd l × IsNumberEnd h
+  pub low_valued : (x : Typed) → m.low ≡ Some x → has_values x ≡ true
+  pub high_valued : (x : Typed) → m.high ≡ Some x → has_values x ≡ true
 
 module _ (ts : Types) (k : AllKnown ts) (resolves : Resolves ts) (short : AreShort ts) (small : IsSmallTable ts.table)
     (lone : (t : ℕ) (name : List ℕ) (f : TableField) → field_of ts.table t name ≡ Some f → (n : ℕ) → f.length ≡ Some n → is_object (form ts.table.heads f.of) ≡ false) where
   given_made : (call : Calling) (of : ℕ) (m : GivenModifier) → GivenBy ts call of m → IsMade m.modifier
   given_made call of m g =
       subst (λ (z : GivenModifier). IsMade z.modifier) (sym g.is)
-      (record { other = λ o. by_other g.shape.other refl (parts.other o); ends = λ r. by_range g.shape.range refl (parts.range r) })
+      (record {
+        other = λ o. by_other g.shape.other refl (parts.other o);
+        ends = λ r. by_range g.shape.range refl (parts.range r);
+        low_valued = λ x e. low_by g.shape.range refl x e;
+        high_valued = λ x e. high_by g.shape.range refl x e;
+      })
     where
       parts : HasParts g.shape
       parts = form_parts g.tree g.shape g.formed
 
-      told : IsTold (scope_at ts call.holder (Some (It.Of of None)) call.way)
-      told = scope_told ts resolves call.holder call.way (Some (It.Of of None)) (λ i e. (of, None, is_of i e))
-        where
-          is_of : (i : It) → Some (It.Of of None) ≡ Some i → i ≡ It.Of of None
-          is_of i e = let same : It.Of of None ≡ i = cc in sym same
+      resolved : IsResolved ts.table (scope_at ts call.holder (Some (It.Of of None)) call.way)
+      resolved = scope_resolved ts k.kinds resolves call.holder (Some (It.Of of None)) call.way refl
 
       rows : any_holds (form_rows ts (scope_at ts call.holder (Some (It.Of of None)) call.way) g.shape) ≡ false
       rows = form_judged ts k.inherited k.uses short call of m g
@@ -191,7 +170,7 @@ module _ (ts : Types) (k : AllKnown ts) (resolves : Resolves ts) (short : AreSho
       by_other None e h = absurd (true≢false (sym h ∙ ap is_some e))
       by_other (Some c) e h =
           let inside = (form_compared g.tree g.shape g.formed).1 c e in
-          let x = typed_total ts.table k.kinds (scope_at ts call.holder (Some (It.Of of None)) call.way) told c (rows_among (expr_rows ts.table (scope_at ts call.holder (Some (It.Of of None)) call.way)) (flat_map compared_exprs g.tree.arguments) compared c inside) in
+          let x = typed_or_refused ts.table (scope_at ts call.holder (Some (It.Of of None)) call.way) resolved c (rows_among (expr_rows ts.table (scope_at ts call.holder (Some (It.Of of None)) call.way)) (flat_map compared_exprs g.tree.arguments) compared c inside) in
           let judged = no_left (isnt_path_to ts.table (scope_at ts call.holder (Some (It.Of of None)) call.way) (is_vehicle_object ts) c) false (subst (λ o. any_holds (option_map_or (λ c. row (first c) FaultCode.WrongKind (isnt_path_to ts.table (scope_at ts call.holder (Some (It.Of of None)) call.way) (is_vehicle_object ts) c) ∷ []) o []) ≡ false) e (rows_right (option_map_or (λ e. modifier_fit_rows (compared_kind g.shape.kind) (first e) (typed ts.table (scope_at ts call.holder (Some (It.Of of None)) call.way) e)) g.shape.range []) _ rows)) in
           let path = holds_not (is_path c) (no_left (not (is_path c)) _ judged) in
           let vehicle = holds_not (is_vehicle_object ts x.0) (subst (λ o. of_one o (λ t. not (is_vehicle_object ts t)) ≡ false) x.1 (no_right (not (is_path c)) (of_one (typed ts.table (scope_at ts call.holder (Some (It.Of of None)) call.way) c) (λ t. not (is_vehicle_object ts t))) judged)) in
@@ -203,17 +182,16 @@ module _ (ts : Types) (k : AllKnown ts) (resolves : Resolves ts) (short : AreSho
           alone : (t : ℕ) (n : Option ℕ) → Some (It.Of of None) ≡ Some (It.Of t n) → n ≡ None
           alone t n q = let same : None ≡ n = cc in sym same
 
-      by_range : (o : Option ExprTree) → g.shape.range ≡ o → is_some g.shape.range ≡ true
+      range_ends : (c : ExprTree) → g.shape.range ≡ Some c
           → (l : Typed) × (h : Typed) × (option_map low_end (option_and_then (typed_here ts (here_in ts call (Some (It.Of of None)))) g.shape.range) ≡ Some l)
           × (option_map high_end (option_and_then (typed_here ts (here_in ts call (Some (It.Of of None)))) g.shape.range) ≡ Some h) × IsNumberEnd l × IsNumberEnd h
-      by_range None e h = absurd (true≢false (sym h ∙ ap is_some e))
-      by_range (Some c) e h =
+      range_ends c e =
           let inside = (form_compared g.tree g.shape g.formed).0 c e in
-          let x = typed_total ts.table k.kinds (scope_at ts call.holder (Some (It.Of of None)) call.way) told c (rows_among (expr_rows ts.table (scope_at ts call.holder (Some (It.Of of None)) call.way)) (flat_map compared_exprs g.tree.arguments) compared c inside) in
+          let x = typed_or_refused ts.table (scope_at ts call.holder (Some (It.Of of None)) call.way) resolved c (rows_among (expr_rows ts.table (scope_at ts call.holder (Some (It.Of of None)) call.way)) (flat_map compared_exprs g.tree.arguments) compared c inside) in
           let fits = subst (λ o. any_holds (option_map_or (λ e. modifier_fit_rows (compared_kind g.shape.kind) (first e) (typed ts.table (scope_at ts call.holder (Some (It.Of of None)) call.way) e)) o []) ≡ false) e (rows_left (option_map_or (λ e. modifier_fit_rows (compared_kind g.shape.kind) (first e) (typed ts.table (scope_at ts call.holder (Some (It.Of of None)) call.way) e)) g.shape.range []) _ rows) in
           let judged = subst (λ o. any_holds (modifier_fit_rows (compared_kind g.shape.kind) (first c) o) ≡ false) x.1 fits in
           let good = typed_good ts.table small (scope_at ts call.holder (Some (It.Of of None)) call.way) c (g.short c ((form_values g.tree g.shape g.formed).0 c e)) x.0 x.1 in
-          let ends = ends_number (compared_kind g.shape.kind) (compared_number g.shape.kind) x.0 good.sound (holds_not (is_kind true (compared_kind g.shape.kind) x.0) (no_left (not (is_kind true (compared_kind g.shape.kind) x.0)) _ judged)) in
+          let ends = ends_number (compared_kind g.shape.kind) (compared_number g.shape.kind) x.0 good (holds_not (is_kind true (compared_kind g.shape.kind) x.0) (no_left (not (is_kind true (compared_kind g.shape.kind) x.0)) _ judged)) in
           let to = from_root (here_in ts call (Some (It.Of of None))) in
           let same = moved_kind to x.0 in (
             moved to (low_end x.0),
@@ -223,6 +201,26 @@ module _ (ts : Types) (k : AllKnown ts) (resolves : Resolves ts) (short : AreSho
             end_moved to (low_end x.0) ends.0,
             end_moved to (high_end x.0) ends.1,
           )
+
+      by_range : (o : Option ExprTree) → g.shape.range ≡ o → is_some g.shape.range ≡ true
+          → (l : Typed) × (h : Typed) × (option_map low_end (option_and_then (typed_here ts (here_in ts call (Some (It.Of of None)))) g.shape.range) ≡ Some l)
+          × (option_map high_end (option_and_then (typed_here ts (here_in ts call (Some (It.Of of None)))) g.shape.range) ≡ Some h) × IsNumberEnd l × IsNumberEnd h
+      by_range None e h = absurd (true≢false (sym h ∙ ap is_some e))
+      by_range (Some c) e h = range_ends c e
+
+      some_same : {l x : Typed} → Some l ≡ Some x → l ≡ x
+      some_same e = cc
+
+      never : {x : Typed} → None ≡ Some x → ⊥
+      never e = cc
+
+      low_by : (o : Option ExprTree) → g.shape.range ≡ o → (x : Typed) → option_map low_end (option_and_then (typed_here ts (here_in ts call (Some (It.Of of None)))) g.shape.range) ≡ Some x → has_values x ≡ true
+      low_by None e x h = absurd (never (sym (ap (λ o. option_map low_end (option_and_then (typed_here ts (here_in ts call (Some (It.Of of None)))) o)) e) ∙ h))
+      low_by (Some c) e x h = let r = range_ends c e in subst (λ z. has_values z ≡ true) (some_same (sym r.2 ∙ h)) r.4.values
+
+      high_by : (o : Option ExprTree) → g.shape.range ≡ o → (x : Typed) → option_map high_end (option_and_then (typed_here ts (here_in ts call (Some (It.Of of None)))) g.shape.range) ≡ Some x → has_values x ≡ true
+      high_by None e x h = absurd (never (sym (ap (λ o. option_map high_end (option_and_then (typed_here ts (here_in ts call (Some (It.Of of None)))) o)) e) ∙ h))
+      high_by (Some c) e x h = let r = range_ends c e in subst (λ z. has_values z ≡ true) (some_same (sym r.3 ∙ h)) r.5.values
 
   module _ (a : IsAcyclic ts) (whole : ℕ) (setting : Setting) (first_object : Placed ts a (spots_of ts (expansion ts whole)) root whole [] [])
       (actor : (x : ℕ) → owner ts.table.heads whole ≡ Some x → Placed ts a (spots_of ts (expansion ts whole)) (then_name root (codes "actor")) x [] [])
@@ -319,3 +317,22 @@ module _ (ts : Types) (k : AllKnown ts) (resolves : Resolves ts) (short : AreSho
         let known = all_placed n.0 n.1 in
         subst (λ z. is_modifier here z ≡ true) (sym n.2)
         (one_right n.0.modifier known.0 known.1 (subst (λ z. In z here.modifiers) n.2 i) (subst (λ z. can_apply (scene_from ts setting (expansion ts whole)) z ≡ true) n.2 f.1)))
+
+    -- each end of a modifier's range is a value
+    pub modifiers_valued : (x : Typed) → In x (flat_map (λ (m : ModifierSpot). option_to_list m.low ++ option_to_list m.high) here.modifiers) → has_values x ≡ true
+    modifiers_valued x i =
+        let m = flat_map_in (λ (m : ModifierSpot). option_to_list m.low ++ option_to_list m.high) here.modifiers x i in
+        let f = in_filter (can_apply (scene_from ts setting (expansion ts whole))) (map (λ (g : GivenModifier). modifier_of bound g.modifier) (modifiers_of (expansion ts whole))) m.0 m.1 in
+        let n = map_in (λ (g : GivenModifier). modifier_of bound g.modifier) (modifiers_of (expansion ts whole)) m.0 f.0 in
+        let made = (all_placed n.0 n.1).0 in
+        let low = option_map (moved (home bound)) n.0.modifier.low in
+        let high = option_map (moved (home bound)) n.0.modifier.high in
+        elim (in_either x (option_to_list low) (option_to_list high) (subst (λ (z : ModifierSpot). In x (option_to_list z.low ++ option_to_list z.high)) n.2 m.2)) as (λ _. has_values x ≡ true) [
+          | inl l ↦ part n.0.modifier.low made.low_valued l
+          | inr l ↦ part n.0.modifier.high made.high_valued l
+        ]
+      where
+        part : (o : Option Typed) → ((y : Typed) → o ≡ Some y → has_values y ≡ true) → In x (option_to_list (option_map (moved (home bound)) o)) → has_values x ≡ true
+        part None f l = absurd l
+        part (Some y) f (inl e) = subst (λ z. has_values z ≡ true) (sym e) (values_moved (home bound) y ∙ f y refl)
+        part (Some y) f (inr l) = absurd l

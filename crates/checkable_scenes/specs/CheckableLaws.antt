@@ -1,12 +1,15 @@
--- What the scenes of programs without faults meet of what the check of runs and flat forms ask.
+-- What the scenes and texts of programs without faults meet of what the check of runs, flat forms and typing ask.
 use Rattle.std.specs.Prelude.{◌≡◌, ℕ, true, false, List, [], Option, Some, None}
-use Rattle.std.specs.List.{list_all}
-use Rattle.type_heads.specs.Types.{Program}
+use Rattle.std.specs.List.{All, list_all}
+use Rattle.type_heads.specs.Types.{Program, Types}
 use Rattle.type_heads.specs.DeclaredTypes.{types_of}
 use Rattle.composition.specs.declared.setting.Setting.{Setting}
 use Rattle.composition.specs.declared.spot.PhaseSpot.{PhaseSpot}
 use Rattle.expr_nodes.specs.Typed.{Typed}
 use Rattle.expr_nodes.specs.Sound.{each_read}
+use Rattle.expr_nodes.specs.Scope.{It}
+use Rattle.expr_eval.specs.Resolved.{is_told_it, IsResolved}
+use Rattle.composition.specs.Calls.{Turn, without_labels, scope_at}
 use Rattle.composition.specs.Scenes.{Scene, Spot, Occurrence, ModifierSpot, source, phases, vehicles}
 use Rattle.composition.specs.There.{presence, modifier_presence}
 use Rattle.composition.specs.Expanded.{scene}
@@ -17,6 +20,7 @@ use Rattle.field_flatten.specs.Seen.{has_values}
 use Rattle.field_flatten.specs.Exactness.{IsExpanded, IsLimited, is_narrow_range, expressions}
 use Rattle.run_values.specs.Frames.{IsCheckable}
 use Rattle.scene_laws.specs.Premises.{is_spelled_program, are_held}
+use Rattle.checkable_scenes.specs.JudgedTexts.{IsTypedIn, all_judged}
 use Rattle.checkable_scenes.specs.Premises.{IsLoadedProgram}
 
 -- The conditions of spots, constraints and modifiers ask choices and numbers, each after the conditions of what it asks. The members of a phase are as
@@ -33,7 +37,20 @@ pub record AreTyped (scene : Scene) : Type 0 where
   pub occurrences : list_all (λ (o : Occurrence). is_occurrence scene o o.mark.strength) scene.occurrences ≡ true
   pub all_values : list_all has_values (expressions scene) ≡ true
 
+-- the scopes of the texts leave nothing open: those with labels, if `it` is told, and those without labels
+pub record HasScopes (ts : Types) : Type 0 where
+  pub labelled : (t : ℕ) (it : Option It) (way : List Turn) → is_told_it it ≡ true → IsResolved ts.table (scope_at ts t it way)
+  pub bare : (t : ℕ) → IsResolved ts.table (without_labels t)
+
 -- ---- the laws
+
+-- of each program without a fault of declarations
+abbrev pub ScopesAreResolved : Type 0
+ScopesAreResolved = (p : Program) → declaration_fault p (types_of p) ≡ None → HasScopes (types_of p)
+
+-- each expression of such a program, in the scope in which it is judged
+abbrev pub ExpressionsAreTyped : Type 0
+ExpressionsAreTyped = (p : Program) → declaration_fault p (types_of p) ≡ None → All (IsTypedIn (types_of p).table) (all_judged (types_of p))
 
 -- of each named scenario of a program whose trees are as the grammar has them, without a fault of declarations
 abbrev pub ScenesAreGrounded : Type 0
@@ -57,12 +74,17 @@ ScenesAreLimited =
     (p : Program) (t : ℕ) (owner : Option (List ℕ)) (name : List ℕ) (setting : Setting) → IsLoadedProgram p → declaration_fault p (types_of p) ≡ None
     → named_scenario (types_of p) owner name ≡ Some t → is_too_large (types_of p) t setting ≡ false → IsLimited (scene (types_of p) t setting)
 
--- of each such scenario under a setting within its limits, whose constraints are sound
+-- of each named scenario
+abbrev pub ScenesAreTyped : Type 0
+ScenesAreTyped =
+    (p : Program) (t : ℕ) (owner : Option (List ℕ)) (name : List ℕ) (setting : Setting) → IsLoadedProgram p → declaration_fault p (types_of p) ≡ None
+    → named_scenario (types_of p) owner name ≡ Some t → AreTyped (scene (types_of p) t setting)
+
+-- of each such scenario that isn't too large, under a setting within its limits
 abbrev pub ScenesAreExpanded : Type 0
 ScenesAreExpanded =
     (p : Program) (t : ℕ) (owner : Option (List ℕ)) (name : List ℕ) (setting : Setting) → IsLoadedProgram p → declaration_fault p (types_of p) ≡ None
-    → named_scenario (types_of p) owner name ≡ Some t → is_too_large (types_of p) t setting ≡ false → is_setting setting ≡ true → AreTyped (scene (types_of p) t setting)
-    → IsExpanded (scene (types_of p) t setting)
+    → named_scenario (types_of p) owner name ≡ Some t → is_too_large (types_of p) t setting ≡ false → is_setting setting ≡ true → IsExpanded (scene (types_of p) t setting)
 
 -- each expression of a scene reads durations and values that the scene has, each as its kind and size say
 abbrev pub ReadsFit : Scene → Type 0

@@ -1,4 +1,16 @@
-ghost use Rattle.checkable_scenes.specs.CheckableLaws.{ScenesAreGrounded, VehiclesAreLimited, RangesAreNarrow, ScenesAreLimited, ScenesAreExpanded, ScenesHaveReads, ModifiersAreSound, ScenesAreCheckable};
+ghost use Rattle.checkable_scenes.specs.CheckableLaws.{ScopesAreResolved, ExpressionsAreTyped, ScenesAreGrounded, VehiclesAreLimited, RangesAreNarrow, ScenesAreLimited, ScenesAreExpanded, ScenesHaveReads, ModifiersAreSound, ScenesAreTyped, ScenesAreCheckable};
+
+/// The law that each scope of a program without faults leaves nothing open, if what `it` stands for is
+/// told. The premise of `expr_eval::type_of` is met in each of them.
+pub fn scopes_are_resolved()
+    ensures { ScopesAreResolved }
+{}
+
+/// The law that each expression of a program without faults has a typed form in the scope in which it
+/// is judged, which leaves nothing open.
+pub fn expressions_are_typed()
+    ensures { ExpressionsAreTyped }
+{}
 
 /// The law that the conditions of spots, constraints and modifiers of a named scenario's scene are
 /// grounded, and that the members of each phase are as its kind says.
@@ -23,8 +35,8 @@ pub fn scenes_are_limited()
     ensures { ScenesAreLimited }
 {}
 
-/// The law that such a scene has what the laws of flat forms need, if its constraints are sound and
-/// its expressions have values.
+/// The law that the scene of a named scenario that isn't too large, under a setting within its limits,
+/// has what the laws of flat forms need.
 pub fn scenes_are_expanded()
     ensures { ScenesAreExpanded }
 {}
@@ -39,6 +51,12 @@ pub fn scenes_have_reads()
 /// ends of its range.
 pub fn modifiers_are_sound()
     ensures { ModifiersAreSound }
+{}
+
+/// The law that each constraint of a named scenario's scene is a sound truth value or removes the
+/// defaults of a target, and that what its constraints and modifiers read has a value.
+pub fn scenes_are_typed()
+    ensures { ScenesAreTyped }
 {}
 
 /// The law that a scene that is expanded and limited can be checked.

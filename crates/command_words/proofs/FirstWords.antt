@@ -4,7 +4,7 @@ use Rattle.std.specs.Str.{bytes_eq}
 use Rattle.std.proofs.lemmas.Slice.Eq.{bytes_eq-Decides}
 use Rattle.clap.specs.Walk.{Text}
 use Rattle.command_words.specs.Texts.{general_help, version_text}
-use Rattle.command_words.specs.Words.{Help, Refused, explain_wanted, generate_wanted, request}
+use Rattle.command_words.specs.Words.{Help, Refused, check_wanted, explain_wanted, generate_wanted, request}
 
 pub other_word : (a b : Text) → (a ≡ b → ⊥) → bytes_eq a b ≡ false
 other_word a b differ = go (bytes_eq a b) refl
@@ -32,12 +32,16 @@ pub generate_word : (first : Text) (rest : List Text) → first ≡ codes "gener
 unfolding request
 generate_word first rest e = rw e refl
 
+pub check_word : (first : Text) (rest : List Text) → first ≡ codes "check" → request (first ∷ rest) ≡ check_wanted rest
+unfolding request
+check_word first rest e = rw e refl
+
 pub explain_word : (first : Text) (rest : List Text) → first ≡ codes "explain" → request (first ∷ rest) ≡ explain_wanted rest
 unfolding request
 explain_word first rest e = rw e refl
 
 pub unknown_word : (first : Text) (rest : List Text) → (first ≡ codes "help" → ⊥) → (first ≡ codes "--help" → ⊥) → (first ≡ codes "-h" → ⊥)
-    → (first ≡ codes "--version" → ⊥) → (first ≡ codes "-V" → ⊥) → (first ≡ codes "generate" → ⊥) → (first ≡ codes "explain" → ⊥) → request (first ∷ rest) ≡ Refused
+    → (first ≡ codes "--version" → ⊥) → (first ≡ codes "-V" → ⊥) → (first ≡ codes "generate" → ⊥) → (first ≡ codes "check" → ⊥) → (first ≡ codes "explain" → ⊥) → request (first ∷ rest) ≡ Refused
 unfolding request
-unknown_word first rest a b c d e f g =
-    rw (other_word _ _ a, other_word _ _ b, other_word _ _ c, other_word _ _ d, other_word _ _ e, other_word _ _ f, other_word _ _ g) refl
+unknown_word first rest a b c d e f g h =
+    rw (other_word _ _ a, other_word _ _ b, other_word _ _ c, other_word _ _ d, other_word _ _ e, other_word _ _ f, other_word _ _ g, other_word _ _ h) refl

@@ -1,17 +1,14 @@
 -- The match definition of `generate`, and what its matches hold.
-use Rattle.std.proofs.Common.{◌≡◌, ◌∙◌, refl, sym, ap, true, List, [], codes, unwrap_or}
-use Rattle.std.specs.Str.Parse.{digits_value, without_leading_plus}
-use Rattle.clap.specs.Words.{IsParsedFrom, Row, Text, app_of, fault_of, first_of, found_of, is_simple_and_free, matches_of, one_of, rows_of}
+use Rattle.std.proofs.Common.{◌≡◌, ◌∙◌, refl, sym, ap, true, List, [], codes}
+use Rattle.clap.specs.Words.{IsParsedFrom, Text, app_of, fault_of, found_of, is_simple_and_free, matches_of, rows_of}
 use Rattle.clap.specs.declared.builder.command.Command.{Command}
 use Rattle.clap.specs.declared.parser.matches.ArgMatches.{ArgMatches}
 use Rattle.clap.specs.declared.parser.matches.Found.{Found}
-use Rattle.clap.proofs.WalkLemmas.{first_value-rows, one_text-rows}
-use Rattle.command_words.specs.Match.{number_in, text_in}
-use Rattle.command_words.specs.Parse.{is_leaf, number_held, text_held}
-use Rattle.command_words.specs.Shared.{setting_in, source_in}
-use Rattle.command_words.specs.Taken.{HoldsGenerate, generate_held, setting_held, source_held}
+use Rattle.command_words.specs.Parse.{is_leaf}
+use Rattle.command_words.specs.Taken.{HoldsGenerate, generate_held}
 use Rattle.command_words.specs.Texts.{generate_help}
 use Rattle.command_words.specs.Words.{Generate, GenerateAsked, Wanted, by_fault, generate, generate_asked, generate_wanted}
+use Rattle.command_words.proofs.Matched.{number_is, setting_is, source_is}
 use Rattle.command_words.proofs.ValueReads.{number_found}
 
 pub generate_simple : is_simple_and_free generate ≡ true
@@ -36,30 +33,13 @@ holds_numbers c m same p = record {
 }
 
 module _ (found : Found) (words : List Text) (same : rows_of found ≡ matches_of generate words) where
-  text_is : (name : Text) → text_held found name ≡ text_in generate words name
-  unfolding text_in
-  text_is name =
-      ap (λ o. unwrap_or o []) (first_value-rows found name) ∙ ap (λ (rows : List Row). unwrap_or (first_of name rows) []) same
-
-  number_is : (name : Text) → number_held found name ≡ number_in generate words name
-  unfolding number_in
-  number_is name =
-      ap (λ o. digits_value 10 (without_leading_plus (unwrap_or o []))) (one_text-rows found name)
-      ∙ ap (λ (rows : List Row). digits_value 10 (without_leading_plus (unwrap_or (one_of name rows) []))) same
-
-  source_is : source_held found ≡ source_in generate words
-  source_is = λ i. record { file = text_is (codes "FILE") i; scenario = text_is (codes "SCENARIO") i }
-
-  setting_is : setting_held found ≡ setting_in generate words
-  setting_is = λ i. record { ticks = number_is (codes "ticks") i; lanes = number_is (codes "lanes") i; road = number_is (codes "road") i }
-
   asked_is : generate_held found ≡ generate_asked words
   unfolding generate_asked
   asked_is = λ i. record {
-    source = source_is i;
-    setting = setting_is i;
-    seed = number_is (codes "seed") i;
-    cuts = number_is (codes "cuts") i;
+    source = source_is generate found words same i;
+    setting = setting_is generate found words same i;
+    seed = number_is generate found words same (codes "seed") i;
+    cuts = number_is generate found words same (codes "cuts") i;
   }
 
 -- words that are taken

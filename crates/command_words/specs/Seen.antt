@@ -1,7 +1,8 @@
 -- What a contract sees of the requests of the code.
 use Rattle.fault_texts.specs.Explained.{explanation, topic_list}
 use Rattle.command_words.specs.Shared.{Source}
-use Rattle.command_words.specs.Words.{GenerateAsked, Wanted, Help, Generate, Refused}
+use Rattle.command_words.specs.Words.{CheckAsked, GenerateAsked, Wanted, Help, Generate, Check, Refused}
+use Rattle.command_words.specs.declared.requests.CheckWords.{CheckWords}
 use Rattle.command_words.specs.declared.requests.GenerateWords.{GenerateWords}
 use Rattle.command_words.specs.declared.requests.Request.{Request}
 use Rattle.command_words.specs.declared.requests.Request.TheVariants as request
@@ -18,9 +19,17 @@ asked_by words = record {
   cuts = words.cuts;
 }
 
+abbrev pub checked_by : CheckWords → CheckAsked
+checked_by words = record {
+  source = source_by words.source;
+  run = words.run.now;
+  setting = words.setting;
+}
+
 abbrev pub seen : Request → Wanted
 seen (request.Help text) = Help text.now
 seen request.Topics = Help topic_list
 seen (request.Explain topic) = Help (explanation topic)
 seen (request.Generate words) = Generate (asked_by words)
+seen (request.Check words) = Check (checked_by words)
 seen request.Refused = Refused

@@ -3,7 +3,7 @@ use Rattle.std.specs.Prelude.{codes}
 use Rattle.clap.specs.declared.parser.matches.Found.{Found}
 use Rattle.command_words.specs.Parse.{HoldsNumber, number_held, text_held}
 use Rattle.command_words.specs.Shared.{Source}
-use Rattle.command_words.specs.Words.{GenerateAsked}
+use Rattle.command_words.specs.Words.{CheckAsked, GenerateAsked}
 use Rattle.command_words.specs.declared.requests.Setting.{Setting}
 
 -- ---- The words of all commands
@@ -42,3 +42,12 @@ pub record HoldsGenerate (found : Found) : Type 0 where
   pub setting : HoldsSetting found
   pub seed : HoldsNumber found (codes "seed") 0 18446744073709551615
   pub cuts : HoldsNumber found (codes "cuts") 1 1000000
+
+-- ---- `check`
+
+abbrev pub check_held : Found → CheckAsked
+check_held found = record {
+  source = source_held found;
+  run = text_held found (codes "RUN");
+  setting = setting_held found;
+}

@@ -5,10 +5,10 @@ use Rattle.clap.specs.Words.{App, Kinds, Text, fault_of}
 use Rattle.fault_texts.specs.Explained.{explanation, topic_list}
 use Rattle.fault_texts.specs.Topics.{topic_named}
 use Rattle.clap.specs.declared.error.kind.ErrorKind.TheVariants.{DisplayHelp}
-use Rattle.command_words.specs.Match.{command_of, number_in, number_rule}
+use Rattle.command_words.specs.Match.{command_of, number_in, number_rule, text_in, word_rule}
 use Rattle.command_words.specs.Shared.{IsSettingInRanges, Source, setting_in, setting_rules, source_in, source_rules}
 use Rattle.command_words.specs.declared.requests.Setting.{Setting}
-use Rattle.command_words.specs.Texts.{general_help, generate_help, version_text}
+use Rattle.command_words.specs.Texts.{check_help, general_help, generate_help, version_text}
 
 -- what `generate` is asked for: a run of this scenario in this setting, found by a search with this seed and at most so many cuts
 pub record GenerateAsked : Type 0 where
@@ -17,10 +17,17 @@ pub record GenerateAsked : Type 0 where
   pub seed : ℕ
   pub cuts : ℕ
 
+-- what `check` is asked for: whether the run in this file is an instance of this scenario in this setting
+pub record CheckAsked : Type 0 where
+  pub source : Source
+  pub run : Text
+  pub setting : Setting
+
 -- a text that needs no file (of help, of the version, of a code), what a command is asked for, or nothing that is known
 pub data Wanted : Type 0 where
   Help : Text → Wanted
   Generate : GenerateAsked → Wanted
+  Check : CheckAsked → Wanted
   Refused : Wanted
 
 -- ---- `generate`
@@ -58,6 +65,24 @@ unfoldable pub generate_wanted : List Text → Wanted
 generate_wanted words =
     by_fault (fault_of generate words) generate_help (Generate (generate_asked words))
 
+-- ---- `check`
+
+unfoldable pub check : App
+check = command_of (codes "check") (source_rules ++ word_rule (codes "RUN") ∷ setting_rules)
+
+-- what the words after `check` ask for when they are taken
+unfoldable pub check_asked : List Text → CheckAsked
+check_asked words = record {
+  source = source_in check words;
+  run = text_in check words (codes "RUN");
+  setting = setting_in check words;
+}
+
+unfoldable pub check_wanted : List Text → Wanted
+check_wanted words = by_fault (fault_of check words) check_help (Check (check_asked words))
+
+-- ---- help and the version
+
 abbrev pub is_help_word : Text → Bool
 is_help_word word =
     bytes_eq word (codes "help") || bytes_eq word (codes "--help") || bytes_eq word (codes "-h")
@@ -89,6 +114,7 @@ request [] = Refused
 request (first ∷ rest) = if is_help_word first then Help general_help
     else if is_version_word first then Help version_text
     else if bytes_eq first (codes "generate") then generate_wanted rest
+    else if bytes_eq first (codes "check") then check_wanted rest
     else if bytes_eq first (codes "explain") then explain_wanted rest
     else Refused
 
@@ -96,4 +122,5 @@ request (first ∷ rest) = if is_help_word first then Help general_help
 abbrev pub HasRanges : Wanted → Type 0
 HasRanges (Help text) = ⊤
 HasRanges (Generate asked) = IsGenerateInRanges asked
+HasRanges (Check asked) = IsSettingInRanges asked.setting
 HasRanges Refused = ⊤

@@ -2,6 +2,7 @@ ghost use Rattle.std.specs.Prelude.{◌≡◌, IfOk, map, string_bytes};
 ghost use Rattle.command_words.specs.Seen.{seen};
 ghost use Rattle.command_words.specs.Words.{HasRanges, request};
 
+use crate::check::read_check;
 use crate::explain::read_explain;
 use crate::generate::read_generate;
 use crate::texts::{general_help, version_text};
@@ -19,6 +20,8 @@ pub enum Request<'a> {
     Explain(Topic),
     /// A run is to be written.
     Generate(GenerateWords<'a>),
+    /// A run is to be checked.
+    Check(CheckWords<'a>),
     /// The words ask for nothing that is known.
     Refused,
 }
@@ -54,6 +57,15 @@ pub struct GenerateWords<'a> {
     pub cuts: u32,
 }
 
+/// What the words after `check` ask for.
+#[derive(Debug, Clone, Copy)]
+pub struct CheckWords<'a> {
+    pub source: Source<'a>,
+    /// The name of the file with the run. It may be any text, even an empty one.
+    pub run: &'a str,
+    pub setting: Setting,
+}
+
 /// Reads the words after the program's name.
 ///
 /// Out of memory is its only error.
@@ -68,6 +80,7 @@ pub fn read_words(alloc: Global, words: &[String]) -> Result<Request<'_>, AllocE
         "help" | "--help" | "-h" => Ok(Request::Help(general_help())),
         "--version" | "-V" => Ok(Request::Help(version_text())),
         "generate" => read_generate(alloc, rest),
+        "check" => read_check(alloc, rest),
         "explain" => Ok(read_explain(rest)),
         _ => Ok(Request::Refused),
     }

@@ -32,6 +32,15 @@ fn shown(rt: &HostRuntime, line: &str) -> io::Result<String> {
             asked.seed,
             asked.cuts
         )?,
+        Request::Check(asked) => format!(in alloc;
+            "check {} {} {} {} {} {}",
+            asked.source.file,
+            asked.source.scenario,
+            asked.run,
+            asked.setting.ticks,
+            asked.setting.lanes,
+            asked.setting.road
+        )?,
         Request::Refused => String::from_str(alloc, "refused")?,
     };
     Ok(shown)
@@ -56,6 +65,13 @@ fn reads_words(rt: HostRuntime) -> io::Result<()> {
         ("generate f s --lanes 2 --lanes 2", "refused"),
         ("generate f s -V", "refused"),
         ("generate f", "refused"),
+        ("check f s r", "check f s r 100 3 1000"),
+        (
+            "check --ticks=9 f s --lanes 8 r --road 10",
+            "check f s r 9 8 10",
+        ),
+        ("check f s", "refused"),
+        ("check f s r --seed 1", "refused"),
         ("explain", "all topics"),
         ("explain --help", "all topics"),
         ("explain 201", "Fault(Syntax)"),

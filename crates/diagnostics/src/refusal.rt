@@ -57,10 +57,11 @@ fn line_message<H: Shelf>(
         Told::Missing(name) => file_message(alloc, "there is no file ", name),
         Told::Long(name) => file_message(
             alloc,
-            "a source has at most 1048576 bytes, unlike ",
+            "a source has at most 1048576 bytes and a run 16777216, unlike ",
             name,
         ),
         Told::Shelf(name) => file_message(alloc, "the system can't read ", name),
+        Told::Text(what) => text_message(alloc, what),
         Told::Words => words_message(alloc, words),
         Told::Other => Ok(String::new(alloc)),
     }
@@ -201,6 +202,7 @@ fn put_explain(text: &mut String, gutter: usize, number: u16) -> Result<(), Allo
 fn source_in(alloc: Global, words: &[String]) -> Result<Option<Source<'_>>, AllocError> {
     match read_words(alloc, words)? {
         Request::Generate(asked) => Ok(Some(asked.source)),
+        Request::Check(asked) => Ok(Some(asked.source)),
         _ => Ok(None),
     }
 }
@@ -248,6 +250,17 @@ fn label_of(alloc: Global, spot: Spot<'_>, source: Option<&[u8]>) -> Result<Stri
 fn file_message(alloc: Global, what: &str, name: &str) -> Result<String, AllocError> {
     let mut text = format!(in alloc; "error: {what}`{name}`\n")?;
     put_status(&mut text, Status::Shelf)?;
+    Ok(text)
+}
+
+/// The message for a file of a run that holds no run: it is no `json`, or differs at this JSON pointer.
+fn text_message(alloc: Global, what: &str) -> Result<String, AllocError> {
+    let mut text = if what == "json" {
+        format!(in alloc; "error: the file of the run is no JSON text\n")?
+    } else {
+        format!(in alloc; "error: the file of the run holds none: `{what}` isn't as in a run\n")?
+    };
+    put_status(&mut text, Status::Text)?;
     Ok(text)
 }
 

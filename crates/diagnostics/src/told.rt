@@ -14,6 +14,8 @@ pub enum Told<'a> {
     Long(&'a str),
     /// `shelf NAME`
     Shelf(&'a str),
+    /// `text json` or `text POINTER`
+    Text(&'a str),
     /// `words`
     Words,
     /// Another line, or none.
@@ -47,6 +49,7 @@ pub fn told_by(line: &str) -> Told<'_> {
         "missing" => Told::Missing(rest),
         "long" => Told::Long(rest),
         "shelf" => Told::Shelf(rest),
+        "text" => Told::Text(rest),
         _ => Told::Other,
     }
 }

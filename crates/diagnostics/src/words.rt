@@ -12,7 +12,14 @@ use std::alloc::{AllocError, Global};
 /// The most words that are looked at.
 const WORDS: usize = 100;
 /// First words that ask for something.
-const COMMANDS: [&str; 5] = ["generate", "explain", "help", "--help", "--version"];
+const COMMANDS: [&str; 6] = [
+    "generate",
+    "check",
+    "explain",
+    "help",
+    "--help",
+    "--version",
+];
 
 /// The message for words that are refused.
 pub fn words_message(alloc: Global, words: &[String]) -> Result<String, AllocError> {
@@ -87,7 +94,7 @@ fn put_refused<'a>(
     let count = taken(alloc, words)?;
     let (before, after) = words.split_at(count.min(words.len()));
     match after {
-        [] => put_missing(alloc, text, words),
+        [] => put_missing(alloc, text, command, words),
         [word, ..] if is_option(alloc, before, word)? => put_value(text, word, after.get(1)),
         [word, ..] => write!(
             text,
@@ -109,14 +116,32 @@ fn taken(alloc: Global, words: &[&str]) -> Result<usize, AllocError> {
 }
 
 /// Puts which words are missing, if more of them would be taken.
-fn put_missing(alloc: Global, text: &mut String, words: &[&str]) -> Result<(), AllocError> {
-    if is_taken(read_with(alloc, words, &["x"])?) {
-        text.push_str("SCENARIO is missing after FILE\n")
-    } else if is_taken(read_with(alloc, words, &["x", "x"])?) {
-        text.push_str("FILE and SCENARIO are missing\n")
-    } else {
-        text.push_str("these words can't stand together\n")
+fn put_missing(
+    alloc: Global,
+    text: &mut String,
+    command: &str,
+    words: &[&str],
+) -> Result<(), AllocError> {
+    let reads_run = command == "check";
+    text.push_str(match (reads_run, missing(alloc, words)?) {
+        (false, 1) => "SCENARIO is missing after FILE\n",
+        (false, 2) => "FILE and SCENARIO are missing\n",
+        (true, 1) => "RUN is missing after SCENARIO\n",
+        (true, 2) => "SCENARIO and RUN are missing after FILE\n",
+        (true, 3) => "FILE, SCENARIO and RUN are missing\n",
+        _ => "these words can't stand together\n",
+    })
+}
+
+/// How many more words would be taken, up to 3; 0 if none would.
+fn missing(alloc: Global, words: &[&str]) -> Result<usize, AllocError> {
+    let more = ["x", "x", "x"];
+    for count in 1..4 {
+        if is_taken(read_with(alloc, words, &more[..count])?) {
+            return Ok(count);
+        }
     }
+    Ok(0)
 }
 
 /// Puts that an option doesn't take the value after it, or has none.
@@ -161,7 +186,9 @@ fn read_with(alloc: Global, words: &[&str], more: &[&str]) -> Result<Asked, Allo
     match read_words(alloc, all.as_slice())? {
         Request::Help(_) => Ok(Asked::Help),
         Request::Refused => Ok(Asked::Nothing),
-        Request::Topics | Request::Explain(_) | Request::Generate(_) => Ok(Asked::Other),
+        Request::Topics | Request::Explain(_) | Request::Generate(_) | Request::Check(_) => {
+            Ok(Asked::Other)
+        }
     }
 }
 

@@ -55,15 +55,19 @@ fn words_after_a_command(rt: HostRuntime) -> Result<(), Fail> {
 
 #[test]
 fn first_words(rt: HostRuntime) -> Result<(), Fail> {
-    let rows: [(&[&str], &str); 6] = [
+    let rows: [(&[&str], &str); 7] = [
         (&[], "error: there is no command\n  = help: "),
         (
             &["genrate", "a.osc", "top"],
             "error: `genrate` is no command\n  = help: a command near it is `osc generate`\n",
         ),
         (
+            &["verify", "a.osc"],
+            "error: `verify` is no command\n  = help: `osc help` lists the commands.",
+        ),
+        (
             &["check", "a.osc"],
-            "error: `check` is no command\n  = help: `osc help` lists the commands.",
+            "error: SCENARIO and RUN are missing after FILE\n",
         ),
         (
             &["explain", "200"],
@@ -115,8 +119,33 @@ fn files_and_standard_output(rt: HostRuntime) -> Result<(), Fail> {
         &rt,
         &long,
         6,
-        "error: a source has at most 1048576 bytes, unlike `main.osc`\n",
+        "error: a source has at most 1048576 bytes and a run 16777216, unlike `main.osc`\n",
     );
+    Ok(())
+}
+
+/// Files of runs that hold none.
+#[test]
+fn texts_that_are_no_run(rt: HostRuntime) -> Result<(), Fail> {
+    let alloc = rt.alloc();
+    let words = ["check", "main.osc", "top", "run.json"];
+    let rows: [(&str, &str); 2] = [
+        (
+            "{",
+            "error: the file of the run is no JSON text\n  = help: ",
+        ),
+        (
+            "{}",
+            "error: the file of the run holds none: `/choices` isn't as in a run\n  = help: ",
+        ),
+    ];
+    for (run, want) in rows {
+        let files = [
+            ("main.osc", SOURCE.as_bytes()),
+            ("run.json", run.as_bytes()),
+        ];
+        begins(&rt, &call(alloc, &words, &files)?, 5, want);
+    }
     Ok(())
 }
 

@@ -80,13 +80,13 @@ module _ (faults : Types → ℕ → Option Fault) (Answer : List AddedFile → 
   pub refused : (reply : Reply) → Told program source.scenario reply → Replied reply
   refused reply told = by_refusal reply (first_refusal faults program source.scenario) refl (told faults source.file)
 
-  first_is : (t : ℕ) → fault_in program ≡ None → scenario_named program source.scenario ≡ Some t →
+  pub first_is : (t : ℕ) → fault_in program ≡ None → scenario_named program source.scenario ≡ Some t →
       first_refusal faults program source.scenario ≡ option_map (faulty_at program) (faults (types_in program) t)
   first_is t fine named =
       ap (λ o. picked program source.scenario faults o (scenario_named program source.scenario)) fine
       ∙ ap (picked program source.scenario faults None) named
 
-  on_scenario : (t : ℕ) (reply : Reply) → fault_in program ≡ None → scenario_named program source.scenario ≡ Some t → OnScenario faults Answer program t reply → Replied reply
+  pub on_scenario : (t : ℕ) (reply : Reply) → fault_in program ≡ None → scenario_named program source.scenario ≡ Some t → OnScenario faults Answer program t reply → Replied reply
   on_scenario t reply fine named (inl its) =
       faulty (faulty_at program its.0) (first_is t fine named ∙ ap (option_map (faulty_at program)) its.1) its.2
   on_scenario t reply fine named (inr its) = sound t (first_is t fine named ∙ ap (option_map (faulty_at program)) its.0) named its.1

@@ -9,7 +9,8 @@ use Rattle.command_words.specs.Words.{Wanted, request}
 use Rattle.type_heads.specs.Types.{Types}
 use Rattle.scenario_tool.specs.declared.replies.Reply.{Reply}
 use Rattle.scenario_tool.specs.declared.status.Status.{Status}
-use Rattle.scenario_tool.specs.SceneLimits.{not_generated, scene_setting}
+use Rattle.scenario_tool.specs.SceneLimits.{not_generated, scene_setting, too_large}
+use Rattle.scenario_tool.proofs.OneCheck.{one_check}
 use Rattle.scenario_tool.specs.Programs.{first_refusal, scenario_named}
 use Rattle.scenario_tool.specs.Replies.{refused_source}
 use Rattle.scenario_tool.specs.Answers.{AnswersTo, Generates, runs, Inputs, IsLeftOpen, OneAnswer, OnProgram, faulty, sound, OnSource, not_loaded, loaded}
@@ -56,6 +57,9 @@ one_generate program scenario reply other (runs run is told) (runs run' is' told
 one_wanted : (inputs : Inputs) (wanted : Wanted) (reply other : Reply) → AnswersTo inputs wanted reply → AnswersTo inputs wanted other → One (IsLeftOpen wanted) reply other
 one_wanted inputs (Wanted.Help text) reply other is is' = inl (is ∙ sym is')
 one_wanted inputs (Wanted.Generate asked) reply other is is' = on_source (not_generated (scene_setting asked.setting)) Generates _ one_generate inputs.sources asked.source reply other is is'
+one_wanted inputs (Wanted.Check asked) reply other is is' =
+    on_source (too_large (scene_setting asked.setting)) _ (IsLeftOpen (Wanted.Check asked)) (λ program t reply other is is'. inl (one_check inputs.texts asked.run (scene_setting asked.setting) program t reply other is is'))
+    inputs.sources asked.source reply other is is'
 one_wanted inputs Wanted.Refused reply other is is' = inl (is ∙ sym is')
 
 pub one_answer : OneAnswer

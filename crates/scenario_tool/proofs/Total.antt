@@ -26,8 +26,9 @@ use Rattle.program_load.proofs.Total.{some_load}
 use Rattle.command_words.specs.Shared.{Source}
 use Rattle.command_words.specs.Words.{Wanted, request}
 use Rattle.scenario_tool.specs.PairForm.{whole_number, range_of, held_range, ranged_fields}
-use Rattle.scenario_tool.specs.SceneLimits.{not_generated, scene_setting}
+use Rattle.scenario_tool.specs.SceneLimits.{not_generated, scene_setting, too_large}
 use Rattle.scenario_tool.specs.declared.replies.Reply.{Reply}
+use Rattle.scenario_tool.proofs.OneCheck.{some_check}
 use Rattle.scenario_tool.specs.Programs.{first_refusal, scenario_named, scenario_refusal}
 use Rattle.scenario_tool.specs.Replies.{done, refused_source, words_refused}
 use Rattle.scenario_tool.specs.Answers.{AnswersTo, Generates, runs, Inputs, OnProgram, faulty, sound, OnSource, not_loaded, loaded, SomeAnswer}
@@ -126,6 +127,8 @@ some_generate program scenario none =
 some_wanted : (inputs : Inputs) (wanted : Wanted) → ((reply : Reply) → AnswersTo inputs wanted reply → ⊥) → ⊥
 some_wanted inputs (Wanted.Help text) none = none (done text) refl
 some_wanted inputs (Wanted.Generate asked) none = some_on_source (not_generated (scene_setting asked.setting)) Generates some_generate inputs.sources asked.source none
+some_wanted inputs (Wanted.Check asked) none =
+    some_on_source (too_large (scene_setting asked.setting)) _ (some_check inputs.texts asked.run (scene_setting asked.setting)) inputs.sources asked.source none
 some_wanted inputs Wanted.Refused none = none words_refused refl
 
 pub some_answer : SomeAnswer

@@ -23,9 +23,10 @@ use Rattle.scenario_tool.specs.declared.replies.Reply.{Reply}
 use Rattle.type_heads.specs.Types.{Types}
 use Rattle.named_scenario.specs.Naming.{types_in}
 use Rattle.named_scenario.specs.Own.{own_members}
+use Rattle.scenario_tool.specs.Checks.{Checks}
 use Rattle.scenario_tool.specs.PairForm.{ranged_fields}
 use Rattle.scenario_tool.specs.Programs.{first_refusal, scenario_named}
-use Rattle.scenario_tool.specs.SceneLimits.{not_generated, scene_setting}
+use Rattle.scenario_tool.specs.SceneLimits.{not_generated, scene_setting, too_large}
 use Rattle.scenario_tool.specs.Replies.{done, failed_shelf, status_number, refused_source, words_refused}
 
 -- ---- Answers
@@ -58,14 +59,24 @@ pub data Generates (program : List AddedFile) (scenario : ℕ) (reply : Reply) :
 abbrev pub AnswersTo : Inputs → Wanted → Reply → Type 0
 AnswersTo inputs (Wanted.Help text) reply = reply ≡ done text
 AnswersTo inputs (Wanted.Generate asked) reply = OnSource inputs.sources asked.source (not_generated (scene_setting asked.setting)) Generates reply
+AnswersTo inputs (Wanted.Check asked) reply =
+    OnSource inputs.sources asked.source (too_large (scene_setting asked.setting)) (Checks inputs.texts asked.run (scene_setting asked.setting)) reply
 AnswersTo inputs Wanted.Refused reply = reply ≡ words_refused
 
 -- ---- Answers, or a shelf that fails
+
+-- a text has its turn: the program is loaded, and the command refuses nothing of it
+pub record IsTextTurn (sources : List NamedBytes) (source : Source) (faults : Types → ℕ → Option Fault) : Type 0 where
+  pub program : List AddedFile
+  pub whole : IsLoaded sources source.file program
+  pub sound : first_refusal faults program source.scenario ≡ None
 
 -- the file of this name has its turn to be read
 abbrev pub HasTurn : Inputs → Wanted → List ℕ → Type 0
 HasTurn inputs (Wanted.Help text) name = ⊥
 HasTurn inputs (Wanted.Generate asked) name = IsTurn inputs.sources asked.source.file name
+HasTurn inputs (Wanted.Check asked) name =
+    IsTurn inputs.sources asked.source.file name ⊎ ((name ≡ asked.run) × IsTextTurn inputs.sources asked.source (too_large (scene_setting asked.setting)))
 HasTurn inputs Wanted.Refused name = ⊥
 
 -- a right answer, and the shelf's count of faults stays; or the count rises, by one, and the reply names the file whose turn
@@ -135,6 +146,7 @@ pub record IsAnswered (call : Call) : Type 0 where
 abbrev pub IsLeftOpen : Wanted → Reply → Type 0
 IsLeftOpen (Wanted.Help text) reply = ⊥
 IsLeftOpen (Wanted.Generate asked) reply = reply.status ≡ Status.Done
+IsLeftOpen (Wanted.Check asked) reply = ⊥
 IsLeftOpen Wanted.Refused reply = ⊥
 
 -- there is one right answer, or both are left open

@@ -1,7 +1,9 @@
 pub mod Answers
+pub mod Checks
 pub mod Found
 pub mod PairForm
 pub mod Programs
 pub mod Ranges
 pub mod Replies
 pub mod SceneLimits
+pub mod Verdicts

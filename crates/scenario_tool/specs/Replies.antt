@@ -1,6 +1,7 @@
 -- What `command` replies: a status, and the text that comes with it.
 use Rattle.std.specs.Prelude.{ℕ, List, ◌++◌, codes}
 use Rattle.std.specs.Fmt.{decimal}
+use Rattle.osc_base.specs.declared.fault.Place.{Place}
 use Rattle.osc_base.specs.declared.fault.Fault.{Fault}
 use Rattle.osc_base.specs.FaultCodes.{number_of}
 use Rattle.program_load.specs.declared.stop.Refusal.{Refusal}
@@ -10,8 +11,10 @@ use Rattle.scenario_tool.specs.declared.replies.Reply.{Reply}
 -- the number with which the program ends
 abbrev pub status_number : Status → ℕ
 status_number Status.Done = 0
+status_number Status.NotInstance = 1
 status_number Status.SourceRefused = 3
 status_number Status.WordsRefused = 4
+status_number Status.TextRefused = 5
 status_number Status.FileUnusable = 6
 status_number Status.SinkFailed = 7
 status_number Status.OutOfMemory = 8
@@ -23,6 +26,18 @@ done text = record { status = Status.Done; text = text }
 -- `words`
 abbrev pub words_refused : Reply
 words_refused = record { status = Status.WordsRefused; text = codes "words\n" }
+
+-- `no CLAUSE PATH`, and a space and `FILE:LINE:COLUMN` if the clause is about a constraint or modifier
+abbrev pub not_instance : List ℕ → List ℕ → List ℕ → Reply
+not_instance clause path place = record { status = Status.NotInstance; text = codes "no " ++ clause ++ codes " " ++ path ++ place ++ codes "\n" }
+
+-- `text json`, or `text POINTER`
+abbrev pub text_refused : List ℕ → Reply
+text_refused what = record { status = Status.TextRefused; text = codes "text " ++ what ++ codes "\n" }
+
+-- `FILE:LINE:COLUMN`
+abbrev pub at_place : List ℕ → Place → List ℕ
+at_place file place = file ++ codes ":" ++ decimal place.line ++ codes ":" ++ decimal place.column
 
 -- `fault CODE FILE:LINE:COLUMN`
 abbrev pub fault_of : List ℕ → Fault → Reply

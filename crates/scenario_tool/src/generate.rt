@@ -12,21 +12,20 @@ ghost use Rattle.scenario_tool.specs.Found.{OnScenario, is_ranged_declared};
 ghost use Rattle.scenario_tool.specs.PairForm.{not_built, ranged_fields};
 ghost use Rattle.scenario_tool.specs.Replies.{done};
 ghost use Rattle.scenario_tool.specs.SceneLimits.{not_generated, scene_setting};
-ghost use Rattle.name_scope.specs.Declaring.{behaviour_name};
 ghost use Rattle.name_scope.specs.FileNumbers.{wanted_name};
 ghost use Rattle.type_heads.specs.Shown.{members_told};
 ghost use Rattle.type_heads.specs.Told.{told};
 
 use crate::pair_form::{go_in_pairs, least_values};
 use crate::replies::{Reply, done};
-use crate::scenarios::{Found, fault_in, scenario_of};
+use crate::scenarios::{Found, fault_in, name_place, scenario_of};
 use crate::settings::scene_setting;
 use command_words::GenerateWords;
 use composition::{Run, Setting};
-use dsl_tree::{CompoundDecl, Member};
+use dsl_tree::Member;
 use name_scope::Program;
 use named_scenario::NamedScenario;
-use osc_base::{Fault, FaultCode, Place, Row};
+use osc_base::{Fault, FaultCode, Row};
 use program_scenes::is_too_large;
 use run_check::write_run;
 use std::alloc::{AllocError, Global};
@@ -95,16 +94,6 @@ fn is_ranged(named: &NamedScenario<'_>) -> bool
         && declaration.heir.is_none()
         && named.types.members(named.id).len() == members.len()
         && go_in_pairs(members)
-}
-
-/// Where the name of a scenario stands that a declaration declares.
-fn name_place(declaration: &CompoundDecl) -> Place
-    ensures { result ≡ (behaviour_name declaration.now.name.first declaration.now.name.second).place }
-{
-    match &declaration.name.second {
-        Some(name) => name.place,
-        None => declaration.name.first.place,
-    }
 }
 
 /// Writes a run in which each field holds its least number.

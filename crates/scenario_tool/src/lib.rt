@@ -1,6 +1,7 @@
 //! The top call of `osc`.
 #![tactic(auto)]
 
+mod check;
 mod generate;
 mod laws;
 mod pair_form;
@@ -9,6 +10,7 @@ mod scenarios;
 mod settings;
 mod status;
 mod top;
+mod verdicts;
 
 pub use laws::{one_answer, some_answer};
 pub use status::Status;

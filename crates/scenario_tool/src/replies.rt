@@ -1,5 +1,5 @@
 ghost use Rattle.std.specs.Prelude.{◌≡◌, IfOk};
-ghost use Rattle.scenario_tool.specs.Replies.{done, failed_shelf, fault_of, long_file, missing_file, refused_source, words_refused};
+ghost use Rattle.scenario_tool.specs.Replies.{done, failed_shelf, fault_of, long_file, missing_file, not_instance, refused_source, text_refused, words_refused};
 
 use crate::status::Status;
 use osc_base::{Fault, Text};
@@ -44,8 +44,34 @@ pub fn fault(alloc: Global, file: &str, fault: Fault) -> Result<Reply, AllocErro
     })
 }
 
+/// The run is no instance: the word of the clause that fails, the path at which it fails, and a space and
+/// a place of the source, or nothing.
+pub fn not_instance(
+    alloc: Global,
+    clause: &str,
+    path: &str,
+    place: &str,
+) -> Result<Reply, AllocError>
+    ensures { IfOk result (λ reply. reply ≡ not_instance clause.now path.now place.now) }
+{
+    Ok(Reply {
+        status: Status::NotInstance,
+        text: Text::of(format!(in alloc; "no {clause} {path}{place}\n")?),
+    })
+}
+
+/// The text of a file isn't what it should be: it is no `json`, or differs at this JSON pointer.
+pub fn text_refused(alloc: Global, what: &str) -> Result<Reply, AllocError>
+    ensures { IfOk result (λ reply. reply ≡ text_refused what.now) }
+{
+    Ok(Reply {
+        status: Status::TextRefused,
+        text: Text::of(format!(in alloc; "text {what}\n")?),
+    })
+}
+
 /// There is no file of the name.
-fn missing_file(alloc: Global, name: &str) -> Result<Reply, AllocError>
+pub fn missing_file(alloc: Global, name: &str) -> Result<Reply, AllocError>
     ensures { IfOk result (λ reply. reply ≡ missing_file name.now) }
 {
     Ok(Reply {
@@ -55,7 +81,7 @@ fn missing_file(alloc: Global, name: &str) -> Result<Reply, AllocError>
 }
 
 /// The file is longer than its limit.
-fn long_file(alloc: Global, name: &str) -> Result<Reply, AllocError>
+pub fn long_file(alloc: Global, name: &str) -> Result<Reply, AllocError>
     ensures { IfOk result (λ reply. reply ≡ long_file name.now) }
 {
     Ok(Reply {

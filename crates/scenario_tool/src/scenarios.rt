@@ -1,6 +1,7 @@
 //! The scenario that a word names in a program that was loaded.
 
 ghost use Rattle.std.specs.Prelude.{◌≡◌, ◌≢◌, [], ℕ, List, IfOk, None, Some, option_copied, option_map};
+ghost use Rattle.name_scope.specs.Declaring.{behaviour_name};
 ghost use Rattle.name_scope.specs.FileNumbers.{wanted_name};
 ghost use Rattle.program_load.specs.Loading.{name_at};
 ghost use Rattle.scenario_tool.specs.Found.{IsFound};
@@ -8,9 +9,10 @@ ghost use Rattle.scenario_tool.specs.Programs.{name_in, no_scenario, owner_in};
 ghost use Rattle.scenario_tool.specs.Replies.{fault_of, refused_source};
 
 use crate::replies::{Reply, fault};
+use dsl_tree::CompoundDecl;
 use name_scope::Program;
 use named_scenario::{NameStop, NamedScenario, find_scenario};
-use osc_base::{Fault, FaultCode};
+use osc_base::{Fault, FaultCode, Place};
 use std::alloc::{AllocError, Global};
 
 /// What is found for the word of a scenario.
@@ -58,6 +60,16 @@ pub fn fault_in(alloc: Global, program: &Program, first: Fault) -> Result<Reply,
 {
     let name = program.name(first.place.file).unwrap_or("");
     fault(alloc, name, first)
+}
+
+/// Where the name of a scenario stands that a declaration declares.
+pub fn name_place(declaration: &CompoundDecl) -> Place
+    ensures { result ≡ (behaviour_name declaration.now.name.first declaration.now.name.second).place }
+{
+    match &declaration.name.second {
+        Some(name) => name.place,
+        None => declaration.name.first.place,
+    }
 }
 
 /// The program has no such scenario: the fault stands at the end of its main file.

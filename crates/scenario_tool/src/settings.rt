@@ -7,7 +7,7 @@ use command_words::Setting as SettingWords;
 use composition::Setting;
 
 /// The length of a tick in milliseconds.
-const TICK: u32 = 100;
+pub const TICK: u32 = 100;
 
 /// The setting of a scene that these words ask for.
 pub fn scene_setting(words: SettingWords) -> Setting

@@ -6,10 +6,14 @@ ghost use Rattle.scenario_tool.specs.Replies.{status_number};
 pub enum Status {
     /// What was asked for is written.
     Done = 0,
+    /// The run is no instance.
+    NotInstance = 1,
     /// The source has a fault.
     SourceRefused = 3,
     /// The words ask for nothing that is known.
     WordsRefused = 4,
+    /// The text of a run is none.
+    TextRefused = 5,
     /// A file isn't there, is too long, or can't be read.
     FileUnusable = 6,
     /// The sink failed.

@@ -1,12 +1,15 @@
 ghost use Rattle.std.specs.Prelude.{◌≡◌, IfOk, map, string_bytes};
-ghost use Rattle.command_words.specs.Seen.{asked_by};
+ghost use Rattle.command_words.specs.Seen.{asked_by, checked_by};
+ghost use Rattle.command_words.specs.Shared.{IsSettingInRanges};
 ghost use Rattle.command_words.specs.Words.{Wanted, request};
 ghost use Rattle.scenario_tool.specs.Answers.{AnswersOrShelfFails, CountsOnce, IsAnswered, SomeInputs};
+ghost use Rattle.scenario_tool.specs.Found.{IsReplyToStop};
 
+use crate::check::check;
 use crate::generate::generate;
 use crate::replies::{Reply, done, failed_shelf, refused_source, words_refused};
 use crate::status::Status;
-use command_words::{GenerateWords, Request, read_words};
+use command_words::{CheckWords, GenerateWords, Request, read_words};
 use fault_texts::{explanation, topic_list};
 use osc_base::Text;
 use outside_io::{Shelf, Sink, write_all};
@@ -54,6 +57,7 @@ fn reply_to<H: Shelf>(alloc: Global, words: &[String], shelf: &mut H) -> Result<
         Request::Topics => Ok(done(topic_list(alloc)?)),
         Request::Explain(topic) => Ok(done(explanation(alloc, topic)?)),
         Request::Generate(asked) => reply_to_generate(alloc, asked, shelf),
+        Request::Check(asked) => reply_to_check(alloc, asked, shelf),
         Request::Refused => words_refused(alloc),
     }
 }
@@ -71,8 +75,35 @@ fn reply_to_generate<H: Shelf>(
 {
     match load(alloc, shelf, asked.source.file) {
         Ok(program) => generate(alloc, &program, asked),
-        Err(LoadStop::At(refusal)) => refused_source(alloc, asked.source.file, &refusal),
-        Err(LoadStop::Shelf(name)) => failed_shelf(alloc, name.as_str()),
-        Err(LoadStop::Memory) => Err(AllocError),
+        Err(stop) => reply_to_stop(alloc, asked.source.file, &stop),
+    }
+}
+
+/// The reply to what `check` is asked for.
+fn reply_to_check<H: Shelf>(
+    alloc: Global,
+    asked: CheckWords<'_>,
+    shelf: &mut H,
+) -> Result<Reply, AllocError>
+    requires ranges { IsSettingInRanges asked.setting }
+    ensures reply { IfOk result (λ reply. SomeInputs (H.files shelf.old) (λ inputs.
+        AnswersOrShelfFails inputs (Wanted.Check (checked_by asked.entry)) (H.faults shelf.old) (H.faults shelf.new) reply)) }
+    ensures counted { CountsOnce (H.faults shelf.old) (H.faults shelf.new) }
+    ensures files_kept { H.files shelf.new ≡ H.files shelf.old }
+{
+    match load(alloc, shelf, asked.source.file) {
+        Ok(program) => check(alloc, &program, asked, shelf),
+        Err(stop) => reply_to_stop(alloc, asked.source.file, &stop),
+    }
+}
+
+/// The reply to why no program was loaded.
+fn reply_to_stop(alloc: Global, main: &str, stop: &LoadStop) -> Result<Reply, AllocError>
+    ensures { IfOk result (IsReplyToStop main.now stop.now) }
+{
+    match stop {
+        LoadStop::At(refusal) => refused_source(alloc, main, refusal),
+        LoadStop::Shelf(name) => failed_shelf(alloc, name.as_str()),
+        LoadStop::Memory => Err(AllocError),
     }
 }

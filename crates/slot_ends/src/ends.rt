@@ -118,8 +118,8 @@ fn range_ends(texts: &[Text], range: &ValueRange) -> Pair
     }
 }
 
-/// The least and the greatest of some numbers, and 0 of none.
-fn number_ends(numbers: &[i64]) -> Pair
+/// The least and the greatest of some numbers. Of none both are 0.
+pub fn number_ends(numbers: &[i64]) -> Pair
     ensures { result ≡ pair (least_of numbers.now) (greatest_of numbers.now) }
 {
     match numbers.split_first() {

@@ -3,4 +3,4 @@
 
 mod ends;
 
-pub use ends::{bounds, ends_of};
+pub use ends::{bounds, ends_of, number_ends};

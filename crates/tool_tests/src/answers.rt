@@ -5,21 +5,21 @@ use std::alloc::{AllocError, Global};
 use std::process::Abort;
 use std::test::Fail;
 
-const SOURCE: &str = "scenario top:\n    x: int\n    keep(x in [3..3])\n";
+pub(crate) const SOURCE: &str = "scenario top:\n    x: int\n    keep(x in [3..3])\n";
 
-const RUN: &str =
+pub(crate) const RUN: &str =
     "{\"choices\":[],\"end\":0,\"form\":1,\"phases\":[],\"traces\":[],\"values\":[[\"x\",3]]}\n";
 
 /// Which calls of the shelf and of the sink fail, how many bytes a call of the sink takes, and its room.
 #[derive(Clone, Copy)]
-struct Outside<'a> {
-    shelf_failing: &'a [u64],
-    sink_failing: &'a [u64],
-    most: usize,
-    room: usize,
+pub(crate) struct Outside<'a> {
+    pub shelf_failing: &'a [u64],
+    pub sink_failing: &'a [u64],
+    pub most: usize,
+    pub room: usize,
 }
 
-const SOUND: Outside<'static> = Outside {
+pub(crate) const SOUND: Outside<'static> = Outside {
     shelf_failing: &[],
     sink_failing: &[],
     most: 4096,
@@ -27,7 +27,7 @@ const SOUND: Outside<'static> = Outside {
 };
 
 /// The status that `command` returns for the words, and what it writes, as one text.
-fn answer(
+pub(crate) fn answer(
     alloc: Global,
     words: &[&str],
     files: &[(&str, &[u8])],

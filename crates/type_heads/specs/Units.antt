@@ -1,5 +1,5 @@
 -- The exponents of base units, and the units that are declared.
-use Rattle.std.specs.Prelude.{ℕ, ℤ, pos, neg_ℤ, ◌&&◌, Bool, true, not, cond, List, [], ◌∷◌, Option, Some, None, bytes_eq, codes, find, flat_map}
+use Rattle.std.specs.Prelude.{ℕ, ℤ, pos, neg_ℤ, min, ◌&&◌, Bool, true, not, cond, List, [], ◌∷◌, Option, Some, None, bytes_eq, codes, find, flat_map}
 use Rattle.std.specs.Option.{option_map_or}
 use Rattle.std.specs.List.{list_any}
 use Rattle.osc_base.specs.Number.{Number, whole}
@@ -20,9 +20,13 @@ digits_number d = decimal_number d.digits d.places
 abbrev pub signed : Bool → ℤ → ℤ
 signed minus n = cond minus (neg_ℤ n) n
 
+-- the most places behind the point of a number; the grammar has no more
+abbrev pub most_places : ℕ
+most_places = 18
+
 -- the number that digits with a sign stand for
 abbrev pub signed_number : Signed → Number
-signed_number s = let n = digits_number s.number in record n { numerator = signed s.minus n.numerator }
+signed_number s = let n = decimal_number s.number.digits (min s.number.places most_places) in record n { numerator = signed s.minus n.numerator }
 
 -- the eight base units
 abbrev pub base_units : List (List ℕ)
@@ -32,9 +36,13 @@ base_units = codes "kg" ∷ codes "m" ∷ codes "s" ∷ codes "A" ∷ codes "K" 
 abbrev pub is_base_unit : List ℕ → Bool
 is_base_unit name = list_any (bytes_eq name) base_units
 
+-- the greatest exponent in brackets; the grammar has no greater one
+abbrev pub greatest_exponent : ℕ
+greatest_exponent = 9
+
 -- the exponent of a base unit, 0 if it isn't mentioned
 abbrev pub exponent_of : List BasePart → List ℕ → ℤ
-exponent_of parts name = option_map_or (λ (p : BasePart). signed p.exponent.minus (pos p.exponent.number.digits)) (find (λ (p : BasePart). bytes_eq p.name.text name) parts) (pos 0)
+exponent_of parts name = option_map_or (λ (p : BasePart). signed p.exponent.minus (pos (min p.exponent.number.digits greatest_exponent))) (find (λ (p : BasePart). bytes_eq p.name.text name) parts) (pos 0)
 
 -- each base is one of the eight, and none is mentioned twice
 abbrev pub are_bases : List (List ℕ) → List BasePart → Bool

@@ -1,13 +1,12 @@
 //! The exponents of the base units in brackets.
 
-ghost use Rattle.std.specs.Prelude.{◌≡◌, ◌&&◌, not, pos, List, [], bytes_eq, find, option_copied, IfOk};
+ghost use Rattle.std.specs.Prelude.{◌≡◌, ◌&&◌, not, pos, List, [], bytes_eq, find, min, option_copied};
 ghost use Rattle.std.specs.List.{list_any};
 ghost use Rattle.dsl_tree.specs.declared.units.BasePart.{BasePart as Part};
-ghost use Rattle.type_heads.specs.Units.{are_bases, exponent_of, exponents_of, is_base_unit, signed};
+ghost use Rattle.type_heads.specs.Units.{are_bases, exponent_of, exponents_of, greatest_exponent, is_base_unit, signed};
 ghost use Rattle.type_heads.specs.Exponents.{exponents_in};
 
 use dsl_tree::{BasePart, Signed};
-use std::alloc::AllocError;
 use units_si::Exponents;
 
 /// Whether it is one of the eight base units.
@@ -17,16 +16,15 @@ fn is_base(name: &str) -> bool
     matches!(name, "kg" | "m" | "s" | "A" | "K" | "mol" | "cd" | "rad")
 }
 
-/// An exponent with its sign. One that an `i8` doesn't hold counts as out of memory; those of a source are at most 9.
-fn small(exponent: Signed) -> Result<i8, AllocError>
-    ensures { IfOk result (λ n. n ≡ signed exponent.minus (pos exponent.number.digits)) }
+/// The greatest exponent in brackets: the grammar has no greater one.
+const GREATEST_EXPONENT: u64 = 9;
+
+/// An exponent with its sign.
+fn small(exponent: Signed) -> i8
+    ensures { result ≡ signed exponent.minus (pos (min exponent.number.digits greatest_exponent)) }
 {
-    let size = exponent.number.digits;
-    if size > 127 {
-        return Err(AllocError);
-    }
-    let size = size as i8;
-    Ok(if exponent.minus { -size } else { size })
+    let size = exponent.number.digits.min(GREATEST_EXPONENT) as i8;
+    if exponent.minus { -size } else { size }
 }
 
 /// The first part of that name.
@@ -37,12 +35,12 @@ fn part_of<'a>(bases: &'a [BasePart], name: &str) -> Option<&'a BasePart>
 }
 
 /// The exponent of a base unit, 0 if it isn't mentioned.
-fn exponent(bases: &[BasePart], name: &str) -> Result<i8, AllocError>
-    ensures { IfOk result (λ n. n ≡ exponent_of bases.now name.now) }
+fn exponent(bases: &[BasePart], name: &str) -> i8
+    ensures { result ≡ exponent_of bases.now name.now }
 {
     match part_of(bases, name) {
         Some(part) => small(part.exponent),
-        None => Ok(0),
+        None => 0,
     }
 }
 
@@ -74,28 +72,28 @@ fn have_no_fault(bases: &[BasePart]) -> bool
     true
 }
 
-fn all_exponents(bases: &[BasePart]) -> Result<Exponents, AllocError>
-    ensures { IfOk result (λ e. e ≡ exponents_in bases.now) }
+fn all_exponents(bases: &[BasePart]) -> Exponents
+    ensures { result ≡ exponents_in bases.now }
 {
-    Ok(Exponents {
-        kg: exponent(bases, "kg")?,
-        m: exponent(bases, "m")?,
-        s: exponent(bases, "s")?,
-        a: exponent(bases, "A")?,
-        k: exponent(bases, "K")?,
-        mol: exponent(bases, "mol")?,
-        cd: exponent(bases, "cd")?,
-        rad: exponent(bases, "rad")?,
-    })
+    Exponents {
+        kg: exponent(bases, "kg"),
+        m: exponent(bases, "m"),
+        s: exponent(bases, "s"),
+        a: exponent(bases, "A"),
+        k: exponent(bases, "K"),
+        mol: exponent(bases, "mol"),
+        cd: exponent(bases, "cd"),
+        rad: exponent(bases, "rad"),
+    }
 }
 
 /// The exponents of all eight base units. There are none if the brackets have a fault.
-pub fn exponents(bases: &[BasePart]) -> Result<Option<Exponents>, AllocError>
-    ensures { IfOk result (λ e. e ≡ exponents_of bases.now) }
+pub fn exponents(bases: &[BasePart]) -> Option<Exponents>
+    ensures { result ≡ exponents_of bases.now }
 {
     if have_no_fault(bases) {
-        Ok(Some(all_exponents(bases)?))
+        Some(all_exponents(bases))
     } else {
-        Ok(None)
+        None
     }
 }

@@ -1,6 +1,6 @@
 //! The numbers of factors and offsets.
 
-ghost use Rattle.std.specs.Prelude.{◌≡◌, ◌≤◌, pos, IfOk};
+ghost use Rattle.std.specs.Prelude.{◌≡◌, ◌≤◌, pos};
 ghost use Rattle.std.specs.Option.{option_map_or};
 ghost use Rattle.osc_base.specs.LowestTerms.{gcd as divisor};
 ghost use Rattle.osc_base.specs.Number.{whole};
@@ -10,7 +10,6 @@ ghost use Rattle.type_heads.specs.Units.{signed, signed_number};
 
 use dsl_tree::Signed;
 use osc_base::Fraction;
-use std::alloc::AllocError;
 
 /// The greatest common divisor.
 #[tactic(auto, using(crate::proofs::Divisors::gcd_step, crate::proofs::Divisors::gcd_end))]
@@ -49,34 +48,34 @@ fn decimal(minus: bool, digits: u64, places: u8) -> Fraction
     }
 }
 
-/// The number that is written. One with more than 18 places counts as out of memory; those of a source have at
-/// most 18.
-fn written(number: Signed) -> Result<Fraction, AllocError>
-    ensures { IfOk result (λ f. value f ≡ signed_number number) }
+/// The most places behind the point: the grammar has no more.
+const MOST_PLACES: u8 = 18;
+
+/// The number that is written.
+fn written(number: Signed) -> Fraction
+    ensures { value result ≡ signed_number number }
 {
     let digits = number.number;
-    if digits.places > 18 {
-        return Err(AllocError);
-    }
-    Ok(decimal(number.minus, digits.digits, digits.places))
+    let places = digits.places.min(MOST_PLACES);
+    decimal(number.minus, digits.digits, places)
 }
 
 /// The factor of a unit, 1 if none is written.
-pub fn factor(number: Option<Signed>) -> Result<Fraction, AllocError>
-    ensures { IfOk result (λ f. value f ≡ option_map_or signed_number number (whole (pos 1))) }
+pub fn factor(number: Option<Signed>) -> Fraction
+    ensures { value result ≡ option_map_or signed_number number (whole (pos 1)) }
 {
     match number {
         Some(number) => written(number),
-        None => Ok(Fraction { num: 1, den: 1 }),
+        None => Fraction { num: 1, den: 1 },
     }
 }
 
 /// The offset of a unit, 0 if none is written.
-pub fn offset(number: Option<Signed>) -> Result<Fraction, AllocError>
-    ensures { IfOk result (λ f. value f ≡ option_map_or signed_number number (whole (pos 0))) }
+pub fn offset(number: Option<Signed>) -> Fraction
+    ensures { value result ≡ option_map_or signed_number number (whole (pos 0)) }
 {
     match number {
         Some(number) => written(number),
-        None => Ok(Fraction { num: 0, den: 1 }),
+        None => Fraction { num: 0, den: 1 },
     }
 }

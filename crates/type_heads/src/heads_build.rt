@@ -28,7 +28,7 @@ fn own_form(
 {
     Ok(match own {
         OwnType::Basic(basic) => basic.form(),
-        OwnType::Physical(decl) => OwnForm::Physical(exponents(decl.bases.as_slice())?),
+        OwnType::Physical(decl) => OwnForm::Physical(exponents(decl.bases.as_slice())),
         OwnType::Enum(decl) => OwnForm::Enum(Numbering::numbered(
             alloc,
             decl.items.as_slice(),

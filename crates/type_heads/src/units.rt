@@ -17,9 +17,9 @@ use std::alloc::{AllocError, Global};
 fn unit_entry(alloc: Global, decl: &UnitDecl) -> Result<UnitEntry, AllocError>
     ensures { IfOk result (λ unit. unit ≡ unit_of decl.now) }
 {
-    let exponents = exponents(decl.bases.as_slice())?;
-    let factor = factor(decl.factor)?;
-    let offset = offset(decl.offset)?;
+    let exponents = exponents(decl.bases.as_slice());
+    let factor = factor(decl.factor);
+    let offset = offset(decl.offset);
     let name = Text::copy(alloc, decl.name.text.as_str())?;
     Ok(UnitEntry::new(name, exponents, factor, offset))
 }

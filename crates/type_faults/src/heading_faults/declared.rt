@@ -30,7 +30,7 @@ fn with_unit_declaration(
 {
     let bases = unit.bases.as_slice();
     let first = with_brackets(alloc, first, bases)?;
-    let own = exponents(bases)?;
+    let own = exponents(bases);
     Ok(with_unit(first, heads, unit, own))
 }
 

@@ -2,7 +2,7 @@ use Rattle.std.proofs.Common.{◌≡◌, ◌∙◌, List, [], ◌∷◌, length,
 use Rattle.std.proofs.lemmas.Result.{IfOk-weaker}
 use Rattle.clap.specs.Walk.{Text}
 use Rattle.command_words.specs.Words.{Help, request}
-use Rattle.command_words.proofs.FirstWords.{explain_word, generate_word, help_word, no_word, unknown_word, version_word}
+use Rattle.command_words.proofs.FirstWords.{check_word, explain_word, generate_word, help_word, no_word, unknown_word, version_word}
 use Rattle.command_words.proofs.requests.read_words.Goals as goal
 
 none_left : {X : Type 0} (xs : List X) → length xs ≡ 0 → xs ≡ []
@@ -26,6 +26,12 @@ returns-in-generate-clause-request c =
     let is = generate_word c.as_str.result.now (map string_bytes c.in-Some.rest.now) c.in-generate.is in
     IfOk-weaker c.read_generate.result _ _ (λ r h. h ∙ sym is ∙ ap request words) c.read_generate.ensures.request
 
+pub returns-in-check-clause-request : goal.returns-in-check-clause-request
+returns-in-check-clause-request c =
+    let words = words_are c.args.words.now c.in-Some.rest.now c.in-Some.first.now c.as_str.result.now c.in-Some.ensures.cases.0 c.as_str.ensures.value in
+    let is = check_word c.as_str.result.now (map string_bytes c.in-Some.rest.now) c.in-check.is in
+    IfOk-weaker c.read_check.result _ _ (λ r h. h ∙ sym is ∙ ap request words) c.read_check.ensures.request
+
 pub returns-in-explain-clause-request : goal.returns-in-explain-clause-request
 returns-in-explain-clause-request c =
     let words = words_are c.args.words.now c.in-Some.rest.now c.in-Some.first.now c.as_str.result.now c.in-Some.ensures.cases.0 c.as_str.ensures.value in
@@ -35,7 +41,7 @@ pub returns-in_default-as_str-clause-request : goal.returns-in_default-as_str-cl
 returns-in_default-as_str-clause-request c =
     let words = words_are c.args.words.now c.in-Some.rest.now c.in-Some.first.now c.as_str.result.now c.in-Some.ensures.cases.0 c.as_str.ensures.value in
     let other = c.in_default-as_str in
-    sym (unknown_word c.as_str.result.now (map string_bytes c.in-Some.rest.now) other.not-help other.not-text other.not-text-2 other.not-text-3 other.not-text-4 other.not-generate other.not-explain)
+    sym (unknown_word c.as_str.result.now (map string_bytes c.in-Some.rest.now) other.not-help other.not-text other.not-text-2 other.not-text-3 other.not-text-4 other.not-generate other.not-check other.not-explain)
     ∙ ap request words
 
 pub returns-in-text-clause-request : goal.returns-in-text-clause-request

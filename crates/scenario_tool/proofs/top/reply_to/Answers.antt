@@ -1,6 +1,6 @@
 use Rattle.std.proofs.Common.{◌∙◌, sym, ap}
 use Rattle.fault_texts.specs.Explained.{explanation, topic_list}
-use Rattle.command_words.specs.Seen.{asked_by, seen}
+use Rattle.command_words.specs.Seen.{asked_by, checked_by, seen}
 use Rattle.command_words.specs.Words.{Wanted}
 use Rattle.scenario_tool.specs.Replies.{done}
 use Rattle.scenario_tool.proofs.CallEnds.{help_reply, same_reply, words_reply}
@@ -21,6 +21,13 @@ returns-in_ok-explanation-in-Explain-clause-reply g c = help_reply (g.H.Shelf.fi
 pub returns-in-Generate-clause-reply : goal.returns-in-Generate-clause-reply
 returns-in-Generate-clause-reply g c = same_reply (g.H.Shelf.files c.args.shelf.now) (Wanted.Generate (asked_by c.in-Generate.asked)) _ _ _ c.reply_to_generate.result
     (sym (ap seen c.in-Generate.is) ∙ c.in_ok-text.ensures.request) c.reply_to_generate.ensures.reply
+
+pub reply_to_check-requires : goal.reply_to_check-requires
+reply_to_check-requires g c = record { ranges = rw c.in-Check.is at c.in_ok-text.ensures.ranges }
+
+pub returns-in-Check-clause-reply : goal.returns-in-Check-clause-reply
+returns-in-Check-clause-reply g c = same_reply (g.H.Shelf.files c.args.shelf.now) (Wanted.Check (checked_by c.in-Check.asked)) _ _ _ c.reply_to_check.result
+    (sym (ap seen c.in-Check.is) ∙ c.in_ok-text.ensures.request) c.reply_to_check.ensures.reply
 
 pub returns-in-Refused-clause-reply : goal.returns-in-Refused-clause-reply
 returns-in-Refused-clause-reply g c = words_reply (g.H.Shelf.files c.args.shelf.now) _ _ c.words_refused.result

@@ -16,4 +16,4 @@ returns c =
     ∷ row c.args.unit.now.name.place FaultCode.UnitClash (option_map_or (λ t. differ x (form c.args.heads.now t)) (named c.args.heads.now None c.args.unit.now.of.text) false) ∷ [] in
     two (bracket_rows [] c.args.unit.now.bases) (later (exponents_of c.args.unit.now.bases)) c.args.first c.in_ok-first.first c.with_unit.result
     (c.in_ok-first.ensures ∙ ap (λ bs. first_from c.args.first (bracket_rows [] bs)) c.as_slice-bases.ensures)
-    (c.with_unit.ensures ∙ ap (λ x. first_from c.in_ok-first.first (later x)) (c.in_ok-own.ensures ∙ ap exponents_of c.as_slice-bases.ensures))
+    (c.with_unit.ensures ∙ ap (λ x. first_from c.in_ok-first.first (later x)) (c.exponents-own.ensures ∙ ap exponents_of c.as_slice-bases.ensures))

@@ -1,0 +1,3 @@
+pub mod ItemRows
+pub mod RowSteps
+pub mod SceneParts

@@ -1,0 +1,13 @@
+pub mod Booleans
+pub mod SourceNumbers
+pub mod SourceTokens
+pub mod TreeTests
+pub mod LeafCounts
+pub mod TreeCounts
+pub mod FormedTrees
+pub mod LoadedFiles
+pub mod LibraryTokens
+pub mod LibraryTree
+pub mod LibraryThere
+pub mod LibraryLimits
+pub mod LoadedPrograms

@@ -1,0 +1,7 @@
+use Rattle.composition.specs.SeenParts.{seen_occurrence}
+use Rattle.scene_slots.specs.SeenSlots.{scene_of}
+use Rattle.scene_rules.proofs.Rooms.{occurrence_room}
+use Rattle.scene_rules.proofs.constraints.hard_rule.Goals as goal
+
+pub typed_rule-requires : goal.typed_rule-requires
+typed_rule-requires c = occurrence_room (scene_of c.args.slots.now) (seen_occurrence c.args.occurrence.now) c.args.occurrence.now.mark.strength c.requires.sound c.requires.values

@@ -1,0 +1,8 @@
+use Rattle.std.proofs.Common.{◌≡◌, map, take}
+use Rattle.box_eval.specs.FlatRules.{flat_rule}
+use Rattle.field_flatten.specs.Rules.{span_rule}
+use Rattle.scene_slots.specs.SeenSlots.{layout_of}
+use Rattle.scene_rules.proofs.phases.span_rules.Given as goal
+
+abbrev pub invariant-members : goal.invariant-members
+invariant-members l = map flat_rule l.row.items ≡ map (λ m. span_rule (layout_of l.slots) m l.whole) (take l.member-index l.members)

@@ -1,0 +1,4 @@
+pub mod Limits
+pub mod Relations
+pub mod Rooms
+pub mod Sides

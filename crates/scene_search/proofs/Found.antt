@@ -1,0 +1,49 @@
+-- What a search of a flat form says of its scene.
+use Rattle.std.proofs.Common.{◌≡◌, sym, subst, ℕ, List, ℤ}
+use Rattle.box_eval.specs.declared.flat.Flat.{Flat}
+use Rattle.box_eval.specs.declared.record.Record.{Record}
+use Rattle.box_eval.specs.Box.{IsPointOf}
+use Rattle.box_eval.proofs.Empty.{refutation_empty}
+use Rattle.composition.specs.declared.run.Run.{Run}
+use Rattle.composition.specs.Scenes.{Scene}
+use Rattle.composition.specs.Claims.{IsInstance}
+use Rattle.composition.specs.TimedRuns.{timed}
+use Rattle.field_flatten.specs.Ends.{bounds}
+use Rattle.field_flatten.specs.Exactness.{IsExpanded, IsFlatOf}
+use Rattle.field_flatten.specs.Points.{run_of}
+use Rattle.field_flatten.proofs.Exact.{exact_flat}
+use Rattle.scene_search.specs.Findings.{IsReachedRun, IsSceneRefutation, IsSpentRecord}
+use Rattle.scene_search.specs.Outcomes.{IsReachedPoint, IsSeedRefutation, IsSeedSpent}
+
+-- a point of the flat form is one of the scene's box
+pub point_inside : (scene : Scene) (flat : Flat) (values : List ℤ) → IsFlatOf scene flat → IsPointOf flat.bounds.pairs values → IsPointOf (bounds scene) values
+point_inside scene flat values same inside = subst (λ b. IsPointOf b values) same.same_ends inside
+
+-- the run of a point that is reached is an instance
+pub reached_run : (scene : Scene) (flat : Flat) (seed cuts : ℕ) (values : List ℤ) (run : Run) → IsExpanded scene → IsFlatOf scene flat
+    → IsReachedPoint seed cuts flat values → timed scene.setting.tick run ≡ run_of scene values → IsReachedRun scene seed cuts run
+reached_run scene flat seed cuts values run expanded same point gives = record {
+  flat = flat;
+  flat_of = same;
+  values = values;
+  claim = point.claim;
+  tree = point.tree;
+  reached = point.reached;
+  gives = gives;
+  instance = subst (IsInstance scene) (sym gives) ((exact_flat scene flat expanded same).instance_of values point.of_box point.meets);
+}
+
+-- a scene whose flat form is refuted has no instance
+pub scene_refutation : (scene : Scene) (flat : Flat) (seed : ℕ) (claim : Record) → IsExpanded scene → IsFlatOf scene flat → IsSeedRefutation seed flat claim → IsSceneRefutation scene seed claim
+scene_refutation scene flat seed claim expanded same refuted =
+    record {
+      flat = flat;
+      flat_of = same;
+      tree = refuted.tree;
+      refutation = refuted.refutation;
+      none = (exact_flat scene flat expanded same).none (refutation_empty flat claim (record { tree = refuted.tree; accepted = refuted.refutation.guided.accepted; closed = refuted.refutation.closed }));
+    }
+
+-- a spent record of the flat form is one of the scene
+pub spent_record : (scene : Scene) (flat : Flat) (seed cuts : ℕ) (claim : Record) → IsFlatOf scene flat → IsSeedSpent seed cuts flat claim → IsSpentRecord scene seed cuts claim
+spent_record scene flat seed cuts claim same spent = record { flat = flat; flat_of = same; tree = spent.tree; box = spent.box; spent = spent.spent }
