@@ -44,22 +44,19 @@ pub(crate) const LEFT_OUT: Texts = texts! {
 };
 
 pub(crate) const NOT_YET: Texts = texts! {
-    title: "this isn't built yet",
+    title: "not given any more",
     meaning: [
-        "The source has no fault that `osc` looks for, but `osc` can't go on with the",
-        "scenario today. It runs scenarios whose members go in pairs: a field of type",
-        "`int`, then a `keep` of its range. Such a scenario has no owner, it inherits",
-        "from nothing, and no extension adds members to it. The fault stands at the",
-        "scenario's name and comes last of all. This code goes when everything is",
-        "built.",
+        "Earlier versions gave this code to scenarios that they couldn't run yet. This",
+        "version gives it to none. The example is such a scenario, and `generate` writes",
+        "a run of it.",
     ],
     example: [
         "scenario top:",
-        "    y: float",
+        "    x: int = 3",
     ],
-    answer: "fault 298 main.osc:1:10",
+    answer: "{\"choices\":[],\"end\":0,\"form\":1,\"phases\":[],\"traces\":[],\"values\":[[\"x\",3]]}",
     mending: [
-        "Use the form of docs/LANGUAGE.md, \"What is built today\", or wait for a later",
-        "version.",
+        "Nothing is to be mended. If another program wrote this code, use this version",
+        "in its place.",
     ],
 };

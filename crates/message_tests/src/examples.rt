@@ -5,8 +5,8 @@ use std::alloc::{AllocError, Global};
 use std::process::Abort;
 use std::test::Fail;
 
-/// How many codes there are.
-const CODES: usize = 29;
+/// How many codes a source can have.
+const CODES: usize = 28;
 
 const GENERATE: [&str; 3] = ["generate", "main.osc", "top"];
 
@@ -22,12 +22,14 @@ fn topics(alloc: Global) -> Result<Vec<Topic>, AllocError> {
     Ok(topics)
 }
 
-/// The codes of faults.
+/// The codes of faults. `NotYet` is left out: no source has it any more, so its example has a run.
 fn codes(alloc: Global) -> Result<Vec<FaultCode>, AllocError> {
     let mut codes = Vec::new(alloc);
     for topic in topics(alloc)?.as_slice() {
         if let Topic::Fault(code) = topic {
-            codes.push(*code)?;
+            if *code != FaultCode::NotYet {
+                codes.push(*code)?;
+            }
         }
     }
     Ok(codes)
@@ -64,6 +66,18 @@ fn each_example_gives_its_fault(rt: HostRuntime) -> Result<(), Fail> {
             code.number()
         );
     }
+    Ok(())
+}
+
+/// The example of the code that no source has any more.
+#[test]
+fn former_example_has_a_run(rt: HostRuntime) -> Result<(), Fail> {
+    let alloc = rt.alloc();
+    let said = fault_text(FaultCode::NotYet);
+    let called = call(alloc, &GENERATE, &[("main.osc", said.example.as_bytes())])?;
+    let want = format!(in alloc; "{}\n", said.answer)?;
+    assert_eq!(rt; called.status, 0);
+    assert_eq!(rt; called.written.as_str(), want.as_str());
     Ok(())
 }
 
