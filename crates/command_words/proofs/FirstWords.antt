@@ -3,8 +3,11 @@ use Rattle.std.proofs.Common.{◌≡◌, ◌⊎◌, refl, true, false, Bool, inl
 use Rattle.std.specs.Str.{bytes_eq}
 use Rattle.std.proofs.lemmas.Slice.Eq.{bytes_eq-Decides}
 use Rattle.clap.specs.Walk.{Text}
+use Rattle.command_words.specs.Taken.{form_of}
 use Rattle.command_words.specs.Texts.{general_help, version_text}
-use Rattle.command_words.specs.Words.{Help, Refused, check_wanted, explain_wanted, generate_wanted, request}
+use Rattle.command_words.specs.Words.{Help, Refused, explain_wanted, request, wanted}
+use Rattle.command_words.specs.declared.commands.CommandName.{CommandName}
+use Rattle.command_words.specs.declared.commands.CommandName.TheVariants as command
 
 pub other_word : (a b : Text) → (a ≡ b → ⊥) → bytes_eq a b ≡ false
 other_word a b differ = go (bytes_eq a b) refl
@@ -28,20 +31,29 @@ unfolding request
 version_word first rest (inl e) = rw e refl
 version_word first rest (inr e) = rw e refl
 
-pub generate_word : (first : Text) (rest : List Text) → first ≡ codes "generate" → request (first ∷ rest) ≡ generate_wanted rest
-unfolding request
-generate_word first rest e = rw e refl
+-- the word that picks a command
+abbrev pub word_of : CommandName → Text
+word_of command.Generate = codes "generate"
+word_of command.Check = codes "check"
+word_of command.Verify = codes "verify"
+word_of command.Flat = codes "flat"
+word_of command.Make = codes "make"
 
-pub check_word : (first : Text) (rest : List Text) → first ≡ codes "check" → request (first ∷ rest) ≡ check_wanted rest
+pub command_word : (name : CommandName) (first : Text) (rest : List Text) → first ≡ word_of name → request (first ∷ rest) ≡ wanted (form_of name) rest
 unfolding request
-check_word first rest e = rw e refl
+command_word command.Generate first rest e = rw e refl
+command_word command.Check first rest e = rw e refl
+command_word command.Verify first rest e = rw e refl
+command_word command.Flat first rest e = rw e refl
+command_word command.Make first rest e = rw e refl
 
 pub explain_word : (first : Text) (rest : List Text) → first ≡ codes "explain" → request (first ∷ rest) ≡ explain_wanted rest
 unfolding request
 explain_word first rest e = rw e refl
 
 pub unknown_word : (first : Text) (rest : List Text) → (first ≡ codes "help" → ⊥) → (first ≡ codes "--help" → ⊥) → (first ≡ codes "-h" → ⊥)
-    → (first ≡ codes "--version" → ⊥) → (first ≡ codes "-V" → ⊥) → (first ≡ codes "generate" → ⊥) → (first ≡ codes "check" → ⊥) → (first ≡ codes "explain" → ⊥) → request (first ∷ rest) ≡ Refused
+    → (first ≡ codes "--version" → ⊥) → (first ≡ codes "-V" → ⊥) → (first ≡ codes "generate" → ⊥) → (first ≡ codes "check" → ⊥) → (first ≡ codes "verify" → ⊥)
+    → (first ≡ codes "flat" → ⊥) → (first ≡ codes "make" → ⊥) → (first ≡ codes "explain" → ⊥) → request (first ∷ rest) ≡ Refused
 unfolding request
-unknown_word first rest a b c d e f g h =
-    rw (other_word _ _ a, other_word _ _ b, other_word _ _ c, other_word _ _ d, other_word _ _ e, other_word _ _ f, other_word _ _ g, other_word _ _ h) refl
+unknown_word first rest a b c d e f g h k l m =
+    rw (other_word _ _ a, other_word _ _ b, other_word _ _ c, other_word _ _ d, other_word _ _ e, other_word _ _ f, other_word _ _ g, other_word _ _ h, other_word _ _ k, other_word _ _ l, other_word _ _ m) refl

@@ -2,8 +2,7 @@ mod OneFault
 mod FaultAnswers
 pub mod ValueReads
 mod Matched
-mod GenerateMatches
-mod CheckMatches
+mod Forms
 mod FirstWords
 mod TopicWords
 mod Worked

@@ -1,4 +1,4 @@
--- An option with a default holds a value that passed its parser, for any command.
+-- An option with a default, and a word that must be given, hold a value that passed its parser, for any command.
 use Rattle.std.proofs.Common.{◌≡◌, ◌⊎◌, ◌∙◌, ◌<◌, ◌≤◌, ◌&&◌, ◌||◌, not, ap, ℕ, Bool, true, false, cond, zero, suc, List, [], ◌∷◌, map, length, Option, Some, None, refl, sym, subst, inl, inr, arith, codes}
 use Rattle.std.specs.List.{All, list_all, list_any, slice_index_or}
 use Rattle.std.specs.Str.{bytes_eq}
@@ -7,12 +7,12 @@ use Rattle.std.specs.Borrow.{Bor}
 use Rattle.std.proofs.lemmas.Slice.Eq.{bytes_eq-Decides}
 use Rattle.std.proofs.lemmas.List.Elements.{All-get_or}
 use Rattle.clap.specs.Facts.{args_of, groups_of, Entry, EntryPasses, ValuesPass, PassesArg, least_values, parser_of, parser_of_value, unwrap_or_range}
-use Rattle.clap.specs.Built.{IsParsedFrom, SameRules}
+use Rattle.clap.specs.Built.{IsParsedFrom, IsPlainArg, SameRules}
 use Rattle.clap.specs.Matches.{found_of, matched_of, one_text}
-use Rattle.clap.specs.Simple.{App, app_of, has_simple_rules, is_ready, is_ready_leaf, shape_of}
+use Rattle.clap.specs.Simple.{App, IsSimpleArg, app_of, has_simple_rules, is_ready, is_ready_leaf, shape_of}
 use Rattle.clap.specs.Texts.{items_of}
 use Rattle.clap.specs.Values.{Accepts, read_as, reading_of}
-use Rattle.clap.specs.Walk.{Rule, Text, arg_by_id, is_empty, rule_of, texts}
+use Rattle.clap.specs.Walk.{Rule, Text, arg_by_id, is_empty, is_free_arg, rule_of, texts}
 use Rattle.clap.specs.declared.builder.action.ArgAction.TheVariants.{Count, Set}
 use Rattle.clap.specs.declared.builder.arg.Arg.{Arg}
 use Rattle.clap.specs.declared.builder.command.Command.{Command}
@@ -23,9 +23,10 @@ use Rattle.clap.specs.declared.parser.matches.ArgMatches.{ArgMatches}
 use Rattle.clap.specs.declared.parser.matches.Found.{Found}
 use Rattle.clap.specs.declared.parser.matches.MatchedArg.{MatchedArg}
 use Rattle.clap.proofs.CallerLemmas.{default_present, entry_by_id, same_rules_by_id}
-use Rattle.clap.proofs.SimpleLemmas.{is_false, plain_fields, ready_simple, simple_groups}
+use Rattle.clap.proofs.CallerReads.{required_reads}
+use Rattle.clap.proofs.SimpleLemmas.{is_false, is_nil, plain_fields, ready_simple, simple_groups}
 use Rattle.clap.proofs.WalkLemmas.{both}
-use Rattle.command_words.specs.Match.{number_rule}
+use Rattle.command_words.specs.Match.{number_rule, number_word_rule}
 use Rattle.command_words.specs.Parse.{HoldsNumber}
 
 -- ---- the entry of an argument
@@ -225,6 +226,15 @@ some_text : (xs : List (Bor Text)) → 0 < length (texts xs) → 0 < length xs
 some_text [] h = h
 some_text (x ∷ xs) h = omega arith
 
+-- the place of a rule's argument, which has a name of its own
+place_of_rule : (c : Command) (command : App) (r : Rule) → app_of c ≡ command → is_named_once command r.id ≡ true → arg_by_id command.top.rules r.id ≡ Some r
+    → IsAt (λ x. bytes_eq x.id r.id) r (args_of c)
+place_of_rule c command r same once found =
+    let test = λ (x : Rule). bytes_eq x.id r.id in
+    only_at test r (args_of c)
+    (subst (λ (x : App). find test x.top.rules ≡ Some r) (sym same) found)
+    (subst (λ (x : App). is_once test x.top.rules ≡ true) (sym same) (both (is_own_name r.id) _ once).1)
+
 -- if a parse takes the words, an argument with a default has a value that passed its parser
 pub default_found : (c : Command) (command : App) (m : ArgMatches) (r : Rule) (q : ValueParser) → app_of c ≡ command → IsParsedFrom c m
     → is_plain_command command ≡ true → is_named_once command r.id ≡ true → arg_by_id command.top.rules r.id ≡ Some r → HasDefault r q
@@ -236,10 +246,7 @@ default_found c command m r q same p plain once found has =
     let rules : has_simple_rules (shape_of c) ≡ true = (both (has_simple_rules (shape_of c)) _ ready).0 in
     let fields = plain_fields c (both (shape_of c).is_plain _ rules).0 in
     let in_no_group = simple_groups c (both (shape_of c).is_plain _ rules).1 in
-    let test = λ (x : Rule). bytes_eq x.id r.id in
-    let at = only_at test r (args_of c)
-    (subst (λ (x : App). find test x.top.rules ≡ Some r) (sym same) found)
-    (subst (λ (x : App). is_once test x.top.rules ≡ true) (sym same) (both (is_own_name r.id) _ once).1) in
+    let at = place_of_rule c command r same once found in
     let old = slice_index_or (args_of c) at.place at.arg in
     let id : old.id.now ≡ r.id = ap (λ (x : Rule). x.id) at.is_rule in
     let simple = (ready_simple c ready (both (is_ready (shape_of c)) _ tests).1).args at.place at.arg at.is_within in
@@ -269,3 +276,68 @@ pub number_found : (c : Command) (command : App) (m : ArgMatches) (name : Text) 
 number_found c command m name least most default same p plain once found =
     default_found c command m (number_rule name least most default) (Unsigned least most) same p plain once found
     (record { set = refl; one_value = refl; default = omega arith; parser = refl })
+
+-- ---- a word that must be given
+
+-- no argument has a rule on another argument, and subcommands lift no requirement
+abbrev pub is_free_command : App → Bool
+is_free_command command = not command.top.subcommand_negates_reqs && list_all (λ r. r.is_free) command.top.rules
+
+each_free : (xs : List Arg) → list_all (λ r. r.is_free) (map rule_of xs) ≡ true → All (λ a. is_free_arg a ≡ true) xs
+each_free [] e k d lt = absurd (omega arith)
+each_free (x ∷ xs) e zero d lt = (both (is_free_arg x) _ e).0
+each_free (x ∷ xs) e (suc k) d lt = each_free xs (both (is_free_arg x) _ e).1 k d (omega arith)
+
+plain_arg : (a : Arg) → is_free_arg a ≡ true → IsSimpleArg a → a.groups.items ≡ [] → IsPlainArg a
+plain_arg a free simple groups =
+    let exclusive = both (not a.exclusive) _ free in
+    (is_false _ exclusive.0, is_nil _ (both (is_empty a.conflicts.items) _ exclusive.1).0, simple.overrides, groups)
+
+-- each use of the argument gives one value, which this parser takes, and it must be given
+pub record IsRequired (r : Rule) (q : ValueParser) : Type 0 where
+  pub set : r.action ≡ Some Set
+  pub one_value : r.range ≡ None
+  pub required : r.required ≡ true
+  pub parser : r.parser ≡ Some q
+
+-- if a parse takes the words, an argument that must be given has a value that passed its parser
+pub required_found : (c : Command) (command : App) (m : ArgMatches) (r : Rule) (q : ValueParser) → app_of c ≡ command → IsParsedFrom c m
+    → is_plain_command command ≡ true → is_free_command command ≡ true → is_named_once command r.id ≡ true → arg_by_id command.top.rules r.id ≡ Some r → IsRequired r q
+    → (t : Text) × (one_text (found_of m) r.id ≡ Some (read_as (reading_of q) t)) × Accepts r.ignore_case q t
+required_found c command m r q same p plain free once found has =
+    let own = (both (is_own_name r.id) _ once).0 in
+    let tests : is_plain_command (app_of c) ≡ true = subst (λ (x : App). is_plain_command x ≡ true) (sym same) plain in
+    let frees : is_free_command (app_of c) ≡ true = subst (λ (x : App). is_free_command x ≡ true) (sym same) free in
+    let ready = (both (is_ready (shape_of c)) _ tests).0 in
+    let rules : has_simple_rules (shape_of c) ≡ true = (both (has_simple_rules (shape_of c)) _ ready).0 in
+    let fields = plain_fields c (both (shape_of c).is_plain _ rules).0 in
+    let in_no_group = simple_groups c (both (shape_of c).is_plain _ rules).1 in
+    let simple = (ready_simple c ready (both (is_ready (shape_of c)) _ tests).1).args in
+    let negates = both (not (shape_of c).subcommand_negates_reqs) _ frees in
+    let all_free = each_free (args_of c) negates.1 in
+    let at = place_of_rule c command r same once found in
+    let old = slice_index_or (args_of c) at.place at.arg in
+    let id : old.id.now ≡ r.id = ap (λ (x : Rule). x.id) at.is_rule in
+    let one : old.num_vals ≡ None = ap (λ (x : Rule). x.range) at.is_rule ∙ has.one_value in
+    let least : 1 ≤ least_values old = subst (λ (o : Option ValueRange). 1 ≤ (unwrap_or_range o).start_inclusive) (sym one) (omega arith) in
+    let got = required_reads c m p
+    (λ k d lt. plain_arg (slice_index_or (args_of c) k d) (all_free k d lt) (simple k d lt) (in_no_group k d lt), fields.groups)
+    fields.globals (is_false _ negates.0) at.place at.arg at.is_within
+    (ap (λ (y : Rule). y.required) at.is_rule ∙ has.required) (ap (λ (y : Rule). y.action) at.is_rule ∙ has.set)
+    (simple at.place at.arg at.is_within).delimiter least
+    (λ j e lt h. at.is_only j e lt (subst (λ (w : Text). bytes_eq (slice_index_or (args_of c) j e).id.now w ≡ true) id h))
+    (λ e. not_empty_name r.id own (sym id ∙ e))
+    (λ auto. not_added_name r.id own (subst (λ (w : Text). (w ≡ codes "help") ⊎ (w ≡ codes "version")) id auto))
+    q (ap (λ (y : Rule). y.parser) at.is_rule ∙ has.parser) in (
+      got.0,
+      subst (λ (w : Text). one_text (found_of m) w ≡ Some (read_as (reading_of q) got.0)) id got.1,
+      subst (λ (b : Bool). Accepts b q got.0) (ap (λ (y : Rule). y.ignore_case) at.is_rule) got.2,
+    )
+
+-- and so for a word that is a whole number
+pub number_word_found : (c : Command) (command : App) (m : ArgMatches) (name : Text) (least most : ℕ) → app_of c ≡ command → IsParsedFrom c m
+    → is_plain_command command ≡ true → is_free_command command ≡ true → is_named_once command name ≡ true
+    → arg_by_id command.top.rules name ≡ Some (number_word_rule name least most) → HoldsNumber (found_of m) name least most
+number_word_found c command m name least most same p plain free once found =
+    required_found c command m (number_word_rule name least most) (Unsigned least most) same p plain free once found
+    (record { set = refl; one_value = refl; required = refl; parser = refl })

@@ -7,8 +7,10 @@ use Rattle.fault_texts.specs.Explained.{explanation, topic_list}
 use Rattle.fault_texts.specs.declared.topics.Status.{Status}
 use Rattle.fault_texts.specs.declared.topics.Topic.{Topic}
 use Rattle.command_words.specs.Match.{number_in, text_in}
-use Rattle.command_words.specs.Texts.{general_help, generate_help, version_text}
-use Rattle.command_words.specs.Words.{Wanted, Help, Generate, Refused, explain_wanted, generate, generate_asked, generate_wanted, request, topic_wanted}
+use Rattle.command_words.specs.Shared.{Source}
+use Rattle.command_words.specs.Texts.{check_help, flat_help, general_help, generate_help, make_help, verify_help, version_text}
+use Rattle.command_words.specs.Words.{Wanted, Help, Generate, Check, Verify, Flat, Make, Refused, check, explain_wanted, flat, generate, make, request, topic_wanted, verify, wanted}
+use Rattle.command_words.specs.declared.requests.Setting.{Setting}
 
 -- a run of `top` of `a.osc`, with these numbers
 abbrev run : ℕ → ℕ → ℕ → ℕ → ℕ → Wanted
@@ -34,96 +36,167 @@ of_top words = request (codes "generate" ∷ codes "a.osc" ∷ codes "top" ∷ w
 
 -- options that aren't given have their defaults
 defaults : of_top [] ≡ run 100 3 1000 0 200000
-unfolding request generate_wanted generate_asked text_in number_in generate clap_on_literals
+unfolding request wanted text_in number_in generate clap_on_literals
 defaults = refl
 
 -- each option can be given, also before the other words and with `=`
 all_given : request (codes "generate" ∷ codes "--ticks=600" ∷ codes "a.osc" ∷ codes "--lanes" ∷ codes "8" ∷ codes "--road" ∷ codes "10000" ∷ codes "top" ∷ codes "--seed" ∷ codes "18446744073709551615" ∷ codes "--cuts" ∷ codes "1000000" ∷ []) ≡ run 600 8 10000 18446744073709551615 1000000
-unfolding request generate_wanted generate_asked text_in number_in generate clap_on_literals
+unfolding request wanted text_in number_in generate clap_on_literals
 all_given = refl
 
 -- zeros and a plus before a number are passed over
 zeros : of_top (codes "--ticks" ∷ codes "005" ∷ []) ≡ run 5 3 1000 0 200000
-unfolding request generate_wanted generate_asked text_in number_in generate clap_on_literals
+unfolding request wanted text_in number_in generate clap_on_literals
 zeros = refl
 
 plus : of_top (codes "--ticks" ∷ codes "+5" ∷ []) ≡ run 5 3 1000 0 200000
-unfolding request generate_wanted generate_asked text_in number_in generate clap_on_literals
+unfolding request wanted text_in number_in generate clap_on_literals
 plus = refl
 
 -- numbers outside their ranges
 no_cuts : of_top (codes "--cuts" ∷ codes "0" ∷ []) ≡ Refused
-unfolding request generate_wanted generate clap_on_literals
+unfolding request wanted generate clap_on_literals
 no_cuts = refl
 
 more_ticks : of_top (codes "--ticks" ∷ codes "601" ∷ []) ≡ Refused
-unfolding request generate_wanted generate clap_on_literals
+unfolding request wanted generate clap_on_literals
 more_ticks = refl
 
 more_lanes : of_top (codes "--lanes" ∷ codes "9" ∷ []) ≡ Refused
-unfolding request generate_wanted generate clap_on_literals
+unfolding request wanted generate clap_on_literals
 more_lanes = refl
 
 negative_seed : of_top (codes "--seed=-1" ∷ []) ≡ Refused
-unfolding request generate_wanted generate clap_on_literals
+unfolding request wanted generate clap_on_literals
 negative_seed = refl
 
 wide_seed : of_top (codes "--seed" ∷ codes "18446744073709551616" ∷ []) ≡ Refused
-unfolding request generate_wanted generate clap_on_literals
+unfolding request wanted generate clap_on_literals
 wide_seed = refl
 
 -- an option twice, without its number, cut short, and one that isn't known
 repeated : of_top (codes "--ticks" ∷ codes "5" ∷ codes "--ticks" ∷ codes "6" ∷ []) ≡ Refused
-unfolding request generate_wanted generate clap_on_literals
+unfolding request wanted generate clap_on_literals
 repeated = refl
 
 no_number : of_top (codes "--ticks" ∷ []) ≡ Refused
-unfolding request generate_wanted generate clap_on_literals
+unfolding request wanted generate clap_on_literals
 no_number = refl
 
 cut_short : of_top (codes "--tick" ∷ codes "5" ∷ []) ≡ Refused
-unfolding request generate_wanted generate clap_on_literals
+unfolding request wanted generate clap_on_literals
 cut_short = refl
 
 unknown_option : of_top (codes "--version" ∷ []) ≡ Refused
-unfolding request generate_wanted generate clap_on_literals
+unfolding request wanted generate clap_on_literals
 unknown_option = refl
 
 -- a word too few and one too many
 missing_word : request (codes "generate" ∷ codes "a.osc" ∷ []) ≡ Refused
-unfolding request generate_wanted generate clap_on_literals
+unfolding request wanted generate clap_on_literals
 missing_word = refl
 
 third_word : of_top (codes "other" ∷ []) ≡ Refused
-unfolding request generate_wanted generate clap_on_literals
+unfolding request wanted generate clap_on_literals
 third_word = refl
 
 -- after `--` a word may begin with a dash
 behind_dashes : request (codes "generate" ∷ codes "--" ∷ codes "-f" ∷ codes "--ticks" ∷ []) ≡ by_default (codes "-f") (codes "--ticks")
-unfolding request generate_wanted generate_asked text_in number_in generate clap_on_literals
+unfolding request wanted text_in number_in generate clap_on_literals
 behind_dashes = refl
 
 -- a file may be called `help`, and an empty word or `-` is a word like others
 help_as_file : request (codes "generate" ∷ codes "help" ∷ codes "-" ∷ []) ≡ by_default (codes "help") (codes "-")
-unfolding request generate_wanted generate_asked text_in number_in generate clap_on_literals
+unfolding request wanted text_in number_in generate clap_on_literals
 help_as_file = refl
 
 empty_file : request (codes "generate" ∷ [] ∷ [] ∷ []) ≡ by_default [] []
-unfolding request generate_wanted generate_asked text_in number_in generate clap_on_literals
+unfolding request wanted text_in number_in generate clap_on_literals
 empty_file = refl
 
 -- help of the command, also after what would be too few words, and not after a fault
 help_of_generate : request (codes "generate" ∷ codes "--help" ∷ []) ≡ Help generate_help
-unfolding request generate_wanted generate clap_on_literals
+unfolding request wanted generate clap_on_literals
 help_of_generate = refl
 
 short_help : of_top (codes "-h" ∷ codes "third" ∷ []) ≡ Help generate_help
-unfolding request generate_wanted generate clap_on_literals
+unfolding request wanted generate clap_on_literals
 short_help = refl
 
 fault_before_help : of_top (codes "third" ∷ codes "--help" ∷ []) ≡ Refused
-unfolding request generate_wanted generate clap_on_literals
+unfolding request wanted generate clap_on_literals
 fault_before_help = refl
+
+-- ---- the other commands
+
+abbrev top : Source
+top = record { file = codes "a.osc"; scenario = codes "top" }
+
+abbrev usual : Setting
+usual = record { ticks = 100; lanes = 3; road = 1000 }
+
+-- each has the options of a setting, and no other; the file of a run or of a record is the third word
+check_defaults : request (codes "check" ∷ codes "a.osc" ∷ codes "top" ∷ codes "r" ∷ []) ≡ Check (record { source = top; run = codes "r"; setting = usual })
+unfolding request wanted text_in number_in check clap_on_literals
+check_defaults = refl
+
+verify_given : request (codes "verify" ∷ codes "--road=9" ∷ codes "a.osc" ∷ codes "top" ∷ codes "--lanes" ∷ codes "1" ∷ codes "r" ∷ codes "--ticks" ∷ codes "7" ∷ [])
+    ≡ Verify (record { source = top; «record» = codes "r"; setting = record { ticks = 7; lanes = 1; road = 9 } })
+unfolding request wanted text_in number_in verify clap_on_literals
+verify_given = refl
+
+no_record : request (codes "verify" ∷ codes "a.osc" ∷ codes "top" ∷ []) ≡ Refused
+unfolding request wanted verify clap_on_literals
+no_record = refl
+
+verify_cuts : request (codes "verify" ∷ codes "a.osc" ∷ codes "top" ∷ codes "r" ∷ codes "--cuts" ∷ codes "1" ∷ []) ≡ Refused
+unfolding request wanted verify clap_on_literals
+verify_cuts = refl
+
+help_of_verify : request (codes "verify" ∷ codes "--help" ∷ []) ≡ Help verify_help
+unfolding request wanted verify clap_on_literals
+help_of_verify = refl
+
+flat_defaults : request (codes "flat" ∷ codes "a.osc" ∷ codes "top" ∷ []) ≡ Flat (record { source = top; setting = usual })
+unfolding request wanted text_in number_in flat clap_on_literals
+flat_defaults = refl
+
+flat_third : request (codes "flat" ∷ codes "a.osc" ∷ codes "top" ∷ codes "r" ∷ []) ≡ Refused
+unfolding request wanted flat clap_on_literals
+flat_third = refl
+
+-- `make` takes one number, and no option but help
+make_least : request (codes "make" ∷ codes "1" ∷ []) ≡ Make (record { count = 1 })
+unfolding request wanted text_in number_in make clap_on_literals
+make_least = refl
+
+make_most : request (codes "make" ∷ codes "016" ∷ []) ≡ Make (record { count = 16 })
+unfolding request wanted text_in number_in make clap_on_literals
+make_most = refl
+
+make_none : request (codes "make" ∷ codes "0" ∷ []) ≡ Refused
+unfolding request wanted make clap_on_literals
+make_none = refl
+
+make_more : request (codes "make" ∷ codes "17" ∷ []) ≡ Refused
+unfolding request wanted make clap_on_literals
+make_more = refl
+
+make_word : request (codes "make" ∷ codes "two" ∷ []) ≡ Refused
+unfolding request wanted make clap_on_literals
+make_word = refl
+
+make_nothing : request (codes "make" ∷ []) ≡ Refused
+unfolding request wanted make clap_on_literals
+make_nothing = refl
+
+make_ticks : request (codes "make" ∷ codes "1" ∷ codes "--ticks" ∷ codes "5" ∷ []) ≡ Refused
+unfolding request wanted make clap_on_literals
+make_ticks = refl
+
+help_of_make : request (codes "make" ∷ codes "-h" ∷ []) ≡ Help make_help
+unfolding request wanted make clap_on_literals
+help_of_make = refl
 
 -- the general help and the version, whatever follows
 help : request (codes "help" ∷ codes "generate" ∷ []) ≡ Help general_help
@@ -191,6 +264,6 @@ abbrev is_narrow : ℕ → Text → Bool
 is_narrow n [] = true
 is_narrow n (byte ∷ rest) = nat_le n 80 && is_narrow (if byte == 10 then 0 else (n + 1)) rest
 
-narrow : (is_narrow 0 general_help && is_narrow 0 generate_help) ≡ true
-unfolding general_help generate_help
+narrow : (is_narrow 0 general_help && (is_narrow 0 generate_help && (is_narrow 0 check_help && (is_narrow 0 verify_help && (is_narrow 0 flat_help && is_narrow 0 make_help))))) ≡ true
+unfolding general_help generate_help check_help verify_help flat_help make_help
 narrow = refl

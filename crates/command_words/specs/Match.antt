@@ -9,6 +9,10 @@ use Rattle.clap.specs.declared.builder.value_parser.ValueParser.TheVariants.{Uns
 abbrev pub word_rule : Text → Rule
 word_rule name = record (new_rule name) { action = Some Set; required = true }
 
+-- a whole number from `least` to `most` that must be given, in its turn
+abbrev pub number_word_rule : Text → ℕ → ℕ → Rule
+number_word_rule name least most = record (word_rule name) { parser = Some (Unsigned least most) }
+
 -- an option `--name` with a whole number from `least` to `most`, which is `default` if it isn't given
 abbrev pub number_rule : Text → ℕ → ℕ → Text → Rule
 number_rule name least most default = record (new_rule name) {
@@ -30,11 +34,20 @@ abbrev pub with_rules : App → List Rule → App
 with_rules command [] = command
 with_rules command (r ∷ rest) = with_rules (with_rule command r) rest
 
+-- what was matched: the text of each word, and the number of each word or option that is one
+pub record Matched : Type 0 where
+  pub text : Text → Text
+  pub number : Text → ℕ
+
 -- the text that the command matches with a word of this name
 unfoldable pub text_in : App → List Text → Text → Text
 text_in command words name = unwrap_or (first_of name (matches_of command words)) []
 
--- the number that the command matches with an option of this name
+-- the number that the command matches with a word or an option of this name
 unfoldable pub number_in : App → List Text → Text → ℕ
 number_in command words name =
     digits_value 10 (without_leading_plus (unwrap_or (one_of name (matches_of command words)) []))
+
+-- what the command matches
+abbrev pub matched_in : App → List Text → Matched
+matched_in command words = record { text = text_in command words; number = number_in command words }

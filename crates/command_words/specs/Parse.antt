@@ -6,6 +6,7 @@ use Rattle.clap.specs.Words.{App, IsParsedFrom, IsUnsignedIn, Text, app_of, buil
 use Rattle.clap.specs.Words.{found_of, matches_of, one_text, rows_of}
 use Rattle.clap.specs.declared.builder.command.Command.{Command}
 use Rattle.clap.specs.declared.parser.matches.Found.{Found}
+use Rattle.command_words.specs.Match.{Matched}
 use Rattle.command_words.specs.Words.{Help, Refused, Wanted, by_fault}
 use Rattle.command_words.specs.declared.parse.Parsed.{Parsed}
 use Rattle.command_words.specs.declared.parse.Parsed.TheVariants as parsed
@@ -28,12 +29,16 @@ IsParse command words parsed.Refused = (help : Text) (taken : Wanted)
 abbrev pub text_held : Found → Text → Text
 text_held found name = unwrap_or (first_value found name) []
 
--- the number that was found for an option
+-- the number that was found for a word or an option
 abbrev pub number_held : Found → Text → ℕ
 number_held found name =
     digits_value 10 (without_leading_plus (unwrap_or (one_text found name) []))
 
--- a number in this range was found for the option
+-- what was found
+abbrev pub held : Found → Matched
+held found = record { text = text_held found; number = number_held found }
+
+-- a number in this range was found for the word or the option
 abbrev pub HoldsNumber : Found → Text → ℕ → ℕ → Type 0
 HoldsNumber found name least most =
     (text : Text) × (one_text found name ≡ Some text) × IsUnsignedIn least most text

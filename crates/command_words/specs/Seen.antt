@@ -1,12 +1,16 @@
 -- What a contract sees of the requests of the code.
 use Rattle.fault_texts.specs.Explained.{explanation, topic_list}
 use Rattle.command_words.specs.Shared.{Source}
-use Rattle.command_words.specs.Words.{CheckAsked, GenerateAsked, Wanted, Help, Generate, Check, Refused}
+use Rattle.command_words.specs.Words.{CheckAsked, FlatAsked, GenerateAsked, MakeAsked, VerifyAsked, Wanted}
+use Rattle.command_words.specs.Words.{Help, Generate, Check, Verify, Flat, Make, Refused}
 use Rattle.command_words.specs.declared.requests.CheckWords.{CheckWords}
+use Rattle.command_words.specs.declared.requests.FlatWords.{FlatWords}
 use Rattle.command_words.specs.declared.requests.GenerateWords.{GenerateWords}
+use Rattle.command_words.specs.declared.requests.MakeWords.{MakeWords}
 use Rattle.command_words.specs.declared.requests.Request.{Request}
 use Rattle.command_words.specs.declared.requests.Request.TheVariants as request
 use Rattle.command_words.specs.declared.requests.Source as words
+use Rattle.command_words.specs.declared.requests.VerifyWords.{VerifyWords}
 
 abbrev pub source_by : words.Source → Source
 source_by source = record { file = source.file.now; scenario = source.scenario.now }
@@ -26,10 +30,26 @@ checked_by words = record {
   setting = words.setting;
 }
 
+abbrev pub verified_by : VerifyWords → VerifyAsked
+verified_by words = record {
+  source = source_by words.source;
+  «record» = words.«record».now;
+  setting = words.setting;
+}
+
+abbrev pub flattened_by : FlatWords → FlatAsked
+flattened_by words = record { source = source_by words.source; setting = words.setting }
+
+abbrev pub made_by : MakeWords → MakeAsked
+made_by words = record { count = words.count }
+
 abbrev pub seen : Request → Wanted
 seen (request.Help text) = Help text.now
 seen request.Topics = Help topic_list
 seen (request.Explain topic) = Help (explanation topic)
 seen (request.Generate words) = Generate (asked_by words)
 seen (request.Check words) = Check (checked_by words)
+seen (request.Verify words) = Verify (verified_by words)
+seen (request.Flat words) = Flat (flattened_by words)
+seen (request.Make words) = Make (made_by words)
 seen request.Refused = Refused

@@ -1,7 +1,7 @@
--- Words that all commands have: the source and the setting.
-use Rattle.std.specs.Prelude.{◌≤◌, List, [], ◌∷◌, codes}
+-- Words that commands share: the source and the setting.
+use Rattle.std.specs.Prelude.{◌≤◌, List, [], ◌∷◌, ◌++◌, codes}
 use Rattle.clap.specs.Words.{App, Rule, Text}
-use Rattle.command_words.specs.Match.{number_in, number_rule, text_in, word_rule}
+use Rattle.command_words.specs.Match.{Matched, command_of, number_rule, word_rule}
 use Rattle.command_words.specs.declared.requests.Setting.{Setting}
 
 -- a scenario of a source file
@@ -20,19 +20,23 @@ setting_rules = number_rule (codes "ticks") 1 600 (codes "100")
     ∷ number_rule (codes "road") 1 10000 (codes "1000")
     ∷ []
 
--- the source that the command matches
-abbrev pub source_in : App → List Text → Source
-source_in command words = record {
-  file = text_in command words (codes "FILE");
-  scenario = text_in command words (codes "SCENARIO");
+-- the command `name` with the words of a source, further words, the options of a setting, and further options
+abbrev pub scene_command : Text → List Rule → List Rule → App
+scene_command name words options = command_of name (source_rules ++ words ++ setting_rules ++ options)
+
+-- the source that was matched
+abbrev pub source_matched : Matched → Source
+source_matched matched = record {
+  file = matched.text (codes "FILE");
+  scenario = matched.text (codes "SCENARIO");
 }
 
--- the setting that the command matches
-abbrev pub setting_in : App → List Text → Setting
-setting_in command words = record {
-  ticks = number_in command words (codes "ticks");
-  lanes = number_in command words (codes "lanes");
-  road = number_in command words (codes "road");
+-- the setting that was matched
+abbrev pub setting_matched : Matched → Setting
+setting_matched matched = record {
+  ticks = matched.number (codes "ticks");
+  lanes = matched.number (codes "lanes");
+  road = matched.number (codes "road");
 }
 
 -- each number of a setting is within the range of its option

@@ -1,25 +1,18 @@
--- What was found for the arguments of a command.
+-- The commands of the code, and what was found for their words.
 use Rattle.std.specs.Prelude.{codes}
 use Rattle.clap.specs.declared.parser.matches.Found.{Found}
-use Rattle.command_words.specs.Parse.{HoldsNumber, number_held, text_held}
-use Rattle.command_words.specs.Shared.{Source}
-use Rattle.command_words.specs.Words.{CheckAsked, GenerateAsked}
-use Rattle.command_words.specs.declared.requests.Setting.{Setting}
+use Rattle.command_words.specs.Parse.{HoldsNumber}
+use Rattle.command_words.specs.Words.{Form, check_form, flat_form, generate_form, make_form, verify_form}
+use Rattle.command_words.specs.declared.commands.CommandName.{CommandName}
+use Rattle.command_words.specs.declared.commands.CommandName.TheVariants as command
 
--- ---- The words of all commands
-
-abbrev pub source_held : Found → Source
-source_held found = record {
-  file = text_held found (codes "FILE");
-  scenario = text_held found (codes "SCENARIO");
-}
-
-abbrev pub setting_held : Found → Setting
-setting_held found = record {
-  ticks = number_held found (codes "ticks");
-  lanes = number_held found (codes "lanes");
-  road = number_held found (codes "road");
-}
+-- the command of a name
+abbrev pub form_of : CommandName → Form
+form_of command.Generate = generate_form
+form_of command.Check = check_form
+form_of command.Verify = verify_form
+form_of command.Flat = flat_form
+form_of command.Make = make_form
 
 -- each option of a setting holds a number in its range
 pub record HoldsSetting (found : Found) : Type 0 where
@@ -27,27 +20,16 @@ pub record HoldsSetting (found : Found) : Type 0 where
   pub lanes : HoldsNumber found (codes "lanes") 1 8
   pub road : HoldsNumber found (codes "road") 1 10000
 
--- ---- `generate`
-
-abbrev pub generate_held : Found → GenerateAsked
-generate_held found = record {
-  source = source_held found;
-  setting = setting_held found;
-  seed = number_held found (codes "seed");
-  cuts = number_held found (codes "cuts");
-}
-
 -- each option of `generate` holds a number in its range
 pub record HoldsGenerate (found : Found) : Type 0 where
   pub setting : HoldsSetting found
   pub seed : HoldsNumber found (codes "seed") 0 18446744073709551615
   pub cuts : HoldsNumber found (codes "cuts") 1 1000000
 
--- ---- `check`
-
-abbrev pub check_held : Found → CheckAsked
-check_held found = record {
-  source = source_held found;
-  run = text_held found (codes "RUN");
-  setting = setting_held found;
-}
+-- each number of a command is in its range
+abbrev pub HoldsNumbers : CommandName → Found → Type 0
+HoldsNumbers command.Generate found = HoldsGenerate found
+HoldsNumbers command.Check found = HoldsSetting found
+HoldsNumbers command.Verify found = HoldsSetting found
+HoldsNumbers command.Flat found = HoldsSetting found
+HoldsNumbers command.Make found = HoldsNumber found (codes "N") 1 16

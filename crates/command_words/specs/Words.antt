@@ -1,14 +1,14 @@
 -- What the words after the program's name ask for.
-use Rattle.std.specs.Prelude.{ℕ, ◌≤◌, Bool, ◌||◌, if◌then◌else◌, List, [], ◌∷◌, ◌++◌, Some, None, codes, ⊤}
+use Rattle.std.specs.Prelude.{ℕ, ◌≤◌, Bool, ◌||◌, if◌then◌else◌, List, [], ◌∷◌, Some, None, codes, ⊤}
 use Rattle.std.specs.Str.{bytes_eq}
 use Rattle.clap.specs.Words.{App, Kinds, Text, fault_of}
 use Rattle.fault_texts.specs.Explained.{explanation, topic_list}
 use Rattle.fault_texts.specs.Topics.{topic_named}
 use Rattle.clap.specs.declared.error.kind.ErrorKind.TheVariants.{DisplayHelp}
-use Rattle.command_words.specs.Match.{command_of, number_in, number_rule, text_in, word_rule}
-use Rattle.command_words.specs.Shared.{IsSettingInRanges, Source, setting_in, setting_rules, source_in, source_rules}
+use Rattle.command_words.specs.Match.{Matched, command_of, matched_in, number_rule, number_word_rule, word_rule}
+use Rattle.command_words.specs.Shared.{IsSettingInRanges, Source, scene_command, setting_matched, source_matched}
 use Rattle.command_words.specs.declared.requests.Setting.{Setting}
-use Rattle.command_words.specs.Texts.{check_help, general_help, generate_help, version_text}
+use Rattle.command_words.specs.Texts.{check_help, flat_help, general_help, generate_help, make_help, verify_help, version_text}
 
 -- what `generate` is asked for: a run of this scenario in this setting, found by a search with this seed and at most so many cuts
 pub record GenerateAsked : Type 0 where
@@ -23,36 +23,38 @@ pub record CheckAsked : Type 0 where
   pub run : Text
   pub setting : Setting
 
+-- what `verify` is asked for: whether the record in this file is right about this scenario in this setting
+pub record VerifyAsked : Type 0 where
+  pub source : Source
+  pub «record» : Text
+  pub setting : Setting
+
+-- what `flat` is asked for: the slots and rules of this scenario in this setting
+pub record FlatAsked : Type 0 where
+  pub source : Source
+  pub setting : Setting
+
+-- what `make` is asked for: a run of a source that is made for so many vehicles and as many parallel blocks
+pub record MakeAsked : Type 0 where
+  pub count : ℕ
+
 -- a text that needs no file (of help, of the version, of a code), what a command is asked for, or nothing that is known
 pub data Wanted : Type 0 where
   Help : Text → Wanted
   Generate : GenerateAsked → Wanted
   Check : CheckAsked → Wanted
+  Verify : VerifyAsked → Wanted
+  Flat : FlatAsked → Wanted
+  Make : MakeAsked → Wanted
   Refused : Wanted
 
--- ---- `generate`
+-- ---- Commands
 
-unfoldable pub generate : App
-generate = command_of (codes "generate") (
-    source_rules ++ setting_rules
-    ++ number_rule (codes "seed") 0 18446744073709551615 (codes "0")
-    ∷ number_rule (codes "cuts") 1 1000000 (codes "200000")
-    ∷ [])
-
--- what the words after `generate` ask for when they are taken
-unfoldable pub generate_asked : List Text → GenerateAsked
-generate_asked words = record {
-  source = source_in generate words;
-  setting = setting_in generate words;
-  seed = number_in generate words (codes "seed");
-  cuts = number_in generate words (codes "cuts");
-}
-
--- each number is within the range of its option
-pub record IsGenerateInRanges (asked : GenerateAsked) : Type 0 where
-  pub setting_ranges : IsSettingInRanges asked.setting
-  pub seed_range : asked.seed ≤ 18446744073709551615
-  pub cuts_range : (1 ≤ asked.cuts) × (asked.cuts ≤ 1000000)
+-- a command: its match definition, its help, and what its words ask for when they are taken
+pub record Form : Type 0 where
+  pub definition : App
+  pub help : Text
+  pub asked : Matched → Wanted
 
 -- what a command's words ask for, by what its match definition finds wrong in them: if that is
 -- nothing, what they were taken for; if it is that they ask for help, the command's help
@@ -61,27 +63,78 @@ by_fault [] help taken = taken
 by_fault (DisplayHelp ∷ kinds) help taken = Help help
 by_fault _ help taken = Refused
 
-unfoldable pub generate_wanted : List Text → Wanted
-generate_wanted words =
-    by_fault (fault_of generate words) generate_help (Generate (generate_asked words))
+-- what the words after a command's name ask for
+unfoldable pub wanted : Form → List Text → Wanted
+wanted form words =
+    by_fault (fault_of form.definition words) form.help (form.asked (matched_in form.definition words))
 
--- ---- `check`
+unfoldable pub generate : App
+generate = scene_command (codes "generate") [] (
+    number_rule (codes "seed") 0 18446744073709551615 (codes "0")
+    ∷ number_rule (codes "cuts") 1 1000000 (codes "200000")
+    ∷ [])
 
-unfoldable pub check : App
-check = command_of (codes "check") (source_rules ++ word_rule (codes "RUN") ∷ setting_rules)
-
--- what the words after `check` ask for when they are taken
-unfoldable pub check_asked : List Text → CheckAsked
-check_asked words = record {
-  source = source_in check words;
-  run = text_in check words (codes "RUN");
-  setting = setting_in check words;
+abbrev pub generate_form : Form
+generate_form = record {
+  definition = generate;
+  help = generate_help;
+  asked = λ matched. Generate (record {
+    source = source_matched matched;
+    setting = setting_matched matched;
+    seed = matched.number (codes "seed");
+    cuts = matched.number (codes "cuts");
+  });
 }
 
-unfoldable pub check_wanted : List Text → Wanted
-check_wanted words = by_fault (fault_of check words) check_help (Check (check_asked words))
+unfoldable pub check : App
+check = scene_command (codes "check") (word_rule (codes "RUN") ∷ []) []
 
--- ---- help and the version
+abbrev pub check_form : Form
+check_form = record {
+  definition = check;
+  help = check_help;
+  asked = λ matched. Check (record {
+    source = source_matched matched;
+    run = matched.text (codes "RUN");
+    setting = setting_matched matched;
+  });
+}
+
+unfoldable pub verify : App
+verify = scene_command (codes "verify") (word_rule (codes "RECORD") ∷ []) []
+
+abbrev pub verify_form : Form
+verify_form = record {
+  definition = verify;
+  help = verify_help;
+  asked = λ matched. Verify (record {
+    source = source_matched matched;
+    «record» = matched.text (codes "RECORD");
+    setting = setting_matched matched;
+  });
+}
+
+unfoldable pub flat : App
+flat = scene_command (codes "flat") [] []
+
+abbrev pub flat_form : Form
+flat_form = record {
+  definition = flat;
+  help = flat_help;
+  asked = λ matched. Flat (record { source = source_matched matched; setting = setting_matched matched });
+}
+
+unfoldable pub make : App
+make = command_of (codes "make") (number_word_rule (codes "N") 1 16 ∷ [])
+
+abbrev pub make_form : Form
+make_form = record {
+  definition = make;
+  help = make_help;
+  asked = λ matched. Make (record { count = matched.number (codes "N") });
+}
+
+-- ---- Help and the version
 
 abbrev pub is_help_word : Text → Bool
 is_help_word word =
@@ -106,21 +159,39 @@ explain_wanted [] = Help topic_list
 explain_wanted (word ∷ []) = topic_wanted word
 explain_wanted _ = Refused
 
--- ---- all words
+-- ---- All words
 
 -- the first word picks; after one that asks for the general help or the version nothing is read
 unfoldable pub request : List Text → Wanted
 request [] = Refused
 request (first ∷ rest) = if is_help_word first then Help general_help
     else if is_version_word first then Help version_text
-    else if bytes_eq first (codes "generate") then generate_wanted rest
-    else if bytes_eq first (codes "check") then check_wanted rest
+    else if bytes_eq first (codes "generate") then wanted generate_form rest
+    else if bytes_eq first (codes "check") then wanted check_form rest
+    else if bytes_eq first (codes "verify") then wanted verify_form rest
+    else if bytes_eq first (codes "flat") then wanted flat_form rest
+    else if bytes_eq first (codes "make") then wanted make_form rest
     else if bytes_eq first (codes "explain") then explain_wanted rest
     else Refused
+
+-- ---- Ranges
+
+-- each number of `generate` is within the range of its option
+pub record IsGenerateInRanges (asked : GenerateAsked) : Type 0 where
+  pub setting_ranges : IsSettingInRanges asked.setting
+  pub seed_range : asked.seed ≤ 18446744073709551615
+  pub cuts_range : (1 ≤ asked.cuts) × (asked.cuts ≤ 1000000)
+
+-- the number of `make` is within its range
+pub record IsMakeInRange (asked : MakeAsked) : Type 0 where
+  pub count_range : (1 ≤ asked.count) × (asked.count ≤ 16)
 
 -- the numbers of what is wanted are within their ranges
 abbrev pub HasRanges : Wanted → Type 0
 HasRanges (Help text) = ⊤
 HasRanges (Generate asked) = IsGenerateInRanges asked
 HasRanges (Check asked) = IsSettingInRanges asked.setting
+HasRanges (Verify asked) = IsSettingInRanges asked.setting
+HasRanges (Flat asked) = IsSettingInRanges asked.setting
+HasRanges (Make asked) = IsMakeInRange asked
 HasRanges Refused = ⊤

@@ -1,16 +1,20 @@
 //! What the words after the program's name ask for, and the texts that help with them.
 #![tactic(auto)]
 
-mod check;
+mod commands;
 mod explain;
-mod generate;
 mod parse;
 mod requests;
 mod shared;
 mod texts;
 
-pub use requests::{CheckWords, GenerateWords, Request, Setting, Source, read_words};
-pub use texts::{check_help, general_help, generate_help, version_text};
+pub use requests::{
+    CheckWords, FlatWords, GenerateWords, MakeWords, Request, Setting, Source, VerifyWords,
+    read_words,
+};
+pub use texts::{
+    check_help, flat_help, general_help, generate_help, make_help, verify_help, version_text,
+};
 
 #[cfg(test)]
 mod tests;

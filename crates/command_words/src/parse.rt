@@ -1,6 +1,6 @@
-ghost use Rattle.std.specs.Prelude.{◌≡◌, IfOk, true, false, map, string_bytes};
+ghost use Rattle.std.specs.Prelude.{◌≡◌, IfOk, true, false, [], map, string_bytes};
 ghost use Rattle.clap.specs.Words.{app_of, is_simple_and_free, found_of, rule_of};
-ghost use Rattle.command_words.specs.Match.{number_rule, word_rule};
+ghost use Rattle.command_words.specs.Match.{command_of, number_rule, number_word_rule, word_rule};
 ghost use Rattle.command_words.specs.Parse.{HoldsNumber, IsParse, is_leaf, number_held, text_held};
 
 use clap::builder::ValueParser;
@@ -32,12 +32,27 @@ pub fn parse<'a>(command: Command<'a>, words: &'a [String]) -> Result<Parsed<'a>
     }
 }
 
+/// The match definition of a command of this name, which takes no words yet.
+pub fn bare_command<'a>(alloc: Global, name: &'a str) -> Command<'a>
+    ensures { app_of result ≡ command_of name.entry.now [] }
+{
+    Command::new(alloc, name).no_binary_name(true)
+}
+
 /// A word that must be given, in its turn.
 pub fn word<'a>(alloc: Global, name: &'a str) -> Arg<'a>
     ensures rule { rule_of result ≡ word_rule name.entry.now }
     ensures local { result.global ≡ false }
 {
     Arg::new(alloc, name).action(ArgAction::Set).required(true)
+}
+
+/// A whole number from `least` to `most` that must be given, in its turn.
+pub fn number_word<'a>(alloc: Global, name: &'a str, least: u64, most: u64) -> Arg<'a>
+    ensures rule { rule_of result ≡ number_word_rule name.entry.now least most }
+    ensures local { result.global ≡ false }
+{
+    word(alloc, name).value_parser(ValueParser::Unsigned(least, most))
 }
 
 /// An option `--name` with a whole number from `least` to `most`, which is `default` if it isn't given.
@@ -59,7 +74,7 @@ pub fn text_of<'a>(matches: &ArgMatches<'a>, name: &str) -> &'a str
     matches.get_str(name).unwrap_or("")
 }
 
-/// The number that was matched with the option `name`.
+/// The number that was matched with the word or the option `name`.
 pub fn number_of(matches: &ArgMatches<'_>, name: &str) -> u64
     requires { HoldsNumber (found_of matches.now) name.now 0 18446744073709551615 }
     ensures { result ≡ number_held (found_of matches.now) name.now }
@@ -67,7 +82,7 @@ pub fn number_of(matches: &ArgMatches<'_>, name: &str) -> u64
     matches.get_one::<u64>(name).unwrap_or(0)
 }
 
-/// The number that was matched with the option `name`, whose range lies within 32 bits.
+/// The number that was matched with the word or the option `name`, whose range lies within 32 bits.
 pub fn small_number_of(matches: &ArgMatches<'_>, name: &str) -> u32
     requires { HoldsNumber (found_of matches.now) name.now 0 4294967295 }
     ensures { result ≡ number_held (found_of matches.now) name.now }

@@ -2,9 +2,8 @@ ghost use Rattle.std.specs.Prelude.{◌≡◌, IfOk, map, string_bytes};
 ghost use Rattle.command_words.specs.Seen.{seen};
 ghost use Rattle.command_words.specs.Words.{HasRanges, request};
 
-use crate::check::read_check;
+use crate::commands::{CommandName, read_command};
 use crate::explain::read_explain;
-use crate::generate::read_generate;
 use crate::texts::{general_help, version_text};
 use fault_texts::Topic;
 use std::alloc::{AllocError, Global};
@@ -22,6 +21,12 @@ pub enum Request<'a> {
     Generate(GenerateWords<'a>),
     /// A run is to be checked.
     Check(CheckWords<'a>),
+    /// A record is to be verified.
+    Verify(VerifyWords<'a>),
+    /// The slots and rules of a scenario are to be listed.
+    Flat(FlatWords<'a>),
+    /// A run of a made source is to be written.
+    Make(MakeWords),
     /// The words ask for nothing that is known.
     Refused,
 }
@@ -66,6 +71,29 @@ pub struct CheckWords<'a> {
     pub setting: Setting,
 }
 
+/// What the words after `verify` ask for.
+#[derive(Debug, Clone, Copy)]
+pub struct VerifyWords<'a> {
+    pub source: Source<'a>,
+    /// The name of the file with the record. It may be any text, even an empty one.
+    pub record: &'a str,
+    pub setting: Setting,
+}
+
+/// What the words after `flat` ask for.
+#[derive(Debug, Clone, Copy)]
+pub struct FlatWords<'a> {
+    pub source: Source<'a>,
+    pub setting: Setting,
+}
+
+/// What the words after `make` ask for.
+#[derive(Debug, Clone, Copy, PartialEq, Eq)]
+pub struct MakeWords {
+    /// The number of vehicles and of parallel blocks, 1 to 16.
+    pub count: u32,
+}
+
 /// Reads the words after the program's name.
 ///
 /// Out of memory is its only error.
@@ -79,8 +107,11 @@ pub fn read_words(alloc: Global, words: &[String]) -> Result<Request<'_>, AllocE
     match first.as_str() {
         "help" | "--help" | "-h" => Ok(Request::Help(general_help())),
         "--version" | "-V" => Ok(Request::Help(version_text())),
-        "generate" => read_generate(alloc, rest),
-        "check" => read_check(alloc, rest),
+        "generate" => read_command(alloc, CommandName::Generate, rest),
+        "check" => read_command(alloc, CommandName::Check, rest),
+        "verify" => read_command(alloc, CommandName::Verify, rest),
+        "flat" => read_command(alloc, CommandName::Flat, rest),
+        "make" => read_command(alloc, CommandName::Make, rest),
         "explain" => Ok(read_explain(rest)),
         _ => Ok(Request::Refused),
     }

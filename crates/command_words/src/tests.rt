@@ -1,4 +1,4 @@
-use crate::{Request, read_words};
+use crate::{Request, Setting, Source, read_words};
 use std::io;
 
 /// The words of a line, which has one space between any two.
@@ -22,27 +22,34 @@ fn shown(rt: &HostRuntime, line: &str) -> io::Result<String> {
         }
         Request::Topics => String::from_str(alloc, "all topics")?,
         Request::Explain(topic) => format!(in alloc; "{topic:?}")?,
-        Request::Generate(asked) => format!(in alloc;
-            "{} {} {} {} {} {} {}",
-            asked.source.file,
-            asked.source.scenario,
-            asked.setting.ticks,
-            asked.setting.lanes,
-            asked.setting.road,
-            asked.seed,
-            asked.cuts
-        )?,
-        Request::Check(asked) => format!(in alloc;
-            "check {} {} {} {} {} {}",
-            asked.source.file,
-            asked.source.scenario,
-            asked.run,
-            asked.setting.ticks,
-            asked.setting.lanes,
-            asked.setting.road
-        )?,
+        Request::Generate(asked) => {
+            let (seed, cuts) = (asked.seed, asked.cuts);
+            let scene = scene_shown(rt, asked.source, asked.setting)?;
+            format!(in alloc; "{scene} {seed} {cuts}")?
+        }
+        Request::Check(asked) => {
+            let scene = scene_shown(rt, asked.source, asked.setting)?;
+            format!(in alloc; "check {scene} {}", asked.run)?
+        }
+        Request::Verify(asked) => {
+            let scene = scene_shown(rt, asked.source, asked.setting)?;
+            format!(in alloc; "verify {scene} {}", asked.record)?
+        }
+        Request::Flat(asked) => {
+            let scene = scene_shown(rt, asked.source, asked.setting)?;
+            format!(in alloc; "flat {scene}")?
+        }
+        Request::Make(asked) => format!(in alloc; "make {}", asked.count)?,
         Request::Refused => String::from_str(alloc, "refused")?,
     };
+    Ok(shown)
+}
+
+fn scene_shown(rt: &HostRuntime, source: Source<'_>, setting: Setting) -> io::Result<String> {
+    let shown = format!(in rt.alloc();
+        "{} {} {} {} {}",
+        source.file, source.scenario, setting.ticks, setting.lanes, setting.road
+    )?;
     Ok(shown)
 }
 
@@ -65,13 +72,16 @@ fn reads_words(rt: HostRuntime) -> io::Result<()> {
         ("generate f s --lanes 2 --lanes 2", "refused"),
         ("generate f s -V", "refused"),
         ("generate f", "refused"),
-        ("check f s r", "check f s r 100 3 1000"),
+        ("check f s r", "check f s 100 3 1000 r"),
         (
             "check --ticks=9 f s --lanes 8 r --road 10",
-            "check f s r 9 8 10",
+            "check f s 9 8 10 r",
         ),
         ("check f s", "refused"),
         ("check f s r --seed 1", "refused"),
+        ("verify f s r --lanes 8", "verify f s 100 8 1000 r"),
+        ("flat --ticks 7 f s", "flat f s 7 3 1000"),
+        ("make 16", "make 16"),
         ("explain", "all topics"),
         ("explain --help", "all topics"),
         ("explain 201", "Fault(Syntax)"),
@@ -81,7 +91,7 @@ fn reads_words(rt: HostRuntime) -> io::Result<()> {
         ("explain 0201", "refused"),
         ("explain 201 202", "refused"),
         ("", "refused"),
-        ("make 1", "refused"),
+        ("take 1", "refused"),
         ("--version", "help: osc 0.1.0"),
     ];
     for (line, want) in rows {

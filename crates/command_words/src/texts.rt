@@ -1,13 +1,17 @@
 ghost use Rattle.std.specs.Prelude.{◌≡◌};
-ghost use Rattle.command_words.specs.Texts.{check_help, general_help, generate_help, version_text};
+ghost use Rattle.command_words.specs.Texts.{check_help, flat_help, general_help, generate_help, make_help, verify_help, version_text};
 
 const GENERAL_HELP: &str = concat!(
     "osc reads a scenario of driving, written in a profile of OpenSCENARIO DSL 2.1,\n",
-    "and writes a concrete run of it to standard output, as one line of JSON.\n",
+    "searches for a concrete run of it, and writes the run, or a proof that there is\n",
+    "none within the bounds. It checks runs and such proofs.\n",
     "\n",
     "Usage:\n",
     "  osc generate FILE SCENARIO [OPTIONS]\n",
     "  osc check FILE SCENARIO RUN [OPTIONS]\n",
+    "  osc verify FILE SCENARIO RECORD [OPTIONS]\n",
+    "  osc flat FILE SCENARIO [OPTIONS]\n",
+    "  osc make N\n",
     "  osc explain [CODE]\n",
     "  osc help\n",
     "  osc --version\n",
@@ -15,86 +19,175 @@ const GENERAL_HELP: &str = concat!(
     "Commands:\n",
     "  generate   writes a run of a scenario; for its options: osc generate --help\n",
     "  check      says whether a run is an instance; its words: osc check --help\n",
+    "  verify     says whether a record is right; its words: osc verify --help\n",
+    "  flat       lists the slots and rules of a scenario: osc flat --help\n",
+    "  make       writes a run of a made scenario with N vehicles: osc make --help\n",
     "  explain    writes what a code means, for example 201, or lists all codes\n",
     "  help       writes this text; so do --help and -h\n",
     "  --version  writes the version; so does -V\n",
     "\n",
     "Statuses, and what osc writes to standard output:\n",
-    "  0  success: what was asked for; of check: yes\n",
-    "  1  the run is no instance: no CLAUSE PATH FILE:LINE:COLUMN\n",
+    "  0  success: what was asked for; of check and verify: yes\n",
+    "  1  there is no instance: the record that shows it\n",
+    "     of check: no CLAUSE PATH FILE:LINE:COLUMN\n",
     "     (only constraints and modifiers have a place)\n",
+    "     of verify: no LINE, the first line that isn't accepted\n",
+    "  2  undecided after all cuts: the record; of verify: open CUTS\n",
     "  3  the source is refused: fault CODE FILE:LINE:COLUMN\n",
     "     (an imported file that isn't there is fault 301)\n",
     "  4  the words are refused: words\n",
     "  5  the file of a run is no JSON: text json\n",
     "     its JSON is no run: text POINTER, the first place that differs\n",
-    "  6  the main file or a run isn't there: missing FILE\n",
-    "     a source is longer than 1048576 bytes, a run than 16777216: long FILE\n",
+    "     a record's text is none: text LINE, the first line that differs\n",
+    "  6  the main file, a run or a record isn't there: missing FILE\n",
+    "     a source is longer than 1048576 bytes, a run than 16777216, or a record\n",
+    "     than 268435456: long FILE\n",
     "     a file can't be read: shelf FILE\n",
     "  7  standard output failed: a prefix of the text, or nothing\n",
     "  8  out of memory: nothing\n",
     "  9  the words can't be read, for example if one isn't UTF-8: nothing\n",
 );
 
-const GENERATE_HELP: &str = concat!(
-    "osc generate reads a source file and writes a run of one of its scenarios to\n",
-    "standard output, as one line of JSON.\n",
-    "\n",
-    "Usage:\n",
-    "  osc generate FILE SCENARIO [OPTIONS]\n",
-    "\n",
-    "Words:\n",
-    "  FILE       the source file\n",
-    "  SCENARIO   the name of the scenario: NAME or ACTOR.NAME\n",
-    "\n",
-    "Options, each at most once, as --ticks N or --ticks=N:\n",
-    "  --ticks N  the last tick that a run may have, of 0.1 seconds each:\n",
-    "             1 to 600, default 100\n",
-    "  --lanes N  the lanes of the road: 1 to 8, default 3\n",
-    "  --road N   the length of the road in metres: 1 to 10000, default 1000\n",
-    "  --seed N   the seed of what is drawn at random:\n",
-    "             0 to 18446744073709551615, default 0\n",
-    "  --cuts N   the most cuts of the search: 1 to 1000000, default 200000\n",
-    "  -h, --help writes this text\n",
-    "\n",
-    "After --, each word is FILE or SCENARIO, even if it begins with -.\n",
-    "\n",
-    "A source file with a scenario named top:\n",
-    "  scenario top:\n",
-    "      x: int\n",
-    "      keep(x in [3..3])\n",
-    "\n",
-    "Today osc generates runs of scenarios whose fields are ranged whole numbers.\n",
-    "It checks the options, and they don't change the run yet.\n",
-    "\n",
-    "For the statuses: osc help\n",
-);
+/// The help of a command that reads a scenario: what is its own is written line by line.
+macro_rules! scene_help {
+    (
+        does: [$($does:literal),* $(,)?],
+        usage: $usage:literal,
+        words: [$($word:literal),* $(,)?],
+        names: $names:literal,
+        options: [$($option:literal),* $(,)?],
+        writes: [$($writes:literal),* $(,)?] $(,)?
+    ) => {
+        concat!(
+            $($does, "\n",)*
+            "\n",
+            "Usage:\n",
+            $usage, "\n",
+            "\n",
+            "Words:\n",
+            "  FILE       the source file\n",
+            "  SCENARIO   the name of the scenario: NAME or ACTOR.NAME\n",
+            $($word, "\n",)*
+            "\n",
+            "Options, each at most once, as --ticks N or --ticks=N:\n",
+            "  --ticks N  the last tick that a run may have, of 0.1 seconds each:\n",
+            "             1 to 600, default 100\n",
+            "  --lanes N  the lanes of the road: 1 to 8, default 3\n",
+            "  --road N   the length of the road in metres: 1 to 10000, default 1000\n",
+            $($option, "\n",)*
+            "  -h, --help writes this text\n",
+            "\n",
+            "After --, each word is ", $names, ", even if it begins with -.\n",
+            "\n",
+            $($writes, "\n",)*
+            "\n",
+            "For the statuses: osc help\n",
+        )
+    };
+}
 
-const CHECK_HELP: &str = concat!(
-    "osc check reads a source file and a run, and says whether the run is an\n",
-    "instance of one of the source's scenarios.\n",
+const GENERATE_HELP: &str = scene_help! {
+    does: [
+        "osc generate reads a source file and writes a run of one of its scenarios to",
+        "standard output, as one line of JSON.",
+    ],
+    usage: "  osc generate FILE SCENARIO [OPTIONS]",
+    words: [],
+    names: "FILE or SCENARIO",
+    options: [
+        "  --seed N   the seed of what is drawn at random:",
+        "             0 to 18446744073709551615, default 0",
+        "  --cuts N   the most cuts of the search: 1 to 1000000, default 200000",
+    ],
+    writes: [
+        "A source file with a scenario named top:",
+        "  scenario top:",
+        "      x: int",
+        "      keep(x in [3..3])",
+        "",
+        "The run is an instance of the scenario: osc check says yes to it. With status 1",
+        "it writes a record in place of a run, which shows that there is no instance",
+        "within the bounds. With status 2 it writes a record of a search that ended",
+        "undecided: more cuts may help. osc verify reads both.",
+    ],
+};
+
+const CHECK_HELP: &str = scene_help! {
+    does: [
+        "osc check reads a source file and a run, and says whether the run is an",
+        "instance of one of the source's scenarios.",
+    ],
+    usage: "  osc check FILE SCENARIO RUN [OPTIONS]",
+    words: [
+        "  RUN        the file with the run, as osc generate writes it: JSON, at most",
+        "             16777216 bytes",
+    ],
+    names: "FILE, SCENARIO or RUN",
+    options: [],
+    writes: [
+        "It writes yes if the run is an instance, and else no, the first clause that",
+        "fails, its path, and its place in the source if it is about a constraint or a",
+        "modifier.",
+    ],
+};
+
+const VERIFY_HELP: &str = scene_help! {
+    does: [
+        "osc verify reads a source file and a record, and says whether the record is",
+        "right about one of the source's scenarios.",
+    ],
+    usage: "  osc verify FILE SCENARIO RECORD [OPTIONS]",
+    words: [
+        "  RECORD     the file with the record, as osc generate writes it with status 1",
+        "             or 2: at most 268435456 bytes",
+    ],
+    names: "FILE, SCENARIO or RECORD",
+    options: [],
+    writes: [
+        "It writes yes if the record shows that there is no instance within the bounds,",
+        "and open CUTS if its lines are accepted and leave that undecided after so many",
+        "cuts. Else it writes no LINE, the first line that isn't accepted. The options",
+        "are to be those with which the record was written.",
+    ],
+};
+
+const FLAT_HELP: &str = scene_help! {
+    does: [
+        "osc flat reads a source file and lists the flat form of one of its scenarios:",
+        "the slots that a run fills, and the rules that it meets.",
+    ],
+    usage: "  osc flat FILE SCENARIO [OPTIONS]",
+    words: [],
+    names: "FILE or SCENARIO",
+    options: [],
+    writes: [
+        "It writes how many slots there are, and a line for each with the least and the",
+        "greatest number that it can hold. Then it writes how many rules there are, and a",
+        "line for each with the place or the path that it comes from.",
+    ],
+};
+
+const MAKE_HELP: &str = concat!(
+    "osc make makes a scenario for N vehicles, and writes a run of it to standard\n",
+    "output, as one line of JSON.\n",
     "\n",
     "Usage:\n",
-    "  osc check FILE SCENARIO RUN [OPTIONS]\n",
+    "  osc make N\n",
     "\n",
     "Words:\n",
-    "  FILE       the source file\n",
-    "  SCENARIO   the name of the scenario: NAME or ACTOR.NAME\n",
-    "  RUN        the file with the run, as osc generate writes it: JSON, at most\n",
-    "             16777216 bytes\n",
+    "  N          the number of vehicles, and of the parallel blocks in which each of\n",
+    "             them drives: 1 to 16\n",
     "\n",
-    "Options, each at most once, as --ticks N or --ticks=N:\n",
-    "  --ticks N  the last tick that a run may have, of 0.1 seconds each:\n",
-    "             1 to 600, default 100\n",
-    "  --lanes N  the lanes of the road: 1 to 8, default 3\n",
-    "  --road N   the length of the road in metres: 1 to 10000, default 1000\n",
+    "Options:\n",
     "  -h, --help writes this text\n",
     "\n",
-    "After --, each word is FILE, SCENARIO or RUN, even if it begins with -.\n",
+    "The run is searched with 5 * N ticks, 3 lanes, a road of 1000 metres, seed 0 and\n",
+    "at most 200000 cuts. That it is an instance is proved. After it stands the line\n",
     "\n",
-    "It writes yes if the run is an instance, and else no, the first clause that\n",
-    "fails, its path, and its place in the source if it is about a constraint or a\n",
-    "modifier.\n",
+    "  make N phases P end E check yes\n",
+    "\n",
+    "where P is the number of phases of the run, and E is its end. Without a run, osc\n",
+    "writes a record in place of both, as osc generate does.\n",
     "\n",
     "For the statuses: osc help\n",
 );
@@ -122,6 +215,27 @@ pub fn check_help() -> &'static str
     ensures { result.now ≡ check_help }
 {
     CHECK_HELP
+}
+
+/// The words and options of `osc verify`.
+pub fn verify_help() -> &'static str
+    ensures { result.now ≡ verify_help }
+{
+    VERIFY_HELP
+}
+
+/// The words and options of `osc flat`.
+pub fn flat_help() -> &'static str
+    ensures { result.now ≡ flat_help }
+{
+    FLAT_HELP
+}
+
+/// The word of `osc make`, and what it makes.
+pub fn make_help() -> &'static str
+    ensures { result.now ≡ make_help }
+{
+    MAKE_HELP
 }
 
 /// The program's name and version, as one line.

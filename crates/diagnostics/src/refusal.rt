@@ -57,7 +57,7 @@ fn line_message<H: Shelf>(
         Told::Missing(name) => file_message(alloc, "there is no file ", name),
         Told::Long(name) => file_message(
             alloc,
-            "a source has at most 1048576 bytes and a run 16777216, unlike ",
+            "a source has at most 1048576 bytes, a run 16777216 and a record 268435456, unlike ",
             name,
         ),
         Told::Shelf(name) => file_message(alloc, "the system can't read ", name),
@@ -203,6 +203,8 @@ fn source_in(alloc: Global, words: &[String]) -> Result<Option<Source<'_>>, Allo
     match read_words(alloc, words)? {
         Request::Generate(asked) => Ok(Some(asked.source)),
         Request::Check(asked) => Ok(Some(asked.source)),
+        Request::Verify(asked) => Ok(Some(asked.source)),
+        Request::Flat(asked) => Ok(Some(asked.source)),
         _ => Ok(None),
     }
 }
@@ -253,10 +255,15 @@ fn file_message(alloc: Global, what: &str, name: &str) -> Result<String, AllocEr
     Ok(text)
 }
 
-/// The message for a file of a run that holds no run: it is no `json`, or differs at this JSON pointer.
+/// The message for a file that holds no run or no record. A run is no `json`, or differs at this JSON pointer; a record differs
+/// in the line of this number.
 fn text_message(alloc: Global, what: &str) -> Result<String, AllocError> {
     let mut text = if what == "json" {
         format!(in alloc; "error: the file of the run is no JSON text\n")?
+    } else if what.parse::<u64>().is_ok() {
+        format!(in alloc;
+            "error: the file of the record holds none: line {what} isn't as in a record\n"
+        )?
     } else {
         format!(in alloc; "error: the file of the run holds none: `{what}` isn't as in a run\n")?
     };

@@ -14,7 +14,7 @@ pub enum Told<'a> {
     Long(&'a str),
     /// `shelf NAME`
     Shelf(&'a str),
-    /// `text json` or `text POINTER`
+    /// `text json`, `text POINTER` or `text LINE`
     Text(&'a str),
     /// `words`
     Words,

@@ -12,9 +12,12 @@ use std::alloc::{AllocError, Global};
 /// The most words that are looked at.
 const WORDS: usize = 100;
 /// First words that ask for something.
-const COMMANDS: [&str; 6] = [
+const COMMANDS: [&str; 9] = [
     "generate",
     "check",
+    "verify",
+    "flat",
+    "make",
     "explain",
     "help",
     "--help",
@@ -115,6 +118,16 @@ fn taken(alloc: Global, words: &[&str]) -> Result<usize, AllocError> {
     Ok(taken)
 }
 
+/// The words that a command takes, in their order.
+fn words_of(command: &str) -> &'static [&'static str] {
+    match command {
+        "check" => &["FILE", "SCENARIO", "RUN"],
+        "verify" => &["FILE", "SCENARIO", "RECORD"],
+        "make" => &["N"],
+        _ => &["FILE", "SCENARIO"],
+    }
+}
+
 /// Puts which words are missing, if more of them would be taken.
 fn put_missing(
     alloc: Global,
@@ -122,20 +135,24 @@ fn put_missing(
     command: &str,
     words: &[&str],
 ) -> Result<(), AllocError> {
-    let reads_run = command == "check";
-    text.push_str(match (reads_run, missing(alloc, words)?) {
-        (false, 1) => "SCENARIO is missing after FILE\n",
-        (false, 2) => "FILE and SCENARIO are missing\n",
-        (true, 1) => "RUN is missing after SCENARIO\n",
-        (true, 2) => "SCENARIO and RUN are missing after FILE\n",
-        (true, 3) => "FILE, SCENARIO and RUN are missing\n",
-        _ => "these words can't stand together\n",
-    })
+    let names = words_of(command);
+    let count = names.len().saturating_sub(missing(alloc, words)?);
+    let (given, wanted) = names.split_at(count);
+    match wanted {
+        [] => return text.push_str("these words can't stand together\n"),
+        [one] => write!(text, "{one} is missing")?,
+        [one, two] => write!(text, "{one} and {two} are missing")?,
+        [one, two, three, ..] => write!(text, "{one}, {two} and {three} are missing")?,
+    }
+    match given.last() {
+        Some(name) => write!(text, " after {name}\n"),
+        None => text.push_str("\n"),
+    }
 }
 
-/// How many more words would be taken, up to 3; 0 if none would.
+/// How many more words would be taken, up to 3; 0 if none would. Each command takes the word 1, also for a number.
 fn missing(alloc: Global, words: &[&str]) -> Result<usize, AllocError> {
-    let more = ["x", "x", "x"];
+    let more = ["1", "1", "1"];
     for count in 1..4 {
         if is_taken(read_with(alloc, words, &more[..count])?) {
             return Ok(count);
@@ -186,9 +203,7 @@ fn read_with(alloc: Global, words: &[&str], more: &[&str]) -> Result<Asked, Allo
     match read_words(alloc, all.as_slice())? {
         Request::Help(_) => Ok(Asked::Help),
         Request::Refused => Ok(Asked::Nothing),
-        Request::Topics | Request::Explain(_) | Request::Generate(_) | Request::Check(_) => {
-            Ok(Asked::Other)
-        }
+        _ => Ok(Asked::Other),
     }
 }
 

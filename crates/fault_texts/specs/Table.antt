@@ -18,7 +18,6 @@ said_of_fault FaultCode.Number = said lexical.NUMBER.0.now lexical.NUMBER.1.now 
 said_of_fault FaultCode.Deep = said lexical.DEEP.0.now lexical.DEEP.1.now lexical.DEEP.2.now lexical.DEEP.3.now lexical.DEEP.4.now
 said_of_fault FaultCode.Syntax = said grammar.SYNTAX.0.now grammar.SYNTAX.1.now grammar.SYNTAX.2.now grammar.SYNTAX.3.now grammar.SYNTAX.4.now
 said_of_fault FaultCode.LeftOut = said grammar.LEFT_OUT.0.now grammar.LEFT_OUT.1.now grammar.LEFT_OUT.2.now grammar.LEFT_OUT.3.now grammar.LEFT_OUT.4.now
-said_of_fault FaultCode.NotYet = said grammar.NOT_YET.0.now grammar.NOT_YET.1.now grammar.NOT_YET.2.now grammar.NOT_YET.3.now grammar.NOT_YET.4.now
 said_of_fault FaultCode.MissingImport = said meaning.MISSING_IMPORT.0.now meaning.MISSING_IMPORT.1.now meaning.MISSING_IMPORT.2.now meaning.MISSING_IMPORT.3.now meaning.MISSING_IMPORT.4.now
 said_of_fault FaultCode.TooManyFiles = said meaning.TOO_MANY_FILES.0.now meaning.TOO_MANY_FILES.1.now meaning.TOO_MANY_FILES.2.now meaning.TOO_MANY_FILES.3.now meaning.TOO_MANY_FILES.4.now
 said_of_fault FaultCode.Twice = said meaning.TWICE.0.now meaning.TWICE.1.now meaning.TWICE.2.now meaning.TWICE.3.now meaning.TWICE.4.now

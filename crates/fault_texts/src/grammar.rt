@@ -42,24 +42,3 @@ pub(crate) const LEFT_OUT: Texts = texts! {
         "name.",
     ],
 };
-
-pub(crate) const NOT_YET: Texts = texts! {
-    title: "this isn't built yet",
-    meaning: [
-        "The source has no fault that `osc` looks for, but `osc` can't go on with the",
-        "scenario today. It runs scenarios whose members go in pairs: a field of type",
-        "`int`, then a `keep` of its range. Such a scenario has no owner, it inherits",
-        "from nothing, and no extension adds members to it. The fault stands at the",
-        "scenario's name and comes last of all. This code goes when everything is",
-        "built.",
-    ],
-    example: [
-        "scenario top:",
-        "    y: float",
-    ],
-    answer: "fault 298 main.osc:1:10",
-    mending: [
-        "Use the form of docs/LANGUAGE.md, \"What is built today\", or wait for a later",
-        "version.",
-    ],
-};

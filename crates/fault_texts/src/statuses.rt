@@ -24,7 +24,7 @@ pub(crate) const TEXT: Texts = texts! {
         "`check` reads the text of a run, and `verify` reads a record. The answer is",
         "`text json` if a run is no JSON. It is `text` and a JSON pointer if a part of",
         "a run has a wrong shape. It is `text` and a number if that line of a record is",
-        "wrong. Today no command reads a record.",
+        "wrong.",
     ],
     example: [
         "echo '{' > run.json",
@@ -41,9 +41,9 @@ pub(crate) const SHELF: Texts = texts! {
     title: "a file isn't there, is too long or can't be read",
     meaning: [
         "The answer is `missing` and the name if the file isn't there. It is `long` and",
-        "the name if a source has more than 1,048,576 bytes, or a run more than",
-        "16,777,216. It is `shelf` and the name if the file can't be read, for example a",
-        "directory.",
+        "the name if a source has more than 1,048,576 bytes, a run more than 16,777,216,",
+        "or a record more than 268,435,456. It is `shelf` and the name if the file can't",
+        "be read, for example a directory.",
     ],
     example: [
         "osc generate none.osc top",

@@ -23,7 +23,6 @@ pub fn fault_text(code: FaultCode) -> CodeText
         FaultCode::Deep => CodeText::of(lexical::DEEP),
         FaultCode::Syntax => CodeText::of(grammar::SYNTAX),
         FaultCode::LeftOut => CodeText::of(grammar::LEFT_OUT),
-        FaultCode::NotYet => CodeText::of(grammar::NOT_YET),
         FaultCode::MissingImport => CodeText::of(meaning::MISSING_IMPORT),
         FaultCode::TooManyFiles => CodeText::of(meaning::TOO_MANY_FILES),
         FaultCode::Twice => CodeText::of(meaning::TWICE),

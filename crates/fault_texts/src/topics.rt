@@ -39,7 +39,7 @@ pub enum Topic {
 }
 
 /// All codes, in the order of their numbers.
-pub(crate) const CODES: [FaultCode; 29] = [
+pub(crate) const CODES: [FaultCode; 28] = [
     FaultCode::Utf8,
     FaultCode::Tab,
     FaultCode::Indent,
@@ -49,7 +49,6 @@ pub(crate) const CODES: [FaultCode; 29] = [
     FaultCode::Deep,
     FaultCode::Syntax,
     FaultCode::LeftOut,
-    FaultCode::NotYet,
     FaultCode::MissingImport,
     FaultCode::TooManyFiles,
     FaultCode::Twice,

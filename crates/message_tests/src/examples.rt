@@ -5,8 +5,8 @@ use std::alloc::{AllocError, Global};
 use std::process::Abort;
 use std::test::Fail;
 
-/// How many codes there are.
-const CODES: usize = 29;
+/// How many codes a source can have.
+const CODES: usize = 28;
 
 const GENERATE: [&str; 3] = ["generate", "main.osc", "top"];
 

@@ -55,19 +55,29 @@ fn words_after_a_command(rt: HostRuntime) -> Result<(), Fail> {
 
 #[test]
 fn first_words(rt: HostRuntime) -> Result<(), Fail> {
-    let rows: [(&[&str], &str); 7] = [
+    let rows: [(&[&str], &str); 11] = [
         (&[], "error: there is no command\n  = help: "),
         (
             &["genrate", "a.osc", "top"],
             "error: `genrate` is no command\n  = help: a command near it is `osc generate`\n",
         ),
         (
-            &["verify", "a.osc"],
-            "error: `verify` is no command\n  = help: `osc help` lists the commands.",
+            &["simulate", "a.osc"],
+            "error: `simulate` is no command\n  = help: `osc help` lists the commands.",
         ),
         (
             &["check", "a.osc"],
             "error: SCENARIO and RUN are missing after FILE\n",
+        ),
+        (
+            &["verify", "a.osc", "top"],
+            "error: RECORD is missing after SCENARIO\n",
+        ),
+        (&["flat"], "error: FILE and SCENARIO are missing\n"),
+        (&["make"], "error: N is missing\n"),
+        (
+            &["make", "17"],
+            "error: `osc make` doesn't take the word `17` here\n",
         ),
         (
             &["explain", "200"],
@@ -119,7 +129,7 @@ fn files_and_standard_output(rt: HostRuntime) -> Result<(), Fail> {
         &rt,
         &long,
         6,
-        "error: a source has at most 1048576 bytes and a run 16777216, unlike `main.osc`\n",
+        "error: a source has at most 1048576 bytes, a run 16777216 and a record 268435456, unlike `main.osc`\n",
     );
     Ok(())
 }

@@ -2,12 +2,12 @@
 use Rattle.std.proofs.Common.{◌≡◌, ◌∙◌, refl, sym, ap, ℕ, cond, List, [], ◌∷◌, Option, Some, None}
 use Rattle.std.specs.Prelude.{nat_eq}
 use Rattle.osc_base.specs.declared.fault.FaultCode.{FaultCode}
-use Rattle.osc_base.specs.declared.fault.FaultCode.TheVariants.{Utf8, Tab, Indent, Character, Text, Number, Deep, Syntax, LeftOut, NotYet, MissingImport, TooManyFiles, Twice, Unknown, Cycle, WrongKind, Clash, UnitClash, NotConstant, ZeroDivisor, BadArgument, TwoDo, ChoiceLabel, Wide, TooMany, NoScenario, TooLarge, Ambiguous, Index}
+use Rattle.osc_base.specs.declared.fault.FaultCode.TheVariants.{Utf8, Tab, Indent, Character, Text, Number, Deep, Syntax, LeftOut, MissingImport, TooManyFiles, Twice, Unknown, Cycle, WrongKind, Clash, UnitClash, NotConstant, ZeroDivisor, BadArgument, TwoDo, ChoiceLabel, Wide, TooMany, NoScenario, TooLarge, Ambiguous, Index}
 use Rattle.osc_base.specs.FaultCodes.{number_of}
 
 -- every code
 abbrev all : List FaultCode
-all = Utf8 ∷ Tab ∷ Indent ∷ Character ∷ Text ∷ Number ∷ Deep ∷ Syntax ∷ LeftOut ∷ NotYet ∷ MissingImport ∷ TooManyFiles
+all = Utf8 ∷ Tab ∷ Indent ∷ Character ∷ Text ∷ Number ∷ Deep ∷ Syntax ∷ LeftOut ∷ MissingImport ∷ TooManyFiles
     ∷ Twice ∷ Unknown ∷ Cycle ∷ WrongKind ∷ Clash ∷ UnitClash ∷ NotConstant ∷ ZeroDivisor ∷ BadArgument ∷ TwoDo ∷ ChoiceLabel
     ∷ Wide ∷ TooMany ∷ NoScenario ∷ TooLarge ∷ Ambiguous ∷ Index ∷ []
 
@@ -26,7 +26,6 @@ each Number = refl
 each Deep = refl
 each Syntax = refl
 each LeftOut = refl
-each NotYet = refl
 each MissingImport = refl
 each TooManyFiles = refl
 each Twice = refl

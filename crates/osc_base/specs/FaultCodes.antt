@@ -13,7 +13,6 @@ number_of FaultCode.Number = 106
 number_of FaultCode.Deep = 107
 number_of FaultCode.Syntax = 201
 number_of FaultCode.LeftOut = 202
-number_of FaultCode.NotYet = 298
 number_of FaultCode.MissingImport = 301
 number_of FaultCode.TooManyFiles = 302
 number_of FaultCode.Twice = 311

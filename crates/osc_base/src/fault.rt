@@ -37,8 +37,6 @@ pub enum FaultCode {
     Syntax = 201,
     /// A word of the full language that this profile leaves out.
     LeftOut = 202,
-    /// What the asked command needs isn't built yet.
-    NotYet = 298,
     /// An import of a file that isn't there.
     MissingImport = 301,
     /// An import that brings one file more than 64.

@@ -39,7 +39,7 @@ impl Path {
     pub fn copy(&self, alloc: Global) -> Result<Path, AllocError>
         ensures { IfOk result (λ p. p ≡ self.now) }
     {
-        let mut steps = Row::new(alloc);
+        let mut steps = Row::with_room(alloc, self.steps.as_slice().len())?;
         for step in self.steps.as_slice() {
             steps.push(step.copy(alloc)?)?;
         }

@@ -39,7 +39,7 @@ fn read_later(alloc: Global, first: Front<'_>) -> Result<Option<Path>, AllocErro
     ensures found { IfOk result (λ r. IfSome r (λ p. texts.Continues first.entry.step first.entry.left.now p)) }
     ensures none { IfOk result (λ r. r ≡ None → (p : Path) → texts.Continues first.entry.step first.entry.left.now p → ⊥) }
 {
-    let mut steps = Row::new(alloc);
+    let mut steps = Row::with_room(alloc, step_room(first.left))?;
     let mut of_member = is_before_member(&first.step);
     let mut left = first.left;
     steps.push(first.step)?;
@@ -52,6 +52,14 @@ fn read_later(alloc: Global, first: Front<'_>) -> Result<Option<Path>, AllocErro
         steps.push(next.step)?;
     }
     Ok(Some(Path { steps }))
+}
+
+/// Room for a step and those of the text that is left: each begins with `.` or `[`.
+fn step_room(left: &[u8]) -> usize {
+    left.iter()
+        .filter(|byte| matches!(**byte, b'.' | b'['))
+        .count()
+        .saturating_add(1)
 }
 
 /// A number after this step is that of a member.

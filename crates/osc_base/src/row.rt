@@ -1,4 +1,4 @@
-ghost use Rattle.std.specs.Prelude.{◌≡◌, [], ◌∷◌, ◌++◌, OnOk, OnErr};
+ghost use Rattle.std.specs.Prelude.{◌≡◌, [], ◌∷◌, ◌++◌, IfOk, OnOk, OnErr};
 
 use std::alloc::{AllocError, Global};
 use std::hash::{Hash, Hasher};
@@ -36,6 +36,15 @@ impl<T> Row<T> {
         Row {
             items: Vec::new(alloc),
         }
+    }
+
+    /// The empty row, with room for `count` items.
+    pub fn with_room(alloc: Global, count: usize) -> Result<Row<T>, AllocError>
+        ensures { IfOk result (λ r. r ≡ []) }
+    {
+        Ok(Row {
+            items: Vec::with_capacity(alloc, count)?,
+        })
     }
 
     /// The items in order.

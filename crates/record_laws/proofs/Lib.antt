@@ -1,5 +1,5 @@
-mod Accepting
+pub mod Accepting
 mod Apart
 mod Points
-mod Short
+pub mod Short
 mod Worked

@@ -1,5 +1,5 @@
 -- Reading line after line, and what is known of a text when reading stops.
-use Rattle.std.proofs.Common.{◌≡◌, sym, ◌∙◌, subst, ℕ, ◌+◌, true, List, [], ◌∷◌, ◌++◌, length, Option, Some, None, Result, Ok, Err, IfErr, arith}
+use Rattle.std.proofs.Common.{◌≡◌, refl, sym, ◌∙◌, subst, ℕ, ◌+◌, true, List, [], ◌∷◌, ◌++◌, length, Option, Some, None, Result, Ok, Err, IfErr, arith}
 use Rattle.std.specs.Result.{IsErrAnd}
 use Rattle.std.proofs.lemmas.List.{length-append}
 use Rattle.record_text.specs.declared.line.TextLine.{TextLine}
@@ -56,6 +56,13 @@ stopped lines wanted y l m n r b no_end next (V.BadLine k) s = (
         omega (arith, within_before (text_of lines) fresh.unread y.unread l m r.gives s.0.within text (fresh_rest l text e)),
       ),
   s.1,
+  let may = s.0.may_come in
+      let number : length lines + 1 ≡ k = omega (arith, s.0.number, r.counted) in
+      record {
+        text = text_of lines ++ may.bytes;
+        bad = subst (IsFirstBadLine (text_of lines ++ may.bytes)) number (bad_line lines wanted (text_of lines ++ may.bytes) may.bytes b no_end next refl may.because);
+        within = omega (arith, may.few, r.gives.given, length-append (text_of lines) may.bytes);
+      },
 )
 stopped lines wanted y l m n r b no_end next V.Memory s = tt
 

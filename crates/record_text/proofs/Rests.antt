@@ -1,7 +1,7 @@
 -- Reading the cuts and leaves of a record and its end.
 use Rattle.std.proofs.Common.{◌≡◌, refl, sym, ap, ◌∙◌, subst, ℕ, ◌+◌, ◌<◌, ◌≤◌, true, false, Bool, not, ◌&&◌, if◌then◌else◌, ◌≢◌, List, [], ◌∷◌, ◌++◌, length, map, Option, Some, Result, Ok, Err, IfErr, OnOk, arith, append_assoc}
 use Rattle.std.specs.Result.{IsErrAnd}
-use Rattle.std.proofs.lemmas.List.{append-nil, map-append}
+use Rattle.std.proofs.lemmas.List.{append-nil, length-append, map-append}
 use Rattle.std.proofs.lemmas.Bool.{false≢true}
 use Rattle.outside_io.specs.Files.{NothingLeft}
 use Rattle.box_eval.specs.declared.record.Line.{Line}
@@ -151,6 +151,7 @@ rest_read lines n m x y z a b c d line g none end_ few empty nothing = record {
       let all : text ≡ text_of (before ++ (map text_line lines ++ T.End ∷ [])) =
       t.2 ∙ (ap (λ (bs : List ℕ). text_of (before ++ (map text_line lines ++ T.End ∷ [])) ++ bs) (empty t.0 t.1) ∙ append-nil (text_of (before ++ (map text_line lines ++ T.End ∷ [])))) in
       (all, omega (arith, few, whole.gives.given, ap (λ (bs : List ℕ). length bs) all));
+  fits = λ before first r. let whole = end_read lines n m x y z a b c line g none end_ before first r in omega (arith, few, whole.gives.given);
   nothing = nothing;
 }
 
@@ -161,23 +162,30 @@ stopped_after lines n m x y z a b c d line V.Shelf g none end_ s h before first 
 stopped_after lines n m x y z a b c d line V.TooLong g none end_ s h before first r nodes same = λ text e.
     let whole = end_read lines n m x y z a b c line g none end_ (lines_so_far h before) first r in
     omega (arith, too_long_before _ fresh.unread z.unread first c whole.gives s text (fresh_rest first text e))
-stopped_after lines n m x y z a b c d line (V.BadLine k) g none end_ s h before first r nodes same = (
-  λ text e.
-      let whole = end_read lines n m x y z a b c line g none end_ (lines_so_far h before) first r in
-      let t = rest_then _ z first c text whole.gives e in
-      let is_end = subst (λ (l : TextLine). wants (wanted_after m) l ≡ true) (end_line m line none end_.is_wanted) end_.is_wanted in
-      let all = g.nodes before nodes in
-      let tree = last_tree (before ++ lines) m all none in
-      let record_of = ended h (before ++ lines) m tree.0 all (g.undecided ∙ same) none is_end tree.1 tree.2 in
-      let lines_are = record_is h before lines in
-      let short = subst AllShort (sym lines_are) whole.short in
-      let spelled = t.2 ∙ ap (λ (ls : List TextLine). text_of ls ++ t.0) (sym lines_are) in
-      let number : length (record_lines (claim_of h (before ++ lines))) + 1 ≡ k = omega (arith, s.0.number, whole.counted, ap (λ (ls : List TextLine). length ls) lines_are) in (
-        subst (IsFirstBadLine text) number (bad_after (claim_of h (before ++ lines)) tree.0 text t.0 record_of short spelled (s.0.because t.0 t.1)),
-        omega (arith, within_before _ fresh.unread z.unread first c whole.gives s.0.within text (fresh_rest first text e)),
-      ),
-  s.1,
-)
+stopped_after lines n m x y z a b c d line (V.BadLine k) g none end_ s h before first r nodes same =
+    let whole = end_read lines n m x y z a b c line g none end_ (lines_so_far h before) first r in
+    let is_end = subst (λ (l : TextLine). wants (wanted_after m) l ≡ true) (end_line m line none end_.is_wanted) end_.is_wanted in
+    let all = g.nodes before nodes in
+    let tree = last_tree (before ++ lines) m all none in
+    let record_of = ended h (before ++ lines) m tree.0 all (g.undecided ∙ same) none is_end tree.1 tree.2 in
+    let lines_are = record_is h before lines in
+    let short = subst AllShort (sym lines_are) whole.short in
+    let number : length (record_lines (claim_of h (before ++ lines))) + 1 ≡ k = omega (arith, s.0.number, whole.counted, ap (λ (ls : List TextLine). length ls) lines_are) in
+    let bad : (text rest : List ℕ) → text ≡ text_of (lines_so_far h before ++ (map text_line lines ++ T.End ∷ [])) ++ rest → rest ≢ [] → IsFirstBadLine text k =
+    λ text rest spelled more. subst (IsFirstBadLine text) number
+    (bad_after (claim_of h (before ++ lines)) tree.0 text rest record_of short (spelled ∙ ap (λ (ls : List TextLine). text_of ls ++ rest) (sym lines_are)) more) in (
+      λ text e.
+          let t = rest_then _ z first c text whole.gives e in (
+            bad text t.0 t.2 (s.0.because t.0 t.1),
+            omega (arith, within_before _ fresh.unread z.unread first c whole.gives s.0.within text (fresh_rest first text e)),
+          ),
+      s.1,
+      record {
+        text = text_of (lines_so_far h before ++ (map text_line lines ++ T.End ∷ [])) ++ s.0.may_come.bytes;
+        bad = bad _ s.0.may_come.bytes refl s.0.may_come.because;
+        within = omega (arith, s.0.may_come.few, whole.gives.given, length-append (text_of (lines_so_far h before ++ (map text_line lines ++ T.End ∷ []))) s.0.may_come.bytes);
+      },
+    )
 stopped_after lines n m x y z a b c d line V.Memory g none end_ s h before first r nodes same = tt
 
 -- and the same after more cuts and leaves

@@ -1,6 +1,6 @@
 -- A text in which no wanted line was found begins with none.
-use Rattle.std.proofs.Common.{◌≡◌, refl, sym, ap, ◌∙◌, subst, ℕ, ◌+◌, true, List, [], ◌∷◌, ◌++◌, Option, Some, None, append_assoc, ◌≢◌, arith, Result, Ok, Err, IfErr}
-use Rattle.std.proofs.lemmas.List.{append-nil}
+use Rattle.std.proofs.Common.{◌≡◌, refl, sym, ap, ◌∙◌, subst, ℕ, ◌+◌, ◌≤◌, true, List, [], ◌∷◌, ◌++◌, length, Option, Some, None, append_assoc, ◌≢◌, arith, Result, Ok, Err, IfErr}
+use Rattle.std.proofs.lemmas.List.{append-nil, length-append}
 use Rattle.std.proofs.lemmas.Bool.{false≢true}
 use Rattle.record_text.specs.declared.line.TextLine.{TextLine}
 use Rattle.record_text.specs.declared.found.Found.{Found}
@@ -14,8 +14,8 @@ use Rattle.record_text.specs.declared.stop.SourceStop.TheVariants as S
 use Rattle.outside_io.specs.Files.{NothingLeft}
 use Rattle.record_text.specs.Stops.{told}
 use Rattle.std.specs.Result.{IsErrAnd}
-use Rattle.record_text.specs.Source.{Unread, rest_of, Gives, IsAtEnd, IsTooLong, IsWithin}
-use Rattle.record_text.specs.Reader.{wants, wanted_line, IsFound, Finds, NoneWanted, Reading, GivesLine, Stops}
+use Rattle.record_text.specs.Source.{limit, Unread, rest_of, Gives, IsAtEnd, IsTooLong, IsWithin}
+use Rattle.record_text.specs.Reader.{wants, wanted_line, IsFound, Finds, NoneWanted, Reading, GivesLine, MayCome, Stops}
 use Rattle.record_text.proofs.LineSpelling.{spelled_no_feed, same_line, line_unique}
 use Rattle.record_text.proofs.Spelling.{chosen}
 use Rattle.record_text.proofs.Reading.{left_after, end_rest, within_before, too_long_before}
@@ -82,24 +82,28 @@ source_stops (Err e) S.Shelf reason before l m h too = subst (λ (s : VerifyStop
 source_stops (Err e) S.TooLong reason before l m h too = subst (λ (s : VerifyStop). Stops s reason before l m) (sym h) (too refl)
 
 refuses : (reason : List ℕ → Type 0) (before : Reading) (l m : Option (List ℕ)) (stop : VerifyStop) → stop ≡ BadLine (before.lines + 1)
-    → ((rest : List ℕ) → rest_of before.unread l ≡ Some rest → reason rest) → IsWithin before.unread l → NothingLeft m → Stops stop reason before l m
-refuses reason before l m stop is because within nothing =
-    subst (λ (s : VerifyStop). Stops s reason before l m) (sym is) (record { number = refl; because = because; within = within }, nothing)
+    → ((rest : List ℕ) → rest_of before.unread l ≡ Some rest → reason rest) → IsWithin before.unread l → MayCome reason before → NothingLeft m → Stops stop reason before l m
+refuses reason before l m stop is because within may_come nothing =
+    subst (λ (s : VerifyStop). Stops s reason before l m) (sym is) (record { number = refl; because = because; within = within; may_come = may_come }, nothing)
+
+-- at the end of a text no wanted line comes
+none_at_end : (wanted : Wanted) → NoneWanted wanted []
+none_at_end wanted line later short is same = let counts : 0 ≡ length (spelled line ++ 10 ∷ later) = ap (λ (bs : List ℕ). length bs) same in let never : ⊥ = omega (arith, counts, length-append (spelled line) (10 ∷ later)) in never
 
 pub refuses_none : (wanted : Wanted) (found : Found) (before : Reading) (x y z : Unread) (n : ℕ) (l m k : Option (List ℕ)) (stop : VerifyStop) → Finds found x y l m
-    → wanted_line wanted found ≡ None → before ≡ record { unread = x; lines = n } → IsWithin y m → IsAtEnd z k → stop ≡ BadLine (n + 1) → Stops stop (NoneWanted wanted) before l k
-refuses_none wanted found before x y z n l m k stop f none is within end_ bad =
+    → wanted_line wanted found ≡ None → before ≡ record { unread = x; lines = n } → y.given ≤ limit → IsWithin y m → IsAtEnd z k → stop ≡ BadLine (n + 1) → Stops stop (NoneWanted wanted) before l k
+refuses_none wanted found before x y z n l m k stop f none is few within end_ bad =
     subst (λ (b : Reading). Stops stop (NoneWanted wanted) b l k) (sym is)
     (refuses (NoneWanted wanted) (record { unread = x; lines = n }) l k stop bad (none_wanted wanted found x y l m f none)
-    (within_before _ x y l m f.gives within) end_.nothing)
+    (within_before _ x y l m f.gives within) (record { bytes = []; because = none_at_end wanted; few = omega (arith, few, f.gives.given) }) end_.nothing)
 
 pub refuses_more : (b : ℕ) (before : Reading) (x y z : Unread) (n : ℕ) (l m k : Option (List ℕ)) (stop : VerifyStop) → Gives (b ∷ []) x y l m
-    → before ≡ record { unread = x; lines = n } → IsWithin y m → IsAtEnd z k → stop ≡ BadLine (n + 1) → Stops stop (λ (rest : List ℕ). rest ≢ []) before l k
-refuses_more b before x y z n l m k stop g is within end_ bad =
+    → before ≡ record { unread = x; lines = n } → y.given ≤ limit → IsWithin y m → IsAtEnd z k → stop ≡ BadLine (n + 1) → Stops stop (λ (rest : List ℕ). rest ≢ []) before l k
+refuses_more b before x y z n l m k stop g is few within end_ bad =
     subst (λ (r : Reading). Stops stop (λ (rest : List ℕ). rest ≢ []) r l k) (sym is)
     (refuses (λ (rest : List ℕ). rest ≢ []) (record { unread = x; lines = n }) l k stop bad
     (λ rest known empty. let r = left_after (b ∷ []) (rest_of y m) rest (sym g.rest ∙ known) in let never : b ∷ r.0 ≡ [] = sym r.2 ∙ empty in cc)
-    (within_before _ x y l m g within) end_.nothing)
+    (within_before _ x y l m g within) (record { bytes = b ∷ []; because = λ empty. cc; few = omega (arith, few, g.given) }) end_.nothing)
 
 -- too many bytes after some that were read
 pub too_long_at : (a : List ℕ) (before : Reading) (x y : Unread) (n : ℕ) (l m : Option (List ℕ)) → Gives a x y l m → before ≡ record { unread = x; lines = n }

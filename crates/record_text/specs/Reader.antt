@@ -1,5 +1,5 @@
 -- What the reader of a record looks for, and what it answers.
-use Rattle.std.specs.Prelude.{◌≡◌, ℕ, ◌+◌, Bool, true, false, if◌then◌else◌, List, [], ◌∷◌, ◌++◌, Option, Some, None, ⊤}
+use Rattle.std.specs.Prelude.{◌≡◌, ℕ, ◌+◌, ◌≤◌, Bool, true, false, if◌then◌else◌, List, [], ◌∷◌, ◌++◌, length, Option, Some, None, ⊤}
 use Rattle.record_text.specs.declared.line.TextLine.{TextLine}
 use Rattle.record_text.specs.declared.line.TextLine.TheVariants as T
 use Rattle.record_text.specs.declared.found.Found.{Found}
@@ -11,7 +11,7 @@ use Rattle.record_text.specs.declared.stop.VerifyStop.TheVariants as V
 use Rattle.outside_io.specs.Files.{NothingLeft}
 use Rattle.record_text.specs.Lines.{IsShort, spelled, NoFeed}
 use Rattle.record_text.specs.Scan.{line_at}
-use Rattle.record_text.specs.Source.{Unread, rest_of, Gives, IsAtEnd, IsTooLong, IsWithin}
+use Rattle.record_text.specs.Source.{limit, Unread, rest_of, Gives, IsAtEnd, IsTooLong, IsWithin}
 
 -- the lines that are wanted
 abbrev pub wants : Wanted → TextLine → Bool
@@ -79,11 +79,18 @@ pub record GivesLine (line : TextLine) (wanted : Wanted) (before after : Reading
   pub gives : Gives (spelled line ++ 10 ∷ []) before.unread after.unread left left_after
   pub counted : after.lines ≡ before.lines + 1
 
+-- Some bytes may come after those that were read for which the reason holds. It is known of a shelf that tells nothing too.
+pub record MayCome (reason : List ℕ → Type 0) (reading : Reading) : Type 0 where
+  pub bytes : List ℕ
+  pub because : reason bytes
+  pub few : reading.unread.given + length bytes ≤ limit
+
 -- the line after those that were read is bad, for this reason, and the text has no more bytes than it may
 pub record Refuses (line : ℕ) (reason : List ℕ → Type 0) (reading : Reading) (left : Option (List ℕ)) : Type 0 where
   pub number : line ≡ reading.lines + 1
   pub because : (rest : List ℕ) → rest_of reading.unread left ≡ Some rest → reason rest
   pub within : IsWithin reading.unread left
+  pub may_come : MayCome reason reading
 
 -- why no line was read: the shelf failed, there are too many bytes, or the line is bad and the text was read to its end
 abbrev pub Stops : VerifyStop → (List ℕ → Type 0) → Reading → Option (List ℕ) → Option (List ℕ) → Type 0

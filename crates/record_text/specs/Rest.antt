@@ -62,4 +62,5 @@ pub record HasRest (n n_after : Nodes) (r : Reading) (left left_after : Option (
   pub is_end : wants (wanted_after n_after) T.End ≡ true
   pub ends : (before : List TextLine) → (first : Option (List ℕ)) → HasRead before fresh r first left
       → (text : List ℕ) → first ≡ Some text → (text ≡ text_of (before ++ (map text_line lines ++ T.End ∷ []))) × (length text ≤ limit)
+  pub fits : (before : List TextLine) → (first : Option (List ℕ)) → HasRead before fresh r first left → length (text_of (before ++ (map text_line lines ++ T.End ∷ []))) ≤ limit
   pub nothing : NothingLeft left_after

@@ -8,13 +8,14 @@ use Rattle.box_eval.specs.declared.record.Line.{Line}
 use Rattle.box_eval.specs.Record.{Tree, lines_of, has_open, cuts_of, accepts, AllTrue, IsFirstFalse, marks, IsRecordOf, IsAcceptedAs}
 use Rattle.box_eval.proofs.Lines.{same_tree}
 use Rattle.box_eval.proofs.Empty.{refutation_empty}
+use Rattle.record_text.specs.declared.line.TextLine.{TextLine}
 use Rattle.record_text.specs.declared.line.TextLine.TheVariants as T
 use Rattle.record_text.specs.declared.stop.VerifyStop.{VerifyStop}
 use Rattle.record_text.specs.declared.nodes.Nodes.{Nodes}
 use Rattle.record_text.specs.declared.header.Header.{Header}
 use Rattle.record_text.specs.Lines.{text_of, AllShort}
 use Rattle.record_text.specs.Reader.{Reading}
-use Rattle.record_text.specs.Text.{text_line, IsTextOf}
+use Rattle.record_text.specs.Text.{text_line, record_text, IsTextOf}
 use Rattle.record_text.specs.Nodes.{no_nodes, AreRead, lines_so_far}
 use Rattle.record_text.specs.Progress.{fresh, HasRead, Stopped}
 use Rattle.record_text.specs.Rest.{AreFew, StoppedFrom, HasRest}
@@ -29,7 +30,7 @@ use Rattle.refute_check.specs.declared.check.Verified.{Verified}
 use Rattle.refute_check.specs.declared.check.Verified.TheVariants as V
 use Rattle.refute_check.specs.Walk.{place, marks_at, places_after}
 use Rattle.refute_check.specs.Judged.{whole, Judges, HasWalked}
-use Rattle.refute_check.specs.Answers.{Answers, marks_so_far, first_refused, refused_header, JudgesAll, HasJudged, verdict_of}
+use Rattle.refute_check.specs.Answers.{Answers, SomeVerified, IsRefusedAt, marks_so_far, first_refused, refused_header, JudgesAll, HasJudged, verdict_of}
 use Rattle.refute_check.proofs.Walks.{tree_marks, marks_both}
 
 -- ---- the header
@@ -143,15 +144,22 @@ module _ (flat : Flat) (h : Header) (refused : Option ℕ) (m k : Nodes) (x y : 
   record_of : IsRecordOf (claim_of h lines) tree.0
   record_of = ended h lines k tree.0 nodes (rest.nodes.undecided ∙ j.nodes.undecided) rest.none_left rest.is_end tree.1 tree.2
 
+  -- the text that was read, told or not
+  own : IsTextOf (record_text (claim_of h lines)) (claim_of h lines) tree.0
+  own = record {
+    record_of = record_of;
+    short = subst AllShort (sym (record_is h j.lines rest.lines)) (short_both (lines_so_far h j.lines) (map text_line rest.lines ++ T.End ∷ []) read.short
+        (short_both (map text_line rest.lines) (T.End ∷ []) rest.nodes.read.short (tt, tt)));
+    spelled = refl;
+  }
+
+  own_within : length (record_text (claim_of h lines)) ≤ limit
+  own_within = subst (λ (ls : List TextLine). length (text_of ls) ≤ limit) (sym (record_is h j.lines rest.lines)) (rest.fits (lines_so_far h j.lines) first read)
+
   told : (text : List ℕ) → first ≡ Some text → IsTextOf text (claim_of h lines) tree.0 × (length text ≤ limit)
   told text is =
       let e = rest.ends (lines_so_far h j.lines) first read text is in (
-        record {
-          record_of = record_of;
-          short = subst AllShort (sym (record_is h j.lines rest.lines)) (short_both (lines_so_far h j.lines) (map text_line rest.lines ++ T.End ∷ []) read.short
-              (short_both (map text_line rest.lines) (T.End ∷ []) rest.nodes.read.short (tt, tt)));
-          spelled = e.0 ∙ ap text_of (sym (record_is h j.lines rest.lines));
-        },
+        record { record_of = record_of; short = own.short; spelled = e.0 ∙ ap text_of (sym (record_is h j.lines rest.lines)) },
         e.1,
       )
 
@@ -200,27 +208,68 @@ module _ (flat : Flat) (h : Header) (refused : Option ℕ) (m k : Nodes) (x y : 
         ),
       )
 
-  answer_refused : (line i : ℕ) → IsFirstFalse (marks_so_far flat h j.lines) i → line ≡ i + 1 → Answers flat (verdict_of (Some line) k) first
-  answer_refused line i f number = λ text is. let t = told text is in (
-    record {
-      claim = claim_of h lines;
-      tree = tree.0;
-      text_of = t.0;
-      before = i;
-      number = number;
-      first = subst (λ (bs : List Bool). IsFirstFalse bs i) (sym (marks_are flat h lines tree.0 tree.1 ∙ more)) (first_false_front (marks_so_far flat h j.lines) _ i f);
-    },
-    t.1,
-  )
+  some_accepted : AllTrue (marks_so_far flat h j.lines) → m.left ≡ 0 → SomeVerified flat (verdict_of None k)
+  some_accepted all none = by_open k.some_open refl
     where
-      more : marks_so_far flat h lines ≡ marks_so_far flat h j.lines ++ marks_at flat.rules h.room (places_after (whole flat) j.lines) rest.lines
-      more = ap (λ (bs : List Bool). true ∷ nat_eq h.slots (length flat.bounds.pairs) ∷ nat_eq h.rules (length flat.rules) ∷ nat_le h.room 1000000 ∷ bs)
-          (marks_both flat.rules h.room (whole flat) j.lines rest.lines)
+      by_open : (o : Bool) → k.some_open ≡ o → SomeVerified flat (if o then V.Open k.cuts else V.Refuted)
+      by_open true e = record {
+        text = record_text (claim_of h lines);
+        answer = record {
+          claim = claim_of h lines;
+          tree = tree.0;
+          text_of = own;
+          accepted = accepted all none;
+          some_open = tree.2 ∙ e;
+          cuts_are = tree.3;
+        };
+        within = own_within;
+      }
+      by_open false e = record {
+        text = record_text (claim_of h lines);
+        answer = record {
+          claim = claim_of h lines;
+          tree = tree.0;
+          text_of = own;
+          accepted = accepted all none;
+          closed = tree.2 ∙ e;
+        };
+        within = own_within;
+      }
+
+  -- some line was refused
+  marks_more : marks_so_far flat h lines ≡ marks_so_far flat h j.lines ++ marks_at flat.rules h.room (places_after (whole flat) j.lines) rest.lines
+  marks_more = ap (λ (bs : List Bool). true ∷ nat_eq h.slots (length flat.bounds.pairs) ∷ nat_eq h.rules (length flat.rules) ∷ nat_le h.room 1000000 ∷ bs)
+      (marks_both flat.rules h.room (whole flat) j.lines rest.lines)
+
+  refused_at : (text : List ℕ) (line i : ℕ) → IsTextOf text (claim_of h lines) tree.0 → IsFirstFalse (marks_so_far flat h j.lines) i → line ≡ i + 1 → IsRefusedAt flat text line
+  refused_at text line i text_of_ f number = record {
+    claim = claim_of h lines;
+    tree = tree.0;
+    text_of = text_of_;
+    before = i;
+    number = number;
+    first = subst (λ (bs : List Bool). IsFirstFalse bs i) (sym (marks_are flat h lines tree.0 tree.1 ∙ marks_more)) (first_false_front (marks_so_far flat h j.lines) _ i f);
+  }
+
+  some_refused : (line i : ℕ) → IsFirstFalse (marks_so_far flat h j.lines) i → line ≡ i + 1 → SomeVerified flat (verdict_of (Some line) k)
+  some_refused line i f number = record {
+    text = record_text (claim_of h lines);
+    answer = refused_at (record_text (claim_of h lines)) line i own f number;
+    within = own_within;
+  }
+
+  answer_refused : (line i : ℕ) → IsFirstFalse (marks_so_far flat h j.lines) i → line ≡ i + 1 → Answers flat (verdict_of (Some line) k) first
+  answer_refused line i f number = λ text is. let t = told text is in (refused_at text line i t.0 f number, t.1)
 
 answer_by : (flat : Flat) (h : Header) (refused : Option ℕ) (m k : Nodes) (x y : Reading) (first a b c : Option (List ℕ)) → HasRead (lines_so_far h []) fresh x first a
     → HasJudged flat h refused (no_nodes h.undecided) m x y a b → HasRest m k y b c → Answers flat (verdict_of refused k) first
 answer_by flat h None m k x y first a b c r j rest = answer_accepted flat h None m k x y first a b c r j rest j.judged.0 j.judged.1
 answer_by flat h (Some line) m k x y first a b c r j rest = answer_refused flat h (Some line) m k x y first a b c r j rest line j.judged.0 j.judged.1 j.judged.2
+
+some_by : (flat : Flat) (h : Header) (refused : Option ℕ) (m k : Nodes) (x y : Reading) (first a b c : Option (List ℕ)) → HasRead (lines_so_far h []) fresh x first a
+    → HasJudged flat h refused (no_nodes h.undecided) m x y a b → HasRest m k y b c → SomeVerified flat (verdict_of refused k)
+some_by flat h None m k x y first a b c r j rest = some_accepted flat h None m k x y first a b c r j rest j.judged.0 j.judged.1
+some_by flat h (Some line) m k x y first a b c r j rest = some_refused flat h (Some line) m k x y first a b c r j rest line j.judged.0 j.judged.1 j.judged.2
 
 -- the same in the words of `checked`
 pub answer : (flat : Flat) (h : Header) (refused : Option ℕ) (n m k : Nodes) (v : Verified) (start x y : Reading) (first a b c : Option (List ℕ)) → start ≡ fresh → HasRead (lines_so_far h []) start x first a
@@ -228,6 +277,13 @@ pub answer : (flat : Flat) (h : Header) (refused : Option ℕ) (n m k : Nodes) (
 answer flat h refused n m k v start x y first a b c start_is r n_is j rest v_is =
     subst (λ (w : Verified). Answers flat w first) (sym v_is)
     (answer_by flat h refused m k x y first a b c (subst (λ (s : Reading). HasRead (lines_so_far h []) s x first a) start_is r)
+    (subst (λ (q : Nodes). HasJudged flat h refused q m x y a b) n_is j) rest)
+
+pub some_answer : (flat : Flat) (h : Header) (refused : Option ℕ) (n m k : Nodes) (v : Verified) (start x y : Reading) (first a b c : Option (List ℕ)) → start ≡ fresh → HasRead (lines_so_far h []) start x first a
+    → n ≡ no_nodes h.undecided → HasJudged flat h refused n m x y a b → HasRest m k y b c → v ≡ verdict_of refused k → SomeVerified flat v
+some_answer flat h refused n m k v start x y first a b c start_is r n_is j rest v_is =
+    subst (SomeVerified flat) (sym v_is)
+    (some_by flat h refused m k x y first a b c (subst (λ (s : Reading). HasRead (lines_so_far h []) s x first a) start_is r)
     (subst (λ (q : Nodes). HasJudged flat h refused q m x y a b) n_is j) rest)
 
 -- an exit after the header

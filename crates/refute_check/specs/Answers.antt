@@ -42,6 +42,18 @@ pub record IsRefusedAt (flat : Flat) (text : List ℕ) (line : ℕ) : Type 0 whe
   pub number : line ≡ before + 1
   pub first : IsFirstFalse (marks flat claim tree) before
 
+-- the text has this answer
+abbrev pub IsAnswerTo : Flat → List ℕ → Verified → Type 0
+IsAnswerTo flat text V.Refuted = IsRefutationText flat text
+IsAnswerTo flat text (V.Open cuts) = IsOpenText flat text cuts
+IsAnswerTo flat text (V.No line) = IsRefusedAt flat text line
+
+-- Some text that isn't too long has this answer. It is known of a shelf that tells nothing too.
+pub record SomeVerified (flat : Flat) (verified : Verified) : Type 0 where
+  pub text : List ℕ
+  pub answer : IsAnswerTo flat text verified
+  pub within : length text ≤ limit
+
 -- what an answer says of the text, where it is told, and of the flat form
 abbrev pub Answers : Flat → Verified → Option (List ℕ) → Type 0
 Answers flat V.Refuted left = IsEmpty flat.rules flat.bounds.pairs × ((text : List ℕ) → left ≡ Some text → IsRefutationText flat text × (length text ≤ limit))

@@ -3,12 +3,12 @@ ghost use Rattle.outside_io.specs.Counts.{Rises};
 ghost use Rattle.outside_io.specs.Files.{NothingLeft};
 ghost use Rattle.box_eval.specs.Rules.{IsFlat, IsEmpty};
 ghost use Rattle.record_text.specs.Nodes.{no_nodes};
-ghost use Rattle.record_text.specs.Progress.{Stopped};
+ghost use Rattle.record_text.specs.Progress.{SomeBadText, Stopped};
 ghost use Rattle.record_text.specs.Rest.{AreFew, StoppedFrom};
 ghost use Rattle.record_text.specs.Source.{limit, ReadsOn};
 ghost use Rattle.record_text.specs.Stops.{shelf_failed};
 ghost use Rattle.record_text.specs.Text.{IsFirstBadLine};
-ghost use Rattle.refute_check.specs.Answers.{refused_header, verdict_of, HasJudged, Answers, IsRefutationText, IsOpenText, IsRefusedAt};
+ghost use Rattle.refute_check.specs.Answers.{refused_header, verdict_of, HasJudged, Answers, SomeVerified, IsRefutationText, IsOpenText, IsRefusedAt};
 
 use crate::stack::Stack;
 use crate::walk::walk;
@@ -37,6 +37,8 @@ pub enum Verified {
 /// The text is read to its end even after a line that is bad or isn't accepted. So a failing shelf and a text that is too
 /// long come before a bad line, and that before a line that isn't accepted. After the fourth line it takes memory for as
 /// many cuts as the record has room for, if the first four lines are accepted, and none after that.
+///
+/// Each answer about a text is that of some text, also of a shelf that tells nothing.
 pub fn verify<H: Shelf>(alloc: Global, flat: &Flat, shelf: &mut H) -> Result<Verified, VerifyStop>
     requires { IsFlat flat.now }
     ensures refuted { result ≡ Ok Verified.Refuted → IfSome (H.left shelf.old) (λ text. IsRefutationText flat.now text) }
@@ -49,6 +51,8 @@ pub fn verify<H: Shelf>(alloc: Global, flat: &Flat, shelf: &mut H) -> Result<Ver
     ensures too_long { result ≡ Err VerifyStop.TooLong → IfSome (H.left shelf.old) (λ text. limit < length text) }
     ensures within { OnOk result (IfSome (H.left shelf.old) (λ text. length text ≤ limit)) }
     ensures end { OnOk result (NothingLeft (H.left shelf.new)) }
+    ensures some_text { IfOk result (SomeVerified flat.now) }
+    ensures some_bad { (line : ℕ) → result ≡ Err (VerifyStop.BadLine line) → SomeBadText line }
 
     ensures fault { result ≡ Err VerifyStop.Shelf → NothingLeft (H.left shelf.new) }
     ensures cause { result ≡ Err VerifyStop.Shelf → Rises (H.faults shelf.old) (H.faults shelf.new) }
@@ -64,6 +68,7 @@ fn checked<H: Shelf>(alloc: Global, flat: &Flat, shelf: &mut H) -> Result<Verifi
     requires { IsFlat flat.now }
     ensures answer { IfOk result (λ verified. Answers flat.now verified (H.left shelf.old)) }
     ensures end { OnOk result (NothingLeft (H.left shelf.new)) }
+    ensures some_text { IfOk result (SomeVerified flat.now) }
     ensures stop { IfErr result (λ stop. Stopped stop (H.left shelf.old) (H.left shelf.new)) }
     ensures shelf { ReadsOn (H.files shelf.old) (H.files shelf.new) (H.left shelf.old) (H.left shelf.new) (H.faults shelf.old) (H.faults shelf.new) (shelf_failed result) }
 {

@@ -1,9 +1,4 @@
 pub mod Answers
-pub mod Checks
-pub mod Found
-pub mod PairForm
-pub mod Programs
-pub mod Ranges
-pub mod Replies
-pub mod SceneLimits
-pub mod Verdicts
+pub mod Laws
+pub mod Settings
+pub mod FoundSources

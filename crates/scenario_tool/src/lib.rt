@@ -1,17 +1,13 @@
 //! The top call of `osc`.
 #![tactic(auto)]
 
-mod check;
-mod generate;
+mod commands;
 mod laws;
-mod pair_form;
-mod replies;
-mod scenarios;
+mod made;
 mod settings;
-mod status;
+mod sources;
 mod top;
-mod verdicts;
 
-pub use laws::{one_answer, some_answer};
-pub use status::Status;
+pub use command_replies::Status;
+pub use laws::{never_both, one_answer, some_answer};
 pub use top::command;

@@ -1,13 +1,13 @@
-//! The setting that the words of a command give.
+//! The setting in which a command looks at a scene.
 
-ghost use Rattle.std.specs.Prelude.{◌≡◌};
-ghost use Rattle.scenario_tool.specs.SceneLimits.{scene_setting};
+ghost use Rattle.std.specs.Prelude.{◌≡◌, ◌≤◌};
+ghost use Rattle.scenario_tool.specs.Settings.{made_setting, scene_setting};
 
 use command_words::Setting as SettingWords;
 use composition::Setting;
 
 /// The length of a tick in milliseconds.
-pub const TICK: u32 = 100;
+const TICK: u32 = 100;
 
 /// The setting of a scene that these words ask for.
 pub fn scene_setting(words: SettingWords) -> Setting
@@ -17,6 +17,19 @@ pub fn scene_setting(words: SettingWords) -> Setting
         ticks: words.ticks,
         lanes: words.lanes,
         road: words.road,
+        tick: TICK,
+    }
+}
+
+/// The setting of the source that is made for so many vehicles.
+pub fn made_setting(count: u32) -> Setting
+    requires { count ≤ 16 }
+    ensures { result ≡ made_setting count }
+{
+    Setting {
+        ticks: 5 * count,
+        lanes: 3,
+        road: 1000,
         tick: TICK,
     }
 }

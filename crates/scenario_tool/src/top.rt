@@ -1,19 +1,15 @@
 ghost use Rattle.std.specs.Prelude.{◌≡◌, IfOk, map, string_bytes};
-ghost use Rattle.command_words.specs.Seen.{asked_by, checked_by};
-ghost use Rattle.command_words.specs.Shared.{IsSettingInRanges};
-ghost use Rattle.command_words.specs.Words.{Wanted, request};
-ghost use Rattle.scenario_tool.specs.Answers.{AnswersOrShelfFails, CountsOnce, IsAnswered, SomeInputs};
-ghost use Rattle.scenario_tool.specs.Found.{IsReplyToStop};
+ghost use Rattle.command_replies.specs.Shelves.{CountsOnce};
+ghost use Rattle.command_words.specs.Words.{request};
+ghost use Rattle.scenario_tool.specs.Answers.{AnswersOrShelfFails, IsAnswered, SomeInputs};
 
-use crate::check::check;
-use crate::generate::generate;
-use crate::replies::{Reply, done, failed_shelf, refused_source, words_refused};
-use crate::status::Status;
-use command_words::{CheckWords, GenerateWords, Request, read_words};
+use crate::commands::{reply_to_check, reply_to_flat, reply_to_generate, reply_to_verify};
+use crate::made::reply_to_make;
+use command_replies::{Reply, Status, done, words_refused};
+use command_words::{Request, read_words};
 use fault_texts::{explanation, topic_list};
 use osc_base::Text;
-use outside_io::{Shelf, Sink, write_all};
-use program_load::{LoadStop, load};
+use outside_io::{Shelf, Sink};
 use std::alloc::{AllocError, Global};
 
 /// Answers the words after the program's name: it reads the files that they name from `shelf`, writes its
@@ -39,8 +35,8 @@ pub fn command<H: Shelf, K: Sink>(
     let Ok(reply) = reply_to(alloc, words, shelf) else {
         return Status::OutOfMemory.number();
     };
-    match write_all(out, reply.text.as_str().as_bytes()) {
-        Ok(()) => reply.status.number(),
+    match reply.write(out) {
+        Ok(()) => reply.status().number(),
         Err(_) => Status::SinkFailed.number(),
     }
 }
@@ -58,52 +54,9 @@ fn reply_to<H: Shelf>(alloc: Global, words: &[String], shelf: &mut H) -> Result<
         Request::Explain(topic) => Ok(done(explanation(alloc, topic)?)),
         Request::Generate(asked) => reply_to_generate(alloc, asked, shelf),
         Request::Check(asked) => reply_to_check(alloc, asked, shelf),
+        Request::Verify(asked) => reply_to_verify(alloc, asked, shelf),
+        Request::Flat(asked) => reply_to_flat(alloc, asked, shelf),
+        Request::Make(asked) => reply_to_make(alloc, asked.count),
         Request::Refused => words_refused(alloc),
-    }
-}
-
-/// The reply to what `generate` is asked for.
-fn reply_to_generate<H: Shelf>(
-    alloc: Global,
-    asked: GenerateWords<'_>,
-    shelf: &mut H,
-) -> Result<Reply, AllocError>
-    ensures reply { IfOk result (λ reply. SomeInputs (H.files shelf.old) (λ inputs.
-        AnswersOrShelfFails inputs (Wanted.Generate (asked_by asked.entry)) (H.faults shelf.old) (H.faults shelf.new) reply)) }
-    ensures counted { CountsOnce (H.faults shelf.old) (H.faults shelf.new) }
-    ensures files_kept { H.files shelf.new ≡ H.files shelf.old }
-{
-    match load(alloc, shelf, asked.source.file) {
-        Ok(program) => generate(alloc, &program, asked),
-        Err(stop) => reply_to_stop(alloc, asked.source.file, &stop),
-    }
-}
-
-/// The reply to what `check` is asked for.
-fn reply_to_check<H: Shelf>(
-    alloc: Global,
-    asked: CheckWords<'_>,
-    shelf: &mut H,
-) -> Result<Reply, AllocError>
-    requires ranges { IsSettingInRanges asked.setting }
-    ensures reply { IfOk result (λ reply. SomeInputs (H.files shelf.old) (λ inputs.
-        AnswersOrShelfFails inputs (Wanted.Check (checked_by asked.entry)) (H.faults shelf.old) (H.faults shelf.new) reply)) }
-    ensures counted { CountsOnce (H.faults shelf.old) (H.faults shelf.new) }
-    ensures files_kept { H.files shelf.new ≡ H.files shelf.old }
-{
-    match load(alloc, shelf, asked.source.file) {
-        Ok(program) => check(alloc, &program, asked, shelf),
-        Err(stop) => reply_to_stop(alloc, asked.source.file, &stop),
-    }
-}
-
-/// The reply to why no program was loaded.
-fn reply_to_stop(alloc: Global, main: &str, stop: &LoadStop) -> Result<Reply, AllocError>
-    ensures { IfOk result (IsReplyToStop main.now stop.now) }
-{
-    match stop {
-        LoadStop::At(refusal) => refused_source(alloc, main, refusal),
-        LoadStop::Shelf(name) => failed_shelf(alloc, name.as_str()),
-        LoadStop::Memory => Err(AllocError),
     }
 }

@@ -72,7 +72,7 @@ fn sources_with_a_run(rt: HostRuntime) -> Result<(), Fail> {
             "0 {\"choices\":[],\"end\":0,\"form\":1,\"phases\":[],\"traces\":[],\"values\":[[\"x\",3],[\"y\",0]]}\n",
         ),
         (
-            "scenario top:\n    int: int\n    keep(int in [0x10..020])\n    n: int\n    keep(n in [1000000000..1000000000])\n",
+            "scenario top:\n    int: int\n    keep(int in [0x10..016])\n    n: int\n    keep(n in [1000000000..1000000000])\n",
             "0 {\"choices\":[],\"end\":0,\"form\":1,\"phases\":[],\"traces\":[],\"values\":[[\"int\",16],[\"n\",1000000000]]}\n",
         ),
         (

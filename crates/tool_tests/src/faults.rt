@@ -163,32 +163,29 @@ fn faults_of_limits_and_conditions(rt: HostRuntime) -> Result<(), Fail> {
     answers_are(&rt, &rows)
 }
 
+/// Fields and constraints of which only one run is an instance.
 #[test]
-fn scenarios_that_are_not_built(rt: HostRuntime) -> Result<(), Fail> {
-    let rows: [(&str, &str); 8] = [
+fn scenarios_with_one_run(rt: HostRuntime) -> Result<(), Fail> {
+    let rows: [(&str, &str); 7] = [
         (
-            "scenario top:\n    y: float\n",
-            "3 fault 298 main.osc:1:10\n",
+            "scenario top:\n    y: float\n    keep(y == 1.5)\n",
+            "0 {\"choices\":[],\"end\":0,\"form\":1,\"phases\":[],\"traces\":[],\"values\":[[\"y\",1500]]}\n",
         ),
         (
             "scenario top:\n    x: int = 3\n    keep(x in [3..3])\n",
-            "3 fault 298 main.osc:1:10\n",
-        ),
-        (
-            "scenario top:\n    x: int\n    keep(x in [4..3])\n",
-            "3 fault 298 main.osc:1:10\n",
+            "0 {\"choices\":[],\"end\":0,\"form\":1,\"phases\":[],\"traces\":[],\"values\":[[\"x\",3]]}\n",
         ),
         (
             "scenario top:\n    x: int\n    keep(x in [3.0..3])\n",
-            "3 fault 298 main.osc:1:10\n",
+            "0 {\"choices\":[],\"end\":0,\"form\":1,\"phases\":[],\"traces\":[],\"values\":[[\"x\",3]]}\n",
         ),
         (
             "scenario base\nscenario top inherits base\n",
-            "3 fault 298 main.osc:2:10\n",
+            "0 {\"choices\":[],\"end\":0,\"form\":1,\"phases\":[],\"traces\":[],\"values\":[]}\n",
         ),
         (
             "scenario top\nextend top:\n    x: int\n    keep(x in [3..3])\n",
-            "3 fault 298 main.osc:1:10\n",
+            "0 {\"choices\":[],\"end\":0,\"form\":1,\"phases\":[],\"traces\":[],\"values\":[[\"x\",3]]}\n",
         ),
         (
             "struct s:\n    y: float\nscenario top\n",

@@ -8,6 +8,8 @@ mod checks;
 #[cfg(test)]
 mod faults;
 #[cfg(test)]
+mod records;
+#[cfg(test)]
 mod runs;
 #[cfg(test)]
 mod texts;

@@ -1,8 +1,13 @@
-use Rattle.std.proofs.Common.{◌≡◌, ◌∙◌, List, [], ◌∷◌, length, map, ap, sym, string_bytes, String, arith, refl}
+use Rattle.std.proofs.Common.{◌≡◌, ◌∙◌, IfOk, List, [], ◌∷◌, length, map, ap, sym, string_bytes, Result, String, arith, refl}
 use Rattle.std.proofs.lemmas.Result.{IfOk-weaker}
 use Rattle.clap.specs.Walk.{Text}
-use Rattle.command_words.specs.Words.{Help, request}
-use Rattle.command_words.proofs.FirstWords.{check_word, explain_word, generate_word, help_word, no_word, unknown_word, version_word}
+use Rattle.command_words.specs.Seen.{seen}
+use Rattle.command_words.specs.Taken.{form_of}
+use Rattle.command_words.specs.Words.{Help, request, wanted}
+use Rattle.command_words.specs.declared.commands.CommandName.{CommandName}
+use Rattle.command_words.specs.declared.commands.CommandName.TheVariants as command
+use Rattle.command_words.specs.declared.requests.Request.{Request}
+use Rattle.command_words.proofs.FirstWords.{command_word, explain_word, help_word, no_word, unknown_word, version_word, word_of}
 use Rattle.command_words.proofs.requests.read_words.Goals as goal
 
 none_left : {X : Type 0} (xs : List X) → length xs ≡ 0 → xs ≡ []
@@ -15,6 +20,13 @@ words_are : {Z : Type 0} (words rest : List (String Z)) (first : String Z) (text
 words_are words rest first text is same =
     ap (λ t. t ∷ map string_bytes rest) same ∙ sym (ap (map string_bytes) is)
 
+-- a command is picked by its word
+picked : {Z : Type 0} (words rest : List (String Z)) (first : Text) (name : CommandName) → first ∷ map string_bytes rest ≡ map string_bytes words
+    → first ≡ word_of name → {E : Type 0} (answer : Result Request E) → IfOk answer (λ r. seen r ≡ wanted (form_of name) (map string_bytes rest))
+    → IfOk answer (λ r. seen r ≡ request (map string_bytes words))
+picked words rest first name same is answer =
+    IfOk-weaker answer _ _ (λ r h. h ∙ sym (command_word name first (map string_bytes rest) is) ∙ ap request same)
+
 pub returns-in_default-clause-request : goal.returns-in_default-clause-request
 returns-in_default-clause-request c =
     let none : c.args.words.now ≡ [] = none_left _ (rw c.in_default.is at c.split_first.ensures.cases) in
@@ -23,14 +35,27 @@ returns-in_default-clause-request c =
 pub returns-in-generate-clause-request : goal.returns-in-generate-clause-request
 returns-in-generate-clause-request c =
     let words = words_are c.args.words.now c.in-Some.rest.now c.in-Some.first.now c.as_str.result.now c.in-Some.ensures.cases.0 c.as_str.ensures.value in
-    let is = generate_word c.as_str.result.now (map string_bytes c.in-Some.rest.now) c.in-generate.is in
-    IfOk-weaker c.read_generate.result _ _ (λ r h. h ∙ sym is ∙ ap request words) c.read_generate.ensures.request
+    picked c.args.words.now c.in-Some.rest.now c.as_str.result.now command.Generate words c.in-generate.is c.read_command.result c.read_command.ensures.request
 
 pub returns-in-check-clause-request : goal.returns-in-check-clause-request
 returns-in-check-clause-request c =
     let words = words_are c.args.words.now c.in-Some.rest.now c.in-Some.first.now c.as_str.result.now c.in-Some.ensures.cases.0 c.as_str.ensures.value in
-    let is = check_word c.as_str.result.now (map string_bytes c.in-Some.rest.now) c.in-check.is in
-    IfOk-weaker c.read_check.result _ _ (λ r h. h ∙ sym is ∙ ap request words) c.read_check.ensures.request
+    picked c.args.words.now c.in-Some.rest.now c.as_str.result.now command.Check words c.in-check.is c.read_command-in-check.result c.read_command-in-check.ensures.request
+
+pub returns-in-verify-clause-request : goal.returns-in-verify-clause-request
+returns-in-verify-clause-request c =
+    let words = words_are c.args.words.now c.in-Some.rest.now c.in-Some.first.now c.as_str.result.now c.in-Some.ensures.cases.0 c.as_str.ensures.value in
+    picked c.args.words.now c.in-Some.rest.now c.as_str.result.now command.Verify words c.in-verify.is c.read_command-in-verify.result c.read_command-in-verify.ensures.request
+
+pub returns-in-flat-clause-request : goal.returns-in-flat-clause-request
+returns-in-flat-clause-request c =
+    let words = words_are c.args.words.now c.in-Some.rest.now c.in-Some.first.now c.as_str.result.now c.in-Some.ensures.cases.0 c.as_str.ensures.value in
+    picked c.args.words.now c.in-Some.rest.now c.as_str.result.now command.Flat words c.in-flat.is c.read_command-in-flat.result c.read_command-in-flat.ensures.request
+
+pub returns-in-make-clause-request : goal.returns-in-make-clause-request
+returns-in-make-clause-request c =
+    let words = words_are c.args.words.now c.in-Some.rest.now c.in-Some.first.now c.as_str.result.now c.in-Some.ensures.cases.0 c.as_str.ensures.value in
+    picked c.args.words.now c.in-Some.rest.now c.as_str.result.now command.Make words c.in-make.is c.read_command-in-make.result c.read_command-in-make.ensures.request
 
 pub returns-in-explain-clause-request : goal.returns-in-explain-clause-request
 returns-in-explain-clause-request c =
@@ -41,7 +66,7 @@ pub returns-in_default-as_str-clause-request : goal.returns-in_default-as_str-cl
 returns-in_default-as_str-clause-request c =
     let words = words_are c.args.words.now c.in-Some.rest.now c.in-Some.first.now c.as_str.result.now c.in-Some.ensures.cases.0 c.as_str.ensures.value in
     let other = c.in_default-as_str in
-    sym (unknown_word c.as_str.result.now (map string_bytes c.in-Some.rest.now) other.not-help other.not-text other.not-text-2 other.not-text-3 other.not-text-4 other.not-generate other.not-check other.not-explain)
+    sym (unknown_word c.as_str.result.now (map string_bytes c.in-Some.rest.now) other.not-help other.not-text other.not-text-2 other.not-text-3 other.not-text-4 other.not-generate other.not-check other.not-verify other.not-flat other.not-make other.not-explain)
     ∙ ap request words
 
 pub returns-in-text-clause-request : goal.returns-in-text-clause-request

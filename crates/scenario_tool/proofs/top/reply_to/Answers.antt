@@ -1,9 +1,9 @@
 use Rattle.std.proofs.Common.{◌∙◌, sym, ap}
 use Rattle.fault_texts.specs.Explained.{explanation, topic_list}
-use Rattle.command_words.specs.Seen.{asked_by, checked_by, seen}
-use Rattle.command_words.specs.Words.{Wanted}
-use Rattle.scenario_tool.specs.Replies.{done}
-use Rattle.scenario_tool.proofs.CallEnds.{help_reply, same_reply, words_reply}
+use Rattle.command_replies.specs.Replies.{done}
+use Rattle.command_words.specs.Seen.{asked_by, checked_by, flattened_by, made_by, seen, verified_by}
+use Rattle.command_words.specs.Words.{IsGenerateInRanges, IsMakeInRange, Wanted}
+use Rattle.scenario_tool.proofs.CallEnds.{help_reply, made_reply, same_reply, words_reply}
 use Rattle.scenario_tool.proofs.top.reply_to.Goals as goal
 
 pub returns-in_ok-copy-in-Help-clause-reply : goal.returns-in_ok-copy-in-Help-clause-reply
@@ -32,3 +32,31 @@ returns-in-Check-clause-reply g c = same_reply (g.H.Shelf.files c.args.shelf.now
 pub returns-in-Refused-clause-reply : goal.returns-in-Refused-clause-reply
 returns-in-Refused-clause-reply g c = words_reply (g.H.Shelf.files c.args.shelf.now) _ _ c.words_refused.result
     (sym (ap seen c.in-Refused.is) ∙ c.in_ok-text.ensures.request) c.words_refused.ensures
+
+pub reply_to_verify-requires : goal.reply_to_verify-requires
+reply_to_verify-requires g c = record { ranges = rw c.in-Verify.is at c.in_ok-text.ensures.ranges }
+
+pub returns-in-Verify-clause-reply : goal.returns-in-Verify-clause-reply
+returns-in-Verify-clause-reply g c = same_reply (g.H.Shelf.files c.args.shelf.now) (Wanted.Verify (verified_by c.in-Verify.asked)) _ _ _ c.reply_to_verify.result
+    (sym (ap seen c.in-Verify.is) ∙ c.in_ok-text.ensures.request) c.reply_to_verify.ensures.reply
+
+pub reply_to_flat-requires : goal.reply_to_flat-requires
+reply_to_flat-requires g c = record { ranges = rw c.in-Flat.is at c.in_ok-text.ensures.ranges }
+
+pub returns-in-Flat-clause-reply : goal.returns-in-Flat-clause-reply
+returns-in-Flat-clause-reply g c = same_reply (g.H.Shelf.files c.args.shelf.now) (Wanted.Flat (flattened_by c.in-Flat.asked)) _ _ _ c.reply_to_flat.result
+    (sym (ap seen c.in-Flat.is) ∙ c.in_ok-text.ensures.request) c.reply_to_flat.ensures.reply
+
+pub reply_to_generate-requires : goal.reply_to_generate-requires
+reply_to_generate-requires g c =
+    let its : IsGenerateInRanges (asked_by c.in-Generate.asked) = rw c.in-Generate.is at c.in_ok-text.ensures.ranges in
+    record { ranges = its.setting_ranges; cuts = its.cuts_range.1 }
+
+pub reply_to_make-requires : goal.reply_to_make-requires
+reply_to_make-requires g c =
+    let its : IsMakeInRange (made_by c.in-Make.asked) = rw c.in-Make.is at c.in_ok-text.ensures.ranges in
+    record { range = its.count_range }
+
+pub returns-in-Make-clause-reply : goal.returns-in-Make-clause-reply
+returns-in-Make-clause-reply g c = same_reply (g.H.Shelf.files c.args.shelf.now) (Wanted.Make (made_by c.in-Make.asked)) _ _ _ c.reply_to_make.result
+    (sym (ap seen c.in-Make.is) ∙ c.in_ok-text.ensures.request) (made_reply (g.H.Shelf.files c.args.shelf.now) _ _ c.reply_to_make.result c.reply_to_make.ensures)

@@ -17,4 +17,4 @@ returns-in_err-read_on-clause-stop g c = source_stops c.from_residual-in_err-rea
 pub returns-clause-stop : goal.returns-clause-stop
 returns-clause-stop g c =
     refuses_none c.args.wanted c.in_ok-found.found c.args.self.now _ _ _ _ _ _ _ c.bad_line.result c.in_ok-found.ensures.finds (sym c.wanted_line.ensures ∙ c.in_default.is) (sym c.self.view_is)
-    c.in_ok-read_on.ensures.within c.in_ok-read_on.ensures.end c.bad_line.ensures
+    c.in_ok-found.ensures.further.few c.in_ok-read_on.ensures.within c.in_ok-read_on.ensures.end c.bad_line.ensures

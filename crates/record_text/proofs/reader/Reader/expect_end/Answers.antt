@@ -10,4 +10,4 @@ returns-in_err-to_end-in-Some-clause-stop g c = source_stops c.from_residual-in_
 pub returns-in_ok-to_end-in-Some-clause-stop : goal.returns-in_ok-to_end-in-Some-clause-stop
 returns-in_ok-to_end-in-Some-clause-stop g c =
     refuses_more c.in-Some._byte c.args.self.now _ _ _ _ _ _ _ c.bad_line.result (c.in_ok-next.ensures.byte c.in-Some._byte (cc)) (sym c.self.view_is)
-    c.in_ok-to_end-in-Some.ensures.within c.in_ok-to_end-in-Some.ensures.end c.bad_line.ensures
+    c.in_ok-next.ensures.further.few c.in_ok-to_end-in-Some.ensures.within c.in_ok-to_end-in-Some.ensures.end c.bad_line.ensures

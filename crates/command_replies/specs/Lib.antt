@@ -1,0 +1,4 @@
+pub mod Replies
+pub mod Reply
+pub mod ShortRecords
+pub mod Shelves

@@ -1,0 +1,14 @@
+-- What is replied of the flat form of a program's scene.
+use Rattle.std.specs.Prelude.{◌≡◌, List}
+use Rattle.name_scope.specs.FileNumbers.{AddedFile}
+use Rattle.composition.specs.Items.{rule_names}
+use Rattle.composition.specs.Scenes.{Scene}
+use Rattle.composition.specs.Slots.{slot_names}
+use Rattle.field_flatten.specs.Ends.{bounds}
+use Rattle.flat_listing.specs.ListingText.{listing_text}
+use Rattle.command_replies.specs.Reply.{Answer}
+use Rattle.command_replies.specs.Replies.{done}
+
+-- what `flat` replies: the slots of the scene with their ends, and its rules, each by its name
+abbrev pub Lists : List AddedFile → Scene → Answer → Type 0
+Lists program scene reply = reply ≡ done (listing_text program (slot_names scene) (bounds scene) (rule_names scene))

@@ -1,0 +1,2 @@
+pub mod MadeLoads
+pub mod MadeText

@@ -1,0 +1,5 @@
+pub mod Fetching
+pub mod Meaning
+pub mod OneText
+pub mod RuleTrees
+pub mod SomeText

@@ -1,6 +1,0 @@
-use Rattle.composition.specs.SeenScenes.{seen_scene}
-use Rattle.scenario_tool.proofs.Checked.{run_checked}
-use Rattle.scenario_tool.proofs.check.check_run.Goals as goal
-
-pub returns : goal.returns
-returns c = run_checked c.args.program.now (seen_scene c.args.scene.now) c.args.run.now c.in_ok-wrong.wrong c.verdict.result c.in_ok-wrong.ensures c.verdict.ensures

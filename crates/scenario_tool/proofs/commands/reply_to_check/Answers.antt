@@ -1,0 +1,14 @@
+use Rattle.command_words.specs.Seen.{checked_by}
+use Rattle.scenario_tool.specs.Settings.{scene_setting}
+use Rattle.scenario_tool.proofs.Replied.{check_refused, check_reply, scene_counted}
+use Rattle.scenario_tool.proofs.commands.reply_to_check.Goals as goal
+
+pub returns-in-Scene-clause-reply : goal.returns-in-Scene-clause-reply
+returns-in-Scene-clause-reply g c = check_reply (g.H.Shelf.files c.args.shelf.now) _ _ _ c.in-Scene.program c.in-Scene.scene (checked_by c.args.asked) _ c.check.result
+    c.in_ok-program.ensures.files_kept (rw c.in-Scene.is at c.in_ok-program.ensures.found) c.check.ensures.reply
+
+pub returns-in-Scene-clause-counted : goal.returns-in-Scene-clause-counted
+returns-in-Scene-clause-counted g c = scene_counted (g.H.Shelf.files c.args.shelf.now) (scene_setting c.args.asked.setting) c.args.asked.source.file.now c.args.asked.source.scenario.now _ _ _ c.in-Scene.program c.in-Scene.scene (rw c.in-Scene.is at c.in_ok-program.ensures.found) c.check.ensures.counted
+
+pub returns-in-Refused-clause-reply : goal.returns-in-Refused-clause-reply
+returns-in-Refused-clause-reply g c = check_refused (g.H.Shelf.files c.args.shelf.now) _ _ c.in-Refused.reply (checked_by c.args.asked) (rw c.in-Refused.is at c.in_ok-program.ensures.found)

@@ -1,0 +1,91 @@
+//! What each command replies.
+
+ghost use Rattle.std.specs.Prelude.{◌≡◌, ◌≤◌, IfOk};
+ghost use Rattle.command_replies.specs.Shelves.{CountsOnce};
+ghost use Rattle.command_words.specs.Seen.{asked_by, checked_by, flattened_by, verified_by};
+ghost use Rattle.command_words.specs.Shared.{IsSettingInRanges};
+ghost use Rattle.command_words.specs.Words.{Wanted};
+ghost use Rattle.scenario_tool.specs.Answers.{AnswersOrShelfFails, SomeInputs};
+
+use crate::sources::{FoundSource, source_scene};
+use command_replies::Reply;
+use command_words::{CheckWords, FlatWords, GenerateWords, VerifyWords};
+use listing_answers::flat;
+use outside_io::Shelf;
+use record_answers::verify;
+use run_answers::check;
+use search_answers::generate;
+use std::alloc::{AllocError, Global};
+
+/// The reply to what `generate` is asked for.
+pub fn reply_to_generate<H: Shelf>(
+    alloc: Global,
+    asked: GenerateWords<'_>,
+    shelf: &mut H,
+) -> Result<Reply, AllocError>
+    requires ranges { IsSettingInRanges asked.setting }
+    requires cuts { asked.cuts ≤ 1000000 }
+    ensures reply { IfOk result (λ reply. SomeInputs (H.files shelf.old) (λ inputs.
+        AnswersOrShelfFails inputs (Wanted.Generate (asked_by asked.entry)) (H.faults shelf.old) (H.faults shelf.new) reply)) }
+    ensures counted { CountsOnce (H.faults shelf.old) (H.faults shelf.new) }
+    ensures files_kept { H.files shelf.new ≡ H.files shelf.old }
+{
+    match source_scene(alloc, asked.source, asked.setting, shelf)? {
+        FoundSource::Scene(_program, scene) => generate(alloc, &scene, asked.seed, asked.cuts),
+        FoundSource::Refused(reply) => Ok(reply),
+    }
+}
+
+/// The reply to what `check` is asked for.
+pub fn reply_to_check<H: Shelf>(
+    alloc: Global,
+    asked: CheckWords<'_>,
+    shelf: &mut H,
+) -> Result<Reply, AllocError>
+    requires ranges { IsSettingInRanges asked.setting }
+    ensures reply { IfOk result (λ reply. SomeInputs (H.files shelf.old) (λ inputs.
+        AnswersOrShelfFails inputs (Wanted.Check (checked_by asked.entry)) (H.faults shelf.old) (H.faults shelf.new) reply)) }
+    ensures counted { CountsOnce (H.faults shelf.old) (H.faults shelf.new) }
+    ensures files_kept { H.files shelf.new ≡ H.files shelf.old }
+{
+    match source_scene(alloc, asked.source, asked.setting, shelf)? {
+        FoundSource::Scene(program, scene) => check(alloc, &program, &scene, asked.run, shelf),
+        FoundSource::Refused(reply) => Ok(reply),
+    }
+}
+
+/// The reply to what `verify` is asked for.
+pub fn reply_to_verify<H: Shelf>(
+    alloc: Global,
+    asked: VerifyWords<'_>,
+    shelf: &mut H,
+) -> Result<Reply, AllocError>
+    requires ranges { IsSettingInRanges asked.setting }
+    ensures reply { IfOk result (λ reply. SomeInputs (H.files shelf.old) (λ inputs.
+        AnswersOrShelfFails inputs (Wanted.Verify (verified_by asked.entry)) (H.faults shelf.old) (H.faults shelf.new) reply)) }
+    ensures counted { CountsOnce (H.faults shelf.old) (H.faults shelf.new) }
+    ensures files_kept { H.files shelf.new ≡ H.files shelf.old }
+{
+    match source_scene(alloc, asked.source, asked.setting, shelf)? {
+        FoundSource::Scene(_program, scene) => verify(alloc, &scene, asked.record, shelf),
+        FoundSource::Refused(reply) => Ok(reply),
+    }
+}
+
+/// The reply to what `flat` is asked for.
+pub fn reply_to_flat<H: Shelf>(
+    alloc: Global,
+    asked: FlatWords<'_>,
+    shelf: &mut H,
+) -> Result<Reply, AllocError>
+    requires ranges { IsSettingInRanges asked.setting }
+    ensures reply { IfOk result (λ reply. SomeInputs (H.files shelf.old) (λ inputs.
+        AnswersOrShelfFails inputs (Wanted.Flat (flattened_by asked.entry)) (H.faults shelf.old) (H.faults shelf.new) reply)) }
+    ensures counted { CountsOnce (H.faults shelf.old) (H.faults shelf.new) }
+    ensures files_kept { H.files shelf.new ≡ H.files shelf.old }
+{
+    match source_scene(alloc, asked.source, asked.setting, shelf)? {
+        FoundSource::Scene(program, scene) => flat(alloc, &program, &scene),
+        FoundSource::Refused(reply) => Ok(reply),
+    }
+}

@@ -1,0 +1,81 @@
+-- What is written of a search is accepted.
+use Rattle.std.proofs.Common.{◌≡◌, sym, ap₂, ◌∙◌, subst, ℕ, ◌≤◌, List, None, length}
+use Rattle.box_eval.specs.declared.bounds.Pair.{Pair}
+use Rattle.box_eval.specs.declared.flat.Flat.{Flat}
+use Rattle.box_eval.specs.declared.record.Record.{Record}
+use Rattle.box_eval.specs.declared.rule.Rule.{Rule}
+use Rattle.box_eval.specs.Record.{Tree, cuts_of, IsAcceptedAs}
+use Rattle.box_eval.proofs.Ways.{ends_open}
+use Rattle.record_text.specs.Lines.{AllShort}
+use Rattle.record_text.specs.Source.{limit}
+use Rattle.record_text.specs.Text.{record_lines, record_text}
+use Rattle.record_text.specs.Written.{HaveShortValues}
+use Rattle.refute_check.specs.Answers.{IsRefutationText, IsOpenText}
+use Rattle.refute_check.proofs.Laws.{refutation_text, open_text}
+use Rattle.record_laws.specs.Short.{HasShortEnds}
+use Rattle.record_laws.proofs.Short.{accepted_short}
+use Rattle.composition.specs.declared.run.Run.{Run}
+use Rattle.composition.specs.Claims.{claims}
+use Rattle.composition.specs.Scenes.{Scene}
+use Rattle.composition.specs.TimedRuns.{timed}
+use Rattle.field_flatten.specs.Exactness.{IsExpanded, IsLimited, IsFlatOf}
+use Rattle.field_flatten.proofs.FlatForms.{flat_form}
+use Rattle.run_check.specs.Answers.{first_wrong}
+use Rattle.instance_check.proofs.FirstClaims.{none_fails}
+use Rattle.scene_search.specs.Findings.{IsReachedRun, IsSceneRefutation, IsSpentRecord}
+use Rattle.search_answers.proofs.RuleTrees.{same_rules}
+use Rattle.search_answers.proofs.ShortEnds.{short_ends}
+use Rattle.search_answers.proofs.ShortValues.{values_of}
+use Rattle.search_answers.proofs.TextLengths.{within_limit}
+
+-- ---- flat forms
+
+abbrev flat_from : List Pair → List Rule → Flat
+flat_from ends rules = record { bounds = record { pairs = ends }; rules = rules }
+
+-- a scene has one flat form
+one_flat : (scene : Scene) (flat other : Flat) → IsFlatOf scene flat → IsFlatOf scene other → flat ≡ other
+one_flat scene flat other is also =
+    ap₂ flat_from (is.same_ends ∙ sym also.same_ends) (same_rules flat.rules other.rules (is.same_rules ∙ sym also.same_rules))
+
+-- ---- records
+
+module _ (scene : Scene) (expanded : IsExpanded scene) (limited : IsLimited scene) where
+  -- each number of an accepted record of the scene has at most 18 digits
+  short_record : (flat : Flat) (claim : Record) (tree : Tree) → IsFlatOf scene flat → IsAcceptedAs flat claim tree → AllShort (record_lines claim)
+  short_record flat claim tree is accepted =
+      accepted_short flat claim tree (flat_form scene flat expanded limited is) (subst HasShortEnds (sym is.same_ends) (short_ends scene expanded limited)) accepted
+
+  pub refutation_short : (seed : ℕ) (claim : Record) → IsSceneRefutation scene seed claim → HaveShortValues claim.lines
+  refutation_short seed claim r = values_of claim (short_record r.flat claim r.tree r.flat_of r.refutation.guided.accepted)
+
+  pub spent_short : (seed cuts : ℕ) (claim : Record) → IsSpentRecord scene seed cuts claim → HaveShortValues claim.lines
+  spent_short seed cuts claim r = values_of claim (short_record r.flat claim r.tree r.flat_of r.spent.guided.accepted)
+
+  pub refutation_accepted : (seed : ℕ) (claim : Record) → IsSceneRefutation scene seed claim → (flat : Flat) → IsFlatOf scene flat → IsRefutationText flat (record_text claim)
+  refutation_accepted seed claim r flat is =
+      subst (λ f. IsRefutationText f (record_text claim)) (one_flat scene r.flat flat r.flat_of is)
+      (refutation_text r.flat claim (short_record r.flat claim r.tree r.flat_of r.refutation.guided.accepted)
+      (record { tree = r.tree; accepted = r.refutation.guided.accepted; closed = r.refutation.closed }))
+
+  pub spent_open : (seed cuts : ℕ) (claim : Record) → IsSpentRecord scene seed cuts claim → (flat : Flat) → IsFlatOf scene flat → IsOpenText flat (record_text claim) cuts
+  spent_open seed cuts claim r flat is =
+      subst (λ f. IsOpenText f (record_text claim) cuts) (one_flat scene r.flat flat r.flat_of is)
+      (subst (IsOpenText r.flat (record_text claim)) r.spent.cuts_are
+      (open_text r.flat claim r.tree (short_record r.flat claim r.tree r.flat_of r.spent.guided.accepted) r.spent.guided.accepted
+      (ends_open r.tree r.box r.flat.bounds.pairs r.spent.ends_at)))
+
+  pub refutation_within : (seed : ℕ) (claim : Record) (refutation : IsSceneRefutation scene seed claim) → cuts_of refutation.tree ≤ 1000000 → length (record_text claim) ≤ limit
+  refutation_within seed claim r few =
+      within_limit claim r.tree r.refutation.guided.accepted.record_of (short_record r.flat claim r.tree r.flat_of r.refutation.guided.accepted) few
+
+  pub spent_within : (seed cuts : ℕ) (claim : Record) → IsSpentRecord scene seed cuts claim → cuts ≤ 1000000 → length (record_text claim) ≤ limit
+  spent_within seed cuts claim r few =
+      within_limit claim r.tree r.spent.guided.accepted.record_of (short_record r.flat claim r.tree r.flat_of r.spent.guided.accepted)
+      (subst (λ n. n ≤ 1000000) (sym r.spent.cuts_are) few)
+
+-- ---- runs
+
+pub reached_right : (scene : Scene) (seed cuts : ℕ) (run : Run) → IsReachedRun scene seed cuts run → (tick : ℕ) → scene.setting.tick ≡ tick → first_wrong scene (timed tick run) ≡ None
+reached_right scene seed cuts run reached tick is =
+    subst (λ t. first_wrong scene (timed t run) ≡ None) is (none_fails (claims scene (timed scene.setting.tick run)) reached.instance)

@@ -1,0 +1,44 @@
+-- What is written of a search is what the checks of records and of runs accept.
+use Rattle.std.specs.Prelude.{◌≡◌, ℕ, ◌≤◌, None, length}
+use Rattle.box_eval.specs.declared.flat.Flat.{Flat}
+use Rattle.box_eval.specs.declared.record.Record.{Record}
+use Rattle.box_eval.specs.Record.{cuts_of}
+use Rattle.composition.specs.declared.run.Run.{Run}
+use Rattle.composition.specs.Scenes.{Scene}
+use Rattle.composition.specs.TimedRuns.{timed}
+use Rattle.field_flatten.specs.Exactness.{IsExpanded, IsLimited, IsFlatOf}
+use Rattle.record_text.specs.Source.{limit}
+use Rattle.record_text.specs.Text.{record_text}
+use Rattle.refute_check.specs.Answers.{IsRefutationText, IsOpenText}
+use Rattle.run_check.specs.Answers.{first_wrong}
+use Rattle.scene_search.specs.Findings.{IsReachedRun, IsSceneRefutation, IsSpentRecord}
+
+-- the text of a refutation of a scene is one of the scene's flat form
+abbrev pub WrittenRefutationsAreAccepted : Type 0
+WrittenRefutationsAreAccepted =
+    (scene : Scene) (seed : ℕ) (claim : Record) → IsExpanded scene → IsLimited scene → IsSceneRefutation scene seed claim
+    → (flat : Flat) → IsFlatOf scene flat → IsRefutationText flat (record_text claim)
+
+-- the text of a record that is spent is one of the scene's flat form, with an open leaf and all the cuts
+abbrev pub WrittenRecordsAreOpen : Type 0
+WrittenRecordsAreOpen =
+    (scene : Scene) (seed cuts : ℕ) (claim : Record) → IsExpanded scene → IsLimited scene → IsSpentRecord scene seed cuts claim
+    → (flat : Flat) → IsFlatOf scene flat → IsOpenText flat (record_text claim) cuts
+
+-- the text of a refutation with at most 1,000,000 cuts is no longer than a record's text may be
+abbrev pub WrittenRefutationsAreWithinLimit : Type 0
+WrittenRefutationsAreWithinLimit =
+    (scene : Scene) (seed : ℕ) (claim : Record) → IsExpanded scene → IsLimited scene → (refutation : IsSceneRefutation scene seed claim)
+    → cuts_of refutation.tree ≤ 1000000 → length (record_text claim) ≤ limit
+
+-- nor is that of a record that is spent with at most 1,000,000 cuts
+abbrev pub WrittenRecordsAreWithinLimit : Type 0
+WrittenRecordsAreWithinLimit =
+    (scene : Scene) (seed cuts : ℕ) (claim : Record) → IsExpanded scene → IsLimited scene → IsSpentRecord scene seed cuts claim
+    → cuts ≤ 1000000 → length (record_text claim) ≤ limit
+
+-- nothing is wrong with a run that is reached, at ticks of the scene's length
+abbrev pub WrittenRunsAreRight : Type 0
+WrittenRunsAreRight =
+    (scene : Scene) (seed cuts : ℕ) (run : Run) → IsReachedRun scene seed cuts run
+    → (tick : ℕ) → scene.setting.tick ≡ tick → first_wrong scene (timed tick run) ≡ None

@@ -1,0 +1,3 @@
+pub mod AcceptedTexts
+pub mod SearchAnswers
+pub mod Searches

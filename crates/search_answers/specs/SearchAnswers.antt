@@ -1,0 +1,28 @@
+-- What is replied of a search for a run of a scene.
+use Rattle.std.specs.Prelude.{◌≡◌, ℕ, List, ◌++◌, length}
+use Rattle.box_eval.specs.declared.record.Record.{Record}
+use Rattle.composition.specs.declared.run.Run.{Run}
+use Rattle.composition.specs.Scenes.{Scene}
+use Rattle.run_check.specs.RunText.{run_text}
+use Rattle.command_replies.specs.Reply.{Answer}
+use Rattle.command_replies.specs.Replies as replies
+use Rattle.scene_search.specs.Findings.{IsReachedRun, IsSceneRefutation, IsSpentRecord}
+
+-- What is replied of a search with a seed and at most so many cuts: this text of a run that is reached, a refutation, or a record that is
+-- spent.
+pub data IsSearchReply (text : Run → List ℕ) (scene : Scene) (seed cuts : ℕ) (reply : Answer) : Type 0 where
+  runs : (run : Run) → IsReachedRun scene seed cuts run → reply ≡ replies.done (text run) → IsSearchReply text scene seed cuts reply
+  refuted : (claim : Record) → IsSceneRefutation scene seed claim → reply ≡ replies.refutation claim → IsSearchReply text scene seed cuts reply
+  undecided : (claim : Record) → IsSpentRecord scene seed cuts claim → reply ≡ replies.undecided claim → IsSearchReply text scene seed cuts reply
+
+-- what `generate` replies: the text of the run, or a record
+abbrev pub Generates : Scene → ℕ → ℕ → Answer → Type 0
+Generates scene seed cuts reply = IsSearchReply run_text scene seed cuts reply
+
+-- the text of a run, and a line of so many phases that were made, of those that the run has, and of its end
+abbrev pub text_and_line : (ℕ → ℕ → ℕ → List ℕ) → ℕ → Run → List ℕ
+text_and_line made_line count run = run_text run ++ made_line count (length run.phases) run.end
+
+-- what `make` replies of so many phases that were made: the text of the run and its line, or a record
+abbrev pub Makes : (ℕ → ℕ → ℕ → List ℕ) → Scene → ℕ → ℕ → ℕ → Answer → Type 0
+Makes made_line scene seed cuts count reply = IsSearchReply (text_and_line made_line count) scene seed cuts reply

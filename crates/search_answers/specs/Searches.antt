@@ -1,0 +1,18 @@
+-- What a search for a run of a scene ends with.
+use Rattle.std.specs.Prelude.{◌≡◌, ◌⊎◌, ℕ}
+use Rattle.box_eval.specs.declared.record.Record.{Record}
+use Rattle.composition.specs.Scenes.{Scene}
+use Rattle.command_replies.specs.Reply.{Answer}
+use Rattle.command_replies.specs.Replies.{refutation, undecided}
+use Rattle.scene_search.specs.Findings.{IsReachedRun, IsSceneRefutation, IsSpentRecord}
+use Rattle.search_answers.specs.declared.found.RunOrReply.{RunOrReply}
+
+-- what is replied without a run: a refutation, or a record that is spent
+abbrev pub IsNoRun : Scene → ℕ → ℕ → Answer → Type 0
+IsNoRun scene seed cuts reply =
+    ((claim : Record) × IsSceneRefutation scene seed claim × (reply ≡ refutation claim)) ⊎ ((claim : Record) × IsSpentRecord scene seed cuts claim × (reply ≡ undecided claim))
+
+-- a run that is reached, or what is replied without one
+abbrev pub IsSearched : Scene → ℕ → ℕ → RunOrReply → Type 0
+IsSearched scene seed cuts (RunOrReply.Run run) = IsReachedRun scene seed cuts run
+IsSearched scene seed cuts (RunOrReply.Reply reply) = IsNoRun scene seed cuts reply

@@ -1,0 +1,28 @@
+//! Laws on what is written of a search.
+
+ghost use Rattle.search_answers.specs.AcceptedTexts.{WrittenRecordsAreOpen, WrittenRecordsAreWithinLimit, WrittenRefutationsAreAccepted, WrittenRefutationsAreWithinLimit, WrittenRunsAreRight};
+
+/// The law that the text of a refutation is accepted by the check of refutations.
+pub fn written_refutations_are_accepted()
+    ensures { WrittenRefutationsAreAccepted }
+{}
+
+/// The law that the check of refutations finds the text of a record that is spent open, with all its cuts.
+pub fn written_records_are_open()
+    ensures { WrittenRecordsAreOpen }
+{}
+
+/// The law that the text of a refutation with at most 1,000,000 cuts isn't too long for the check of refutations.
+pub fn written_refutations_are_within_limit()
+    ensures { WrittenRefutationsAreWithinLimit }
+{}
+
+/// The law that the text of a record that is spent with at most 1,000,000 cuts isn't too long for the check of refutations.
+pub fn written_records_are_within_limit()
+    ensures { WrittenRecordsAreWithinLimit }
+{}
+
+/// The law that the check of runs finds nothing wrong with a run that is written.
+pub fn written_runs_are_right()
+    ensures { WrittenRunsAreRight }
+{}

@@ -1,0 +1,47 @@
+//! From a scene to what is replied of it.
+
+ghost use Rattle.std.specs.Prelude.{◌≤◌, IfOk};
+ghost use Rattle.composition.specs.SeenScenes.{seen_scene};
+ghost use Rattle.field_flatten.specs.Exactness.{IsExpanded, IsLimited};
+ghost use Rattle.search_answers.specs.SearchAnswers.{Generates};
+ghost use Rattle.search_answers.specs.Searches.{IsSearched};
+
+use crate::found::RunOrReply;
+use command_replies::{Reply, done, refutation, undecided};
+use composition::Scene;
+use run_check::write_run;
+use scene_search::{Finding, find_run};
+use std::alloc::{AllocError, Global};
+
+/// Searches for a run of a scene, with at most `cuts` cuts, at most 1,000,000. The seed draws its decisions. If no run is
+/// found, the reply has a record. Out of memory is the only error.
+pub fn run_or_reply(
+    alloc: Global,
+    scene: &Scene,
+    seed: u64,
+    cuts: u32,
+) -> Result<RunOrReply, AllocError>
+    requires expanded { IsExpanded (seen_scene scene.now) }
+    requires limited { IsLimited (seen_scene scene.now) }
+    requires cuts { cuts ≤ 1000000 }
+    ensures { IfOk result (IsSearched (seen_scene scene.now) seed cuts) }
+{
+    match find_run(alloc, scene, seed, cuts)? {
+        Finding::Run(run) => Ok(RunOrReply::Run(run)),
+        Finding::Refutation(claim) => Ok(RunOrReply::Reply(refutation(claim))),
+        Finding::Undecided(claim) => Ok(RunOrReply::Reply(undecided(claim))),
+    }
+}
+
+/// The same search, with the text of the run as the reply if one is found.
+pub fn generate(alloc: Global, scene: &Scene, seed: u64, cuts: u32) -> Result<Reply, AllocError>
+    requires expanded { IsExpanded (seen_scene scene.now) }
+    requires limited { IsLimited (seen_scene scene.now) }
+    requires cuts { cuts ≤ 1000000 }
+    ensures { IfOk result (Generates (seen_scene scene.now) seed cuts) }
+{
+    match run_or_reply(alloc, scene, seed, cuts)? {
+        RunOrReply::Run(run) => Ok(done(write_run(alloc, &run)?)),
+        RunOrReply::Reply(reply) => Ok(reply),
+    }
+}

@@ -1,0 +1,4 @@
+pub mod Programs
+pub mod Sources
+pub mod SoundScenes
+pub mod FoundScenes

@@ -1,0 +1,146 @@
+//! What `command` says of records, of listings and of programs that are made.
+use crate::answers::{Outside, SOUND, answer, answers_are};
+use std::process::Abort;
+use std::test::Fail;
+
+/// A number that is to be greater and less than 3.
+const APART: &str =
+    "scenario top:\n    x: int\n    keep(x in [0..5])\n    keep(x > 3)\n    keep(x < 3)\n";
+
+/// The record that shows it has no instance.
+const REFUTATION: &str =
+    "osc-refutation 1\nslots 1\nrules 3\nroom 3\nlow 0 -1\nclose 0\nhigh 0 5\nclose 0\nlow 0 3\nclose 1\nclose 2\nend\n";
+
+/// The answers to `verify main.osc top record` over `APART` and these records.
+fn verdicts_are(rt: &(impl Abort + AllocGlobal), rows: &[(&str, &str)]) -> Result<(), Fail> {
+    let words = ["verify", "main.osc", "top", "record"];
+    for (record, want) in rows {
+        let files = [
+            ("main.osc", APART.as_bytes()),
+            ("record", record.as_bytes()),
+        ];
+        let got = answer(rt.alloc(), &words, &files, SOUND)?;
+        assert_eq!(rt; got.as_str(), *want, "{record}");
+    }
+    Ok(())
+}
+
+/// Each cut is one that the order of the search makes by itself, so the seed has no part in these records.
+#[test]
+fn sources_without_a_run(rt: HostRuntime) -> Result<(), Fail> {
+    let rows: [(&str, &str); 2] = [
+        (
+            APART,
+            "1 osc-refutation 1\nslots 1\nrules 3\nroom 3\nlow 0 -1\nclose 0\nhigh 0 5\nclose 0\nlow 0 3\nclose 1\nclose 2\nend\n",
+        ),
+        (
+            "scenario top:\n    x: int\n    keep(x in [4..3])\n",
+            "1 osc-refutation 1\nslots 1\nrules 1\nroom 2\nlow 0 3\nclose 0\nhigh 0 4\nclose 0\nclose 0\nend\n",
+        ),
+    ];
+    answers_are(&rt, &rows)
+}
+
+#[test]
+fn records_that_are_read(rt: HostRuntime) -> Result<(), Fail> {
+    let rows: [(&str, &str); 6] = [
+        (REFUTATION, "0 yes\n"),
+        (
+            "osc-refutation 1\nslots 1\nrules 4\nroom 3\nclose 0\nend\n",
+            "1 no 3\n",
+        ),
+        (
+            "osc-refutation 1\nslots 1\nrules 3\nroom 0\nclose 0\nend\n",
+            "1 no 5\n",
+        ),
+        (
+            "osc-undecided 1\nslots 1\nrules 3\nroom 1\nlow 0 -1\nclose 0\nopen\nend\n",
+            "2 open 1\n",
+        ),
+        (
+            "osc-refutation 1\nslots 1\nrules 3\nroom 3\nlow 0 -0\nclose 0\nclose 0\nend\n",
+            "5 text 5\n",
+        ),
+        ("", "5 text 1\n"),
+    ];
+    verdicts_are(&rt, &rows)
+}
+
+#[test]
+fn records_that_are_not_there(rt: HostRuntime) -> Result<(), Fail> {
+    let words = ["verify", "main.osc", "top", "record"];
+    let main = [("main.osc", APART.as_bytes())];
+    let got = answer(rt.alloc(), &words, &main, SOUND)?;
+    assert_eq!(rt; got.as_str(), "6 missing record\n");
+    Ok(())
+}
+
+#[test]
+fn shelf_that_fails_at_the_record(rt: HostRuntime) -> Result<(), Fail> {
+    let words = ["verify", "main.osc", "top", "record"];
+    let files = [
+        ("main.osc", APART.as_bytes()),
+        ("record", REFUTATION.as_bytes()),
+    ];
+    for call in 0..6 {
+        let fails = Outside {
+            shelf_failing: &[call],
+            ..SOUND
+        };
+        let got = answer(rt.alloc(), &words, &files, fails)?;
+        let want = if call < 3 {
+            "6 shelf main.osc\n"
+        } else {
+            "6 shelf record\n"
+        };
+        assert_eq!(rt; got.as_str(), want, "call {call} of the shelf");
+    }
+    Ok(())
+}
+
+/// Numbers that no member of the enum has lie between its ends, so its field has a rule of its own.
+#[test]
+fn listings(rt: HostRuntime) -> Result<(), Fail> {
+    let words = ["flat", "main.osc", "top", "--ticks", "1"];
+    let rows: [(&str, &str); 3] = [
+        (
+            APART,
+            "0 slots 1\nvalue x -1000000000 1000000000\nrules 3\nhard main.osc:3:5\nhard main.osc:4:5\nhard main.osc:5:5\n",
+        ),
+        (
+            "enum e: [a, b = 4]\nscenario top:\n    k: e\n",
+            "0 slots 1\nvalue k 0 4\nrules 1\ntyped k\n",
+        ),
+        (
+            "import osc.standard\nscenario top:\n    do one_of:\n        wait elapsed(0.1s)\n        serial:\n            wait elapsed(0.1s)\n",
+            "0 slots 9\nchoice do 0 1\nstart do 0 1\nend do 0 1\nstart do[0] 0 1\nend do[0] 0 1\nstart do[1] 0 1\nend do[1] 0 1\nstart do[1][0] 0 1\nend do[1][0] 0 1\nrules 6\nhard main.osc:4:22\nhard main.osc:6:26\narranged do\narranged do[0]\narranged do[1]\narranged do[1][0]\n",
+        ),
+    ];
+    for (source, want) in rows {
+        let main = [("main.osc", source.as_bytes())];
+        let got = answer(rt.alloc(), &words, &main, SOUND)?;
+        assert_eq!(rt; got.as_str(), want, "{source}");
+    }
+    Ok(())
+}
+
+/// The program for N vehicles loads, and its run has 1 + N + N * N phases and ends at tick 5 * N.
+#[test]
+fn made_programs(rt: HostRuntime) -> Result<(), Fail> {
+    let ample = Outside {
+        room: 65536,
+        ..SOUND
+    };
+    let rows: [(&str, &str); 3] = [
+        ("1", "make 1 phases 3 end 5 check yes\n"),
+        ("2", "make 2 phases 7 end 10 check yes\n"),
+        ("3", "make 3 phases 13 end 15 check yes\n"),
+    ];
+    for (count, last) in rows {
+        let got = answer(rt.alloc(), &["make", count], &[], ample)?;
+        let got = got.as_str();
+        assert!(rt; got.starts_with("0 {\"choices\":[]"), "{count}");
+        assert!(rt; got.ends_with(last), "{count}");
+    }
+    Ok(())
+}
