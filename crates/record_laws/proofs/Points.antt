@@ -78,3 +78,24 @@ accepted_cuts rules room ends above (branch cut first second) all =
       accepted_cuts rules room (second_part cut ends) (above + 1) second (AllTrue-back firsts seconds all.1),
     )
 accepted_cuts rules room ends above (leaf l) all = tt
+
+-- ---- records that are spent
+
+more_than_none : (a b : ℕ) → 1 ≤ b → 1 ≤ (a + 1) * b
+more_than_none a b h = omega (arith, h, times_next a b)
+  where
+    times_next : (a b : ℕ) → (a + 1) * b ≡ a * b + b
+    times_next a b = grind arith
+
+-- each box has a point
+has_point : (ends : List Pair) → 1 ≤ points_of ends
+has_point [] = omega arith
+has_point (p ∷ ps) = more_than_none (unsigned_abs (p.high -ℤ p.low)) (points_of ps) (has_point ps)
+
+all_have_points : (boxes : List (List Pair)) → length boxes ≤ points_all boxes
+all_have_points [] = omega arith
+all_have_points (box ∷ boxes) = omega (arith, has_point box, all_have_points boxes)
+
+-- a tree has fewer cuts than its box has points
+pub fewer_cuts : (ends : List Pair) (tree : Tree) → AllCut ends tree → cuts_of tree < points_of ends
+fewer_cuts ends tree all = omega (arith, leaves_count ends tree, leaves_points ends tree all, all_have_points (leaf_boxes ends tree))

@@ -34,13 +34,15 @@ reached_run scene flat seed cuts values run expanded same point gives = record {
 }
 
 -- a scene whose flat form is refuted has no instance
-pub scene_refutation : (scene : Scene) (flat : Flat) (seed : ℕ) (claim : Record) → IsExpanded scene → IsFlatOf scene flat → IsSeedRefutation seed flat claim → IsSceneRefutation scene seed claim
-scene_refutation scene flat seed claim expanded same refuted =
+pub scene_refutation : (scene : Scene) (flat : Flat) (seed cuts : ℕ) (claim : Record) → IsExpanded scene → IsFlatOf scene flat → IsSeedRefutation seed cuts flat claim
+    → IsSceneRefutation scene seed cuts claim
+scene_refutation scene flat seed cuts claim expanded same refuted =
     record {
       flat = flat;
       flat_of = same;
       tree = refuted.tree;
       refutation = refuted.refutation;
+      cuts_are = refuted.cuts_are;
       none = (exact_flat scene flat expanded same).none (refutation_empty flat claim (record { tree = refuted.tree; accepted = refuted.refutation.guided.accepted; closed = refuted.refutation.closed }));
     }
 

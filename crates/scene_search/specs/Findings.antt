@@ -1,9 +1,9 @@
 -- What a search for a run of a scene finds.
-use Rattle.std.specs.Prelude.{◌≡◌, ℕ, List, ℤ}
+use Rattle.std.specs.Prelude.{◌≡◌, ℕ, ◌≤◌, List, ℤ}
 use Rattle.box_eval.specs.declared.bounds.Pair.{Pair}
 use Rattle.box_eval.specs.declared.flat.Flat.{Flat}
 use Rattle.box_eval.specs.declared.record.Record.{Record}
-use Rattle.box_eval.specs.Record.{Tree}
+use Rattle.box_eval.specs.Record.{Tree, cuts_of}
 use Rattle.box_eval.specs.Guided.{IsGuidedRefutation, IsReached, IsSpent}
 use Rattle.composition.specs.declared.run.Run.{Run}
 use Rattle.composition.specs.Claims.{IsInstance}
@@ -25,12 +25,13 @@ pub record IsReachedRun (scene : Scene) (seed cuts : ℕ) (run : Run) : Type 0 w
   pub gives : timed scene.setting.tick run ≡ run_of scene values
   pub instance : IsInstance scene (timed scene.setting.tick run)
 
--- The scene has no instance: a refutation of its flat form that is guided by the seed.
-pub record IsSceneRefutation (scene : Scene) (seed : ℕ) (claim : Record) : Type 0 where
+-- The scene has no instance: a refutation of its flat form that is guided by the seed, of at most so many cuts.
+pub record IsSceneRefutation (scene : Scene) (seed cuts : ℕ) (claim : Record) : Type 0 where
   pub flat : Flat
   pub flat_of : IsFlatOf scene flat
   pub tree : Tree
   pub refutation : IsGuidedRefutation (number_of seed) flat claim tree
+  pub cuts_are : cuts_of tree ≤ cuts
   pub none : (run : TimedRun) → IsInstance scene run → ⊥
 
 -- A record of the scene's flat form that is spent for the seed and so many cuts.
@@ -44,5 +45,5 @@ pub record IsSpentRecord (scene : Scene) (seed cuts : ℕ) (claim : Record) : Ty
 -- what is found with a seed and at most so many cuts
 abbrev pub IsFinding : Scene → ℕ → ℕ → Finding → Type 0
 IsFinding scene seed cuts (Finding.Run run) = IsReachedRun scene seed cuts run
-IsFinding scene seed cuts (Finding.Refutation claim) = IsSceneRefutation scene seed claim
+IsFinding scene seed cuts (Finding.Refutation claim) = IsSceneRefutation scene seed cuts claim
 IsFinding scene seed cuts (Finding.Undecided claim) = IsSpentRecord scene seed cuts claim

@@ -1,5 +1,5 @@
 -- What is written of a search is accepted.
-use Rattle.std.proofs.Common.{◌≡◌, sym, ap₂, ◌∙◌, subst, ℕ, ◌≤◌, List, None, length}
+use Rattle.std.proofs.Common.{◌≡◌, sym, ap₂, ◌∙◌, subst, ℕ, ◌≤◌, List, None, length, arith}
 use Rattle.box_eval.specs.declared.bounds.Pair.{Pair}
 use Rattle.box_eval.specs.declared.flat.Flat.{Flat}
 use Rattle.box_eval.specs.declared.record.Record.{Record}
@@ -46,14 +46,14 @@ module _ (scene : Scene) (expanded : IsExpanded scene) (limited : IsLimited scen
   short_record flat claim tree is accepted =
       accepted_short flat claim tree (flat_form scene flat expanded limited is) (subst HasShortEnds (sym is.same_ends) (short_ends scene expanded limited)) accepted
 
-  pub refutation_short : (seed : ℕ) (claim : Record) → IsSceneRefutation scene seed claim → HaveShortValues claim.lines
-  refutation_short seed claim r = values_of claim (short_record r.flat claim r.tree r.flat_of r.refutation.guided.accepted)
+  pub refutation_short : (seed cuts : ℕ) (claim : Record) → IsSceneRefutation scene seed cuts claim → HaveShortValues claim.lines
+  refutation_short seed cuts claim r = values_of claim (short_record r.flat claim r.tree r.flat_of r.refutation.guided.accepted)
 
   pub spent_short : (seed cuts : ℕ) (claim : Record) → IsSpentRecord scene seed cuts claim → HaveShortValues claim.lines
   spent_short seed cuts claim r = values_of claim (short_record r.flat claim r.tree r.flat_of r.spent.guided.accepted)
 
-  pub refutation_accepted : (seed : ℕ) (claim : Record) → IsSceneRefutation scene seed claim → (flat : Flat) → IsFlatOf scene flat → IsRefutationText flat (record_text claim)
-  refutation_accepted seed claim r flat is =
+  pub refutation_accepted : (seed cuts : ℕ) (claim : Record) → IsSceneRefutation scene seed cuts claim → (flat : Flat) → IsFlatOf scene flat → IsRefutationText flat (record_text claim)
+  refutation_accepted seed cuts claim r flat is =
       subst (λ f. IsRefutationText f (record_text claim)) (one_flat scene r.flat flat r.flat_of is)
       (refutation_text r.flat claim (short_record r.flat claim r.tree r.flat_of r.refutation.guided.accepted)
       (record { tree = r.tree; accepted = r.refutation.guided.accepted; closed = r.refutation.closed }))
@@ -65,9 +65,10 @@ module _ (scene : Scene) (expanded : IsExpanded scene) (limited : IsLimited scen
       (open_text r.flat claim r.tree (short_record r.flat claim r.tree r.flat_of r.spent.guided.accepted) r.spent.guided.accepted
       (ends_open r.tree r.box r.flat.bounds.pairs r.spent.ends_at)))
 
-  pub refutation_within : (seed : ℕ) (claim : Record) (refutation : IsSceneRefutation scene seed claim) → cuts_of refutation.tree ≤ 1000000 → length (record_text claim) ≤ limit
-  refutation_within seed claim r few =
-      within_limit claim r.tree r.refutation.guided.accepted.record_of (short_record r.flat claim r.tree r.flat_of r.refutation.guided.accepted) few
+  pub refutation_within : (seed cuts : ℕ) (claim : Record) → IsSceneRefutation scene seed cuts claim → cuts ≤ 1000000 → length (record_text claim) ≤ limit
+  refutation_within seed cuts claim r few =
+      within_limit claim r.tree r.refutation.guided.accepted.record_of (short_record r.flat claim r.tree r.flat_of r.refutation.guided.accepted)
+      (omega (arith, r.cuts_are, few))
 
   pub spent_within : (seed cuts : ℕ) (claim : Record) → IsSpentRecord scene seed cuts claim → cuts ≤ 1000000 → length (record_text claim) ≤ limit
   spent_within seed cuts claim r few =

@@ -2,7 +2,6 @@
 use Rattle.std.specs.Prelude.{◌≡◌, ℕ, ◌≤◌, None, length}
 use Rattle.box_eval.specs.declared.flat.Flat.{Flat}
 use Rattle.box_eval.specs.declared.record.Record.{Record}
-use Rattle.box_eval.specs.Record.{cuts_of}
 use Rattle.composition.specs.declared.run.Run.{Run}
 use Rattle.composition.specs.Scenes.{Scene}
 use Rattle.composition.specs.TimedRuns.{timed}
@@ -16,7 +15,7 @@ use Rattle.scene_search.specs.Findings.{IsReachedRun, IsSceneRefutation, IsSpent
 -- the text of a refutation of a scene is one of the scene's flat form
 abbrev pub WrittenRefutationsAreAccepted : Type 0
 WrittenRefutationsAreAccepted =
-    (scene : Scene) (seed : ℕ) (claim : Record) → IsExpanded scene → IsLimited scene → IsSceneRefutation scene seed claim
+    (scene : Scene) (seed cuts : ℕ) (claim : Record) → IsExpanded scene → IsLimited scene → IsSceneRefutation scene seed cuts claim
     → (flat : Flat) → IsFlatOf scene flat → IsRefutationText flat (record_text claim)
 
 -- the text of a record that is spent is one of the scene's flat form, with an open leaf and all the cuts
@@ -25,11 +24,11 @@ WrittenRecordsAreOpen =
     (scene : Scene) (seed cuts : ℕ) (claim : Record) → IsExpanded scene → IsLimited scene → IsSpentRecord scene seed cuts claim
     → (flat : Flat) → IsFlatOf scene flat → IsOpenText flat (record_text claim) cuts
 
--- the text of a refutation with at most 1,000,000 cuts is no longer than a record's text may be
+-- the text of a refutation that is found with at most 1,000,000 cuts is no longer than a record's text may be
 abbrev pub WrittenRefutationsAreWithinLimit : Type 0
 WrittenRefutationsAreWithinLimit =
-    (scene : Scene) (seed : ℕ) (claim : Record) → IsExpanded scene → IsLimited scene → (refutation : IsSceneRefutation scene seed claim)
-    → cuts_of refutation.tree ≤ 1000000 → length (record_text claim) ≤ limit
+    (scene : Scene) (seed cuts : ℕ) (claim : Record) → IsExpanded scene → IsLimited scene → IsSceneRefutation scene seed cuts claim
+    → cuts ≤ 1000000 → length (record_text claim) ≤ limit
 
 -- nor is that of a record that is spent with at most 1,000,000 cuts
 abbrev pub WrittenRecordsAreWithinLimit : Type 0

@@ -12,7 +12,7 @@ use Rattle.scene_search.specs.Findings.{IsReachedRun, IsSceneRefutation, IsSpent
 -- spent.
 pub data IsSearchReply (text : Run → List ℕ) (scene : Scene) (seed cuts : ℕ) (reply : Answer) : Type 0 where
   runs : (run : Run) → IsReachedRun scene seed cuts run → reply ≡ replies.done (text run) → IsSearchReply text scene seed cuts reply
-  refuted : (claim : Record) → IsSceneRefutation scene seed claim → reply ≡ replies.refutation claim → IsSearchReply text scene seed cuts reply
+  refuted : (claim : Record) → IsSceneRefutation scene seed cuts claim → reply ≡ replies.refutation claim → IsSearchReply text scene seed cuts reply
   undecided : (claim : Record) → IsSpentRecord scene seed cuts claim → reply ≡ replies.undecided claim → IsSearchReply text scene seed cuts reply
 
 -- what `generate` replies: the text of the run, or a record

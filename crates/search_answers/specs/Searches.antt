@@ -10,7 +10,7 @@ use Rattle.search_answers.specs.declared.found.RunOrReply.{RunOrReply}
 -- what is replied without a run: a refutation, or a record that is spent
 abbrev pub IsNoRun : Scene → ℕ → ℕ → Answer → Type 0
 IsNoRun scene seed cuts reply =
-    ((claim : Record) × IsSceneRefutation scene seed claim × (reply ≡ refutation claim)) ⊎ ((claim : Record) × IsSpentRecord scene seed cuts claim × (reply ≡ undecided claim))
+    ((claim : Record) × IsSceneRefutation scene seed cuts claim × (reply ≡ refutation claim)) ⊎ ((claim : Record) × IsSpentRecord scene seed cuts claim × (reply ≡ undecided claim))
 
 -- a run that is reached, or what is replied without one
 abbrev pub IsSearched : Scene → ℕ → ℕ → RunOrReply → Type 0

@@ -12,7 +12,7 @@ pub fn written_records_are_open()
     ensures { WrittenRecordsAreOpen }
 {}
 
-/// The law that the text of a refutation with at most 1,000,000 cuts isn't too long for the check of refutations.
+/// The law that the text of a refutation that is found with at most 1,000,000 cuts isn't too long for the check of refutations.
 pub fn written_refutations_are_within_limit()
     ensures { WrittenRefutationsAreWithinLimit }
 {}

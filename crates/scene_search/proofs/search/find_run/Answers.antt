@@ -14,5 +14,5 @@ returns-in-Point c =
 
 pub returns-in-Refuted : goal.returns-in-Refuted
 returns-in-Refuted c =
-    scene_refutation (seen_scene c.args.scene.now) c.in_ok-flat.flat c.args.seed c.in-Refuted.record c.requires.expanded c.in_ok-flat.ensures.form
+    scene_refutation (seen_scene c.args.scene.now) c.in_ok-flat.flat c.args.seed c.args.cuts c.in-Refuted.record c.requires.expanded c.in_ok-flat.ensures.form
     (subst (IsOutcome c.args.seed c.args.cuts c.in_ok-flat.flat) c.in-Refuted.is c.in_ok-point.ensures)

@@ -6,7 +6,7 @@ use Rattle.search_answers.proofs.search.run_or_reply.Goals as goal
 
 pub refutation-requires : goal.refutation-requires
 refutation-requires c =
-    refutation_short (seen_scene c.args.scene.now) c.requires.expanded c.requires.limited c.args.seed c.in-Refutation.claim
+    refutation_short (seen_scene c.args.scene.now) c.requires.expanded c.requires.limited c.args.seed c.args.cuts c.in-Refutation.claim
     (subst (IsFinding (seen_scene c.args.scene.now) c.args.seed c.args.cuts) c.in-Refutation.is c.in_ok-run.ensures)
 
 pub undecided-requires : goal.undecided-requires
