@@ -1,10 +1,11 @@
 -- Sound inputs have outcomes, and a search with many cuts is decided.
 use Rattle.std.proofs.Common.{◌≡◌, ◌∙◌, ◌⊎◌, inl, inr, refl, sym, ap, subst, ℕ, ◌≤◌, ◌<◌, List, Option, Some, None, length, arith}
-use Rattle.std.specs.Prelude.{option_map}
+use Rattle.std.specs.Prelude.{IsUtf8, option_map}
 use Rattle.serde_json.specs.Read.{read}
 use Rattle.outside_io.specs.declared.shelf.NamedBytes.{NamedBytes}
 use Rattle.outside_io.specs.Files.{file_named}
 use Rattle.name_scope.specs.FileNumbers.{AddedFile}
+use Rattle.box_eval.specs.declared.flat.Flat.{Flat}
 use Rattle.record_text.specs.Source.{limit}
 use Rattle.record_laws.specs.Points.{points_of}
 use Rattle.composition.specs.declared.run.Run.{Run}
@@ -37,7 +38,7 @@ status_is reply other same = ap (λ (r : Answer). r.status) same
 not_within : (long bytes : List ℕ) (most : ℕ) → long ≡ bytes → most < length long → length bytes ≤ most → ⊥
 not_within long bytes most same beyond within = let below : most < length bytes = subst (λ b. most < length b) same beyond in omega (arith, below, within)
 
-IsSaidOfRun : Answer → Type 0
+abbrev IsSaidOfRun : Answer → Type 0
 IsSaidOfRun reply = (reply.status ≡ Done) ⊎ (reply.status ≡ Refuted)
 
 module _ (program : List AddedFile) (scene : Scene) (bytes : List ℕ) (run : Run) (reading : option_map run_from (read bytes) ≡ Some (Fits run)) where
