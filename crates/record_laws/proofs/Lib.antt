@@ -1,5 +1,5 @@
 pub mod Accepting
 mod Apart
-mod Points
+pub mod Points
 pub mod Short
 mod Worked

@@ -1,5 +1,5 @@
--- Both parts of a cut have the points of the whole, and the leaves of a tree have those of its box.
-use Rattle.std.proofs.Common.{◌≡◌, refl, sym, ap, ap₂, ◌∙◌, ℕ, zero, suc, ◌+◌, ◌*◌, ◌<◌, List, [], ◌∷◌, ◌++◌, length, slice_set, true, ℤ, pos, ◌+ℤ◌, ◌≤ℤ◌, ◌<ℤ◌, arith, length-append}
+-- Both parts of a cut have the points of the whole, and the leaves of a tree have those of its box. A record that is spent has fewer cuts than there are points.
+use Rattle.std.proofs.Common.{◌≡◌, refl, sym, ap, ap₂, ◌∙◌, subst, ℕ, zero, suc, ◌+◌, ◌*◌, ◌<◌, ◌≤◌, List, [], ◌∷◌, ◌++◌, length, slice_set, true, ℤ, pos, unsigned_abs, ◌+ℤ◌, ◌-ℤ◌, ◌≤ℤ◌, ◌<ℤ◌, arith, length-append}
 use Rattle.std.proofs.lemmas.Int.{ints}
 use Rattle.box_eval.specs.declared.rule.Rule.{Rule}
 use Rattle.box_eval.specs.declared.bounds.Pair.{Pair}
@@ -7,6 +7,9 @@ use Rattle.box_eval.specs.declared.cut.Cut.{Cut}
 use Rattle.box_eval.specs.declared.cut.Side.{Side}
 use Rattle.box_eval.specs.declared.cut.Side.TheVariants.{Low, High}
 use Rattle.box_eval.specs.Box.{pair, low_at, high_at, up_to, from, first_at, second_at, first_part, second_part, IsCutOf}
+use Rattle.box_eval.specs.declared.flat.Flat.{Flat}
+use Rattle.box_eval.specs.declared.record.Record.{Record}
+use Rattle.box_eval.specs.Guided.{IsSpent}
 use Rattle.box_eval.specs.Record.{Tree, branch, leaf, cuts_of, accepts, Accepted}
 use Rattle.box_eval.proofs.Empty.{AllTrue-front, AllTrue-back, cut_facts}
 use Rattle.record_laws.specs.Points.{values_of, points_of, points_all, leaf_boxes, AllCut}
@@ -99,3 +102,9 @@ all_have_points (box ∷ boxes) = omega (arith, has_point box, all_have_points b
 -- a tree has fewer cuts than its box has points
 pub fewer_cuts : (ends : List Pair) (tree : Tree) → AllCut ends tree → cuts_of tree < points_of ends
 fewer_cuts ends tree all = omega (arith, leaves_count ends tree, leaves_points ends tree all, all_have_points (leaf_boxes ends tree))
+
+-- a record that is spent has fewer cuts than its flat form has points
+pub spent_points : (draws : ℕ → ℕ) (cuts : ℕ) (flat : Flat) (claim : Record) (tree : Tree) (box : List Pair) → IsSpent draws cuts flat claim tree box → cuts < points_of flat.bounds.pairs
+spent_points draws cuts flat claim tree box spent =
+    let all = accepted_cuts flat.rules claim.room flat.bounds.pairs 0 tree spent.guided.accepted.accepted.1.1.1.1 in
+    subst (λ n. n < points_of flat.bounds.pairs) spent.cuts_are (fewer_cuts flat.bounds.pairs tree all)

@@ -2,3 +2,5 @@ pub mod Answers
 pub mod Laws
 pub mod Settings
 pub mod FoundSources
+pub mod Completeness
+pub mod Written

@@ -1,5 +1,5 @@
 -- What is written of a search is accepted.
-use Rattle.std.proofs.Common.{◌≡◌, sym, subst, ℕ, ◌≤◌, List, None, length, arith}
+use Rattle.std.proofs.Common.{◌≡◌, sym, subst, ℕ, ◌≤◌, ◌<◌, List, None, length, arith}
 use Rattle.box_eval.specs.declared.flat.Flat.{Flat}
 use Rattle.box_eval.specs.declared.record.Record.{Record}
 use Rattle.box_eval.specs.Record.{Tree, cuts_of, IsAcceptedAs}
@@ -10,18 +10,22 @@ use Rattle.record_text.specs.Text.{record_lines, record_text}
 use Rattle.record_text.specs.Written.{HaveShortValues}
 use Rattle.refute_check.specs.Answers.{IsRefutationText, IsOpenText}
 use Rattle.refute_check.proofs.Laws.{refutation_text, open_text}
+use Rattle.record_laws.specs.Points.{points_of}
 use Rattle.record_laws.specs.Short.{HasShortEnds}
+use Rattle.record_laws.proofs.Points.{spent_points}
 use Rattle.record_laws.proofs.Short.{accepted_short}
 use Rattle.composition.specs.declared.run.Run.{Run}
 use Rattle.composition.specs.Claims.{claims}
 use Rattle.composition.specs.Scenes.{Scene}
 use Rattle.composition.specs.TimedRuns.{timed}
+use Rattle.field_flatten.specs.Ends.{bounds}
 use Rattle.field_flatten.specs.Exactness.{IsExpanded, IsLimited, IsFlatOf}
 use Rattle.field_flatten.proofs.FlatForms.{flat_form}
 use Rattle.field_flatten.proofs.RuleTrees.{one_form}
 use Rattle.run_check.specs.Answers.{first_wrong}
 use Rattle.instance_check.proofs.FirstClaims.{none_fails}
 use Rattle.scene_search.specs.Findings.{IsReachedRun, IsSceneRefutation, IsSpentRecord}
+use Rattle.seeded_search.specs.Draws.{number_of}
 use Rattle.search_answers.proofs.ShortEnds.{short_ends}
 use Rattle.search_answers.proofs.ShortValues.{values_of}
 use Rattle.search_answers.proofs.TextLengths.{within_limit}
@@ -62,6 +66,10 @@ module _ (scene : Scene) (expanded : IsExpanded scene) (limited : IsLimited scen
   spent_within seed cuts claim r few =
       within_limit claim r.tree r.spent.guided.accepted.record_of (short_record r.flat claim r.tree r.flat_of r.spent.guided.accepted)
       (subst (λ n. n ≤ 1000000) (sym r.spent.cuts_are) few)
+
+pub spent_more : (scene : Scene) (seed cuts : ℕ) (claim : Record) → IsSpentRecord scene seed cuts claim → cuts < points_of (bounds scene)
+spent_more scene seed cuts claim r =
+    subst (λ ends. cuts < points_of ends) r.flat_of.same_ends (spent_points (number_of seed) cuts r.flat claim r.tree r.box r.spent)
 
 -- ---- runs
 

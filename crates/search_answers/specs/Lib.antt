@@ -1,3 +1,4 @@
 pub mod AcceptedTexts
 pub mod SearchAnswers
 pub mod Searches
+pub mod SpentBoxes

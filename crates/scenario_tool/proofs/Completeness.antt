@@ -1,0 +1,107 @@
+-- Sound inputs have outcomes, and a search with many cuts is decided.
+use Rattle.std.proofs.Common.{◌≡◌, ◌∙◌, ◌⊎◌, inl, inr, refl, sym, ap, subst, ℕ, ◌≤◌, ◌<◌, List, Option, Some, None, length, arith}
+use Rattle.std.specs.Prelude.{IsUtf8, option_map}
+use Rattle.serde_json.specs.Read.{read}
+use Rattle.outside_io.specs.declared.shelf.NamedBytes.{NamedBytes}
+use Rattle.outside_io.specs.Files.{file_named}
+use Rattle.name_scope.specs.FileNumbers.{AddedFile}
+use Rattle.box_eval.specs.declared.flat.Flat.{Flat}
+use Rattle.record_text.specs.Source.{limit}
+use Rattle.record_laws.specs.Points.{points_of}
+use Rattle.composition.specs.declared.run.Run.{Run}
+use Rattle.composition.specs.Scenes.{Scene}
+use Rattle.composition.specs.TimedRuns.{timed}
+use Rattle.field_flatten.specs.Ends.{bounds}
+use Rattle.run_check.specs.declared.wrong.Wrong.{Wrong}
+use Rattle.run_check.specs.Answers.{first_wrong}
+use Rattle.run_texts.specs.RunShape.{Shaped, Fits, Differs, run_from}
+use Rattle.command_words.specs.Words.{Wanted}
+use Rattle.command_replies.specs.declared.status.Status.{Status}
+use Rattle.command_replies.specs.declared.status.Status.TheVariants.{Done, Refuted}
+use Rattle.command_replies.specs.Reply.{Answer}
+use Rattle.search_answers.specs.SearchAnswers.{Generates, runs, refuted, undecided}
+use Rattle.search_answers.proofs.Accepted.{spent_more}
+use Rattle.run_answers.specs.Checks.{Checks, no_file, too_long, in_file, OnRunText, no_json, no_run, a_run, run_limit, verdict}
+use Rattle.record_answers.specs.RecordAnswers.{OnRecordFile, OnRecordText}
+use Rattle.record_answers.specs.RecordAnswers as record_reply
+use Rattle.scenario_tool.specs.Answers.{AnswersTo, Inputs}
+use Rattle.scenario_tool.specs.Completeness.{AreSound, DecidedByPoints, HasRecord, HasRun, IsOutcomeOf, SoundInputsHaveOutcomes}
+use Rattle.scenario_tool.specs.Laws.{IsOutcome}
+use Rattle.scenario_tool.proofs.Said.{IsRefusal, IsUndecided, no_status, none_some, other_status, said_of, said_of_sound, said_on_source, some_is, status_of}
+use Rattle.scenario_tool.proofs.Sole.{is_outcome}
+
+-- ---- the run in a file
+
+status_is : (reply other : Answer) → reply ≡ other → reply.status ≡ other.status
+status_is reply other same = ap (λ (r : Answer). r.status) same
+
+not_within : (long bytes : List ℕ) (most : ℕ) → long ≡ bytes → most < length long → length bytes ≤ most → ⊥
+not_within long bytes most same beyond within = let below : most < length bytes = subst (λ b. most < length b) same beyond in omega (arith, below, within)
+
+abbrev IsSaidOfRun : Answer → Type 0
+IsSaidOfRun reply = (reply.status ≡ Done) ⊎ (reply.status ≡ Refuted)
+
+module _ (program : List AddedFile) (scene : Scene) (bytes : List ℕ) (run : Run) (reading : option_map run_from (read bytes) ≡ Some (Fits run)) where
+  some_data : read bytes ≡ None → ⊥
+  some_data none = let same : None ≡ Some (Fits run) = sym (ap (option_map run_from) none) ∙ reading in cc
+
+  no_difference : (pointer : List ℕ) → option_map run_from (read bytes) ≡ Some (Differs pointer) → ⊥
+  no_difference pointer is = let same : Some (Differs pointer) ≡ Some (Fits run) = sym is ∙ reading in cc
+
+  verdict_status : (reply : Answer) (wrong : Option Wrong) → reply ≡ verdict program wrong → IsSaidOfRun reply
+  verdict_status reply None told = inl (status_is reply _ told)
+  verdict_status reply (Some wrong) told = inr (status_is reply _ told)
+
+  said_of_run : IsUtf8 bytes → (reply : Answer) → OnRunText program scene bytes reply → IsSaidOfRun reply
+  said_of_run utf8 reply (no_json is told) = absurd (some_data (is utf8))
+  said_of_run utf8 reply (no_run pointer is told) = absurd (no_difference pointer is.1)
+  said_of_run utf8 reply (a_run other is told) = verdict_status reply (first_wrong scene (timed 100 other)) told
+
+run_outcome : (texts : List NamedBytes) (file : List ℕ) (program : List AddedFile) (scene : Scene) (reply : Answer) → HasRun texts file →
+    Checks texts file program scene reply → IsSaidOfRun reply
+run_outcome texts file program scene reply has (no_file none told) = absurd (none_some (file_named texts file) has.bytes none has.there)
+run_outcome texts file program scene reply has (too_long long told) =
+    absurd (not_within long.bytes has.bytes run_limit (some_is (file_named texts file) long.bytes has.bytes long.there has.there) long.beyond has.within)
+run_outcome texts file program scene reply has (in_file bytes there within told) =
+    said_of_run program scene has.bytes has.run has.reading.1 has.reading.0 reply
+    (subst (λ b. OnRunText program scene b reply) (some_is (file_named texts file) bytes has.bytes there has.there) told)
+
+-- ---- the record in a file
+
+record_outcome : (texts : List NamedBytes) (file : List ℕ) (flat : Flat) (reply : Answer) → HasRecord texts file → OnRecordFile texts file flat reply → IsOutcome reply.status
+record_outcome texts file flat reply has (record_reply.no_file none told) = absurd (none_some (file_named texts file) has.bytes none has.there)
+record_outcome texts file flat reply has (record_reply.too_long long told) =
+    absurd (not_within long.bytes has.bytes limit (some_is (file_named texts file) long.bytes has.bytes long.there has.there) long.beyond has.within)
+record_outcome texts file flat reply has (record_reply.in_file bytes there within told) =
+    by (subst (λ b. OnRecordText flat b reply) (some_is (file_named texts file) bytes has.bytes there has.there) told)
+  where
+    by : OnRecordText flat has.bytes reply → IsOutcome reply.status
+    by (record_reply.bad_line line its told) = absurd (its.no_record has.claim has.tree has.text_of)
+    by (record_reply.refused line its told) = status_of IsOutcome reply _ told tt
+    by (record_reply.refuted its told) = status_of IsOutcome reply _ told tt
+    by (record_reply.undecided cuts its told) = status_of IsOutcome reply _ told tt
+
+-- ---- all words
+
+pub sound_outcomes : SoundInputsHaveOutcomes
+sound_outcomes inputs (Wanted.Help text) reply sound is = status_is reply _ is
+sound_outcomes inputs (Wanted.Generate asked) reply sound is = is_outcome _ _ _ _ reply (said_of_sound _ _ _ _ _ reply sound is).said
+sound_outcomes inputs (Wanted.Check asked) reply sound is =
+    run_outcome inputs.texts asked.run _ _ reply sound.1 (said_of_sound _ _ _ _ _ reply sound.0 is).said
+sound_outcomes inputs (Wanted.Verify asked) reply sound is =
+    record_outcome inputs.texts asked.«record» _ reply sound.1 (said_of_sound _ _ _ _ _ reply sound.0 is).said.answers
+sound_outcomes inputs (Wanted.Flat asked) reply sound is = status_is reply _ (said_of_sound _ _ _ _ _ reply sound is).said
+sound_outcomes inputs (Wanted.Make asked) reply sound is = is_outcome _ _ _ _ reply (said_of_sound _ _ _ _ _ reply sound is).said
+sound_outcomes inputs Wanted.Refused reply sound is = absurd sound
+
+-- ---- decided searches
+
+decided : (scene : Scene) (seed cuts : ℕ) (reply : Answer) → points_of (bounds scene) ≤ cuts → Generates scene seed cuts reply → IsUndecided reply.status → ⊥
+decided scene seed cuts reply few (runs run is told) as_open = other_status IsUndecided reply _ told as_open
+decided scene seed cuts reply few (refuted claim is told) as_open = other_status IsUndecided reply _ told as_open
+decided scene seed cuts reply few (undecided claim is told) as_open = let more = spent_more scene seed cuts claim is in omega (arith, few, more)
+
+pub decided_by_points : DecidedByPoints
+decided_by_points inputs asked program scenario reply whole named few is status =
+    let a = said_on_source _ _ _ _ (λ program scene. Generates scene asked.seed asked.cuts) reply (λ bad. no_status IsRefusal _ _ status bad) is in
+    decided _ asked.seed asked.cuts reply few (said_of _ _ _ _ _ reply a program scenario whole named) (no_status IsUndecided _ _ (sym status) tt)

@@ -1,0 +1,83 @@
+-- What `generate` wrote is accepted.
+use Rattle.std.proofs.Common.{◌≡◌, refl, sym, ap, subst, ℕ, ◌≤◌, List, Some, None, codes, length}
+use Rattle.outside_io.specs.declared.shelf.NamedBytes.{NamedBytes}
+use Rattle.outside_io.specs.Files.{file_named}
+use Rattle.name_scope.specs.FileNumbers.{AddedFile}
+use Rattle.record_text.specs.Source.{limit}
+use Rattle.record_text.specs.Text.{record_text}
+use Rattle.composition.specs.declared.run.Run.{Run}
+use Rattle.composition.specs.Scenes.{Scene}
+use Rattle.run_check.specs.RunText.{run_text}
+use Rattle.run_tests.proofs.RoundTrips.{text_back}
+use Rattle.command_words.specs.Words.{GenerateAsked, Wanted}
+use Rattle.command_replies.specs.Reply.{Answer}
+use Rattle.command_replies.specs.Replies.{done, open_cuts}
+use Rattle.source_scenes.specs.SoundScenes.{IsSoundScene}
+use Rattle.search_answers.specs.SearchAnswers.{Generates, runs, refuted, undecided}
+use Rattle.search_answers.proofs.Accepted.{reached_right, refutation_accepted, refutation_within, spent_open, spent_within}
+use Rattle.run_answers.specs.Checks.{Checks, in_file, a_run, run_limit, verdict}
+use Rattle.record_answers.specs.RecordAnswers.{Verifies}
+use Rattle.record_answers.specs.RecordAnswers as record_reply
+use Rattle.scenario_tool.specs.Settings.{scene_setting}
+use Rattle.scenario_tool.specs.Written.{CanBeRead, WrittenRecordsAreOpen, WrittenRefutationsAreAccepted, WrittenRunsAreAccepted}
+use Rattle.scenario_tool.proofs.Said.{IsDone, IsRefusal, IsRefuted, IsUndecided, no_status, other_status, said_on_source, say}
+use Rattle.scenario_tool.proofs.SettingRanges.{setting_in_range}
+use Rattle.scenario_tool.proofs.SoundScenes.{scene_is_sound}
+
+-- ---- about one scene
+
+module _ (scene : Scene) (seed cuts : ℕ) (reply : Answer) (texts : List NamedBytes) (file : List ℕ) (kept : file_named texts file ≡ Some reply.text) where
+  kept_text : (other : Answer) → reply ≡ other → file_named texts file ≡ Some other.text
+  kept_text other same = subst (λ (r : Answer). file_named texts file ≡ Some r.text) same kept
+
+  run_accepted : (program : List AddedFile) → scene.setting.tick ≡ 100 → ((run : Run) → reply.text ≡ run_text run → CanBeRead run) → length reply.text ≤ run_limit →
+      Generates scene seed cuts reply → IsDone reply.status → Checks texts file program scene (done (codes "yes\n"))
+  run_accepted program tick readable short (runs run is told) as_done =
+      let can = readable run (ap (λ (r : Answer). r.text) told) in
+      in_file (run_text run) (kept_text (done (run_text run)) told) (subst (λ (r : Answer). length r.text ≤ run_limit) told short)
+      (a_run run (can.utf8, text_back run can.written) (sym (ap (verdict program) (reached_right scene seed cuts run is 100 tick))))
+  run_accepted program tick readable short (refuted claim is told) as_done = absurd (other_status IsDone reply _ told as_done)
+  run_accepted program tick readable short (undecided claim is told) as_done = absurd (other_status IsDone reply _ told as_done)
+
+  module _ (its : IsSoundScene scene) (few : cuts ≤ 1000000) where
+    refutation_verified : Generates scene seed cuts reply → IsRefuted reply.status → Verifies texts file scene (done (codes "yes\n"))
+    refutation_verified (runs run is told) as_refuted = absurd (other_status IsRefuted reply _ told as_refuted)
+    refutation_verified (refuted claim is told) as_refuted = record {
+      flat = is.flat;
+      flat_of = is.flat_of;
+      answers = record_reply.in_file (record_text claim) (kept_text _ told) (refutation_within scene its.expanded its.limited seed cuts claim is few)
+          (record_reply.refuted (refutation_accepted scene its.expanded its.limited seed cuts claim is is.flat is.flat_of) refl);
+    }
+    refutation_verified (undecided claim is told) as_refuted = absurd (other_status IsRefuted reply _ told as_refuted)
+
+    record_verified : Generates scene seed cuts reply → IsUndecided reply.status → Verifies texts file scene (open_cuts cuts)
+    record_verified (runs run is told) as_open = absurd (other_status IsUndecided reply _ told as_open)
+    record_verified (refuted claim is told) as_open = absurd (other_status IsUndecided reply _ told as_open)
+    record_verified (undecided claim is told) as_open = record {
+      flat = is.flat;
+      flat_of = is.flat_of;
+      answers = record_reply.in_file (record_text claim) (kept_text _ told) (spent_within scene its.expanded its.limited seed cuts claim is few)
+          (record_reply.undecided cuts (spent_open scene its.expanded its.limited seed cuts claim is is.flat is.flat_of) refl);
+    }
+
+-- ---- about sources
+
+pub written_runs : WrittenRunsAreAccepted
+written_runs inputs asked reply is status readable short texts file kept =
+    let a = said_on_source _ _ _ _ (λ program scene. Generates scene asked.seed asked.cuts) reply (λ bad. no_status IsRefusal _ _ status bad) is in
+    say _ _ _ _ (λ program scene. Generates scene asked.seed asked.cuts) reply (Checks texts file) (done (codes "yes\n")) a
+    (run_accepted _ asked.seed asked.cuts reply texts file kept a.program refl readable short a.said (no_status IsDone _ _ (sym status) tt))
+
+pub written_refutations : WrittenRefutationsAreAccepted
+written_refutations inputs asked reply ranges is status texts file kept =
+    let setting = setting_in_range asked.setting (scene_setting asked.setting) refl ranges.setting_ranges in
+    let a = said_on_source _ _ _ _ (λ program scene. Generates scene asked.seed asked.cuts) reply (λ bad. no_status IsRefusal _ _ status bad) is in
+    say _ _ _ _ (λ program scene. Generates scene asked.seed asked.cuts) reply (λ program. Verifies texts file) (done (codes "yes\n")) a
+    (refutation_verified _ asked.seed asked.cuts reply texts file kept (scene_is_sound _ _ _ _ _ reply setting a) ranges.cuts_range.1 a.said (no_status IsRefuted _ _ (sym status) tt))
+
+pub written_records : WrittenRecordsAreOpen
+written_records inputs asked reply ranges is status texts file kept =
+    let setting = setting_in_range asked.setting (scene_setting asked.setting) refl ranges.setting_ranges in
+    let a = said_on_source _ _ _ _ (λ program scene. Generates scene asked.seed asked.cuts) reply (λ bad. no_status IsRefusal _ _ status bad) is in
+    say _ _ _ _ (λ program scene. Generates scene asked.seed asked.cuts) reply (λ program. Verifies texts file) (open_cuts asked.cuts) a
+    (record_verified _ asked.seed asked.cuts reply texts file kept (scene_is_sound _ _ _ _ _ reply setting a) ranges.cuts_range.1 a.said (no_status IsUndecided _ _ (sym status) tt))

@@ -1,0 +1,86 @@
+-- When an answer is no refusal, and when a search is decided.
+use Rattle.std.specs.Prelude.{◌≡◌, ◌≤◌, ◌⊎◌, ℕ, List, Some, Ok, length, ⊤}
+use Rattle.outside_io.specs.declared.shelf.NamedBytes.{NamedBytes}
+use Rattle.outside_io.specs.Files.{file_named}
+use Rattle.name_scope.specs.FileNumbers.{AddedFile}
+use Rattle.program_load.specs.Loading.{IsLoaded}
+use Rattle.named_scenario.specs.Naming.{types_in}
+use Rattle.box_eval.specs.Record.{Tree}
+use Rattle.box_eval.specs.declared.record.Record.{Record}
+use Rattle.record_text.specs.Source.{limit}
+use Rattle.record_text.specs.Text.{IsTextOf}
+use Rattle.record_laws.specs.Points.{points_of}
+use Rattle.composition.specs.declared.run.Run.{Run}
+use Rattle.composition.specs.Expanded.{scene}
+use Rattle.field_flatten.specs.Ends.{bounds}
+use Rattle.run_texts.specs.RunReading.{IsReading}
+use Rattle.command_words.specs.declared.requests.Setting.{Setting}
+use Rattle.command_words.specs.Shared.{Source}
+use Rattle.command_words.specs.Words.{GenerateAsked, Wanted}
+use Rattle.command_replies.specs.declared.status.Status.{Status}
+use Rattle.command_replies.specs.declared.status.Status.TheVariants.{Done, Refuted, Undecided}
+use Rattle.command_replies.specs.Reply.{Answer}
+use Rattle.source_scenes.specs.Programs.{scenario_named}
+use Rattle.source_scenes.specs.Sources.{IsTextTurn}
+use Rattle.made_programs.specs.MadeLoads.{main_name, made_files}
+use Rattle.run_answers.specs.Checks.{run_limit}
+use Rattle.scenario_tool.specs.Answers.{AnswersTo, Inputs}
+use Rattle.scenario_tool.specs.Laws.{IsOutcome}
+use Rattle.scenario_tool.specs.Settings.{made_scenario, made_setting, scene_setting}
+
+-- ---- Sound inputs
+
+-- a file of the texts holds a run, and isn't too long
+pub record HasRun (texts : List NamedBytes) (file : List ℕ) : Type 0 where
+  pub bytes : List ℕ
+  pub there : file_named texts file ≡ Some bytes
+  pub within : length bytes ≤ run_limit
+  pub run : Run
+  pub reading : IsReading bytes (Ok run)
+
+-- a file of the texts holds a record, and isn't too long
+pub record HasRecord (texts : List NamedBytes) (file : List ℕ) : Type 0 where
+  pub bytes : List ℕ
+  pub there : file_named texts file ≡ Some bytes
+  pub within : length bytes ≤ limit
+  pub claim : Record
+  pub tree : Tree
+  pub text_of : IsTextOf bytes claim tree
+
+-- the program of a source is loaded, and isn't refused
+abbrev pub IsSoundSource : List NamedBytes → Source → Setting → Type 0
+IsSoundSource sources source setting = IsTextTurn sources (scene_setting setting) source.file source.scenario
+
+-- what words name is sound: the source, and the run or the record
+abbrev pub AreSound : Inputs → Wanted → Type 0
+AreSound inputs (Wanted.Help text) = ⊤
+AreSound inputs (Wanted.Generate asked) = IsSoundSource inputs.sources asked.source asked.setting
+AreSound inputs (Wanted.Check asked) = IsSoundSource inputs.sources asked.source asked.setting × HasRun inputs.texts asked.run
+AreSound inputs (Wanted.Verify asked) = IsSoundSource inputs.sources asked.source asked.setting × HasRecord inputs.texts asked.«record»
+AreSound inputs (Wanted.Flat asked) = IsSoundSource inputs.sources asked.source asked.setting
+AreSound inputs (Wanted.Make asked) = IsTextTurn (made_files asked.count) (made_setting asked.count) main_name made_scenario
+AreSound inputs Wanted.Refused = ⊥
+
+-- the statuses of answers that are no refusal: of a search a run, a refutation or an open record; of a check `yes` or `no`;
+-- of a record `yes`, `no` or open; of all else that it is done
+abbrev pub IsOutcomeOf : Wanted → Status → Type 0
+IsOutcomeOf (Wanted.Help text) status = status ≡ Done
+IsOutcomeOf (Wanted.Generate asked) status = IsOutcome status
+IsOutcomeOf (Wanted.Check asked) status = (status ≡ Done) ⊎ (status ≡ Refuted)
+IsOutcomeOf (Wanted.Verify asked) status = IsOutcome status
+IsOutcomeOf (Wanted.Flat asked) status = status ≡ Done
+IsOutcomeOf (Wanted.Make asked) status = IsOutcome status
+IsOutcomeOf Wanted.Refused status = ⊥
+
+-- if all that words name is sound, no right answer is a refusal
+abbrev pub SoundInputsHaveOutcomes : Type 0
+SoundInputsHaveOutcomes = (inputs : Inputs) (wanted : Wanted) (reply : Answer) → AreSound inputs wanted → AnswersTo inputs wanted reply → IsOutcomeOf wanted reply.status
+
+-- ---- Decided searches
+
+-- a search is decided if it may make as many cuts as the scene's flat form has points
+abbrev pub DecidedByPoints : Type 0
+DecidedByPoints = (inputs : Inputs) (asked : GenerateAsked) (program : List AddedFile) (scenario : ℕ) (reply : Answer) →
+    IsLoaded inputs.sources asked.source.file program → scenario_named program asked.source.scenario ≡ Some scenario →
+    points_of (bounds (scene (types_in program) scenario (scene_setting asked.setting))) ≤ asked.cuts →
+    AnswersTo inputs (Wanted.Generate asked) reply → reply.status ≡ Undecided → ⊥

@@ -1,0 +1,50 @@
+-- What `check` and `verify` answer to what `generate` wrote, if some file of the texts holds it.
+use Rattle.std.specs.Prelude.{◌≡◌, ◌≤◌, ℕ, List, Some, true, IsUtf8, codes, length}
+use Rattle.outside_io.specs.declared.shelf.NamedBytes.{NamedBytes}
+use Rattle.outside_io.specs.Files.{file_named}
+use Rattle.composition.specs.declared.run.Run.{Run}
+use Rattle.run_check.specs.RunText.{run_text}
+use Rattle.run_tests.specs.WrittenRuns.{is_written_run}
+use Rattle.command_words.specs.Words.{GenerateAsked, Wanted, IsGenerateInRanges}
+use Rattle.command_replies.specs.declared.status.Status.TheVariants.{Done, Refuted, Undecided}
+use Rattle.command_replies.specs.Reply.{Answer}
+use Rattle.command_replies.specs.Replies.{done, open_cuts}
+use Rattle.run_answers.specs.Checks.{run_limit}
+use Rattle.scenario_tool.specs.Answers.{AnswersTo, Inputs}
+
+-- the same sources with other texts
+abbrev pub with_texts : Inputs → List NamedBytes → Inputs
+with_texts inputs texts = record { sources = inputs.sources; texts = texts }
+
+-- `check` of the run in a file, and `verify` of the record in a file, for what `generate` was asked for
+abbrev pub check_of : GenerateAsked → List ℕ → Wanted
+check_of asked file = Wanted.Check (record { source = asked.source; run = file; setting = asked.setting })
+
+abbrev pub verify_of : GenerateAsked → List ℕ → Wanted
+verify_of asked file = Wanted.Verify (record { source = asked.source; «record» = file; setting = asked.setting })
+
+-- a run whose text is UTF-8, and each of whose paths has a text
+pub record CanBeRead (run : Run) : Type 0 where
+  pub utf8 : IsUtf8 (run_text run)
+  pub written : is_written_run run ≡ true
+
+-- `check` says `yes` of each run that `generate` wrote, if its text can be read and isn't too long
+abbrev pub WrittenRunsAreAccepted : Type 0
+WrittenRunsAreAccepted = (inputs : Inputs) (asked : GenerateAsked) (reply : Answer) → AnswersTo inputs (Wanted.Generate asked) reply → reply.status ≡ Done →
+    ((run : Run) → reply.text ≡ run_text run → CanBeRead run) → length reply.text ≤ run_limit →
+    (texts : List NamedBytes) (file : List ℕ) → file_named texts file ≡ Some reply.text →
+    AnswersTo (with_texts inputs texts) (check_of asked file) (done (codes "yes\n"))
+
+-- `verify` says `yes` of each refutation that `generate` wrote
+abbrev pub WrittenRefutationsAreAccepted : Type 0
+WrittenRefutationsAreAccepted = (inputs : Inputs) (asked : GenerateAsked) (reply : Answer) → IsGenerateInRanges asked →
+    AnswersTo inputs (Wanted.Generate asked) reply → reply.status ≡ Refuted →
+    (texts : List NamedBytes) (file : List ℕ) → file_named texts file ≡ Some reply.text →
+    AnswersTo (with_texts inputs texts) (verify_of asked file) (done (codes "yes\n"))
+
+-- `verify` says of each other record that `generate` wrote that it is open, with all the cuts that were asked for
+abbrev pub WrittenRecordsAreOpen : Type 0
+WrittenRecordsAreOpen = (inputs : Inputs) (asked : GenerateAsked) (reply : Answer) → IsGenerateInRanges asked →
+    AnswersTo inputs (Wanted.Generate asked) reply → reply.status ≡ Undecided →
+    (texts : List NamedBytes) (file : List ℕ) → file_named texts file ≡ Some reply.text →
+    AnswersTo (with_texts inputs texts) (verify_of asked file) (open_cuts asked.cuts)
