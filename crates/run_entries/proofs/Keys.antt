@@ -1,7 +1,6 @@
 -- An index of borrowed paths as a function from paths to places.
 use Rattle.std.proofs.Common.{◌≡◌, ◌∙◌, refl, sym, ap, ℕ, Bool, true, false, cond, Option, Some, None, Bor}
 use Rattle.std.specs.Option.{is_some, option_or}
-
 use Rattle.indexmap.specs.IndexMap.{IndexMap, get_by}
 use Rattle.osc_base.specs.declared.path.Path.{Path}
 use Rattle.osc_base.specs.contracts.path.PathPartialEq.TheImpl as paths
@@ -12,7 +11,6 @@ use Rattle.path_index.proofs.Keys.{or_nothing, placed}
 -- a map finds by the program's `==` what it finds by the test of paths
 pub found_by : {X S : Type 0} (m : IndexMap (Bor Path) X S) (path : Path) → get_by (λ key. paths.eq-value.it path key.now) m ≡ get_by (λ key. same_path path key.now) m
 found_by m path = ap (λ (t : Path → Bool). get_by (λ key. t key.now) m) (λ i other. path_eq path other i)
-
 
 -- a path that had no place gets one
 pub noted_new : (f g : Path → Option ℕ) (path : Path) (place : ℕ) → None ≡ f path → ((other : Path) → g other ≡ cond (same_path path other) (Some place) (f other))
