@@ -7,7 +7,6 @@ ghost use Rattle.composition.specs.SeenParts.{seen_binding};
 ghost use Rattle.dsl_tree.specs.Views.{field_tree};
 ghost use Rattle.expansion_laws.specs.Works.{field_works, value_works};
 ghost use Rattle.expansion_laws.specs.Works as works;
-ghost use Rattle.osc_base.specs.Paths as paths;
 ghost use Rattle.type_heads.specs.Members.{fields};
 ghost use Rattle.scene_expansion.specs.SeenWorks.{seen_work};
 ghost use Rattle.program_texts.specs.SeenFields.{seen_field};
@@ -76,16 +75,16 @@ fn push_elements<'p>(
 fn push_values<'p>(
     alloc: Global,
     into: &mut Vec<Work<'p>>,
-    path: Path,
+    path: &Path,
     guards: &[Guard],
     length: Option<u32>,
     range: &ValueRange,
 ) -> Result<(), AllocError>
-    ensures { OnOk result (map seen_work into.new.items ≡ map seen_work into.old.items ++ value_works path guards.now length range.now) }
+    ensures { OnOk result (map seen_work into.new.items ≡ map seen_work into.old.items ++ value_works path.now guards.now length range.now) }
 {
     match length {
-        Some(length) => push_elements(alloc, into, &path, guards, length, range),
-        None => push_value(alloc, into, path, guards, range),
+        Some(length) => push_elements(alloc, into, path, guards, length, range),
+        None => push_value(alloc, into, path.copy(alloc)?, guards, range),
     }
 }
 
@@ -94,20 +93,18 @@ fn push_held_values<'p>(
     alloc: Global,
     texts: &ProgramTexts<'p>,
     into: &mut Vec<Work<'p>>,
-    object: &Path,
-    name: &str,
+    path: &Path,
     guards: &[Guard],
     decl: &FieldDecl,
     of: TypeId,
 ) -> Result<(), AllocError>
-    ensures { OnOk result (map seen_work into.new.items ≡ map seen_work into.old.items ++ held_values (types_in texts.now) (paths.then_name object.now name.now) guards.now (field_tree decl.now) of) }
+    ensures { OnOk result (map seen_work into.new.items ≡ map seen_work into.old.items ++ held_values (types_in texts.now) path.now guards.now (field_tree decl.now) of) }
 {
     let length = list_length(decl)?;
-    let Some(range) = range_of(alloc, texts.types(), of)? else {
-        return Ok(());
-    };
-    let path = then_name(alloc, object, name)?;
-    push_values(alloc, into, path, guards, length, &range)
+    match range_of(alloc, texts.types(), of)? {
+        Some(range) => push_values(alloc, into, path, guards, length, &range),
+        None => Ok(()),
+    }
 }
 
 /// Puts the object that a field of a type holds at the end, unless the field is bound.
@@ -116,23 +113,19 @@ fn push_held_object<'p>(
     texts: &ProgramTexts<'p>,
     into: &mut Vec<Work<'p>>,
     within: &Within<'_>,
-    name: &str,
+    path: &Path,
     guards: &[Guard],
     of: TypeId,
 ) -> Result<(), AllocError>
-    ensures { OnOk result (map seen_work into.new.items ≡ map seen_work into.old.items ++ held_objects within.now.steps (types_in texts.now) (map seen_binding within.now.bindings.now) (paths.then_name within.now.object.now name.now) guards.now of) }
+    ensures { OnOk result (map seen_work into.new.items ≡ map seen_work into.old.items ++ held_objects within.now.steps (types_in texts.now) (map seen_binding within.now.bindings.now) path.now guards.now of) }
 {
-    if !texts.is_object(of) {
-        return Ok(());
-    }
-    let path = then_name(alloc, within.object, name)?;
-    if within.is_bound(&path) {
+    if !texts.is_object(of) || within.is_bound(path) {
         return Ok(());
     }
     let guards = copy_guards(alloc, guards)?;
     into.push(Work::Object {
         steps: within.steps,
-        path,
+        path: path.copy(alloc)?,
         of,
         guards,
         bindings: Row::new(alloc),
@@ -146,15 +139,15 @@ fn push_held<'p>(
     texts: &ProgramTexts<'p>,
     into: &mut Vec<Work<'p>>,
     within: &Within<'_>,
-    name: &str,
+    path: &Path,
     guards: &[Guard],
     decl: &FieldDecl,
     of: TypeId,
 ) -> Result<(), AllocError>
-    ensures { OnOk result (map seen_work into.new.items ≡ map seen_work into.old.items ++ held_works within.now.steps (types_in texts.now) (map seen_binding within.now.bindings.now) (paths.then_name within.now.object.now name.now) guards.now (field_tree decl.now) of) }
+    ensures { OnOk result (map seen_work into.new.items ≡ map seen_work into.old.items ++ held_works within.now.steps (types_in texts.now) (map seen_binding within.now.bindings.now) path.now guards.now (field_tree decl.now) of) }
 {
-    push_held_object(alloc, texts, into, within, name, guards, of)?;
-    push_held_values(alloc, texts, into, within.object, name, guards, decl, of)
+    push_held_object(alloc, texts, into, within, path, guards, of)?;
+    push_held_values(alloc, texts, into, path, guards, decl, of)
 }
 
 /// The conditions of the object and of a field.
@@ -195,13 +188,14 @@ fn push_field<'p>(
     let Some(of) = texts.declared_type(field.decl) else {
         return Ok(());
     };
+    let path = then_name(alloc, within.object, field.name.text.as_str())?;
     let guards = field_guards(alloc, texts, within, field.under)?;
     push_held(
         alloc,
         texts,
         into,
         within,
-        field.name.text.as_str(),
+        &path,
         guards.as_slice(),
         field.decl,
         of,
