@@ -270,7 +270,7 @@ fn push_actor(
 }
 
 /// Puts the bindings that the arguments of an invocation of a type make at the end.
-fn push_given(
+fn push_all_given(
     alloc: Global,
     texts: &ProgramTexts<'_>,
     into: &mut Row<Binding>,
@@ -293,6 +293,23 @@ fn push_given(
         fields.as_slice(),
         arguments,
     )
+}
+
+/// Puts the bindings that the arguments of an invocation of a type make at the end. Without arguments no scope is made.
+fn push_given(
+    alloc: Global,
+    texts: &ProgramTexts<'_>,
+    into: &mut Row<Binding>,
+    call: &Call,
+    arguments: &[Argument],
+    of: TypeId,
+) -> Result<(), AllocError>
+    ensures { OnOk result (map seen_binding into.new ≡ map seen_binding into.old ++ of_arguments (types_in texts.now) of (argument_binding (types_in texts.now) (seen_call call.now) (here_in (types_in texts.now) (seen_call call.now) (Some (Scopes.It.Of of None)))) 0 (map argument_tree arguments.now)) }
+{
+    match arguments {
+        [] => Ok(()),
+        [_argument, ..] => push_all_given(alloc, texts, into, call, arguments, of),
+    }
 }
 
 /// The bindings that an invocation of a type makes: that of `actor`, if an actor is invoked, and those of arguments.

@@ -11,7 +11,7 @@ use Rattle.scene_texts.specs.Moving.{seen_bound}
 use Rattle.object_works.specs.Arguments.{arguments_bound}
 use Rattle.object_works.proofs.ArgumentSteps.{given_is}
 use Rattle.object_works.proofs.WorkParts.{on_ok}
-use Rattle.object_works.proofs.bindings.push_given.Goals as goal
+use Rattle.object_works.proofs.bindings.push_all_given.Goals as goal
 
 pub returns : goal.returns
 returns c =
