@@ -29,7 +29,7 @@ use value_fits::with_initial;
 fn with_value(
     alloc: Global,
     types: &Types,
-    scope: &Scope,
+    scope: &Scope<'_>,
     first: Option<Fault>,
     held: &Held,
     value: &Expr,
@@ -45,7 +45,7 @@ fn with_value(
 fn with_values(
     alloc: Global,
     types: &Types,
-    scope: &Scope,
+    scope: &Scope<'_>,
     first: Option<Fault>,
     held: &Held,
     values: &[Expr],
@@ -70,7 +70,7 @@ fn items_given(is_list: bool, initial: &Expr) -> Option<&[Expr]>
 fn with_given(
     alloc: Global,
     types: &Types,
-    scope: &Scope,
+    scope: &Scope<'_>,
     first: Option<Fault>,
     is_list: bool,
     held: &Held,
@@ -88,7 +88,7 @@ fn with_given(
 fn with_fitted(
     alloc: Global,
     types: &Types,
-    scope: &Scope,
+    scope: &Scope<'_>,
     first: Option<Fault>,
     field: &FieldDecl,
     initial: &Expr,
@@ -116,7 +116,7 @@ fn with_fitted(
 fn with_initial_value(
     alloc: Global,
     types: &Types,
-    scope: &Scope,
+    scope: &Scope<'_>,
     first: Option<Fault>,
     field: &FieldDecl,
 ) -> Result<Option<Fault>, AllocError>
@@ -171,7 +171,7 @@ fn it_of(types: &Types, field: &FieldDecl) -> Result<Option<It>, AllocError>
 fn with_both(
     alloc: Global,
     types: &Types,
-    scope: &mut Scope,
+    scope: &mut Scope<'_>,
     first: Option<Fault>,
     field: &FieldDecl,
 ) -> Result<Option<Fault>, AllocError>
@@ -189,7 +189,7 @@ fn with_both(
 pub(crate) fn with_field(
     alloc: Global,
     types: &Types,
-    scope: &mut Scope,
+    scope: &mut Scope<'_>,
     first: Option<Fault>,
     field: &FieldDecl,
 ) -> Result<Option<Fault>, AllocError>

@@ -68,7 +68,7 @@ fn value_place(of: &Ident, value: &ConditionValue) -> Place
 pub fn field_checked(
     alloc: Global,
     types: &Types,
-    scope: &Scope,
+    scope: &Scope<'_>,
     place: Place,
     name: &Ident,
 ) -> Result<Checked, AllocError>

@@ -20,7 +20,7 @@ use type_model::Types;
 #[derive(Clone, Copy)]
 pub struct TextSite<'a, 's> {
     pub homes: Homes<'a>,
-    pub scope: &'s Scope,
+    pub scope: &'s Scope<'s>,
 }
 
 /// The path that is read, if the expression is one read.

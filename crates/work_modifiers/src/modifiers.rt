@@ -31,7 +31,7 @@ use type_model::Types;
 pub(crate) struct Within<'a> {
     pub types: &'a Types,
     pub call: &'a Call,
-    pub scope: &'a Scope,
+    pub scope: &'a Scope<'a>,
     pub places: Places<'a>,
 }
 

@@ -86,7 +86,8 @@ fn push_invocation(
     if node.parts.as_slice().is_empty() {
         return Ok(());
     }
-    let scope = call_scope(alloc, texts, call, of)?;
+    let labels = texts.labels(alloc, call.holder)?;
+    let scope = call_scope(labels.table(), call, of);
     let places = Places {
         object: &call.object,
         it: &call.path,
