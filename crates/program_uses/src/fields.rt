@@ -178,6 +178,7 @@ fn with_both(
     ensures faults { IfOk result (λ f. f ≡ first_from first (field_in types.now.table (seen_scope scope.old) (field_tree field.now))) }
     ensures holder { IfOk result (λ f. scope.new.holder ≡ scope.old.holder) }
     ensures labels { IfOk result (λ f. scope.new.labels ≡ scope.old.labels) }
+    ensures way { IfOk result (λ f. scope.new.way ≡ scope.old.way) }
 {
     let valued = with_initial_value(alloc, types, scope, first, field)?;
     let it = it_of(types, field)?;
