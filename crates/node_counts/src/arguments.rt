@@ -14,7 +14,7 @@ use dsl_tree::{Argument, Expr, Ident};
 use expr_nodes::others::it;
 use expr_nodes::steps::pointed;
 use expr_nodes::{It, Scope, Typed};
-use osc_base::{Boxed, Place, Row};
+use osc_base::{Boxed, Place};
 use program_calls::first_place;
 use program_texts::{ProgramTexts, TypeField};
 use std::alloc::{AllocError, Global};

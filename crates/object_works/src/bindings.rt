@@ -2,7 +2,6 @@
 
 ghost use Rattle.std.specs.Prelude.{◌≡◌, ◌++◌, None, Some, map, option_and_then, option_copied, option_map, IfOk, OnOk};
 ghost use Rattle.dsl_tree.specs.Views.{argument_tree, expr_tree};
-ghost use Rattle.composition.specs.Calls as calls;
 ghost use Rattle.composition.specs.Expansion as Expansion;
 ghost use Rattle.composition.specs.Expansion.{argument_binding, here_in, of_arguments};
 ghost use Rattle.composition.specs.SeenParts.{seen_binding};

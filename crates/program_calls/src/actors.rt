@@ -16,7 +16,7 @@ use expr_nodes::others::actor;
 use expr_nodes::parts::Checked;
 use expr_nodes::steps::pointed;
 use expr_nodes::{Scope, Typed};
-use osc_base::{Boxed, Place, Row};
+use osc_base::{Boxed, Place};
 use std::alloc::{AllocError, Global};
 use type_model::{TypeId, Types};
 

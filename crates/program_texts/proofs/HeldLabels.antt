@@ -1,6 +1,8 @@
 -- The labels that the texts have of a type.
-use Rattle.std.proofs.Common.{◌≡◌, ◌∙◌, refl, sym, ap, ℕ, zero, suc, ◌+◌, List, [], ◌∷◌, ◌++◌, Bool, true, false, cond, nat_eq, Option, Some, None, append-nil, arith, flat_map, map, option_map, option_to_list, slice_index_or}
-use Rattle.std.specs.Prelude.{slice_get}
+use Rattle.std.proofs.Common.{◌≡◌, ◌∙◌, refl, sym, ap, ℕ, zero, suc, ◌+◌, ◌≤◌, List, [], ◌∷◌, ◌++◌, Bool, true, false, cond, nat_eq, Option, Some, None, Bor, append-nil, arith, flat_map, map, option_copied, option_map, option_to_list, slice_index_or}
+use Rattle.std.specs.Prelude.{slice_get, IfSome}
+use Rattle.std.specs.Slice.{IsItemAt}
+use Rattle.std.proofs.lemmas.Option.{slice_get-get_or}
 use Rattle.type_heads.specs.Members.{members}
 use Rattle.type_heads.specs.Table.{Table}
 use Rattle.type_heads.specs.Types.{Do, Member, Types}
@@ -15,6 +17,9 @@ got : {X Y : Type 0} (f : X → Y) (xs : List X) (t : ℕ) → slice_get (map f 
 got f [] t = refl
 got f (x ∷ xs) zero = refl
 got f (x ∷ xs) (suc t) = got f xs t
+
+item_is : {X : Type 0} (xs : List X) (i : ℕ) (x : Bor X) → IsItemAt xs i (Some x) → Some x.now ≡ slice_get xs i
+item_is xs i x h = let n : i ≤ i = omega arith in ap Some (h.4 n x.now) ∙ sym (slice_get-get_or xs i x.now h.3.0)
 
 at_index : (rows : List (List Member)) (t : ℕ) (ms : List Member) → slice_get rows t ≡ Some ms → slice_index_or rows t [] ≡ ms
 at_index [] t ms h = absurd (cc)
@@ -57,3 +62,10 @@ own_is ts t tables table are at =
         let one : Some (seen_labels table) ≡ own_labels ts.table (0 + t) (first_do_in ms) = cc in
         of_own ts.table (0 + t) (first_do_in ms) (seen_labels table) one
         ∙ ap (λ xs. flat_map (λ (d : Do). labels_here ts.table d.holder (phases_in d.phase)) (option_to_list (first_do_in xs))) (sym (at_index ts.members t ms is))
+
+-- the same, where the table was asked for
+pub own_found : (ts : Types) (t : ℕ) (tables : List (Option LabelTable)) (entry : Bor (Option LabelTable)) (found : Option (Bor LabelTable))
+    → map (option_map seen_labels) tables ≡ labels_from ts.table 0 ts.members → IsItemAt tables t (Some entry) → option_copied found ≡ entry.now
+    → IfSome found (λ table. seen_labels table.now ≡ do_labels ts t)
+own_found ts t tables entry None are at same = tt
+own_found ts t tables entry (Some table) are at same = own_is ts t tables table.now are (sym (item_is tables t entry at) ∙ ap (λ e. Some e) (sym same))

@@ -1,6 +1,6 @@
 //! The labels of the `do` of each type.
 
-ghost use Rattle.std.specs.Prelude.{◌≡◌, ◌+◌, ◌<◌, ◌^◌, map, option_map, IfOk};
+ghost use Rattle.std.specs.Prelude.{◌≡◌, ◌+◌, Some, map, option_map, IfOk};
 ghost use Rattle.type_members.specs.Listed.{seen_listed};
 ghost use Rattle.program_calls.specs.SeenLabels.{seen_labels};
 ghost use Rattle.program_texts.specs.OwnLabels.{labels_from, own_labels as labels_own, seen_type_labels};

@@ -1,5 +1,5 @@
 -- Scopes of texts, by the labels of the texts.
-use Rattle.std.proofs.Common.{◌≡◌, ◌∙◌, refl, sym, ap, subst, ℕ, List, [], Option, None}
+use Rattle.std.proofs.Common.{◌≡◌, ◌∙◌, refl, sym, ap, subst, ℕ, List, [], None}
 use Rattle.type_heads.specs.Types.{Types}
 use Rattle.expr_nodes.specs.Scope.{Scope}
 use Rattle.composition.specs.Calls.{scope_at}

@@ -1,6 +1,6 @@
 //! The constraints of a work.
 
-ghost use Rattle.std.specs.Prelude.{◌≡◌, ◌++◌, ◌∷◌, [], None, codes, map, option_map, option_to_list, IfOk, OnOk};
+ghost use Rattle.std.specs.Prelude.{◌≡◌, ◌++◌, ◌∷◌, [], None, codes, map, option_map, option_to_list, OnOk};
 ghost use Rattle.composition.specs.Calls as Calls;
 ghost use Rattle.composition.specs.Expanded.{occurrence_of};
 ghost use Rattle.composition.specs.Expansion.{argument_named, given_duration};

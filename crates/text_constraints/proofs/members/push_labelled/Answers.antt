@@ -1,4 +1,3 @@
-use Rattle.std.proofs.Common.{refl}
 use Rattle.expr_nodes.specs.SeenNames.{seen_scope}
 use Rattle.program_calls.specs.SeenLabels.{seen_labels}
 use Rattle.program_texts.specs.SeenTexts.{types_in}
