@@ -101,6 +101,20 @@ fn phase_labels(
     Ok(labels)
 }
 
+/// The labels of a `do` that is written in the text of a type, in order.
+fn labels_in(
+    alloc: Global,
+    types: &Types,
+    holder: TypeId,
+    phase: &Phase,
+) -> Result<Vec<Label>, AllocError>
+    ensures { IfOk result (λ labels. map seen_phase_label labels.items ≡ labels_here types.now.table holder (all_phases (phase_tree phase.now))) }
+{
+    let phases = phases_in(alloc, phase)?;
+    let labels = phase_labels(alloc, types, holder, phases.as_slice())?;
+    Ok(labels)
+}
+
 /// The labels of a `do` that is written in the text of a type.
 pub fn do_labels(
     alloc: Global,
@@ -110,14 +124,15 @@ pub fn do_labels(
 ) -> Result<LabelTable, AllocError>
     ensures { IfOk result (λ table. seen_labels table ≡ labels_here types.now.table holder (all_phases (phase_tree phase.now))) }
 {
-    let phases = phases_in(alloc, phase)?;
-    let labels = phase_labels(alloc, types, holder, phases.as_slice())?;
-    LabelTable::of(alloc, labels)
+    let labels = labels_in(alloc, types, holder, phase)?;
+    let table = LabelTable::of(alloc, labels)?;
+    Ok(table)
 }
 
 /// A table of no labels.
 pub fn no_labels(alloc: Global) -> Result<LabelTable, AllocError>
     ensures { IfOk result (λ table. seen_labels table ≡ []) }
 {
-    LabelTable::of(alloc, Vec::new(alloc))
+    let table = LabelTable::of(alloc, Vec::new(alloc))?;
+    Ok(table)
 }
