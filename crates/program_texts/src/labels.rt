@@ -52,13 +52,13 @@ fn labels_if_own(
 }
 
 /// The labels of the `do` among the members of a type, if it stands in the type's own text.
-fn labels_among(
+fn labels_among<'a>(
     alloc: Global,
     types: &Types,
     of: u32,
-    members: &[ListedMember<'_>],
+    members: &'a [ListedMember<'a>],
 ) -> Result<Option<LabelTable>, AllocError>
-    ensures { IfOk result (λ table. option_map seen_labels table ≡ labels_own types.now.table of (first_do_in (map seen_listed members.now))) }
+    ensures { IfOk result (λ table. option_map seen_labels table ≡ labels_own types.now.table of (first_do_in (map seen_listed members.entry.now))) }
 {
     match first_do(members) {
         Some(found) => labels_if_own(alloc, types, of, &found),
@@ -74,12 +74,12 @@ fn next_type(number: u32) -> Result<u32, AllocError>
 }
 
 /// The labels of the `do` of each type that has one in its own text, given the members of each type.
-pub(crate) fn own_labels(
+pub(crate) fn own_labels<'a>(
     alloc: Global,
     types: &Types,
-    lists: &[Row<ListedMember<'_>>],
+    lists: &'a [Row<ListedMember<'a>>],
 ) -> Result<Vec<Option<LabelTable>>, AllocError>
-    ensures { IfOk result (λ tables. map (option_map seen_labels) tables.items ≡ labels_from types.now.table 0 (map (map seen_listed) lists.now)) }
+    ensures { IfOk result (λ tables. map (option_map seen_labels) tables.items ≡ labels_from types.now.table 0 (map (map seen_listed) lists.entry.now)) }
 {
     let mut tables = Vec::new(alloc);
     let mut number: u32 = 0;

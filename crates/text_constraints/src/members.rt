@@ -42,7 +42,7 @@ pub struct Standing<'a> {
 fn push_declared(
     alloc: Global,
     texts: &ProgramTexts<'_>,
-    text: &TextSite<'_, '_>,
+    text: &TextSite<'_, '_, '_>,
     owner: &Owner<'_, '_>,
     into: &mut Vec<Occurrence>,
     place: Place,
@@ -60,7 +60,7 @@ fn push_declared(
 fn push_value(
     alloc: Global,
     texts: &ProgramTexts<'_>,
-    text: &TextSite<'_, '_>,
+    text: &TextSite<'_, '_, '_>,
     owner: &Owner<'_, '_>,
     into: &mut Vec<Occurrence>,
     of: &Option<TypeId>,
@@ -81,7 +81,7 @@ fn push_value(
 fn push_texts(
     alloc: Global,
     texts: &ProgramTexts<'_>,
-    text: &TextSite<'_, '_>,
+    text: &TextSite<'_, '_, '_>,
     owner: &Owner<'_, '_>,
     into: &mut Vec<Occurrence>,
     of: &Option<TypeId>,

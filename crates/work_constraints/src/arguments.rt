@@ -184,7 +184,7 @@ fn push_arguments(
 fn push_part(
     alloc: Global,
     types: &Types,
-    text: &TextSite<'_, '_>,
+    text: &TextSite<'_, '_, '_>,
     owner: &Owner<'_, '_>,
     into: &mut Vec<Occurrence>,
     part: &InvokePart,
@@ -201,7 +201,7 @@ fn push_part(
 fn push_parts(
     alloc: Global,
     types: &Types,
-    text: &TextSite<'_, '_>,
+    text: &TextSite<'_, '_, '_>,
     owner: &Owner<'_, '_>,
     into: &mut Vec<Occurrence>,
     parts: &[InvokePart],
