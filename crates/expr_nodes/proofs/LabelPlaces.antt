@@ -1,11 +1,14 @@
 -- The first label of a name, by the place of the name.
 use Rattle.std.proofs.Common.{◌≡◌, ◌∙◌, refl, sym, ap, ℕ, ◌+◌, ◌≤◌, List, [], ◌∷◌, ◌++◌, Bool, true, false, cond, Option, Some, None, Bor, arith, length, length-append, append_assoc, bytes_eq, map, option_copied}
-use Rattle.std.specs.Prelude.{slice_get, find, option_and_then}
+use Rattle.std.specs.Prelude.{slice_get, find, option_and_then, option_map}
 use Rattle.std.specs.Slice.{IsItemAt}
 use Rattle.std.proofs.lemmas.Slice.Eq.{bytes_eq-Decides}
 use Rattle.std.proofs.lemmas.Option.{slice_get_past, slice_get-get_or}
 use Rattle.name_scope.specs.Declaring.{first_place}
 use Rattle.expr_nodes.specs.declared.labels.Label.{Label}
+use Rattle.expr_nodes.specs.declared.ways.Turn.{Turn}
+use Rattle.expr_nodes.specs.Scope as Seen
+use Rattle.expr_nodes.specs.SeenNames.{seen_label}
 
 -- a test that is turned round
 same_test : (r s : Bool) → (r ≡ true → s ≡ true) → (s ≡ true → r ≡ true) → r ≡ s
@@ -50,3 +53,15 @@ found_at name labels names place are is =
 pub label_at : (labels : List Label) (i : ℕ) (r : Option (Bor Label)) → IsItemAt labels i r → option_copied r ≡ slice_get labels i
 label_at labels i None h = sym (slice_get_past labels i h.3)
 label_at labels i (Some x) h = let n : i ≤ i = omega arith in ap Some (h.4 n x.now) ∙ sym (slice_get-get_or labels i x.now h.3.0)
+
+-- the first label of a name, as it is seen from a way
+pub found_seen : (way : List Turn) (name : List ℕ) (labels : List Label)
+    → option_map (seen_label way) (find (λ (l : Label). bytes_eq l.name name) labels) ≡ find (λ (l : Seen.Label). bytes_eq l.name name) (map (seen_label way) labels)
+found_seen way name [] = refl
+found_seen way name (x ∷ xs) = by (bytes_eq x.name name) (found_seen way name xs)
+  where
+    by : (b : Bool) → option_map (seen_label way) (find (λ (l : Label). bytes_eq l.name name) xs) ≡ find (λ (l : Seen.Label). bytes_eq l.name name) (map (seen_label way) xs)
+        → option_map (seen_label way) (cond b (Some x) (find (λ (l : Label). bytes_eq l.name name) xs))
+        ≡ cond b (Some (seen_label way x)) (find (λ (l : Seen.Label). bytes_eq l.name name) (map (seen_label way) xs))
+    by true h = refl
+    by false h = h
