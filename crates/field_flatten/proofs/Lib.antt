@@ -26,6 +26,7 @@ pub mod PhaseReach
 pub mod PointOfRun
 pub mod Presence
 pub mod RelationLaw
+pub mod RuleTrees
 pub mod RunBack
 pub mod ShapeLaw
 pub mod ShapeReach

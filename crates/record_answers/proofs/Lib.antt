@@ -1,5 +1,4 @@
 pub mod Fetching
 pub mod Meaning
 pub mod OneText
-pub mod RuleTrees
 pub mod SomeText

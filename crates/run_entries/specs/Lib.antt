@@ -1,1 +1,2 @@
+pub mod RunPlaces
 pub mod SeenRuns

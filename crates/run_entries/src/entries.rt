@@ -1,10 +1,10 @@
 //! The entries of a run, by their paths.
 
-ghost use Rattle.path_index.specs.Places.{Places};
+ghost use Rattle.run_entries.specs.RunPlaces.{RunPlaces};
 
+use crate::run_index::{RunIndex, found};
 use composition::{Choice, Guard, Held, Run, Scene, Span, Trace, Value};
 use osc_base::{Path, Sample};
-use path_index::{PathIndex, found};
 use std::alloc::{AllocError, Global};
 
 /// A run with an index by path of each of its lists, and the length of its ticks in milliseconds. What a run holds at a
@@ -13,14 +13,14 @@ use std::alloc::{AllocError, Global};
 pub struct Entries<'a> {
     run: &'a Run,
     tick: u32,
-    choices: PathIndex,
-    phases: PathIndex,
-    traces: PathIndex,
-    values: PathIndex,
-    ghost choices_at: { Places choices (λ p. p) (λ c. c.path) run.now.choices },
-    ghost phases_at: { Places phases (λ p. p) (λ s. s.path) run.now.phases },
-    ghost traces_at: { Places traces (λ p. p) (λ t. t.path) run.now.traces },
-    ghost values_at: { Places values (λ p. p) (λ v. v.path) run.now.values },
+    choices: RunIndex<'a>,
+    phases: RunIndex<'a>,
+    traces: RunIndex<'a>,
+    values: RunIndex<'a>,
+    ghost choices_at: { RunPlaces choices (λ c. c.path) run.now.choices },
+    ghost phases_at: { RunPlaces phases (λ s. s.path) run.now.phases },
+    ghost traces_at: { RunPlaces traces (λ t. t.path) run.now.traces },
+    ghost values_at: { RunPlaces values (λ v. v.path) run.now.values },
 }
 
 impl<'a> Entries<'a> {
@@ -36,10 +36,10 @@ impl<'a> Entries<'a> {
     pub fn of(alloc: Global, run: &'a Run, tick: u32) -> Result<Entries<'a>, AllocError>
         ensures { IfOk result (λ e. seen_run e ≡ timed tick run.now) }
     {
-        let choices = PathIndex::of(alloc, run.choices.as_slice())?;
-        let phases = PathIndex::of(alloc, run.phases.as_slice())?;
-        let traces = PathIndex::of(alloc, run.traces.as_slice())?;
-        let values = PathIndex::of(alloc, run.values.as_slice())?;
+        let choices = RunIndex::of(alloc, run.choices.as_slice())?;
+        let phases = RunIndex::of(alloc, run.phases.as_slice())?;
+        let traces = RunIndex::of(alloc, run.traces.as_slice())?;
+        let values = RunIndex::of(alloc, run.values.as_slice())?;
         Ok(Entries {
             run,
             tick,

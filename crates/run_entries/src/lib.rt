@@ -2,5 +2,6 @@
 #![tactic(auto)]
 
 mod entries;
+mod run_index;
 
 pub use entries::Entries;

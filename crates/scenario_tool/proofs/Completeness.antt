@@ -1,5 +1,5 @@
 -- Sound inputs have outcomes, and a search with many cuts is decided.
-use Rattle.std.proofs.Common.{◌≡◌, ◌∙◌, ◌⊎◌, inl, inr, refl, sym, ap, subst, ℕ, ◌≤◌, ◌<◌, List, Option, Some, None, length, arith}
+use Rattle.std.proofs.Common.{◌≡◌, ◌∙◌, ◌⊎◌, inl, inr, sym, ap, subst, ℕ, ◌≤◌, ◌<◌, List, Option, Some, None, length, arith}
 use Rattle.std.specs.Prelude.{IsUtf8, option_map}
 use Rattle.serde_json.specs.Read.{read}
 use Rattle.outside_io.specs.declared.shelf.NamedBytes.{NamedBytes}
@@ -14,9 +14,8 @@ use Rattle.composition.specs.TimedRuns.{timed}
 use Rattle.field_flatten.specs.Ends.{bounds}
 use Rattle.run_check.specs.declared.wrong.Wrong.{Wrong}
 use Rattle.run_check.specs.Answers.{first_wrong}
-use Rattle.run_texts.specs.RunShape.{Shaped, Fits, Differs, run_from}
+use Rattle.run_texts.specs.RunShape.{Fits, Differs, run_from}
 use Rattle.command_words.specs.Words.{Wanted}
-use Rattle.command_replies.specs.declared.status.Status.{Status}
 use Rattle.command_replies.specs.declared.status.Status.TheVariants.{Done, Refuted}
 use Rattle.command_replies.specs.Reply.{Answer}
 use Rattle.search_answers.specs.SearchAnswers.{Generates, runs, refuted, undecided}
@@ -24,8 +23,7 @@ use Rattle.search_answers.proofs.Accepted.{spent_more}
 use Rattle.run_answers.specs.Checks.{Checks, no_file, too_long, in_file, OnRunText, no_json, no_run, a_run, run_limit, verdict}
 use Rattle.record_answers.specs.RecordAnswers.{OnRecordFile, OnRecordText}
 use Rattle.record_answers.specs.RecordAnswers as record_reply
-use Rattle.scenario_tool.specs.Answers.{AnswersTo, Inputs}
-use Rattle.scenario_tool.specs.Completeness.{AreSound, DecidedByPoints, HasRecord, HasRun, IsOutcomeOf, SoundInputsHaveOutcomes}
+use Rattle.scenario_tool.specs.Completeness.{DecidedByPoints, HasRecord, HasRun, SoundInputsHaveOutcomes}
 use Rattle.scenario_tool.specs.Laws.{IsOutcome}
 use Rattle.scenario_tool.proofs.Said.{IsRefusal, IsUndecided, no_status, none_some, other_status, said_of, said_of_sound, said_on_source, some_is, status_of}
 use Rattle.scenario_tool.proofs.Sole.{is_outcome}

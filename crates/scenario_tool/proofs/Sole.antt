@@ -1,5 +1,5 @@
 -- There is one right answer, or each right answer is left open; and never both a run and a refutation.
-use Rattle.std.proofs.Common.{◌≡◌, ◌∙◌, inl, inr, sym, subst, ℕ, List}
+use Rattle.std.proofs.Common.{◌∙◌, inl, inr, sym, subst, ℕ, List}
 use Rattle.outside_io.specs.declared.shelf.NamedBytes.{NamedBytes}
 use Rattle.named_scenario.specs.Naming.{types_in}
 use Rattle.composition.specs.declared.run.Run.{Run}

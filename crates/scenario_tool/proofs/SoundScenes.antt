@@ -1,5 +1,5 @@
 -- The scene about which something is said is sound.
-use Rattle.std.proofs.Common.{◌≡◌, ◌∙◌, refl, sym, ap, subst, ℕ, List, Option, Some, None, Bool, true, false, cond}
+use Rattle.std.proofs.Common.{◌≡◌, refl, subst, ℕ, List, Option, Some, None, Bool, true, false, cond}
 use Rattle.std.specs.Prelude.{option_map}
 use Rattle.std.specs.Option.{option_or}
 use Rattle.osc_base.specs.declared.fault.Fault.{Fault}
@@ -10,10 +10,9 @@ use Rattle.composition.specs.Expanded.{scene}
 use Rattle.composition.specs.Invariants.{is_setting}
 use Rattle.composition.specs.Scenes.{Scene}
 use Rattle.composition.specs.SceneFaults.{is_too_large}
-use Rattle.named_scenario.specs.Naming.{fault_in, scenario_in, types_in}
+use Rattle.named_scenario.specs.Naming.{fault_in, types_in}
 use Rattle.command_replies.specs.Reply.{Answer}
-use Rattle.source_scenes.specs.Programs.{faulty_at, first_refusal, name_in, owner_in, scenario_named, scenario_refusal, too_large}
-use Rattle.source_scenes.specs.FoundScenes.{IsKnown}
+use Rattle.source_scenes.specs.Programs.{faulty_at, name_in, owner_in, scenario_named, scenario_refusal, too_large}
 use Rattle.source_scenes.specs.SoundScenes.{IsSoundScene}
 use Rattle.source_scenes.proofs.SoundNamed.{sound_scene}
 use Rattle.scenario_tool.proofs.Said.{IsSaid}

@@ -1,15 +1,13 @@
 -- What `generate` wrote is accepted.
-use Rattle.std.proofs.Common.{◌≡◌, refl, sym, ap, subst, ℕ, ◌≤◌, List, Some, None, codes, length}
+use Rattle.std.proofs.Common.{◌≡◌, refl, sym, ap, subst, ℕ, ◌≤◌, List, Some, codes, length}
 use Rattle.outside_io.specs.declared.shelf.NamedBytes.{NamedBytes}
 use Rattle.outside_io.specs.Files.{file_named}
 use Rattle.name_scope.specs.FileNumbers.{AddedFile}
-use Rattle.record_text.specs.Source.{limit}
 use Rattle.record_text.specs.Text.{record_text}
 use Rattle.composition.specs.declared.run.Run.{Run}
 use Rattle.composition.specs.Scenes.{Scene}
 use Rattle.run_check.specs.RunText.{run_text}
 use Rattle.run_tests.proofs.RoundTrips.{text_back}
-use Rattle.command_words.specs.Words.{GenerateAsked, Wanted}
 use Rattle.command_replies.specs.Reply.{Answer}
 use Rattle.command_replies.specs.Replies.{done, open_cuts}
 use Rattle.source_scenes.specs.SoundScenes.{IsSoundScene}

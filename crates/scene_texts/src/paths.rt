@@ -34,7 +34,7 @@ fn push_steps(alloc: Global, steps: &mut Row<Step>, more: &[Step]) -> Result<(),
 pub fn joined(alloc: Global, steps: &[Step], more: &[Step]) -> Result<Path, AllocError>
     ensures { IfOk result (λ p. p ≡ path_of (steps.now ++ more.now)) }
 {
-    let mut row = Row::new(alloc);
+    let mut row = Row::with_room(alloc, steps.len().saturating_add(more.len()))?;
     push_steps(alloc, &mut row, steps)?;
     push_steps(alloc, &mut row, more)?;
     Ok(Path { steps: row })
@@ -44,8 +44,9 @@ pub fn joined(alloc: Global, steps: &[Step], more: &[Step]) -> Result<Path, Allo
 fn with_step(alloc: Global, path: &Path, step: Step) -> Result<Path, AllocError>
     ensures { IfOk result (λ p. p ≡ path_of (path.now.steps ++ step ∷ [])) }
 {
-    let mut row = Row::new(alloc);
-    push_steps(alloc, &mut row, path.steps.as_slice())?;
+    let steps = path.steps.as_slice();
+    let mut row = Row::with_room(alloc, steps.len().saturating_add(1))?;
+    push_steps(alloc, &mut row, steps)?;
     row.push(step)?;
     Ok(Path { steps: row })
 }

@@ -1,9 +1,7 @@
 -- What is written of a search is accepted.
-use Rattle.std.proofs.Common.{◌≡◌, sym, ap₂, ◌∙◌, subst, ℕ, ◌≤◌, ◌<◌, List, None, length, arith}
-use Rattle.box_eval.specs.declared.bounds.Pair.{Pair}
+use Rattle.std.proofs.Common.{◌≡◌, sym, subst, ℕ, ◌≤◌, ◌<◌, List, None, length, arith}
 use Rattle.box_eval.specs.declared.flat.Flat.{Flat}
 use Rattle.box_eval.specs.declared.record.Record.{Record}
-use Rattle.box_eval.specs.declared.rule.Rule.{Rule}
 use Rattle.box_eval.specs.Record.{Tree, cuts_of, IsAcceptedAs}
 use Rattle.box_eval.proofs.Ways.{ends_open}
 use Rattle.record_text.specs.Lines.{AllShort}
@@ -23,24 +21,14 @@ use Rattle.composition.specs.TimedRuns.{timed}
 use Rattle.field_flatten.specs.Ends.{bounds}
 use Rattle.field_flatten.specs.Exactness.{IsExpanded, IsLimited, IsFlatOf}
 use Rattle.field_flatten.proofs.FlatForms.{flat_form}
+use Rattle.field_flatten.proofs.RuleTrees.{one_form}
 use Rattle.run_check.specs.Answers.{first_wrong}
 use Rattle.instance_check.proofs.FirstClaims.{none_fails}
 use Rattle.scene_search.specs.Findings.{IsReachedRun, IsSceneRefutation, IsSpentRecord}
 use Rattle.seeded_search.specs.Draws.{number_of}
-use Rattle.search_answers.proofs.RuleTrees.{same_rules}
 use Rattle.search_answers.proofs.ShortEnds.{short_ends}
 use Rattle.search_answers.proofs.ShortValues.{values_of}
 use Rattle.search_answers.proofs.TextLengths.{within_limit}
-
--- ---- flat forms
-
-abbrev flat_from : List Pair → List Rule → Flat
-flat_from ends rules = record { bounds = record { pairs = ends }; rules = rules }
-
--- a scene has one flat form
-one_flat : (scene : Scene) (flat other : Flat) → IsFlatOf scene flat → IsFlatOf scene other → flat ≡ other
-one_flat scene flat other is also =
-    ap₂ flat_from (is.same_ends ∙ sym also.same_ends) (same_rules flat.rules other.rules (is.same_rules ∙ sym also.same_rules))
 
 -- ---- records
 
@@ -58,13 +46,13 @@ module _ (scene : Scene) (expanded : IsExpanded scene) (limited : IsLimited scen
 
   pub refutation_accepted : (seed cuts : ℕ) (claim : Record) → IsSceneRefutation scene seed cuts claim → (flat : Flat) → IsFlatOf scene flat → IsRefutationText flat (record_text claim)
   refutation_accepted seed cuts claim r flat is =
-      subst (λ f. IsRefutationText f (record_text claim)) (one_flat scene r.flat flat r.flat_of is)
+      subst (λ f. IsRefutationText f (record_text claim)) (one_form scene r.flat flat r.flat_of is)
       (refutation_text r.flat claim (short_record r.flat claim r.tree r.flat_of r.refutation.guided.accepted)
       (record { tree = r.tree; accepted = r.refutation.guided.accepted; closed = r.refutation.closed }))
 
   pub spent_open : (seed cuts : ℕ) (claim : Record) → IsSpentRecord scene seed cuts claim → (flat : Flat) → IsFlatOf scene flat → IsOpenText flat (record_text claim) cuts
   spent_open seed cuts claim r flat is =
-      subst (λ f. IsOpenText f (record_text claim) cuts) (one_flat scene r.flat flat r.flat_of is)
+      subst (λ f. IsOpenText f (record_text claim) cuts) (one_form scene r.flat flat r.flat_of is)
       (subst (IsOpenText r.flat (record_text claim)) r.spent.cuts_are
       (open_text r.flat claim r.tree (short_record r.flat claim r.tree r.flat_of r.spent.guided.accepted) r.spent.guided.accepted
       (ends_open r.tree r.box r.flat.bounds.pairs r.spent.ends_at)))
