@@ -1,25 +1,23 @@
 -- The paths of a scene whose fields have names of letters, digits and `_` have texts.
 use Rattle.std.proofs.Common.{◌≡◌, ◌∙◌, refl, sym, ap, subst, inl, inr, ◌⊎◌, ℕ, suc, ◌+◌, ◌^◌, ◌<◌, ◌≤◌, Bool, true, false, cond, ◌&&◌, ◌||◌, not, List, [], ◌∷◌, ◌++◌, map, length, Option, Some, None, arith, true≢false}
-use Rattle.std.specs.Prelude.{⊤, bytes_eq, codes, filter_map, flat_map, is_some, nat_le, nat_lt, option_to_list}
+use Rattle.std.specs.Prelude.{⊤, bytes_eq, codes, is_some, nat_le, nat_lt, option_to_list}
 use Rattle.std.specs.List.{list_all, list_any, range_with_len}
-use Rattle.std.proofs.lemmas.Bool.{and_parts, false≢true, lt-ltb, ltb-true}
+use Rattle.std.proofs.lemmas.Bool.{and_parts, false≢true, lt-ltb}
+use Rattle.std.proofs.lemmas.List.FromFn.{length-range_with_len}
 use Rattle.osc_base.specs.PathTexts.{are_steps, before_member, is_name, is_step, is_written}
 use Rattle.osc_base.specs.Paths.{root, same_path, then_name, then_index, then_member, then_do}
 use Rattle.osc_base.specs.declared.path.Path.{Path}
 use Rattle.osc_base.specs.declared.path.Step.{Step}
 use Rattle.osc_base.specs.declared.path.Step.TheVariants.{Name, Index, Member}
-use Rattle.osc_base.specs.declared.listing.SlotName.{SlotName}
 use Rattle.dsl_tree.specs.declared.parts.Ident.{Ident}
-use Rattle.dsl_tree.specs.declared.phases.CompKind.{CompKind}
 use Rattle.dsl_tree.specs.declared.phases.InvokeHead.{InvokeHead}
-use Rattle.dsl_tree.specs.PhaseTree.{ArgumentTree, PartTree, Comp, Invoke, PhaseRow, phases_of}
+use Rattle.dsl_tree.specs.PhaseTree.{ArgumentTree, PartTree, Invoke}
 use Rattle.type_heads.specs.Table.{owner, form}
 use Rattle.type_heads.specs.Types.{Types, Field, Do}
 use Rattle.type_heads.specs.Members.{fields, field_type, list_length, the_do}
 use Rattle.expr_nodes.specs.Sizes.{field_reach}
 use Rattle.composition.specs.declared.guard.Guard.{Guard}
 use Rattle.composition.specs.declared.setting.Setting.{Setting}
-use Rattle.composition.specs.declared.spot.ChoiceSpot.{ChoiceSpot}
 use Rattle.composition.specs.declared.spot.PhaseKind.{PhaseKind}
 use Rattle.composition.specs.declared.spot.PhaseSpot.{PhaseSpot}
 use Rattle.composition.specs.declared.spot.ValueRange.{ValueRange}
@@ -30,14 +28,12 @@ use Rattle.composition.specs.Expansion.{Maker, calling, expand_within, expansion
 use Rattle.composition.specs.Givens.{guards_under}
 use Rattle.composition.specs.Invariants.{are_nested}
 use Rattle.composition.specs.Ranges.{range_of}
-use Rattle.composition.specs.Scenes.{Content, Spot, Scene, Binding, choices, phase_spot, phases, root_do, value_spot, values, vehicles}
-use Rattle.composition.specs.Slots.{sample_names, slot_names, ticks_of}
-use Rattle.field_flatten.specs.Exactness.{IsExpanded, IsLimited}
+use Rattle.composition.specs.Scenes.{Content, Spot, Scene, Binding, phase_spot, phases, root_do, value_spot, values}
 use Rattle.field_flatten.proofs.ItemLaw.{counted_in}
 use Rattle.field_flatten.proofs.NumberLaw.{made_from, making}
-use Rattle.field_flatten.proofs.Tests.{In, all_at, any_at, in_map, left_of, map_in, path_is, right_of, two_ways}
+use Rattle.field_flatten.proofs.Tests.{In, all_at, any_at, in_map, map_in, path_is, two_ways}
 use Rattle.scene_laws.specs.Premises.{is_free}
-use Rattle.scene_laws.proofs.EachSpot.{call_bindings, each_spot, invoked_kind, invoked_members, value_paths}
+use Rattle.scene_laws.proofs.EachSpot.{each_spot, invoked_kind, invoked_members, value_paths}
 use Rattle.scene_laws.proofs.PlacedObjects.{IsAcyclic, Placed, call_placed, field_placed, phase_in, value_in}
 use Rattle.scene_laws.proofs.Steps.{cancelled, pairs_map, range_apart}
 use Rattle.scene_laws.proofs.FieldNames.{Pairs}
