@@ -6,11 +6,15 @@ mod answers;
 #[cfg(test)]
 mod checks;
 #[cfg(test)]
+mod examples;
+#[cfg(test)]
 mod faults;
 #[cfg(test)]
 mod records;
 #[cfg(test)]
 mod runs;
+#[cfg(test)]
+mod scenarios;
 #[cfg(test)]
 mod texts;
 #[cfg(test)]

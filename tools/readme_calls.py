@@ -1,0 +1,17 @@
+"""The calls of `osc` in the tables of README.md."""
+import os
+import re
+
+TOP = os.path.dirname(os.path.dirname(os.path.realpath(__file__)))
+
+
+def calls():
+    """The words after ./osc, the status, and what the last cell says of the output, of each row of a table that shows a call."""
+    with open(os.path.join(TOP, "README.md"), encoding="utf-8") as it:
+        page = it.read()
+    for line in page.splitlines():
+        cells = [cell.strip("| ") for cell in line.split(" | ")]
+        call = re.fullmatch(r"`\./osc ([^`]+)`", cells[0])
+        status = [cell for cell in cells[1:] if cell.isdigit()]
+        if call and status:
+            yield call.group(1).split(), int(status[0]), cells[-1]
