@@ -2,7 +2,7 @@
 use Rattle.std.proofs.Common.{◌≡◌, ◌∙◌, refl, sym, ap, subst, inl, inr, ◌⊎◌, ℕ, suc, ◌+◌, ◌^◌, ◌<◌, ◌≤◌, Bool, true, false, cond, ◌&&◌, ◌||◌, not, List, [], ◌∷◌, ◌++◌, map, length, Option, Some, None, arith, true≢false}
 use Rattle.std.specs.Prelude.{⊤, bytes_eq, codes, is_some, nat_le, nat_lt, option_to_list}
 use Rattle.std.specs.List.{list_all, list_any, range_with_len}
-use Rattle.std.proofs.lemmas.Bool.{and_parts, false≢true, lt-ltb}
+use Rattle.std.proofs.lemmas.Bool.{and_parts, false≢true, leb-true, lt-ltb}
 use Rattle.std.proofs.lemmas.List.FromFn.{length-range_with_len}
 use Rattle.osc_base.specs.PathTexts.{are_steps, before_member, is_name, is_step, is_written}
 use Rattle.osc_base.specs.Paths.{root, same_path, then_name, then_index, then_member, then_do}
@@ -11,7 +11,7 @@ use Rattle.osc_base.specs.declared.path.Step.{Step}
 use Rattle.osc_base.specs.declared.path.Step.TheVariants.{Name, Index, Member}
 use Rattle.dsl_tree.specs.declared.parts.Ident.{Ident}
 use Rattle.dsl_tree.specs.declared.phases.InvokeHead.{InvokeHead}
-use Rattle.dsl_tree.specs.PhaseTree.{ArgumentTree, PartTree, Invoke}
+use Rattle.dsl_tree.specs.PhaseTree.{ArgumentTree, PartTree, Invoke, phases_of}
 use Rattle.type_heads.specs.Table.{owner, form}
 use Rattle.type_heads.specs.Types.{Types, Field, Do}
 use Rattle.type_heads.specs.Members.{fields, field_type, list_length, the_do}
@@ -24,7 +24,7 @@ use Rattle.composition.specs.declared.spot.ValueRange.{ValueRange}
 use Rattle.composition.specs.declared.spot.ValueSpot.{ValueSpot}
 use Rattle.composition.specs.Calls.{PhaseHere, phases_in, invoked}
 use Rattle.composition.specs.Expanded.{is_vehicle, scene, spot, spots_of}
-use Rattle.composition.specs.Expansion.{Maker, calling, expand_within, expansion, invocation, phase_part}
+use Rattle.composition.specs.Expansion.{Maker, calling, composition_kind, expand_within, expansion, invocation, phase_part}
 use Rattle.composition.specs.Givens.{guards_under}
 use Rattle.composition.specs.Invariants.{are_nested}
 use Rattle.composition.specs.Ranges.{range_of}
@@ -102,7 +102,7 @@ abbrev IsMemberOf : Path → Path → Type 0
 IsMemberOf path m = ((n : ℕ) × (n < 2 ^ 32) × (m ≡ then_member path n)) ⊎ (m ≡ then_do path)
 
 member_path : (path m : Path) → IsPhasePath path → IsMemberOf path m → IsPhasePath m
-member_path path m w (inl (n, (h, e))) =
+member_path path m w (inl (n, h, e)) =
     subst IsPhasePath (sym e) (member_more path n w.0 w.1 h, after_last false path.steps (Member n))
 member_path path m w (inr e) =
     subst IsPhasePath (sym e) (name_more path.steps (codes "do") (inr w.0) refl, after_last false path.steps (Name (codes "do")))
@@ -110,15 +110,18 @@ member_path path m w (inr e) =
 abbrev HasMembers : PhaseSpot → Type 0
 HasMembers p = (m : Path) → In m p.members → IsMemberOf p.path m
 
-nested_paths : (before ps : List PhaseSpot) → ((q : PhaseSpot) → In q before → IsPhasePath q.path × HasMembers q) → ((p : PhaseSpot) → In p ps → HasMembers p)
-    → are_nested before ps ≡ true → (p : PhaseSpot) → In p ps → IsPhasePath p.path
-nested_paths before [] known all h p i = absurd i
-nested_paths before (x ∷ ps) known all h p i =
-    let parts = and_parts (same_path x.path root_do || list_any (λ (q : PhaseSpot). list_any (same_path x.path) q.members) before) (are_nested (x ∷ before) ps) h in
-    let here = two_ways (same_path x.path root_do)
-        (λ e. subst IsPhasePath (sym (path_is x.path root_do e)) (refl, refl))
-        (λ e. by (subst (λ b. b || list_any (λ (q : PhaseSpot). list_any (same_path x.path) q.members) before ≡ true) e parts.0)) in
-    step here parts.1 i
+-- whether a phase is the root's, or a member of one of these
+abbrev is_below : List PhaseSpot → PhaseSpot → Bool
+is_below before x = same_path x.path root_do || list_any (λ (q : PhaseSpot). list_any (same_path x.path) q.members) before
+
+-- phases whose paths and members are known
+abbrev AreKnown : List PhaseSpot → Type 0
+AreKnown before = (q : PhaseSpot) → In q before → IsPhasePath q.path × HasMembers q
+
+below_path : (before : List PhaseSpot) (x : PhaseSpot) → AreKnown before → is_below before x ≡ true → IsPhasePath x.path
+below_path before x known h =
+    two_ways (same_path x.path root_do) (λ e. subst IsPhasePath (sym (path_is x.path root_do e)) (refl, refl))
+    (λ e. by (subst (λ b. b || list_any (λ (q : PhaseSpot). list_any (same_path x.path) q.members) before ≡ true) e h))
   where
     by : list_any (λ (q : PhaseSpot). list_any (same_path x.path) q.members) before ≡ true → IsPhasePath x.path
     by e =
@@ -127,13 +130,18 @@ nested_paths before (x ∷ ps) known all h p i =
         let k = known q.0 q.1 in
         subst IsPhasePath (sym (path_is x.path m.0 m.2)) (member_path q.0.path m.0 k.0 (k.1 m.0 m.1))
 
-    step : IsPhasePath x.path → are_nested (x ∷ before) ps ≡ true → In p (x ∷ ps) → IsPhasePath p.path
-    step here rest (inl e) = subst (λ (z : PhaseSpot). IsPhasePath z.path) (sym e) here
-    step here rest (inr j) = nested_paths (x ∷ before) ps more (λ q k. all q (inr k)) rest p j
-      where
-        more : (q : PhaseSpot) → In q (x ∷ before) → IsPhasePath q.path × HasMembers q
-        more q (inl e) = subst (λ (z : PhaseSpot). IsPhasePath z.path × HasMembers z) (sym e) (here, all x (inl refl))
-        more q (inr j) = known q j
+one_more : (before : List PhaseSpot) (x : PhaseSpot) → AreKnown before → IsPhasePath x.path × HasMembers x → AreKnown (x ∷ before)
+one_more before x known here q (inl e) = subst (λ (z : PhaseSpot). IsPhasePath z.path × HasMembers z) (sym e) here
+one_more before x known here q (inr j) = known q j
+
+nested_paths : (before ps : List PhaseSpot) → AreKnown before → ((p : PhaseSpot) → In p ps → HasMembers p) → are_nested before ps ≡ true → (p : PhaseSpot) → In p ps → IsPhasePath p.path
+nested_paths before [] known all h p i = absurd i
+nested_paths before (x ∷ ps) known all h p (inl e) =
+    let parts = and_parts (is_below before x) (are_nested (x ∷ before) ps) h in
+    subst (λ (z : PhaseSpot). IsPhasePath z.path) (sym e) (below_path before x known parts.0)
+nested_paths before (x ∷ ps) known all h p (inr j) =
+    let parts = and_parts (is_below before x) (are_nested (x ∷ before) ps) h in
+    nested_paths (x ∷ before) ps (one_more before x known (below_path before x known parts.0, all x (inl refl))) (λ q k. all q (inr k)) parts.1 p j
 
 -- ---- members of phases
 
@@ -144,6 +152,71 @@ length_map : {A B : Type 0} (f : A → B) (xs : List A) → length (map f xs) �
 length_map f [] = refl
 length_map f (x ∷ xs) = ap suc (length_map f xs)
 
+rows : (k l : PhaseKind) (ms ns : List Path) → Content.Phase k ms ≡ Content.Phase l ns → ms ≡ ns
+rows k l ms ns e = cc
+
+not_object : (v : Bool) (k : PhaseKind) (ms : List Path) → Content.Object v ≡ Content.Phase k ms → ⊥
+not_object v k ms e = cc
+
+not_value : (r : ValueRange) (k : PhaseKind) (ms : List Path) → Content.Value r ≡ Content.Phase k ms → ⊥
+not_value r k ms e = cc
+
+nothing : (n : ℕ) → None ≡ Some n → ⊥
+nothing n e = cc
+
+same_number : (k n : ℕ) → Some k ≡ Some n → k ≡ n
+same_number k n e = cc
+
+within_reach : (n : ℕ) → nat_le n field_reach ≡ true → n ≤ field_reach
+within_reach n h = leb-true n field_reach h
+
+small_member : (x l n : ℕ) → l ≡ n → l ≤ field_reach → x < 0 + n → x < 2 ^ 32
+small_member x l n e few h = omega (arith, e, few, h)
+
+small_index : (x n : ℕ) → n < 2 ^ 32 → x < 0 + n → x < 2 ^ 32
+small_index x n p h = omega (arith, p, h)
+
+small_count : (k a b c : ℕ) → a ≡ k → a ≤ b → b ≡ c → c < 2 ^ 32 → k < 2 ^ 32
+small_count k a b c e p f q = omega (arith, e, p, f, q)
+
+last_false : (x y z : Bool) → not (x || (y || z)) ≡ true → z ≡ false
+last_false true y z e = absurd (false≢true e)
+last_false false true z e = absurd (false≢true e)
+last_false false false true e = absurd (false≢true e)
+last_false false false false e = refl
+
+-- what is known of a phase that has no more members than a field has values
+abbrev KnowsMembers : Path → Content → Type 0
+KnowsMembers path content = (k : PhaseKind) (ms : List Path) → content ≡ Content.Phase k ms → length ms ≤ field_reach → (m : Path) → In m ms → IsMemberOf path m
+
+listed : (q : Path) (kind : PhaseKind) (n : ℕ) → KnowsMembers q (Content.Phase kind (map (then_member q) (range_with_len 0 n)))
+listed q kind n k ms e few m i =
+    let same = rows kind k (map (then_member q) (range_with_len 0 n)) ms e in
+    let g = map_in (then_member q) (range_with_len 0 n) m (subst (λ l. In m l) (sym same) i) in
+    let long : length ms ≡ n = sym (ap length same) ∙ length_map (then_member q) (range_with_len 0 n) ∙ length_range 0 n in
+    inl (g.0, small_member g.0 (length ms) n long few (counted_in 0 n g.0 g.1), g.2)
+
+called : (q : Path) (b : Bool) (kind : PhaseKind) → KnowsMembers q (Content.Phase kind (cond b (then_do q ∷ []) []))
+called q true kind k ms e few m i = by (subst (λ l. In m l) (sym (rows kind k (then_do q ∷ []) ms e)) i)
+  where
+    by : In m (then_do q ∷ []) → IsMemberOf q m
+    by (inl same) = inr same
+    by (inr j) = absurd j
+called q false kind k ms e few m i = absurd (subst (λ l. In m l) (sym (rows kind k [] ms e)) i)
+
+phase_is : (path : Path) (k : PhaseKind) (ms : List Path) (p : PhaseSpot) → phase_spot path (Content.Phase k ms) ≡ Some p → record { path = path; kind = k; members = ms } ≡ p
+phase_is path k ms p e = cc
+
+no_phase : (path : Path) (content : Content) (p : PhaseSpot) → phase_spot path content ≡ Some p → phase_spot path content ≡ None → ⊥
+no_phase path content p e f = cc
+
+members_of : (path : Path) (content : Content) (p : PhaseSpot) → KnowsMembers path content → phase_spot path content ≡ Some p → length p.members ≤ field_reach → HasMembers p
+members_of path (Content.Object v) p f e short = absurd (no_phase path (Content.Object v) p e refl)
+members_of path (Content.Value r) p f e short = absurd (no_phase path (Content.Value r) p e refl)
+members_of path (Content.Phase k ms) p f e short =
+    let same = phase_is path k ms p e in
+    subst HasMembers same (f k ms refl (subst (λ (z : PhaseSpot). length z.members ≤ field_reach) (sym same) short))
+
 module _ (ts : Types) (whole : ℕ) (setting : Setting) where
   abbrev spots : List Spot
   spots = spots_of ts (expansion ts whole)
@@ -151,65 +224,25 @@ module _ (ts : Types) (whole : ℕ) (setting : Setting) where
   abbrev here : Scene
   here = scene ts whole setting
 
-  abbrev KnowsMembers : Spot → Type 0
-  KnowsMembers s = (k : PhaseKind) (ms : List Path) → s.content ≡ Content.Phase k ms → length ms ≤ field_reach → (m : Path) → In m ms → IsMemberOf s.path m
+  abbrev SpotKnows : Spot → Type 0
+  SpotKnows s = KnowsMembers s.path s.content
 
-  rows : (k l : PhaseKind) (ms ns : List Path) → Content.Phase k ms ≡ Content.Phase l ns → ms ≡ ns
-  rows k l ms ns e = cc
-
-  listed : (q : Path) (kind : PhaseKind) (n : ℕ) (k : PhaseKind) (ms : List Path) → Content.Phase kind (map (then_member q) (range_with_len 0 n)) ≡ Content.Phase k ms → length ms ≤ field_reach
-      → (m : Path) → In m ms → IsMemberOf q m
-  listed q kind n k ms e few m i =
-      let same = rows kind k (map (then_member q) (range_with_len 0 n)) ms e in
-      let g = map_in (then_member q) (range_with_len 0 n) m (subst (λ l. In m l) (sym same) i) in
-      let long : length ms ≡ n = sym (ap length same) ∙ length_map (then_member q) (range_with_len 0 n) ∙ length_range 0 n in
-      inl (g.0, small g.0 (length ms) n long few (counted_in 0 n g.0 g.1), g.2)
-    where
-      small : (x l n : ℕ) → l ≡ n → l ≤ field_reach → x < 0 + n → x < 2 ^ 32
-      small x l n e few h = omega (arith, e, few, h)
-
-  called : (q : Path) (b : Bool) (kind k : PhaseKind) (ms : List Path) → Content.Phase kind (cond b (then_do q ∷ []) []) ≡ Content.Phase k ms → (m : Path) → In m ms → IsMemberOf q m
-  called q true kind k ms e m i = by (subst (λ l. In m l) (sym (rows kind k (then_do q ∷ []) ms e)) i)
-    where
-      by : In m (then_do q ∷ []) → IsMemberOf q m
-      by (inl same) = inr same
-      by (inr j) = absurd j
-  called q false kind k ms e m i = absurd (subst (λ l. In m l) (sym (rows kind k [] ms e)) i)
-
-  spot_members : (s : Spot) → In s spots → KnowsMembers s
+  spot_members : (s : Spot) → In s spots → SpotKnows s
   spot_members s i =
-      each_spot ts (λ path t guards bindings. Unit {0}) KnowsMembers
-      (λ path t guards bindings h k ms e. absurd (object_is k ms e))
-      (λ path t guards bindings h f j of typed range is q l k ms e. absurd (value_is range k ms e))
-      (λ path t guards bindings h d is p j label place kind arguments members e k ms g. listed (calling bindings path guards d p).path _ _ k ms g)
-      (λ path t guards bindings h d is p j label head ns arguments parts e of to k ms g few. called (calling bindings path guards d p).path (is_some (the_do ts of)) _ k ms g)
-      (λ path t guards bindings h d is p j k ms g few m l. absurd (subst (λ z. In m z) (sym (rows PhaseKind.Wait k [] ms g)) l))
+      each_spot ts (λ path t guards bindings. Unit {0}) SpotKnows
+      (λ path t guards bindings h k ms e. absurd (not_object (is_vehicle ts t) k ms e))
+      (λ path t guards bindings h f j of typed range is q l k ms e. absurd (not_value range k ms e))
+      (λ path t guards bindings h d is p j label place kind arguments members e. listed (calling bindings path guards d p).path (composition_kind kind arguments) (length (phases_of members)))
+      (λ path t guards bindings h d is p j label head ns arguments parts e of to. called (calling bindings path guards d p).path (is_some (the_do ts of)) (invoked_kind (is_some (the_do ts of))))
+      (λ path t guards bindings h d is p j. called (calling bindings path guards d p).path false PhaseKind.Wait)
       (λ path t guards bindings h f j of typed test. tt)
       (λ path t guards bindings h d is p j label head ns arguments parts e of to. tt)
       whole tt (λ x e. tt) s i
-    where
-      object_is : {v : Bool} (k : PhaseKind) (ms : List Path) → Content.Object v ≡ Content.Phase k ms → ⊥
-      object_is k ms e = cc
-
-      value_is : (r : ValueRange) (k : PhaseKind) (ms : List Path) → Content.Value r ≡ Content.Phase k ms → ⊥
-      value_is r k ms e = cc
-
-  few_reach : (n : ℕ) → nat_le n field_reach ≡ true → n ≤ field_reach
-  few_reach n h = grind (arith, h)
 
   phase_members : list_all (λ (p : PhaseSpot). nat_le (length p.members) field_reach) (phases here) ≡ true → (p : PhaseSpot) → In p (phases here) → HasMembers p
   phase_members few p i =
       let s = made_from (λ (s : Spot). phase_spot s.path s.content) spots p i in
-      let short = few_reach (length p.members) (all_at (λ (p : PhaseSpot). nat_le (length p.members) field_reach) (phases here) few p i) in
-      by s.0.path s.0.content (spot_members s.0 s.1) s.2 short
-    where
-      by : (path : Path) (content : Content) → ((k : PhaseKind) (ms : List Path) → content ≡ Content.Phase k ms → length ms ≤ field_reach → (m : Path) → In m ms → IsMemberOf path m)
-          → phase_spot path content ≡ Some p → length p.members ≤ field_reach → HasMembers p
-      by path (Content.Object v) f e short = cc
-      by path (Content.Value r) f e short = cc
-      by path (Content.Phase k ms) f e short =
-          let same : record { path = path; kind = k; members = ms } ≡ p = cc in
-          subst HasMembers same (f k ms refl (subst (λ (z : PhaseSpot). length z.members ≤ field_reach) (sym same) short))
+      members_of s.0.path s.0.content p (spot_members s.0 s.1) s.2 (within_reach (length p.members) (all_at (λ (p : PhaseSpot). nat_le (length p.members) field_reach) (phases here) few p i))
 
   pub phase_paths : list_all (λ (p : PhaseSpot). nat_le (length p.members) field_reach) (phases here) ≡ true → are_nested [] (phases here) ≡ true
       → (p : PhaseSpot) → In p (phases here) → (is_written p.path.steps ≡ true) × (after false p.path.steps ≡ true)
@@ -233,17 +266,14 @@ module _ (ts : Types) (whole : ℕ) (setting : Setting) where
       (λ b c i j differ same. differ (ap number_of (cancelled base.steps (Index b ∷ []) (Index c ∷ []) (ap (λ (z : Path). z.steps) same))))
 
   count_small : length (values here) < 2 ^ 32 → (base : Path) (count : Option ℕ) → ((q : Path) → In q (value_paths ts base count) → In q value_places) → (n : ℕ) → count ≡ Some n → n < 2 ^ 32
-  count_small few base None all n e = cc
+  count_small few base None all n e = absurd (nothing n e)
   count_small few base (Some k) all n e =
-      let same : k ≡ n = cc in
+      let same = same_number k n e in
       let indexes = map (then_index base) (range_with_len 0 k) in
       subst (λ z. z < 2 ^ 32) same
-      (chain k (length indexes) (length value_places) (length (values here))
+      (small_count k (length indexes) (length value_places) (length (values here))
       (length_map (then_index base) (range_with_len 0 k) ∙ length_range 0 k) (no_more indexes value_places (indexes_apart base k) all)
       (length_map (λ (v : ValueSpot). v.path) (values here)) few)
-    where
-      chain : (k a b c : ℕ) → a ≡ k → a ≤ b → b ≡ c → c < 2 ^ 32 → k < 2 ^ 32
-      chain k a b c e p f q = omega (arith, e, p, f, q)
 
   value_written : (base : Path) (count : Option ℕ) → is_written base.steps ≡ true → after false base.steps ≡ false → ((n : ℕ) → count ≡ Some n → n < 2 ^ 32)
       → (q : Path) → In q (value_paths ts base count) → is_written q.steps ≡ true
@@ -251,21 +281,12 @@ module _ (ts : Types) (whole : ℕ) (setting : Setting) where
   value_written base None w last few q (inr i) = absurd i
   value_written base (Some k) w last few q i =
       let g = map_in (then_index base) (range_with_len 0 k) q i in
-      subst (λ (z : Path). is_written z.steps ≡ true) (sym g.2) (index_more base g.0 w last (small g.0 k (few k refl) (counted_in 0 k g.0 g.1)))
-    where
-      small : (x n : ℕ) → n < 2 ^ 32 → x < 0 + n → x < 2 ^ 32
-      small x n p h = omega (arith, p, h)
+      subst (λ (z : Path). is_written z.steps ≡ true) (sym g.2) (index_more base g.0 w last (small_index g.0 k (few k refl) (counted_in 0 k g.0 g.1)))
 
   -- ---- all spots
 
   free_do : (name : List ℕ) → is_free name ≡ true → bytes_eq name (codes "do") ≡ false
-  free_do name h = last (bytes_eq name (codes "it")) (bytes_eq name (codes "actor")) (bytes_eq name (codes "do")) h
-    where
-      last : (x y z : Bool) → not (x || (y || z)) ≡ true → z ≡ false
-      last true y z e = absurd (false≢true e)
-      last false true z e = absurd (false≢true e)
-      last false false true e = absurd (false≢true e)
-      last false false false e = refl
+  free_do name h = last_false (bytes_eq name (codes "it")) (bytes_eq name (codes "actor")) (bytes_eq name (codes "do")) h
 
   module _ (a : IsAcyclic ts) (named : (t : ℕ) (f : Field) → In f (fields ts t) → is_name f.name.text ≡ true) (free : (t : ℕ) (f : Field) → In f (fields ts t) → is_free f.name.text ≡ true)
       (few_values : length (values here) < 2 ^ 32) (phases_known : (p : PhaseSpot) → In p (phases here) → (is_written p.path.steps ≡ true) × (after false p.path.steps ≡ true)) (no_vehicle : is_vehicle ts whole ≡ false) where

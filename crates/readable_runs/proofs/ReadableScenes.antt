@@ -1,5 +1,5 @@
 -- The scenes of loaded programs have paths and texts that can be read back, and so have the runs that a search reaches.
-use Rattle.std.proofs.Common.{◌≡◌, ◌∙◌, sym, ap, ℕ, suc, ◌+◌, ◌≤◌, ◌<◌, ◌^◌, List, [], ◌∷◌, ◌++◌, map, length, Option, Some, None, true, false, arith, length-append}
+use Rattle.std.proofs.Common.{◌≡◌, ◌∙◌, refl, sym, ap, ℕ, suc, ◌+◌, ◌≤◌, ◌<◌, ◌^◌, List, [], ◌∷◌, ◌++◌, map, length, Option, Some, None, true, false, arith, length-append}
 use Rattle.std.specs.Prelude.{flat_map}
 use Rattle.std.proofs.lemmas.Bool.{ltb-true}
 use Rattle.osc_base.specs.declared.path.Path.{Path}
@@ -54,7 +54,7 @@ values_slots s =
     (flat_map (λ (v : Path). flat_map (sample_names v) (ticks_of s.setting)) (vehicles s)) (length_map (λ (v : ValueSpot). SlotName.Value v.path) (values s))
   where
     length_map : {A B : Type 0} (f : A → B) (xs : List A) → length (map f xs) ≡ length xs
-    length_map f [] = ap length (λ i. [])
+    length_map f [] = refl
     length_map f (x ∷ xs) = ap suc (length_map f xs)
 
     by : (as bs cs ds : List SlotName) → length cs ≡ length (values s) → length (values s) ≤ length (as ++ bs ++ cs ++ ds)

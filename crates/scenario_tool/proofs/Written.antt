@@ -10,7 +10,10 @@ use Rattle.run_check.specs.RunText.{run_text}
 use Rattle.run_tests.proofs.RoundTrips.{text_back}
 use Rattle.command_replies.specs.Reply.{Answer}
 use Rattle.command_replies.specs.Replies.{done, open_cuts}
+use Rattle.scene_search.specs.Findings.{IsReachedRun}
 use Rattle.source_scenes.specs.SoundScenes.{IsSoundScene}
+use Rattle.readable_runs.specs.ReadableRuns.{CanBeRead}
+use Rattle.readable_runs.proofs.ReadableScenes.{reached_runs_can_be_read}
 use Rattle.search_answers.specs.SearchAnswers.{Generates, runs, refuted, undecided}
 use Rattle.search_answers.proofs.Accepted.{reached_right, refutation_accepted, refutation_within, spent_open, spent_within}
 use Rattle.run_answers.specs.Checks.{Checks, in_file, a_run, run_limit, verdict}
