@@ -233,7 +233,7 @@ module _ (ts : Types) (whole : ℕ) (setting : Setting) where
       (λ path t guards bindings h k ms e. absurd (not_object (is_vehicle ts t) k ms e))
       (λ path t guards bindings h f j of typed range is q l k ms e. absurd (not_value range k ms e))
       (λ path t guards bindings h d is p j label place kind arguments members e. listed (calling bindings path guards d p).path (composition_kind kind arguments) (length (phases_of members)))
-      (λ path t guards bindings h d is p j label head ns arguments parts e of to. called (calling bindings path guards d p).path (is_some (the_do ts of)) (invoked_kind (is_some (the_do ts of))))
+      (λ path t guards bindings h d is p j label head ns arguments parts e of to. called (calling bindings path guards d p).path (is_some (the_do ts of)) (invoked_kind ts (is_some (the_do ts of))))
       (λ path t guards bindings h d is p j. called (calling bindings path guards d p).path false PhaseKind.Wait)
       (λ path t guards bindings h f j of typed test. tt)
       (λ path t guards bindings h d is p j label head ns arguments parts e of to. tt)
@@ -256,7 +256,7 @@ module _ (ts : Types) (whole : ℕ) (setting : Setting) where
   abbrev Apart : Path → Path → Type 0
   Apart a b = a ≡ b → ⊥
 
-  number_of : List Step → ℕ
+  abbrev number_of : List Step → ℕ
   number_of (Index n ∷ rest) = n
   number_of _ = 0
 

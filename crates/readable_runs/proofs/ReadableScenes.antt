@@ -57,7 +57,7 @@ values_slots s =
     length_map f [] = refl
     length_map f (x ∷ xs) = ap suc (length_map f xs)
 
-    by : (as bs cs ds : List SlotName) → length cs ≡ length (values s) → length (values s) ≤ length (as ++ bs ++ cs ++ ds)
+    by : (xs bs cs ds : List SlotName) → length cs ≡ length (values s) → length (values s) ≤ length (xs ++ bs ++ cs ++ ds)
     by xs bs cs ds h =
         omega (arith, h, length-append (xs ++ bs ++ cs) ds, length-append (xs ++ bs) cs)
 
