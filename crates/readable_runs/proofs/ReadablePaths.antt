@@ -343,8 +343,8 @@ module _ (ts : Types) (whole : ℕ) (setting : Setting) where
         let members = invoked_members ts call.path (is_some (the_do ts of)) in
         let s = spot call.path call.guards (Content.Phase kind members) in
         let inside = phase_in ts a spots path t guards bindings placed d is p at part
-            (subst (λ z. In part (phase_part make ts call z)) (sym e) (in_map (invocation make ts call head names arguments parts) (option_to_list (invoked ts d.holder head names)) of (option_in (invoked ts d.holder head names) of to)))
-            s (inl refl) in
+        (subst (λ z. In part (phase_part make ts call z)) (sym e) (in_map (invocation make ts call head names arguments parts) (option_to_list (invoked ts d.holder head names)) of (option_in (invoked ts d.holder head names) of to)))
+        s (inl refl) in
         let there = making (λ (s : Spot). phase_spot s.path s.content) spots s (record { path = call.path; kind = kind; members = members }) inside refl in
         (phases_known (record { path = call.path; kind = kind; members = members }) there).0
 
@@ -358,7 +358,7 @@ module _ (ts : Types) (whole : ℕ) (setting : Setting) where
         (λ path t guards bindings inv d is p j. tt)
         (λ path t guards bindings inv f j of typed test. (field_placed ts a spots path t guards bindings inv.0 f j of typed test, inr (field_written path t inv.1 f j)))
         (λ path t guards bindings inv d is p j label head ns arguments parts e of to.
-            (call_placed ts a spots path t guards bindings inv.0 d is p j label head ns arguments parts e of to, inr (call_written path t guards bindings inv.0 d is p j label head ns arguments parts e of to)))
+        (call_placed ts a spots path t guards bindings inv.0 d is p j label head ns arguments parts e of to, inr (call_written path t guards bindings inv.0 d is p j label head ns arguments parts e of to)))
         whole (first, inl (refl, refl)) (λ x e. (actor x e, inr refl)) s i
 
     pub all_readable : Placed ts a spots root whole [] [] → ((x : ℕ) → owner ts.table.heads whole ≡ Some x → Placed ts a spots (then_name root (codes "actor")) x [] [])

@@ -194,12 +194,30 @@ unfolding run_text
 run_utf8 run its =
     IsUtf8-append (compact_text (run_data run)) (codes "\n")
     (data_utf8 (run_data run) (
-      IsUtf8-are_ascii (codes "choices") refl, list_utf8 choice_data is_written_choice choice_utf8 run.choices its.choices, (
-        IsUtf8-are_ascii (codes "end") refl, count_utf8 run.end its.end, (
-          IsUtf8-are_ascii (codes "form") refl, count_utf8 1 refl, (
-            IsUtf8-are_ascii (codes "phases") refl, list_utf8 span_data is_written_span span_utf8 run.phases its.phases, (
-              IsUtf8-are_ascii (codes "traces") refl, list_utf8 trace_data is_written_trace trace_utf8 run.traces its.traces, (
-                IsUtf8-are_ascii (codes "values") refl, list_utf8 value_data is_utf8_value value_utf8 run.values its.values, tt)))))))
+      IsUtf8-are_ascii (codes "choices") refl,
+      list_utf8 choice_data is_written_choice choice_utf8 run.choices its.choices,
+      (
+        IsUtf8-are_ascii (codes "end") refl,
+        count_utf8 run.end its.end,
+        (
+          IsUtf8-are_ascii (codes "form") refl,
+          count_utf8 1 refl,
+          (
+            IsUtf8-are_ascii (codes "phases") refl,
+            list_utf8 span_data is_written_span span_utf8 run.phases its.phases,
+            (
+              IsUtf8-are_ascii (codes "traces") refl,
+              list_utf8 trace_data is_written_trace trace_utf8 run.traces its.traces,
+              (
+                IsUtf8-are_ascii (codes "values") refl,
+                list_utf8 value_data is_utf8_value value_utf8 run.values its.values,
+                tt,
+              ),
+            ),
+          ),
+        ),
+      ),
+    ))
     (IsUtf8-are_ascii (codes "\n") refl)
 
 -- such a run is one that can be read back
