@@ -1,6 +1,6 @@
 //! The numbers of the marks with each target.
 
-ghost use Rattle.std.specs.Prelude.{◌≡◌, ◌++◌, ◌∷◌, [], cond, OnOk};
+ghost use Rattle.std.specs.Prelude.{◌≡◌, ◌++◌, ◌∷◌, [], cond, IfOk, OnOk};
 ghost use Rattle.osc_base.specs.declared.path.Path.{Path};
 ghost use Rattle.osc_base.specs.Paths.{same_path};
 ghost use Rattle.keep_rules.specs.TargetRows.{row_at};
@@ -13,6 +13,13 @@ use std::alloc::{AllocError, Global};
 #[derive(Drop)]
 pub(crate) struct TargetRows {
     rows: IndexMap<Path, Row<u32>>,
+}
+
+/// A target and the numbers of its marks, while they are out of the rows.
+#[derive(Drop)]
+struct Taken {
+    target: Path,
+    numbers: Row<u32>,
 }
 
 impl TargetRows {
@@ -35,14 +42,15 @@ impl TargetRows {
         }
     }
 
-    /// Takes out the numbers of the marks with this target.
-    fn take(&mut self, alloc: Global, target: &Path) -> Row<u32>
-        ensures was { result ≡ row_at self.old target.now }
-        ensures others { (path : Path) → row_at self.new path ≡ cond (same_path target.now path) [] (row_at self.old path) }
+    /// Takes out this target and the numbers of its marks.
+    fn take(&mut self, alloc: Global, target: &Path) -> Result<Taken, AllocError>
+        ensures target { IfOk result (λ t. t.target ≡ target.now) }
+        ensures was { IfOk result (λ t. t.numbers ≡ row_at self.old target.now) }
+        ensures others { OnOk result ((path : Path) → row_at self.new path ≡ cond (same_path target.now path) [] (row_at self.old path)) }
     {
-        match self.rows.swap_remove(target) {
-            Some(row) => row,
-            None => Row::new(alloc),
+        match self.rows.swap_remove_entry(target) {
+            Some((target, numbers)) => Ok(Taken { target, numbers }),
+            None => no_numbers(alloc, target),
         }
     }
 
@@ -55,10 +63,22 @@ impl TargetRows {
     ) -> Result<(), AllocError>
         ensures { OnOk result ((path : Path) → row_at self.new path ≡ row_at self.old path ++ cond (same_path target.now path) (number ∷ []) []) }
     {
-        let key = target.copy(alloc)?;
-        let mut row = self.take(alloc, target);
+        let taken = self.take(alloc, target)?;
+        let mut row = taken.numbers;
         row.push(number)?;
-        self.rows.insert(key, row)?;
+        self.rows.insert(taken.target, row)?;
         Ok(())
     }
+}
+
+/// A target without marks.
+fn no_numbers(alloc: Global, target: &Path) -> Result<Taken, AllocError>
+    ensures target { IfOk result (λ t. t.target ≡ target.now) }
+    ensures numbers { IfOk result (λ t. t.numbers ≡ []) }
+{
+    let target = target.copy(alloc)?;
+    Ok(Taken {
+        target,
+        numbers: Row::new(alloc),
+    })
 }

@@ -13,6 +13,7 @@ use Rattle.composition.specs.SceneFaults.{is_too_large}
 use Rattle.named_scenario.specs.Naming.{fault_in, types_in}
 use Rattle.command_replies.specs.Reply.{Answer}
 use Rattle.source_scenes.specs.Programs.{faulty_at, name_in, owner_in, scenario_named, scenario_refusal, too_large}
+use Rattle.source_scenes.specs.FoundScenes.{IsKnown}
 use Rattle.source_scenes.specs.SoundScenes.{IsSoundScene}
 use Rattle.source_scenes.proofs.SoundNamed.{sound_scene}
 use Rattle.scenario_tool.proofs.Said.{IsSaid}
@@ -30,18 +31,22 @@ not_large true fault h = cc
 not_large false fault h = refl
 
 module _ (sources : List NamedBytes) (setting : Setting) (main word : List ℕ) (Answers : List AddedFile → Scene → Answer → Type 0) (reply : Answer) where
-  pub scene_is_sound : is_setting setting ≡ true → (a : IsSaid sources setting main word Answers reply) → IsSoundScene (scene (types_in a.program) a.scenario setting)
-  scene_is_sound ranges a =
+  pub scene_is_known : is_setting setting ≡ true → (a : IsSaid sources setting main word Answers reply) →
+      IsKnown a.program a.scenario setting × (is_too_large (types_in a.program) a.scenario setting ≡ false)
+  scene_is_known ranges a =
       let parts = neither (option_map (faulty_at a.program) (fault_in a.program)) (scenario_refusal setting a.program (scenario_named a.program word)) a.fine in
       let named : scenario_refusal setting a.program (Some a.scenario) ≡ None = subst (λ s. scenario_refusal setting a.program s ≡ None) a.named parts.1 in
-      let small : too_large setting (types_in a.program) a.scenario ≡ None = none_mapped (faulty_at a.program) (too_large setting (types_in a.program) a.scenario) named in
-      sound_scene a.program a.scenario setting
-      (record {
-        loaded = record { files = sources; main = main; whole = a.whole };
-        sound = none_mapped (faulty_at a.program) (fault_in a.program) parts.0;
-        owner = owner_in word;
-        name = name_in word;
-        named = a.named;
-        ranges = ranges;
-      })
-      (not_large (is_too_large (types_in a.program) a.scenario setting) _ small)
+      let small : too_large setting (types_in a.program) a.scenario ≡ None = none_mapped (faulty_at a.program) (too_large setting (types_in a.program) a.scenario) named in (
+        record {
+          loaded = record { files = sources; main = main; whole = a.whole };
+          sound = none_mapped (faulty_at a.program) (fault_in a.program) parts.0;
+          owner = owner_in word;
+          name = name_in word;
+          named = a.named;
+          ranges = ranges;
+        },
+        not_large (is_too_large (types_in a.program) a.scenario setting) _ small,
+      )
+
+  pub scene_is_sound : is_setting setting ≡ true → (a : IsSaid sources setting main word Answers reply) → IsSoundScene (scene (types_in a.program) a.scenario setting)
+  scene_is_sound ranges a = let known = scene_is_known ranges a in sound_scene a.program a.scenario setting known.0 known.1

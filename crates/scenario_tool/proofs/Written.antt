@@ -10,17 +10,20 @@ use Rattle.run_check.specs.RunText.{run_text}
 use Rattle.run_tests.proofs.RoundTrips.{text_back}
 use Rattle.command_replies.specs.Reply.{Answer}
 use Rattle.command_replies.specs.Replies.{done, open_cuts}
+use Rattle.scene_search.specs.Findings.{IsReachedRun}
 use Rattle.source_scenes.specs.SoundScenes.{IsSoundScene}
+use Rattle.readable_runs.specs.ReadableRuns.{CanBeRead}
+use Rattle.readable_runs.proofs.ReadableScenes.{reached_runs_can_be_read}
 use Rattle.search_answers.specs.SearchAnswers.{Generates, runs, refuted, undecided}
 use Rattle.search_answers.proofs.Accepted.{reached_right, refutation_accepted, refutation_within, spent_open, spent_within}
 use Rattle.run_answers.specs.Checks.{Checks, in_file, a_run, run_limit, verdict}
 use Rattle.record_answers.specs.RecordAnswers.{Verifies}
 use Rattle.record_answers.specs.RecordAnswers as record_reply
 use Rattle.scenario_tool.specs.Settings.{scene_setting}
-use Rattle.scenario_tool.specs.Written.{CanBeRead, WrittenRecordsAreOpen, WrittenRefutationsAreAccepted, WrittenRunsAreAccepted}
+use Rattle.scenario_tool.specs.Written.{WrittenRecordsAreOpen, WrittenRefutationsAreAccepted, WrittenRunsAreAccepted}
 use Rattle.scenario_tool.proofs.Said.{IsDone, IsRefusal, IsRefuted, IsUndecided, no_status, other_status, said_on_source, say}
 use Rattle.scenario_tool.proofs.SettingRanges.{setting_in_range}
-use Rattle.scenario_tool.proofs.SoundScenes.{scene_is_sound}
+use Rattle.scenario_tool.proofs.SoundScenes.{scene_is_known, scene_is_sound}
 
 -- ---- about one scene
 
@@ -28,10 +31,10 @@ module _ (scene : Scene) (seed cuts : ℕ) (reply : Answer) (texts : List NamedB
   kept_text : (other : Answer) → reply ≡ other → file_named texts file ≡ Some other.text
   kept_text other same = subst (λ (r : Answer). file_named texts file ≡ Some r.text) same kept
 
-  run_accepted : (program : List AddedFile) → scene.setting.tick ≡ 100 → ((run : Run) → reply.text ≡ run_text run → CanBeRead run) → length reply.text ≤ run_limit →
+  run_accepted : (program : List AddedFile) → scene.setting.tick ≡ 100 → ((run : Run) → IsReachedRun scene seed cuts run → CanBeRead run) → length reply.text ≤ run_limit →
       Generates scene seed cuts reply → IsDone reply.status → Checks texts file program scene (done (codes "yes\n"))
   run_accepted program tick readable short (runs run is told) as_done =
-      let can = readable run (ap (λ (r : Answer). r.text) told) in
+      let can = readable run is in
       in_file (run_text run) (kept_text (done (run_text run)) told) (subst (λ (r : Answer). length r.text ≤ run_limit) told short)
       (a_run run (can.utf8, text_back run can.written) (sym (ap (verdict program) (reached_right scene seed cuts run is 100 tick))))
   run_accepted program tick readable short (refuted claim is told) as_done = absurd (other_status IsDone reply _ told as_done)
@@ -61,10 +64,13 @@ module _ (scene : Scene) (seed cuts : ℕ) (reply : Answer) (texts : List NamedB
 -- ---- about sources
 
 pub written_runs : WrittenRunsAreAccepted
-written_runs inputs asked reply is status readable short texts file kept =
+written_runs inputs asked reply ranges is status short texts file kept =
+    let setting = setting_in_range asked.setting (scene_setting asked.setting) refl ranges.setting_ranges in
     let a = said_on_source _ _ _ _ (λ program scene. Generates scene asked.seed asked.cuts) reply (λ bad. no_status IsRefusal _ _ status bad) is in
     say _ _ _ _ (λ program scene. Generates scene asked.seed asked.cuts) reply (Checks texts file) (done (codes "yes\n")) a
-    (run_accepted _ asked.seed asked.cuts reply texts file kept a.program refl readable short a.said (no_status IsDone _ _ (sym status) tt))
+    (run_accepted _ asked.seed asked.cuts reply texts file kept a.program refl
+    (λ run reached. let known = scene_is_known _ _ _ _ _ reply setting a in reached_runs_can_be_read a.program a.scenario (scene_setting asked.setting) known.0 known.1 asked.seed asked.cuts run reached)
+    short a.said (no_status IsDone _ _ (sym status) tt))
 
 pub written_refutations : WrittenRefutationsAreAccepted
 written_refutations inputs asked reply ranges is status texts file kept =

@@ -1,10 +1,7 @@
 -- What `check` and `verify` answer to what `generate` wrote, if some file of the texts holds it.
-use Rattle.std.specs.Prelude.{◌≡◌, ◌≤◌, ℕ, List, Some, true, IsUtf8, codes, length}
+use Rattle.std.specs.Prelude.{◌≡◌, ◌≤◌, ℕ, List, Some, codes, length}
 use Rattle.outside_io.specs.declared.shelf.NamedBytes.{NamedBytes}
 use Rattle.outside_io.specs.Files.{file_named}
-use Rattle.composition.specs.declared.run.Run.{Run}
-use Rattle.run_check.specs.RunText.{run_text}
-use Rattle.run_tests.specs.WrittenRuns.{is_written_run}
 use Rattle.command_words.specs.Words.{GenerateAsked, Wanted, IsGenerateInRanges}
 use Rattle.command_replies.specs.declared.status.Status.TheVariants.{Done, Refuted, Undecided}
 use Rattle.command_replies.specs.Reply.{Answer}
@@ -23,15 +20,10 @@ check_of asked file = Wanted.Check (record { source = asked.source; run = file; 
 abbrev pub verify_of : GenerateAsked → List ℕ → Wanted
 verify_of asked file = Wanted.Verify (record { source = asked.source; «record» = file; setting = asked.setting })
 
--- a run whose text is UTF-8, and each of whose paths has a text
-pub record CanBeRead (run : Run) : Type 0 where
-  pub utf8 : IsUtf8 (run_text run)
-  pub written : is_written_run run ≡ true
-
--- `check` says `yes` of each run that `generate` wrote, if its text can be read and isn't too long
+-- `check` says `yes` of each run that `generate` wrote, if its text isn't too long
 abbrev pub WrittenRunsAreAccepted : Type 0
-WrittenRunsAreAccepted = (inputs : Inputs) (asked : GenerateAsked) (reply : Answer) → AnswersTo inputs (Wanted.Generate asked) reply → reply.status ≡ Done →
-    ((run : Run) → reply.text ≡ run_text run → CanBeRead run) → length reply.text ≤ run_limit →
+WrittenRunsAreAccepted = (inputs : Inputs) (asked : GenerateAsked) (reply : Answer) → IsGenerateInRanges asked →
+    AnswersTo inputs (Wanted.Generate asked) reply → reply.status ≡ Done → length reply.text ≤ run_limit →
     (texts : List NamedBytes) (file : List ℕ) → file_named texts file ≡ Some reply.text →
     AnswersTo (with_texts inputs texts) (check_of asked file) (done (codes "yes\n"))
 

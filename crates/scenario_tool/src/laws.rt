@@ -28,7 +28,7 @@ pub fn decided_by_points()
     ensures { DecidedByPoints }
 {}
 
-/// The law that `check` says `yes` of each run that `generate` wrote, if its text can be read and isn't too long.
+/// The law that `check` says `yes` of each run that `generate` wrote, if its text isn't too long.
 pub fn written_runs_are_accepted()
     ensures { WrittenRunsAreAccepted }
 {}

@@ -27,7 +27,7 @@ use Rattle.field_flatten.proofs.FlatReach.{size}
 use Rattle.field_flatten.proofs.ItemReach.{le_number, ends_at, setting_parts, value_fits}
 
 -- both ends have at most 18 digits
-abbrev AreShort : Pair → Type 0
+abbrev pub AreShort : Pair → Type 0
 AreShort ends = IsFewDigits (unsigned_abs ends.low) × IsFewDigits (unsigned_abs ends.high)
 
 -- ends of at most 10^10 in magnitude
@@ -53,7 +53,7 @@ module _ (scene : Scene) (expanded : IsExpanded scene) (limited : IsLimited scen
   large : 1000000000000000 ≤ most
   large = omega arith
 
-  few_members : (c : ChoiceSpot) → In c (choices scene) → c.members ≤ field_reach
+  pub few_members : (c : ChoiceSpot) → In c (choices scene) → c.members ≤ field_reach
   few_members c i =
       let s = made_from (λ (s : Spot). choice_spot s.path s.content) scene.spots c i in
       let p = phase_of_choice s.0.path s.0.content c s.2 in
@@ -86,7 +86,7 @@ module _ (scene : Scene) (expanded : IsExpanded scene) (limited : IsLimited scen
           let is : ends_of scene (SlotName.Value path) ≡ range_ends scene.texts v.range = ap (λ o. option_map_or (λ (w : ValueSpot). range_ends scene.texts w.range) o no_ends) e in
           subst AreShort is (of_size (ends_of scene (SlotName.Value path)) (omega (arith, sized)))
 
-  short_name : (name : SlotName) → AreShort (ends_of scene name)
+  pub short_name : (name : SlotName) → AreShort (ends_of scene name)
   short_name (SlotName.Choice path) = short_choice path
   short_name (SlotName.Start path) =
       let few : scene.setting.ticks ≤ 600 = (setting_parts scene expanded limited most large).1 in of_size (pair (pos 0) (pos scene.setting.ticks)) (omega (arith, ints, few))
