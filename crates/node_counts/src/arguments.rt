@@ -14,7 +14,7 @@ use dsl_tree::{Argument, Expr, Ident};
 use expr_nodes::others::it;
 use expr_nodes::steps::pointed;
 use expr_nodes::{It, Scope, Typed};
-use osc_base::{Boxed, Place, Row};
+use osc_base::{Boxed, Place};
 use program_calls::first_place;
 use program_texts::{ProgramTexts, TypeField};
 use std::alloc::{AllocError, Global};
@@ -32,14 +32,10 @@ fn is_read(typed: &Option<Boxed<Typed>>) -> bool
 }
 
 /// The scope in which `it` is an object of a type.
-fn scope_of(alloc: Global, of: TypeId) -> Scope
+fn scope_of<'a>(of: TypeId) -> Scope<'a>
     ensures { seen_scope result ≡ object_scope of }
 {
-    Scope {
-        holder: of,
-        it: Some(It::Of(FieldType { of, length: None })),
-        labels: Row::new(alloc),
-    }
+    Scope::unlabelled(of, Some(It::Of(FieldType { of, length: None })))
 }
 
 /// Whether the field of that name of an object of a type has one value.
@@ -52,7 +48,7 @@ fn is_parameter(
 ) -> Result<bool, AllocError>
     ensures { IfOk result (λ is. is ≡ takes_value types.now.table of place name.now) }
 {
-    let scope = scope_of(alloc, of);
+    let scope = scope_of(of);
     let object = it(alloc, types, &scope, place)?;
     let field = pointed(alloc, types, object, name)?;
     Ok(is_read(&field.typed))

@@ -62,7 +62,7 @@ fn lacks_behaviour(
 /// Whether a path begins with a label, or is known and leads to no actor.
 fn is_wrong_path(
     types: &Types,
-    scope: &Scope,
+    scope: &Scope<'_>,
     head: &InvokeHead,
     typed: &Option<Boxed<Typed>>,
 ) -> bool
@@ -75,7 +75,7 @@ fn is_wrong_path(
 fn with_owned(
     alloc: Global,
     types: &Types,
-    scope: &Scope,
+    scope: &Scope<'_>,
     first: Option<Fault>,
     head: &InvokeHead,
     names: &[Ident],
@@ -95,7 +95,7 @@ fn with_owned(
 pub(crate) fn with_callee(
     alloc: Global,
     types: &Types,
-    scope: &Scope,
+    scope: &Scope<'_>,
     first: Option<Fault>,
     head: &InvokeHead,
     names: &[Ident],
@@ -118,7 +118,7 @@ pub(crate) fn with_callee(
 fn with_unresolved(
     alloc: Global,
     types: &Types,
-    scope: &Scope,
+    scope: &Scope<'_>,
     first: Option<Fault>,
     arguments: &[Argument],
 ) -> Result<Option<Fault>, AllocError>
@@ -136,7 +136,7 @@ fn with_resolved<'a>(
     alloc: Global,
     types: &Types,
     texts: &ProgramTexts<'a>,
-    scope: &Scope,
+    scope: &Scope<'_>,
     first: Option<Fault>,
     of: TypeId,
     arguments: &'a [Argument],
@@ -154,7 +154,7 @@ pub(crate) fn with_call<'a>(
     alloc: Global,
     types: &Types,
     texts: &ProgramTexts<'a>,
-    scope: &Scope,
+    scope: &Scope<'_>,
     first: Option<Fault>,
     of: &Option<TypeId>,
     arguments: &'a [Argument],
@@ -185,7 +185,7 @@ fn with_part(
     alloc: Global,
     types: &Types,
     library: Option<u32>,
-    scope: &Scope,
+    scope: &Scope<'_>,
     first: Option<Fault>,
     of: &Option<TypeId>,
     part: &InvokePart,
@@ -205,7 +205,7 @@ pub(crate) fn with_parts(
     alloc: Global,
     types: &Types,
     library: Option<u32>,
-    scope: &Scope,
+    scope: &Scope<'_>,
     first: Option<Fault>,
     of: &Option<TypeId>,
     parts: &[InvokePart],

@@ -40,7 +40,7 @@ pub(crate) fn with_known(first: Option<Fault>, known: &Checked) -> Option<Fault>
 pub(crate) fn with_expr(
     alloc: Global,
     types: &Types,
-    scope: &Scope,
+    scope: &Scope<'_>,
     first: Option<Fault>,
     expr: &Expr,
 ) -> Result<Option<Fault>, AllocError>
@@ -77,7 +77,7 @@ fn is_no_read_truth(typed: &Option<Boxed<Typed>>) -> bool
 fn isnt_value_path(
     alloc: Global,
     types: &Types,
-    scope: &Scope,
+    scope: &Scope<'_>,
     expr: &Expr,
 ) -> Result<bool, AllocError>
     ensures { IfOk result (λ b. b ≡ isnt_path_to types.now.table (seen_scope scope.now) Fits.is_read (expr_tree expr.now)) }
@@ -90,7 +90,7 @@ fn isnt_value_path(
 fn isnt_truth_path(
     alloc: Global,
     types: &Types,
-    scope: &Scope,
+    scope: &Scope<'_>,
     expr: &Expr,
 ) -> Result<bool, AllocError>
     ensures { IfOk result (λ b. b ≡ isnt_path_to types.now.table (seen_scope scope.now) is_read_truth (expr_tree expr.now)) }
@@ -103,7 +103,7 @@ fn isnt_truth_path(
 fn has_no_target(
     alloc: Global,
     types: &Types,
-    scope: &Scope,
+    scope: &Scope<'_>,
     expr: &Expr,
 ) -> Result<bool, AllocError>
     ensures { IfOk result (λ b. b ≡ lacks_target types.now.table (seen_scope scope.now) (expr_tree expr.now)) }
@@ -118,7 +118,7 @@ fn has_no_target(
 fn with_default(
     alloc: Global,
     types: &Types,
-    scope: &Scope,
+    scope: &Scope<'_>,
     first: Option<Fault>,
     kind: KeepKind,
     expr: &Expr,
@@ -139,7 +139,7 @@ fn with_default(
 fn with_keep(
     alloc: Global,
     types: &Types,
-    scope: &Scope,
+    scope: &Scope<'_>,
     first: Option<Fault>,
     kind: KeepKind,
     expr: &Expr,
@@ -156,7 +156,7 @@ fn with_keep(
 fn with_removal(
     alloc: Global,
     types: &Types,
-    scope: &Scope,
+    scope: &Scope<'_>,
     first: Option<Fault>,
     path: &PathNode,
 ) -> Result<Option<Fault>, AllocError>
@@ -172,7 +172,7 @@ fn with_removal(
 pub(crate) fn with_rule(
     alloc: Global,
     types: &Types,
-    scope: &Scope,
+    scope: &Scope<'_>,
     first: Option<Fault>,
     rule: &RuleDecl,
 ) -> Result<Option<Fault>, AllocError>
@@ -188,7 +188,7 @@ pub(crate) fn with_rule(
 pub(crate) fn with_rules(
     alloc: Global,
     types: &Types,
-    scope: &Scope,
+    scope: &Scope<'_>,
     first: Option<Fault>,
     rules: &[RuleDecl],
 ) -> Result<Option<Fault>, AllocError>

@@ -20,7 +20,7 @@ use type_model::Types;
 fn head_checked(
     alloc: Global,
     types: &Types,
-    scope: &Scope,
+    scope: &Scope<'_>,
     head: &PathHead,
 ) -> Result<Checked, AllocError>
     ensures { IfOk result (λ c. IsChecked types.now.table (seen_scope scope.now) (head_tree head.now) c) }
@@ -36,7 +36,7 @@ fn head_checked(
 fn with_suffix(
     alloc: Global,
     types: &Types,
-    scope: &Scope,
+    scope: &Scope<'_>,
     suffix: &Suffix,
     head: Checked,
 ) -> Result<Checked, AllocError>
@@ -55,7 +55,7 @@ fn with_suffix(
 fn with_suffixes(
     alloc: Global,
     types: &Types,
-    scope: &Scope,
+    scope: &Scope<'_>,
     suffixes: &[Suffix],
     head: Checked,
 ) -> Result<Checked, AllocError>
@@ -72,7 +72,7 @@ fn with_suffixes(
 pub(crate) fn path_checked(
     alloc: Global,
     types: &Types,
-    scope: &Scope,
+    scope: &Scope<'_>,
     path: &PathNode,
 ) -> Result<Checked, AllocError>
     ensures { IfOk result (λ c. IsChecked types.now.table (seen_scope scope.now) (path_tree path.now) c) }

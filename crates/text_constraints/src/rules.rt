@@ -68,7 +68,7 @@ fn strength_of(kind: KeepKind) -> Strength
 fn mark_home(
     alloc: Global,
     types: &Types,
-    text: &TextSite<'_, '_>,
+    text: &TextSite<'_, '_, '_>,
     kind: KeepKind,
     expr: &Expr,
 ) -> Result<Option<Path>, AllocError>
@@ -84,7 +84,7 @@ fn mark_home(
 pub fn typed_home(
     alloc: Global,
     types: &Types,
-    text: &TextSite<'_, '_>,
+    text: &TextSite<'_, '_, '_>,
     expr: &Expr,
 ) -> Result<Option<Typed>, AllocError>
     ensures { IfOk result (λ t. seen_part t ≡ home_typed types.now.table (seen_site text.now) (expr_tree expr.now)) }
@@ -97,7 +97,7 @@ pub fn typed_home(
 fn kept(
     alloc: Global,
     types: &Types,
-    text: &TextSite<'_, '_>,
+    text: &TextSite<'_, '_, '_>,
     owner: &Owner<'_, '_>,
     place: Place,
     kind: KeepKind,
@@ -114,7 +114,7 @@ fn kept(
 fn removed(
     alloc: Global,
     types: &Types,
-    text: &TextSite<'_, '_>,
+    text: &TextSite<'_, '_, '_>,
     owner: &Owner<'_, '_>,
     place: Place,
     path: &PathNode,
@@ -129,7 +129,7 @@ fn removed(
 fn rule_of(
     alloc: Global,
     types: &Types,
-    text: &TextSite<'_, '_>,
+    text: &TextSite<'_, '_, '_>,
     owner: &Owner<'_, '_>,
     rule: &RuleDecl,
 ) -> Result<Occurrence, AllocError>
@@ -147,7 +147,7 @@ fn rule_of(
 pub fn push_rule(
     alloc: Global,
     types: &Types,
-    text: &TextSite<'_, '_>,
+    text: &TextSite<'_, '_, '_>,
     owner: &Owner<'_, '_>,
     into: &mut Vec<Occurrence>,
     rule: &RuleDecl,
@@ -162,7 +162,7 @@ pub fn push_rule(
 pub(crate) fn push_rules(
     alloc: Global,
     types: &Types,
-    text: &TextSite<'_, '_>,
+    text: &TextSite<'_, '_, '_>,
     owner: &Owner<'_, '_>,
     into: &mut Vec<Occurrence>,
     rules: &[RuleDecl],
@@ -178,7 +178,7 @@ pub(crate) fn push_rules(
 /// The relation that a field equals a value, with its paths at their homes. Both sides are known.
 fn equal_typed(
     alloc: Global,
-    text: &TextSite<'_, '_>,
+    text: &TextSite<'_, '_, '_>,
     place: Place,
     left: Checked,
     right: Checked,
@@ -192,7 +192,7 @@ fn equal_typed(
 /// The constraint that a field equals a value, which begins at a place. Both are known.
 pub(crate) fn equal(
     alloc: Global,
-    text: &TextSite<'_, '_>,
+    text: &TextSite<'_, '_, '_>,
     owner: &Owner<'_, '_>,
     place: Place,
     strength: Strength,

@@ -18,9 +18,9 @@ use type_model::Types;
 
 /// Where a text stands: the homes of its paths, and the scope of its names.
 #[derive(Clone, Copy)]
-pub struct TextSite<'a, 's> {
+pub struct TextSite<'a, 's, 'l> {
     pub homes: Homes<'a>,
-    pub scope: &'s Scope,
+    pub scope: &'s Scope<'l>,
 }
 
 /// The path that is read, if the expression is one read.
@@ -70,7 +70,7 @@ pub(crate) fn read_home(
 fn expr_home(
     alloc: Global,
     types: &Types,
-    text: &TextSite<'_, '_>,
+    text: &TextSite<'_, '_, '_>,
     expr: &Expr,
 ) -> Result<Option<Path>, AllocError>
     ensures { IfOk result (λ p. p ≡ path_home types.now.table (seen_site text.now) (expr_tree expr.now)) }
@@ -96,7 +96,7 @@ fn left_of(expr: &Expr) -> Option<&Expr>
 pub(crate) fn relation_home(
     alloc: Global,
     types: &Types,
-    text: &TextSite<'_, '_>,
+    text: &TextSite<'_, '_, '_>,
     expr: &Expr,
 ) -> Result<Option<Path>, AllocError>
     ensures { IfOk result (λ p. p ≡ left_home types.now.table (seen_site text.now) (expr_tree expr.now)) }
@@ -111,7 +111,7 @@ pub(crate) fn relation_home(
 pub(crate) fn default_home(
     alloc: Global,
     types: &Types,
-    text: &TextSite<'_, '_>,
+    text: &TextSite<'_, '_, '_>,
     expr: &Expr,
 ) -> Result<Option<Path>, AllocError>
     ensures { IfOk result (λ p. p ≡ whole_home types.now.table (seen_site text.now) (expr_tree expr.now)) }
@@ -126,7 +126,7 @@ pub(crate) fn default_home(
 pub(crate) fn removed_home(
     alloc: Global,
     types: &Types,
-    text: &TextSite<'_, '_>,
+    text: &TextSite<'_, '_, '_>,
     path: &PathNode,
 ) -> Result<Option<Path>, AllocError>
     ensures { IfOk result (λ p. p ≡ path_home types.now.table (seen_site text.now) (path_tree path.now)) }

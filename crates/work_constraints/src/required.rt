@@ -143,7 +143,7 @@ fn required_part(
 fn required_typed(
     alloc: Global,
     types: &Types,
-    text: &TextSite<'_, '_>,
+    text: &TextSite<'_, '_, '_>,
     left: Typed,
     value: &Expr,
 ) -> Result<Option<Typed>, AllocError>
@@ -167,7 +167,7 @@ fn path_read(alloc: Global, typed: &Typed) -> Result<Option<Path>, AllocError>
 fn required(
     alloc: Global,
     types: &Types,
-    text: &TextSite<'_, '_>,
+    text: &TextSite<'_, '_, '_>,
     owner: &Owner<'_, '_>,
     left: Typed,
     value: &Expr,
@@ -198,7 +198,7 @@ fn duration_home(
 pub(crate) fn push_duration(
     alloc: Global,
     types: &Types,
-    text: &TextSite<'_, '_>,
+    text: &TextSite<'_, '_, '_>,
     owner: &Owner<'_, '_>,
     into: &mut Vec<Occurrence>,
     value: &Expr,
@@ -228,7 +228,7 @@ fn read_moved(
 fn parameter(
     alloc: Global,
     types: &Types,
-    text: &TextSite<'_, '_>,
+    text: &TextSite<'_, '_, '_>,
     place: Place,
     name: &Ident,
 ) -> Result<Option<Typed>, AllocError>
@@ -242,7 +242,7 @@ fn parameter(
 pub(crate) fn push_parameter(
     alloc: Global,
     types: &Types,
-    text: &TextSite<'_, '_>,
+    text: &TextSite<'_, '_, '_>,
     owner: &Owner<'_, '_>,
     into: &mut Vec<Occurrence>,
     name: &Ident,
