@@ -7,6 +7,9 @@ use unicode_width::UnicodeWidthStr;
 
 /// How many characters are shown on each side of the marked part.
 const SIDE: usize = 60;
+/// So many bytes have more characters than are shown on a side: a character has at most four, and three may be left of a
+/// character that is cut.
+const SIDE_BYTES: usize = 4 * (SIDE + 1);
 /// What stands in place of what is cut away.
 const CUT: &str = "...";
 /// A tab as it is shown.
@@ -114,17 +117,37 @@ fn character_len(first: u8) -> usize {
 fn joined(alloc: Global, before: &[u8], marked: &[u8], rest: &[u8]) -> Result<Excerpt, AllocError> {
     let raw = String::from_utf8_lossy(alloc, before)?;
     let column = raw.as_str().chars().count().saturating_add(1);
-    let mut text = last_characters(alloc, shown(alloc, before)?.as_str())?;
+    let mut text = last_characters(alloc, shown(alloc, last_bytes(before))?.as_str())?;
     let before = text.as_str().width();
     let marked = shown(alloc, marked)?;
     text.push_str(marked.as_str())?;
-    put_first_characters(&mut text, shown(alloc, rest)?.as_str())?;
+    put_first_characters(&mut text, shown(alloc, first_bytes(rest))?.as_str())?;
     Ok(Excerpt {
         text,
         before,
         width: marked.as_str().width().max(1),
         column,
     })
+}
+
+/// The bytes in which the characters stand that are shown behind the marked part.
+fn first_bytes(rest: &[u8]) -> &[u8] {
+    rest.get(..SIDE_BYTES).unwrap_or(rest)
+}
+
+/// The bytes in which the characters stand that are shown before the marked part. They begin with a character.
+fn last_bytes(before: &[u8]) -> &[u8] {
+    let end = match before.len().checked_sub(SIDE_BYTES) {
+        Some(start) => before.get(start..).unwrap_or(before),
+        None => return before,
+    };
+    let left = end.iter().take(3).take_while(|b| is_later_byte(**b));
+    end.get(left.count()..).unwrap_or(end)
+}
+
+/// Whether a byte isn't the first one of a character.
+fn is_later_byte(byte: u8) -> bool {
+    matches!(byte, 0x80..=0xbf)
 }
 
 /// Bytes as they are shown.

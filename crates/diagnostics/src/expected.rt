@@ -11,6 +11,8 @@ use std::alloc::{AllocError, Global};
 
 /// The longest text before the place, in bytes: it is read once for each kind of token.
 const BEFORE_LIMIT: usize = 32_768;
+/// How much of the text behind the place is read first, in bytes.
+const BEHIND: usize = 32_768;
 /// How many names are written.
 const NAMED: u32 = 8;
 /// The longest source, in bytes.
@@ -56,13 +58,25 @@ pub fn expected(alloc: Global, source: &[u8], at: usize) -> Result<String, Alloc
     if before.len() > BEFORE_LIMIT {
         return Ok(String::new(alloc));
     }
-    match first_dead(alloc, source)? {
+    match first_dead_near(alloc, source, at)? {
         Read::Dead(tokens) => named(Question {
             alloc,
             before,
             tokens,
         }),
         Read::Whole | Read::Uncut => Ok(String::new(alloc)),
+    }
+}
+
+/// The reading of a source whose syntax fault is at the byte `at`. Of a long source only a part is read, if that can be
+/// cut into tokens: the fault is the same one.
+fn first_dead_near(alloc: Global, source: &[u8], at: usize) -> Result<Read, AllocError> {
+    let Some(near) = source.get(..at.saturating_add(BEHIND)) else {
+        return first_dead(alloc, source);
+    };
+    match first_dead(alloc, near)? {
+        Read::Uncut => first_dead(alloc, source),
+        read => Ok(read),
     }
 }
 
