@@ -7,7 +7,6 @@ mod elements;
 mod homes;
 mod initials;
 mod members;
-mod paths;
 mod rules;
 mod targets;
 

@@ -7,9 +7,8 @@ ghost use Rattle.expr_nodes.specs.Seen.{seen, seen_part};
 ghost use Rattle.text_constraints.specs.Sites.{homed, left_home, left_in, path_home, seen_expr, seen_site, whole_home};
 
 use crate::homes::{Homes, place};
-use crate::paths::path_checked;
 use dsl_tree::{Expr, PathNode};
-use expr_eval::checked;
+use expr_eval::path_checked;
 use expr_nodes::{Scope, Typed};
 use osc_base::{Boxed, Path};
 use program_calls::is_path;

@@ -4,7 +4,7 @@ use Rattle.dsl_tree.specs.Views.{path_tree}
 use Rattle.expr_nodes.specs.Seen.{seen_part}
 use Rattle.text_constraints.specs.Sites.{homed, path_home, seen_site}
 use Rattle.text_constraints.proofs.EqualSteps.{if_ok}
-use Rattle.text_constraints.proofs.PathSteps.{path_is_path}
+use Rattle.expr_eval.proofs.PathSteps.{path_is_path}
 use Rattle.text_constraints.proofs.Relations.{one_path}
 use Rattle.text_constraints.proofs.targets.removed_home.Goals as goal
 
