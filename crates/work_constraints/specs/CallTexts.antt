@@ -1,5 +1,6 @@
 -- The constraints of phases, at their homes.
 use Rattle.std.specs.Prelude.{ℕ, ◌+◌, Bool, true, false, List, [], ◌∷◌, ◌++◌, Option, Some, None, cond, find, flat_map, is_some, map, option_map, option_to_list, slice_get}
+use Rattle.std.specs.Option.{option_map_or}
 use Rattle.osc_base.specs.declared.path.Path.{Path}
 use Rattle.osc_base.specs.declared.mark.Strength.{Strength}
 use Rattle.osc_base.specs.Paths.{then_duration}
