@@ -25,8 +25,9 @@ use expr_nodes::{LabelTable, Scope};
 use program_calls::{argument_named, scope_at};
 use program_texts::ProgramTexts;
 use scene_expansion::{Call, Work};
+use scene_places::Places;
 use std::alloc::{AllocError, Global};
-use text_constraints::{Homes, Owner, Standing, TextSite, push_own};
+use text_constraints::{Owner, Standing, TextSite, push_own};
 use type_model::TypeId;
 
 /// The scope of the texts of a phase, in which `it` is nothing. The labels are those of the `do` in which it stands.
@@ -59,13 +60,13 @@ fn push_stated(
 {
     let labels = texts.labels(alloc, call.holder)?;
     let scope = call_scope(labels.table(), call);
-    let homes = Homes {
+    let places = Places {
         object: &call.object,
         it: &call.path,
         scene,
     };
     let text = TextSite {
-        homes,
+        places,
         scope: &scope,
     };
     let owner = owner_of(call);
@@ -104,7 +105,7 @@ fn push_invoke(
     let labels = texts.labels(alloc, call.holder)?;
     let mut scope = call_scope(labels.table(), call);
     let fields = texts.fields(alloc, of)?;
-    let homes = Homes {
+    let places = Places {
         object: &call.object,
         it: &call.path,
         scene,
@@ -113,7 +114,7 @@ fn push_invoke(
     push_invocation(
         alloc,
         texts.types(),
-        &homes,
+        &places,
         &owner,
         &mut scope,
         of,
