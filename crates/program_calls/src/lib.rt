@@ -3,6 +3,7 @@
 #![tactic(auto)]
 
 mod actors;
+mod arguments;
 mod callees;
 mod few;
 mod first_tokens;
@@ -16,6 +17,7 @@ mod phases;
 mod scopes;
 
 pub use actors::{actor_checked, actor_type, called, head_place, resolved_actor};
+pub use arguments::argument_named;
 pub use callees::{Callee, actor_of, behaviour_named, callee_of};
 pub use first_tokens::first_place;
 pub use kinds::{is_drive, is_kind_of, is_vehicle};

@@ -17,9 +17,8 @@ ghost use Rattle.composition.specs.Uses.{default_rows, has_no_target as lacks_ta
 ghost use Rattle.program_uses.specs.RuleRows.{keep_rows, remove_rows};
 
 use crate::expr_parts::relation_left;
-use crate::paths::{path_checked, path_place};
 use dsl_tree::{Expr, KeepKind, PathNode, RuleDecl};
-use expr_eval::{Checked, checked};
+use expr_eval::{Checked, checked, path_checked, path_place};
 use expr_nodes::parts::least;
 use expr_nodes::{Scope, Typed};
 use name_scope::with_fault;

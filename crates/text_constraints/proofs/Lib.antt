@@ -1,4 +1,3 @@
-pub mod PathSteps
 pub mod ListSteps
 pub mod LineSteps
 pub mod Relations

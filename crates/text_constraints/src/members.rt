@@ -16,7 +16,6 @@ ghost use Rattle.text_constraints.specs.OwnTexts.{HasIt, IsTextScope, conditions
 ghost use Rattle.text_constraints.specs.Sites.{seen_site};
 
 use crate::conditions::push_conditions;
-use crate::homes::Homes;
 use crate::initials::push_initial;
 use crate::rules::{Owner, push_rule, push_rules};
 use crate::targets::TextSite;
@@ -26,6 +25,7 @@ use expr_nodes::{It, Scope};
 use osc_base::{Path, Place};
 use program_calls::scope_at;
 use program_texts::{ProgramTexts, TypeLabels, list_length};
+use scene_places::Places;
 use scene_texts::then_name;
 use std::alloc::{AllocError, Global};
 use type_model::{FieldType, ListedMember, TypeId};
@@ -126,12 +126,12 @@ fn push_name(
     ensures { OnOk result ((seen_scope scope.now).it ≡ it_given (types_in texts.now) (field_tree decl.now) → map seen_occurrence into.new.items ≡ map seen_occurrence into.old.items ++ name_kept (types_in texts.now) (seen_scene standing.now.scene.now).bindings standing.now.object.now (seen_scope scope.now) under.now name.now (field_tree decl.now)) }
 {
     let it = then_name(alloc, standing.object, name.text.as_str())?;
-    let homes = Homes {
+    let places = Places {
         object: standing.object,
         it: &it,
         scene: standing.scene,
     };
-    let text = TextSite { homes, scope };
+    let text = TextSite { places, scope };
     let owner = Owner {
         holder: standing.object,
         under,
@@ -170,12 +170,12 @@ fn push_own_rule(
 ) -> Result<(), AllocError>
     ensures { OnOk result (map seen_occurrence into.new.items ≡ map seen_occurrence into.old.items ++ own_rule_kept (types_in texts.now).table (seen_scene standing.now.scene.now).bindings standing.now.object.now (seen_scope scope.now) under.now (rule_tree rule.now) ∷ []) }
 {
-    let homes = Homes {
+    let places = Places {
         object: standing.object,
         it: standing.object,
         scene: standing.scene,
     };
-    let text = TextSite { homes, scope };
+    let text = TextSite { places, scope };
     let owner = Owner {
         holder: standing.object,
         under,

@@ -14,7 +14,6 @@ ghost use Rattle.text_constraints.specs.Kept.{constraint as constraint_of, equal
 ghost use Rattle.text_constraints.specs.Sites.{seen_site, typed_home as home_typed};
 
 use crate::copies::copy_guards;
-use crate::homes::moved_part;
 use crate::targets::{TextSite, default_home, read_home, relation_home, removed_home};
 use composition::{Guard, Occurrence};
 use dsl_tree::{Expr, KeepKind, PathNode, RelationSign, RuleDecl};
@@ -22,6 +21,7 @@ use expr_eval::{Checked, checked};
 use expr_nodes::Typed;
 use expr_nodes::steps::related;
 use osc_base::{Mark, Path, Place, Strength};
+use scene_places::moved_part;
 use std::alloc::{AllocError, Global};
 use type_model::Types;
 
@@ -90,7 +90,7 @@ pub fn typed_home(
     ensures { IfOk result (λ t. seen_part t ≡ home_typed types.now.table (seen_site text.now) (expr_tree expr.now)) }
 {
     let known = checked(alloc, types, text.scope, expr)?;
-    moved_part(alloc, &text.homes, &known.typed)
+    moved_part(alloc, &text.places, &known.typed)
 }
 
 /// The constraint that a `keep` gives.
@@ -186,7 +186,7 @@ fn equal_typed(
     ensures { IfOk result (λ t. (table : Table) (l v : ExprTree) → place ≡ first v → IsChecked table (seen_site text.now).scope l left → IsChecked table (seen_site text.now).scope v right → seen_part t ≡ home_typed table (seen_site text.now) (ExprTree.Relation place RelationSign.Equal l v)) }
 {
     let known = related(alloc, place, RelationSign::Equal, left, right)?;
-    moved_part(alloc, &text.homes, &known.typed)
+    moved_part(alloc, &text.places, &known.typed)
 }
 
 /// The constraint that a field equals a value, which begins at a place. Both are known.
@@ -202,7 +202,7 @@ pub(crate) fn equal(
 ) -> Result<Occurrence, AllocError>
     ensures { IfOk result (λ o. (table : Table) (l v : ExprTree) → begins ≡ first v → IsChecked table (seen_site text.now).scope l left → IsChecked table (seen_site text.now).scope v right → seen_occurrence o ≡ equal_kept table (seen_site text.now) (seen_owner owner.now) place strength l v) }
 {
-    let target = read_home(alloc, &text.homes, &left.typed)?;
+    let target = read_home(alloc, &text.places, &left.typed)?;
     let typed = equal_typed(alloc, text, begins, left, right)?;
     constraint(alloc, owner, place, strength, target, typed)
 }

@@ -1,6 +1,6 @@
 //! The constraints of a work.
 
-ghost use Rattle.std.specs.Prelude.{◌≡◌, ◌++◌, ◌∷◌, [], None, codes, map, option_map, option_to_list, OnOk};
+ghost use Rattle.std.specs.Prelude.{◌≡◌, ◌++◌, ◌∷◌, [], None, codes, map, option_to_list, OnOk};
 ghost use Rattle.composition.specs.Calls as Calls;
 ghost use Rattle.composition.specs.Expanded.{occurrence_of};
 ghost use Rattle.composition.specs.Expansion.{argument_named, given_duration};
@@ -14,20 +14,20 @@ ghost use Rattle.program_calls.specs.SeenLabels.{do_labels, seen_labels};
 ghost use Rattle.program_texts.specs.SeenTexts.{types_in};
 ghost use Rattle.type_heads.specs.Types.{Types};
 ghost use Rattle.scene_expansion.specs.SeenWorks.{seen_call, seen_work};
-ghost use Rattle.work_constraints.specs.CallTexts.{has_argument_name, invoke_kept, phase_holder};
+ghost use Rattle.work_constraints.specs.CallTexts.{invoke_kept, phase_holder};
 ghost use Rattle.text_constraints.specs.Kept.{seen_owner};
-ghost use Rattle.text_constraints.specs.Sites.{seen_expr};
 
 use crate::arguments::push_invocation;
 use crate::required::push_duration;
 use composition::{Occurrence, Scene};
-use dsl_tree::{Argument, CompNode, Expr, InvokeNode};
+use dsl_tree::{CompNode, Expr, InvokeNode};
 use expr_nodes::{LabelTable, Scope};
-use program_calls::scope_at;
+use program_calls::{argument_named, scope_at};
 use program_texts::ProgramTexts;
 use scene_expansion::{Call, Work};
+use scene_places::Places;
 use std::alloc::{AllocError, Global};
-use text_constraints::{Homes, Owner, Standing, TextSite, push_own};
+use text_constraints::{Owner, Standing, TextSite, push_own};
 use type_model::TypeId;
 
 /// The scope of the texts of a phase, in which `it` is nothing. The labels are those of the `do` in which it stands.
@@ -47,28 +47,6 @@ fn owner_of(call: &Call) -> Owner<'_, '_>
     }
 }
 
-/// The value of the first argument of that name.
-fn named_argument<'t>(arguments: &'t [Argument], name: &str) -> Option<&'t Expr>
-    ensures { option_map seen_expr result ≡ argument_named name.now (map argument_tree arguments.entry.now) }
-{
-    for argument in arguments {
-        if is_named(argument, name) {
-            return Some(&argument.value);
-        }
-    }
-    None
-}
-
-/// Whether an argument has that name.
-fn is_named(argument: &Argument, name: &str) -> bool
-    ensures { result ≡ has_argument_name name.now (argument_tree argument.now) }
-{
-    match &argument.name {
-        Some(own) => own.text.as_str() == name,
-        None => false,
-    }
-}
-
 /// Puts a stated duration of a phase at the end.
 fn push_stated(
     alloc: Global,
@@ -82,13 +60,13 @@ fn push_stated(
 {
     let labels = texts.labels(alloc, call.holder)?;
     let scope = call_scope(labels.table(), call);
-    let homes = Homes {
+    let places = Places {
         object: &call.object,
         it: &call.path,
         scene,
     };
     let text = TextSite {
-        homes,
+        places,
         scope: &scope,
     };
     let owner = owner_of(call);
@@ -106,7 +84,7 @@ fn push_comp(
 ) -> Result<(), AllocError>
     ensures { OnOk result (map seen_occurrence into.new.items ≡ map seen_occurrence into.old.items ++ map (occurrence_of (seen_scene scene.now).bindings) (map (given_duration (types_in texts.now) (seen_call call.now)) (option_to_list (argument_named (codes "duration") (map argument_tree node.now.arguments))))) }
 {
-    match named_argument(node.arguments.as_slice(), "duration") {
+    match argument_named(node.arguments.as_slice(), "duration") {
         Some(value) => push_stated(alloc, texts, scene, into, call, value),
         None => Ok(()),
     }
@@ -127,7 +105,7 @@ fn push_invoke(
     let labels = texts.labels(alloc, call.holder)?;
     let mut scope = call_scope(labels.table(), call);
     let fields = texts.fields(alloc, of)?;
-    let homes = Homes {
+    let places = Places {
         object: &call.object,
         it: &call.path,
         scene,
@@ -136,7 +114,7 @@ fn push_invoke(
     push_invocation(
         alloc,
         texts.types(),
-        &homes,
+        &places,
         &owner,
         &mut scope,
         of,

@@ -6,13 +6,16 @@ ghost use Rattle.dsl_tree.specs.Views as Views;
 ghost use Rattle.dsl_tree.specs.Views.{head_tree, path_tree, suffix_tree};
 ghost use Rattle.expr_nodes.specs.Checks.{IsChecked};
 ghost use Rattle.expr_nodes.specs.SeenNames.{seen_scope};
+ghost use Rattle.expr_nodes.specs.Typing.{first as first_in};
 
+use crate::checks::checked;
 use dsl_tree::{PathHead, PathNode, Suffix};
-use expr_eval::{Checked, checked};
 use expr_nodes::Scope;
 use expr_nodes::meanings::name;
 use expr_nodes::others::{actor, it};
+use expr_nodes::parts::Checked;
 use expr_nodes::steps::{indexed, pointed};
+use osc_base::Place;
 use std::alloc::{AllocError, Global};
 use type_model::Types;
 
@@ -69,7 +72,7 @@ fn with_suffixes(
 }
 
 /// The first fault of a path, and its typed form, unless it or a part of it has a fault.
-pub(crate) fn path_checked(
+pub fn path_checked(
     alloc: Global,
     types: &Types,
     scope: &Scope<'_>,
@@ -79,4 +82,15 @@ pub(crate) fn path_checked(
 {
     let head = head_checked(alloc, types, scope, &path.head)?;
     with_suffixes(alloc, types, scope, path.suffixes.as_slice(), head)
+}
+
+/// The place of the first token of a path.
+pub fn path_place(path: &PathNode) -> Place
+    ensures { result ≡ first_in (path_tree path.now) }
+{
+    match &path.head {
+        PathHead::Name(name) => name.place,
+        PathHead::It(place) => *place,
+        PathHead::Actor(place) => *place,
+    }
 }

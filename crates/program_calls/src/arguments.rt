@@ -4,7 +4,7 @@ ghost use Rattle.std.specs.Prelude.{◌≡◌, map, option_map};
 ghost use Rattle.composition.specs.Expansion as expansions;
 ghost use Rattle.dsl_tree.specs.Views.{argument_tree};
 ghost use Rattle.program_calls.specs.SeenModifiers.{seen_value};
-ghost use Rattle.work_spots.specs.Named.{has_name};
+ghost use Rattle.program_calls.specs.Named.{has_name};
 
 use dsl_tree::{Argument, Expr};
 

@@ -1,8 +1,8 @@
 use Rattle.std.proofs.Common.{◌∙◌, ap, sym}
 use Rattle.dsl_tree.specs.Views.{head_tree}
 use Rattle.expr_nodes.specs.Typing.{first}
-use Rattle.program_uses.proofs.PathSteps.{path_first}
-use Rattle.program_uses.proofs.paths.path_place.Goals as goal
+use Rattle.expr_eval.proofs.PathSteps.{path_first}
+use Rattle.expr_eval.proofs.paths.path_place.Goals as goal
 
 pub returns-in-Name : goal.returns-in-Name
 returns-in-Name c = sym (path_first c.args.path.now ∙ ap (λ h. first (head_tree h)) c.in-Name.is)
