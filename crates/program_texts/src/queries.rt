@@ -41,7 +41,7 @@ impl<'a> ProgramTexts<'a> {
             types,
             library: members.library,
             bodies: members.bodies.as_slice(),
-            lists: members.lists.rows(),
+            lists: &members.lists,
         }
     }
 
@@ -70,10 +70,7 @@ impl<'a> ProgramTexts<'a> {
     pub fn members(&self, of: TypeId) -> &'a [ListedMember<'a>]
         ensures { map seen_listed result.now ≡ told.members (types_in self.now) of }
     {
-        match self.lists.get(of.0 as usize) {
-            Some(members) => members.as_slice(),
-            None => &[],
-        }
+        self.lists.of(of)
     }
 
     /// The place of the name of a type.

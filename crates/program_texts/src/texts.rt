@@ -5,9 +5,9 @@ ghost use Rattle.type_heads.specs.Told.{told};
 ghost use Rattle.program_texts.specs.SeenFields.{types_of_parts};
 
 use dsl_tree::{FieldDecl, Ident, Phase};
-use osc_base::{Place, Row};
+use osc_base::Place;
 use type_heads::Body;
-use type_model::{ListedMember, TypeId, Types};
+use type_model::{MemberLists, TypeId, Types};
 
 /// A field of a type: its name, its declaration, the number of the type in whose text that stands, and the conditional
 /// subtypes that it is under, outermost first.
@@ -35,6 +35,6 @@ pub struct ProgramTexts<'a> {
     pub(crate) types: &'a Types,
     pub(crate) library: Option<u32>,
     pub(crate) bodies: &'a [Body<'a>],
-    pub(crate) lists: &'a [Row<ListedMember<'a>>],
+    pub(crate) lists: &'a MemberLists<'a>,
     ghost told_is: { types.now ≡ told (types_of_parts bodies.now library lists.now types.now.table) },
 }
