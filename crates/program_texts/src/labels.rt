@@ -1,7 +1,7 @@
 //! The labels of the `do` of each type.
 
 ghost use Rattle.std.specs.Prelude.{◌≡◌, ◌+◌, Some, map, option_map, IfOk};
-ghost use Rattle.type_members.specs.Listed.{seen_listed};
+ghost use Rattle.type_members.specs.Listed.{lists_of, seen_listed};
 ghost use Rattle.program_calls.specs.SeenLabels.{seen_labels};
 ghost use Rattle.program_texts.specs.OwnLabels.{labels_from, own_labels as labels_own, seen_type_labels};
 ghost use Rattle.program_texts.specs.SeenFields.{first_do_in, seen_do};
@@ -9,10 +9,9 @@ ghost use Rattle.program_texts.specs.SeenFields.{first_do_in, seen_do};
 use crate::gathered::first_do;
 use crate::texts::TypeDo;
 use expr_nodes::LabelTable;
-use osc_base::Row;
 use program_calls::do_labels;
 use std::alloc::{AllocError, Global};
-use type_model::{ListedMember, TypeId, Types};
+use type_model::{ListedMember, MemberLists, TypeId, Types};
 
 /// The labels of the `do` of a type: those that the texts of types have, or those that were made of a `do` which the
 /// type inherits.
@@ -77,14 +76,14 @@ fn next_type(number: u32) -> Result<u32, AllocError>
 pub(crate) fn own_labels<'a>(
     alloc: Global,
     types: &Types,
-    lists: &'a [Row<ListedMember<'a>>],
+    lists: &'a MemberLists<'a>,
 ) -> Result<Vec<Option<LabelTable>>, AllocError>
-    ensures { IfOk result (λ tables. map (option_map seen_labels) tables.items ≡ labels_from types.now.table 0 (map (map seen_listed) lists.entry.now)) }
+    ensures { IfOk result (λ tables. map (option_map seen_labels) tables.items ≡ labels_from types.now.table 0 (lists_of lists.entry.now)) }
 {
     let mut tables = Vec::new(alloc);
     let mut number: u32 = 0;
-    for members in lists {
-        tables.push(labels_among(alloc, types, number, members.as_slice())?)?;
+    for span in lists.spans() {
+        tables.push(labels_among(alloc, types, number, lists.at(span))?)?;
         number = next_type(number)?;
     }
     Ok(tables)

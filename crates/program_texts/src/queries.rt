@@ -46,7 +46,7 @@ impl<'a> ProgramTexts<'a> {
         requires built { types.now ≡ all_told (types_with members.now types.now.table) }
         ensures { IfOk result (λ texts. types_in texts ≡ types_with members.entry.now types.entry.now.table) }
     {
-        let lists = members.lists.rows();
+        let lists = &members.lists;
         let labels = own_labels(alloc, types, lists)?;
         Ok(ProgramTexts {
             types,
@@ -115,10 +115,7 @@ impl<'a> ProgramTexts<'a> {
     pub fn members(&self, of: TypeId) -> &'a [ListedMember<'a>]
         ensures { map seen_listed result.now ≡ told.members (types_in self.now) of }
     {
-        match self.lists.get(of.0 as usize) {
-            Some(members) => members.as_slice(),
-            None => &[],
-        }
+        self.lists.of(of)
     }
 
     /// The place of the name of a type.

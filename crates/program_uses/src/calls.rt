@@ -5,7 +5,9 @@ ghost use Rattle.std.specs.Option.{option_map_or};
 ghost use Rattle.osc_base.specs.FaultRows.{first_from};
 ghost use Rattle.dsl_tree.specs.PhaseTree.{ArgumentTree};
 ghost use Rattle.dsl_tree.specs.Views.{argument_tree, part_tree};
+ghost use Rattle.type_heads.specs.Members.{fields_among};
 ghost use Rattle.type_heads.specs.Types.{Types as TypesOf};
+ghost use Rattle.type_members.specs.Listed.{lists_of};
 ghost use Rattle.expr_nodes.specs.Parts.{of_one};
 ghost use Rattle.expr_nodes.specs.Seen.{seen_part};
 ghost use Rattle.expr_nodes.specs.SeenNames.{seen_it, seen_scope};
@@ -14,10 +16,11 @@ ghost use Rattle.composition.specs.Calls.{Callee as CalleeOf, actor_type as acto
 ghost use Rattle.composition.specs.Uses.{begins_with_label as begins_so, call_rows, callee_rows, it_made as made_it, part_rows};
 ghost use Rattle.program_calls.specs.SeenCallees.{actor_tree, head_tree};
 ghost use Rattle.program_uses.specs.ArgumentRows.{arguments_in};
-ghost use Rattle.program_uses.specs.SeenTexts.{Tells, seen_field};
+ghost use Rattle.program_uses.specs.SeenTexts.{Tells};
 ghost use Rattle.program_uses.specs.TableTypes.{of_table};
 
 use crate::arguments::with_arguments;
+use crate::gathered::fields_of;
 use crate::modifiers::with_modifier;
 use crate::program_texts::ProgramTexts;
 use crate::rules::{with_expr, with_known, with_rule};
@@ -141,12 +144,10 @@ fn with_resolved<'a>(
     of: TypeId,
     arguments: &'a [Argument],
 ) -> Result<Option<Fault>, AllocError>
-    ensures { IfOk result (λ f. f ≡ first_from first (arguments_in types.now.table (seen_scope scope.now) (map seen_field (slice_index_or texts.now.fields.items of [])) [] 0 (map argument_tree arguments.entry.now))) }
+    ensures { IfOk result (λ f. f ≡ first_from first (arguments_in types.now.table (seen_scope scope.now) (fields_among (slice_index_or (lists_of texts.now.lists.now) of [])) [] 0 (map argument_tree arguments.entry.now))) }
 {
-    match texts.fields.get(of.0 as usize) {
-        Some(row) => with_arguments(alloc, types, scope, first, row.as_slice(), arguments),
-        None => with_arguments(alloc, types, scope, first, &[], arguments),
-    }
+    let fields = fields_of(alloc, texts.lists.of(of))?;
+    with_arguments(alloc, types, scope, first, fields.as_slice(), arguments)
 }
 
 /// Faults of the arguments of an invocation.

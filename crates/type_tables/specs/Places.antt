@@ -1,5 +1,5 @@
 -- The place of each name in a list.
-use Rattle.std.specs.Prelude.{◌≡◌, ℕ, ◌<◌, List, Option, bytes_eq, length}
+use Rattle.std.specs.Prelude.{◌≡◌, ℕ, ◌<◌, List, Option, Some, None, bytes_eq, cond, length, nat_lt, option_and_then}
 use Rattle.std.specs.HashMap.{get_by_text}
 use Rattle.name_scope.specs.Declaring.{first_place}
 use Rattle.type_tables.specs.declared.first_places.FirstPlaces.{FirstPlaces}
@@ -15,3 +15,7 @@ HasPlaces t name_of things = (name : List ℕ) → place_in t name ≡ first_pla
 -- the same, unless there are few things
 abbrev pub Places : {T : Type 0} → FirstPlaces → (T → List ℕ) → List T → Type 0
 Places t name_of things = 8 < length things → HasPlaces t name_of things
+
+-- a place, if it is among the first n
+abbrev pub low_place : ℕ → Option ℕ → Option ℕ
+low_place n place = option_and_then (λ i. cond (nat_lt i n) (Some i) None) place

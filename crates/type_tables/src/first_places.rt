@@ -1,9 +1,9 @@
 //! The first place of each name in a list.
 
-ghost use Rattle.std.specs.Prelude.{◌≡◌, ℕ, ◌+◌, ◌<◌, ◌^◌, List, None, Some, bytes_eq, cond, find, option_copied, IfOk, OnOk};
+ghost use Rattle.std.specs.Prelude.{◌≡◌, ℕ, ◌+◌, ◌<◌, ◌^◌, List, None, Some, bytes_eq, cond, find, option_copied, take, IfOk, OnOk};
 ghost use Rattle.std.specs.Option.{option_or};
 ghost use Rattle.name_scope.specs.Declaring.{first_place};
-ghost use Rattle.type_tables.specs.Places.{HasPlaces, Places, place_in};
+ghost use Rattle.type_tables.specs.Places.{HasPlaces, Places, low_place, place_in};
 
 use indexmap::IndexMap;
 use std::alloc::{AllocError, Global};
@@ -95,6 +95,32 @@ pub fn found<'a, T: HasName>(places: &FirstPlaces, things: &'a [T], name: &str) 
         return first_named(things, name);
     }
     found_by_place(places, things, name)
+}
+
+/// The first of the things of that name, if it is among the first `len` things.
+pub fn found_before<'a, T: HasName>(
+    places: &FirstPlaces,
+    things: &'a [T],
+    len: usize,
+    name: &str,
+) -> Option<&'a T>
+    requires { Places places.now T.name_of things.now }
+    ensures { option_copied result ≡ find (λ x. bytes_eq (T.name_of x) name.now) (take len things.now) }
+{
+    match if_low(place_of(places, things, name), len) {
+        Some(place) => things.get(place),
+        None => None,
+    }
+}
+
+/// A place, if it is among the first `len`.
+fn if_low(place: Option<usize>, len: usize) -> Option<usize>
+    ensures { result ≡ low_place len place }
+{
+    match place {
+        Some(place) if place < len => Some(place),
+        _ => None,
+    }
 }
 
 /// The first of the things of that name.

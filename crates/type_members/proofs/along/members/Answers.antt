@@ -2,7 +2,7 @@ use Rattle.std.proofs.Common.{◌∙◌, ap, map}
 use Rattle.type_heads.specs.Bodied.{seen_body}
 use Rattle.type_members.specs.Listed.{seen_listed}
 use Rattle.type_members.proofs.Listings.{members_listed}
-use Rattle.type_members.proofs.member_lists.members.Goals as goal
+use Rattle.type_members.proofs.along.members.Goals as goal
 
 pub returns : goal.returns
 returns c =

@@ -2,7 +2,7 @@ use Rattle.std.proofs.Common.{◌-◌, arith, map, refl, take}
 use Rattle.type_heads.specs.Bodied.{seen_body}
 use Rattle.type_members.specs.Listed.{seen_listed}
 use Rattle.type_members.proofs.Tasks.{along_more}
-use Rattle.type_members.proofs.member_lists.list_along.Goals as goal
+use Rattle.type_members.proofs.along.list_along.Goals as goal
 
 pub loop-left-preserved : goal.loop-left-preserved
 loop-left-preserved c = record {

@@ -2,7 +2,7 @@ use Rattle.std.proofs.Common.{◌≡◌, ◌≤◌, drop, length, map, take}
 use Rattle.type_heads.specs.Bodied.{seen_body}
 use Rattle.type_members.specs.Listed.{seen_listed}
 use Rattle.type_members.specs.Listing.{listed_along}
-use Rattle.type_members.proofs.member_lists.list_along.Given as goal
+use Rattle.type_members.proofs.along.list_along.Given as goal
 
 abbrev pub invariant-loop-left : goal.invariant-loop-left
 invariant-loop-left l = record {
