@@ -216,7 +216,12 @@ fn push_actor(
     match callee {
         Callee::Alone(_) | Callee::NoName(_) => Ok(()),
         Callee::Owned { head, names, .. } => {
-            let scope = Scope::unlabelled(call.holder, None);
+            let scope = Scope {
+                holder: call.holder,
+                it: None,
+                labels: None,
+                way: &[],
+            };
             let homes = bounds_of(alloc, call.bindings.as_slice())?;
             let known = actor_checked(alloc, texts.types(), &scope, head, names)?;
             push_bound(alloc, into, call, homes.as_slice(), "actor", &known.typed)

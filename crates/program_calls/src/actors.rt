@@ -82,7 +82,12 @@ pub fn resolved_actor(
 ) -> Result<Option<TypeId>, AllocError>
     ensures { IfOk result (λ o. o ≡ actor_in types.now.table.heads (typed_in types.now.table (scope_without holder) (actor_tree head.now names.now))) }
 {
-    let scope = Scope::unlabelled(holder, None);
+    let scope = Scope {
+        holder,
+        it: None,
+        labels: None,
+        way: &[],
+    };
     let path = actor_checked(alloc, types, &scope, head, names)?;
     Ok(actor_type(types, &path.typed))
 }

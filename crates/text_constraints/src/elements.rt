@@ -94,7 +94,12 @@ pub(crate) fn sample_list(
     ensures { IfOk result (λ t. sample_in (seen_part t) ≡ sample_at types.now.table place of) }
 {
     let length = Some(1);
-    let scope = Scope::unlabelled(of, Some(It::Of(FieldType { of, length })));
+    let scope = Scope {
+        holder: of,
+        it: Some(It::Of(FieldType { of, length })),
+        labels: None,
+        way: &[],
+    };
     let known = it(alloc, types, &scope, place)?;
     Ok(known.typed)
 }
