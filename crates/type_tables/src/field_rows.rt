@@ -55,11 +55,7 @@ impl Fields {
 }
 
 /// The fields among members.
-fn fields(
-    alloc: Global,
-    heads: &Heads,
-    members: &[ListedMember<'_>],
-) -> Result<Fields, AllocError>
+fn fields(alloc: Global, heads: &Heads, members: &[ListedMember<'_>]) -> Result<Fields, AllocError>
     ensures entries { IfOk result (λ fields. fields.entries.items ≡ table_fields heads.now (map seen_listed members.now)) }
     ensures ends { IfOk result (λ fields. fields.ends.items ≡ all_ends heads.now (map seen_listed members.now)) }
 {
