@@ -6,7 +6,7 @@ use Rattle.std.proofs.lemmas.Bool.Decides.{nat_tests}
 use Rattle.std.proofs.lemmas.List.{take-append-le}
 use Rattle.std.proofs.Math.Seq.{take-length}
 use Rattle.std.proofs.lemmas.List.Elements.{All-nil, All-push}
-use Rattle.type_heads.specs.Table.{TypeHead, base}
+use Rattle.type_heads.specs.Table.{TypeHead, base, line_within}
 use Rattle.type_heads.specs.Types.{TypeBody, Member}
 use Rattle.type_heads.specs.Members.{is_conditional, members_of}
 use Rattle.type_members.specs.Listed.{list_at, seen_listed, seen_row}
@@ -15,7 +15,7 @@ use Rattle.type_members.specs.declared.listed.ListedMember.{ListedMember}
 use Rattle.type_members.specs.declared.places.Span.{Span}
 use Rattle.type_members.specs.declared.rows.MemberRow.{MemberRow}
 use Rattle.type_members.specs.declared.rows.RowEnd.{RowEnd}
-use Rattle.type_members.proofs.Inheriting.{HasEnd, end_more, members_more}
+use Rattle.type_members.proofs.Inheriting.{HasEnd, end_more, ended, members_more}
 
 -- the last type of a row has all its members
 whole_end : (heads : List TypeHead) (bodies : List TypeBody) (row : List Member) (t len : ℕ) → row ≡ members_of heads bodies t → len ≡ length row →
@@ -79,3 +79,12 @@ heir_found heads bodies t u is = by (base heads u) is
     by : (o : Option ℕ) → option_map_or (λ b. nat_eq b t && not (is_conditional bodies u)) o false ≡ true → (o ≡ Some t) × (is_conditional bodies u ≡ false)
     by None h = absurd (true≢false (sym h))
     by (Some b) h = same b (is_conditional bodies u) h
+
+-- a row of the members of one type, whose line is that long
+pub began : (heads : List TypeHead) (bodies : List TypeBody) (ms : List ListedMember) (es : List RowEnd) (t depth : ℕ) → map seen_listed ms ≡ members_of heads bodies t →
+    es ≡ record { of = t; len = length ms } ∷ [] → depth ≡ length (line_within (length heads) heads (Some t)) → IsRow heads bodies ms es t depth
+began heads bodies ms es t depth is one long = record {
+  members = is;
+  ends = first_end heads bodies ms es t is one;
+  depth = λ less. subst (HasEnd heads (Some t)) (sym long) (ended heads (length heads) (Some t) (omega (arith, long, less)));
+}

@@ -23,11 +23,7 @@ fn field_span(rows: &[FieldRow], span: &Span) -> Span
     Span { row: span.row, len }
 }
 
-fn field_spans(
-    alloc: Global,
-    rows: &[FieldRow],
-    spans: &[Span],
-) -> Result<Vec<Span>, AllocError>
+fn field_spans(alloc: Global, rows: &[FieldRow], spans: &[Span]) -> Result<Vec<Span>, AllocError>
     ensures { IfOk result (λ all. all.items ≡ map (span_of_fields rows.now) spans.now) }
 {
     let mut all = Vec::new(alloc);

@@ -55,11 +55,7 @@ impl Fields {
 }
 
 /// The fields among members.
-fn fields(
-    alloc: Global,
-    heads: &Heads,
-    members: &[ListedMember<'_>],
-) -> Result<Fields, AllocError>
+fn fields(alloc: Global, heads: &Heads, members: &[ListedMember<'_>]) -> Result<Fields, AllocError>
     ensures entries { IfOk result (λ fields. fields.entries.items ≡ table_fields heads.now (map seen_listed members.now)) }
     ensures ends { IfOk result (λ fields. fields.ends.items ≡ all_ends heads.now (map seen_listed members.now)) }
 {
@@ -75,12 +71,13 @@ fn field_row(
     alloc: Global,
     heads: &Heads,
     members: &[ListedMember<'_>],
+    is_indexed: bool,
 ) -> Result<FieldRow, AllocError>
     ensures table { IfOk result (λ row. row.table ≡ table_fields heads.now (map seen_listed members.now)) }
     ensures ends { IfOk result (λ row. row.ends.items ≡ all_ends heads.now (map seen_listed members.now)) }
 {
     let fields = fields(alloc, heads, members)?;
-    let table = FieldTable::of(alloc, fields.entries)?;
+    let table = FieldTable::of(alloc, fields.entries, is_indexed)?;
     Ok(FieldRow {
         table,
         ends: fields.ends,
@@ -99,6 +96,30 @@ impl FieldRow {
     }
 }
 
+/// So many members of rows that begin with an heir are indexed at most. Their lists may grow with the square of the source.
+const MOST_INDEXED: usize = 250_000;
+
+/// Whether the first type of a row inherits from nothing.
+fn begins_anew(heads: &Heads, row: &MemberRow<'_>) -> bool {
+    match row.ends.first() {
+        Some(end) => heads.base(end.of).is_none(),
+        None => true,
+    }
+}
+
+/// Whether places are kept for the fields of a row, with room for so many members of rows that begin with an heir.
+fn is_indexed(heads: &Heads, row: &MemberRow<'_>, room: &mut usize) -> bool {
+    if begins_anew(heads, row) {
+        return true;
+    }
+    let count = row.members.len();
+    if count > *room {
+        return false;
+    }
+    *room -= count;
+    true
+}
+
 /// The fields of each row of members.
 pub fn field_rows(
     alloc: Global,
@@ -109,8 +130,10 @@ pub fn field_rows(
     ensures ends { IfOk result (λ all. map (λ r. r.ends.items) all.items ≡ map (all_ends heads.now) (map seen_row rows.now)) }
 {
     let mut all = Vec::new(alloc);
+    let mut room = MOST_INDEXED;
     for row in rows {
-        all.push(field_row(alloc, heads, row.members.as_slice())?)?;
+        let is_indexed = is_indexed(heads, row, &mut room);
+        all.push(field_row(alloc, heads, row.members.as_slice(), is_indexed)?)?;
     }
     Ok(all)
 }

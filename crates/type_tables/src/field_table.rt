@@ -36,11 +36,15 @@ impl Model for FieldTable {
 }
 
 impl FieldTable {
-    /// These fields. More of them than a `u32` counts are out of memory.
-    pub fn of(alloc: Global, entries: Vec<FieldEntry>) -> Result<FieldTable, AllocError>
+    /// These fields, with places of their names or without. More of them than a `u32` counts are out of memory.
+    pub fn of(
+        alloc: Global,
+        entries: Vec<FieldEntry>,
+        is_indexed: bool,
+    ) -> Result<FieldTable, AllocError>
         ensures { IfOk result (λ table. table ≡ entries.items) }
     {
-        let places = FirstPlaces::of(alloc, entries.as_slice())?;
+        let places = FirstPlaces::of(alloc, entries.as_slice(), is_indexed)?;
         Ok(FieldTable { entries, places })
     }
 

@@ -10,8 +10,8 @@ use Rattle.type_faults.proofs.PlainFaults.{condition_left, of_plain}
 use Rattle.type_faults.proofs.RowSteps.{if_ok}
 use Rattle.type_faults.proofs.member_faults.declared.with_type.Goals as goal
 
-pub returns-in_if-is_of_plain : goal.returns-in_if-is_of_plain
-returns-in_if-is_of_plain c =
+pub returns-then-is_of_plain : goal.returns-then-is_of_plain
+returns-then-is_of_plain c =
     let d = c.args.depends.now in
     let ts = types_with d.heads.now (map seen_body d.bodies.now) (lists_of d.lists.now) in
     let stands : is_of_plain c.args.plain.now d.lists.now.spans.items c.args.of ≡ true = sym c.is_of_plain.ensures ∙ c.if-is_of_plain.true in
