@@ -1,8 +1,11 @@
 pub mod Answers
-pub mod Readers
-pub mod Rows
-pub mod Rests
-pub mod PhaseStarts
-pub mod Compounds
-pub mod Levels
 pub mod Arguments
+pub mod Cursor
+pub mod Descent
+pub mod Levels
+pub mod Members
+pub mod Phases
+pub mod Readers
+pub mod Rests
+pub mod Rows
+pub mod UnitRows

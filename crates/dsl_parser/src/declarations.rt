@@ -1,29 +1,27 @@
 //! Declarations and extensions.
 
-ghost use Rattle.std.specs.Prelude.{◌≡◌, ◌<◌, ◌≤◌, [], ◌∷◌, length, map, true, false, IfOk, IfErr, IfSome, IfNone};
+ghost use Rattle.std.specs.Prelude.{◌≡◌, [], ◌∷◌, map, true, false, IfSome, IfNone};
 ghost use Rattle.dsl_tree.specs.Codes.{word_code};
 ghost use Rattle.dsl_tree.specs.Grammar.{Part};
-ghost use Rattle.dsl_tree.specs.FileTree.{DeclarationTree};
-ghost use Rattle.dsl_tree.specs.Lookahead.{first};
+ghost use Rattle.dsl_tree.specs.Reading.{starts};
 ghost use Rattle.dsl_tree.specs.Views.{compound_tree, declaration_tree};
 ghost use Rattle.dsl_tree.specs.WrittenFile as written;
-ghost use Rattle.dsl_tree.specs.Reading.{starts, Stops, Parsed, Built, PartFault, RowFault};
-ghost use Rattle.dsl_tree.specs.Language.{Ended};
-ghost use Rattle.osc_base.specs.Stops.{OnStop};
-ghost use Rattle.dsl_parser.specs.Compounds.{kind_word, compound_codes, unit_codes, is_plain, heading_rest, written_heading, plain_rule, owned_rule, written_extension, extend_rule};
+ghost use Rattle.dsl_parser.specs.Descent.{read, in_row, Gives};
+ghost use Rattle.dsl_parser.specs.Members.{kind_word, is_plain, heading_rest, written_heading, plain_rule, owned_rule, written_extension, extend_rule};
+ghost use Rattle.dsl_parser.specs.Rows.{IsNext};
 
 use crate::enums::{enum_declaration, enum_items};
 use crate::headings::{heir, qualified_name};
-use crate::layout_tokens::expect_newline;
-use crate::members::{block, body};
-use crate::names::expect_name;
-use crate::starts::begins_word;
+use crate::members::{body, members};
+use crate::rows::{Repeated, rest_of_row};
+use crate::signs::Sign::{self, Mark, Word};
+use crate::starts::begins_declaration;
 use crate::stop::Stop;
-use crate::tokens::{expect_mark, expect_word, take_mark};
+use crate::tokens::Cursor;
 use crate::units::{type_declaration, unit_declaration};
 use dsl_tree::{
     CompoundDecl, CompoundKind, Declaration, EnumExtension, EnumItem, Heir, MarkKind, Member,
-    MemberExtension, QName, Token, WordKind,
+    MemberExtension, QName, WordKind,
 };
 use osc_base::Row;
 use std::alloc::Global;
@@ -39,16 +37,6 @@ fn word_of(kind: CompoundKind) -> WordKind
     }
 }
 
-/// Whether the name has no owner.
-fn has_plain_name(kind: CompoundKind) -> bool
-    ensures { result ≡ is_plain kind }
-{
-    match kind {
-        CompoundKind::Struct | CompoundKind::Actor => true,
-        CompoundKind::Action | CompoundKind::Scenario => false,
-    }
-}
-
 /// What stands after the name of a type with members.
 #[derive(Drop)]
 struct HeadingRest {
@@ -56,94 +44,60 @@ struct HeadingRest {
     members: Row<Member>,
 }
 
-fn heading(alloc: Global, tokens: &[Token]) -> Result<(HeadingRest, &[Token]), Stop>
-    requires { Ended tokens.now }
-    ensures ok { IfOk result (λ x. Built heading_rest (written_heading x.0) tokens.now x.1.now) }
-    ensures ended { IfOk result (λ x. Ended x.1.now) }
-    ensures shorter { IfOk result (λ x. length x.1.now < length tokens.now) }
-    ensures fault { IfErr result (λ e. OnStop e (RowFault heading_rest tokens.now)) }
+fn heading(alloc: Global, tokens: &mut Cursor<'_>) -> Result<HeadingRest, Stop>
+    ensures { Gives written_heading (in_row read heading_rest tokens.old) result tokens.new }
 {
-    let (heir, rest) = heir(alloc, tokens)?;
-    let (members, end) = body(alloc, rest)?;
-    Ok((HeadingRest { heir, members }, end))
+    let heir = heir(alloc, tokens)?;
+    let members = body(alloc, tokens)?;
+    Ok(HeadingRest { heir, members })
 }
 
+#[tactic(auto, using(crate::proofs::Lengths::take_within))]
 fn plain_compound(
     alloc: Global,
     kind: CompoundKind,
-    tokens: &[Token],
-) -> Result<(CompoundDecl, &[Token]), Stop>
+    tokens: &mut Cursor<'_>,
+) -> Result<CompoundDecl, Stop>
     requires plain { is_plain kind ≡ true }
-    requires begins { starts (word_code (kind_word kind) ∷ []) tokens.now ≡ true }
-    requires ended { Ended tokens.now }
-    ensures ok { IfOk result (λ x. Built plain_rule (written.declaration (DeclarationTree.CompoundDeclaration (compound_tree x.0))) tokens.now x.1.now) }
-    ensures ended { IfOk result (λ x. Ended x.1.now) }
-    ensures shorter { IfOk result (λ x. length x.1.now < length tokens.now) }
-    ensures fault { IfErr result (λ e. OnStop e (RowFault plain_rule tokens.now)) }
+    requires begins { starts (word_code (kind_word kind) ∷ []) tokens.old ≡ true }
+    ensures { Gives (λ c. written.compound_heading c.kind (compound_tree c)) (in_row read plain_rule tokens.old) result tokens.new }
 {
-    let (place, behind) = expect_word(tokens, word_of(kind))?;
-    let (first, rest) = expect_name(alloc, behind)?;
-    let (heading, end) = heading(alloc, rest)?;
-    let HeadingRest { heir, members } = heading;
+    let place = tokens.expect(Word(word_of(kind)))?;
+    let first = tokens.expect_name(alloc)?;
+    let HeadingRest { heir, members } = heading(alloc, tokens)?;
     let name = QName {
         first,
         second: None,
     };
-    let found = CompoundDecl {
+    Ok(CompoundDecl {
         place,
         kind,
         name,
         heir,
         members,
-    };
-    Ok((found, end))
+    })
 }
 
+#[tactic(auto, using(crate::proofs::Lengths::take_within))]
 fn owned_compound(
     alloc: Global,
     kind: CompoundKind,
-    tokens: &[Token],
-) -> Result<(CompoundDecl, &[Token]), Stop>
+    tokens: &mut Cursor<'_>,
+) -> Result<CompoundDecl, Stop>
     requires owned { is_plain kind ≡ false }
-    requires begins { starts (word_code (kind_word kind) ∷ []) tokens.now ≡ true }
-    requires ended { Ended tokens.now }
-    ensures ok { IfOk result (λ x. Built owned_rule (written.declaration (DeclarationTree.CompoundDeclaration (compound_tree x.0))) tokens.now x.1.now) }
-    ensures ended { IfOk result (λ x. Ended x.1.now) }
-    ensures shorter { IfOk result (λ x. length x.1.now < length tokens.now) }
-    ensures fault { IfErr result (λ e. OnStop e (RowFault owned_rule tokens.now)) }
+    requires begins { starts (word_code (kind_word kind) ∷ []) tokens.old ≡ true }
+    ensures { Gives (λ c. written.compound_heading c.kind (compound_tree c)) (in_row read owned_rule tokens.old) result tokens.new }
 {
-    let (place, behind) = expect_word(tokens, word_of(kind))?;
-    let (name, rest) = qualified_name(alloc, behind)?;
-    let (heading, end) = heading(alloc, rest)?;
-    let HeadingRest { heir, members } = heading;
-    let found = CompoundDecl {
+    let place = tokens.expect(Word(word_of(kind)))?;
+    let name = qualified_name(alloc, tokens)?;
+    let HeadingRest { heir, members } = heading(alloc, tokens)?;
+    Ok(CompoundDecl {
         place,
         kind,
         name,
         heir,
         members,
-    };
-    Ok((found, end))
-}
-
-fn compound(
-    alloc: Global,
-    kind: CompoundKind,
-    tokens: &[Token],
-) -> Result<(CompoundDecl, &[Token]), Stop>
-    requires begins { starts (word_code (kind_word kind) ∷ []) tokens.now ≡ true }
-    requires ended { Ended tokens.now }
-    ensures ok { IfOk result (λ x. Parsed Part.Declaration (written.declaration (DeclarationTree.CompoundDeclaration (compound_tree x.0))) tokens.now x.1.now) }
-    ensures ended { IfOk result (λ x. Ended x.1.now) }
-    ensures shorter { IfOk result (λ x. length x.1.now < length tokens.now) }
-    ensures fault { IfErr result (λ e. OnStop e (PartFault Part.Declaration tokens.now)) }
-{
-    if has_plain_name(kind) {
-        let (plain, end) = plain_compound(alloc, kind, tokens)?;
-        return Ok((plain, end));
-    }
-    let (owned, end) = owned_compound(alloc, kind, tokens)?;
-    Ok((owned, end))
+    })
 }
 
 /// What is added to a type.
@@ -153,157 +107,107 @@ enum Addition {
     Members(Row<Member>),
 }
 
-fn extension_rest(alloc: Global, tokens: &[Token]) -> Result<(Addition, &[Token]), Stop>
-    requires { Ended tokens.now }
-    ensures ok { IfOk result (λ x. Parsed Part.ExtensionRest (written_extension x.0) tokens.now x.1.now) }
-    ensures ended { IfOk result (λ x. Ended x.1.now) }
-    ensures shorter { IfOk result (λ x. length x.1.now < length tokens.now) }
-    ensures fault { IfErr result (λ e. OnStop e (PartFault Part.ExtensionRest tokens.now)) }
+#[tactic(auto, using(crate::proofs::Steps::step_extension_rest))]
+fn extension_rest(alloc: Global, tokens: &mut Cursor<'_>) -> Result<Addition, Stop>
+    ensures { Gives written_extension (read Part.ExtensionRest tokens.old) result tokens.new }
 {
-    match take_mark(tokens, MarkKind::OpenSquare) {
-        Some(_) => {
-            let (items, line) = enum_items(alloc, tokens)?;
-            let (_, end) = expect_newline(line)?;
-            Ok((Addition::Items(items), end))
-        }
-        None => {
-            let (members, end) = block(alloc, tokens)?;
-            Ok((Addition::Members(members), end))
-        }
+    if tokens.begins(Mark(MarkKind::OpenSquare)) {
+        let items = enum_items(alloc, tokens)?;
+        tokens.expect(Sign::Newline)?;
+        return Ok(Addition::Items(items));
+    }
+    Ok(Addition::Members(members(alloc, tokens)?))
+}
+
+fn extension(alloc: Global, tokens: &mut Cursor<'_>) -> Result<Declaration, Stop>
+    ensures { Gives (λ d. written.declaration (declaration_tree d)) (in_row read extend_rule tokens.old) result tokens.new }
+{
+    let place = tokens.expect(Word(WordKind::ExtendWord))?;
+    let name = qualified_name(alloc, tokens)?;
+    tokens.expect(Mark(MarkKind::Colon))?;
+    match extension_rest(alloc, tokens)? {
+        Addition::Items(items) => Ok(Declaration::EnumExtension(EnumExtension {
+            place,
+            name,
+            items,
+        })),
+        Addition::Members(members) => Ok(Declaration::MemberExtension(MemberExtension {
+            place,
+            name,
+            members,
+        })),
     }
 }
 
-fn extension(alloc: Global, tokens: &[Token]) -> Result<(Declaration, &[Token]), Stop>
-    requires { Ended tokens.now }
-    ensures ok { IfOk result (λ x. Built extend_rule (written.declaration (declaration_tree x.0)) tokens.now x.1.now) }
-    ensures ended { IfOk result (λ x. Ended x.1.now) }
-    ensures shorter { IfOk result (λ x. length x.1.now < length tokens.now) }
-    ensures fault { IfErr result (λ e. OnStop e (RowFault extend_rule tokens.now)) }
-{
-    let (place, behind) = expect_word(tokens, WordKind::ExtendWord)?;
-    let (name, rest) = qualified_name(alloc, behind)?;
-    let (_, colon) = expect_mark(rest, MarkKind::Colon)?;
-    let (added, end) = extension_rest(alloc, colon)?;
-    match added {
-        Addition::Items(items) => Ok((
-            Declaration::EnumExtension(EnumExtension { place, name, items }),
-            end,
-        )),
-        Addition::Members(members) => Ok((
-            Declaration::MemberExtension(MemberExtension {
-                place,
-                name,
-                members,
-            }),
-            end,
-        )),
-    }
-}
-
-/// The kind of the type with members that begins here, if one does.
-fn compound_kind(tokens: &[Token]) -> Option<CompoundKind>
-    requires { Ended tokens.now }
+/// The kind of the type with members and no owner that begins here, if one does.
+fn plain_kind(tokens: &Cursor<'_>) -> Option<CompoundKind>
     ensures some { IfSome result (λ k. starts (word_code (kind_word k) ∷ []) tokens.now ≡ true) }
-    ensures none { IfNone result (Stops compound_codes tokens.now) }
+    ensures plain { IfSome result (λ k. is_plain k ≡ true) }
+    ensures none { IfNone result (starts (word_code (kind_word CompoundKind.Struct) ∷ word_code (kind_word CompoundKind.Actor) ∷ []) tokens.now ≡ false) }
 {
-    if begins_word(tokens, WordKind::StructWord) {
+    if tokens.begins(Word(WordKind::StructWord)) {
         return Some(CompoundKind::Struct);
     }
-    if begins_word(tokens, WordKind::ActorWord) {
+    if tokens.begins(Word(WordKind::ActorWord)) {
         return Some(CompoundKind::Actor);
     }
-    if begins_word(tokens, WordKind::ActionWord) {
+    None
+}
+
+/// The kind of the type with members and perhaps an owner that begins here, if one does.
+fn owned_kind(tokens: &Cursor<'_>) -> Option<CompoundKind>
+    ensures some { IfSome result (λ k. starts (word_code (kind_word k) ∷ []) tokens.now ≡ true) }
+    ensures owned { IfSome result (λ k. is_plain k ≡ false) }
+    ensures none { IfNone result (starts (word_code (kind_word CompoundKind.Action) ∷ word_code (kind_word CompoundKind.Scenario) ∷ []) tokens.now ≡ false) }
+{
+    if tokens.begins(Word(WordKind::ActionWord)) {
         return Some(CompoundKind::Action);
     }
-    if begins_word(tokens, WordKind::ScenarioWord) {
+    if tokens.begins(Word(WordKind::ScenarioWord)) {
         return Some(CompoundKind::Scenario);
     }
     None
 }
 
-fn type_or_unit(alloc: Global, tokens: &[Token]) -> Result<(Declaration, &[Token]), Stop>
-    requires begins { starts unit_codes tokens.now ≡ true }
-    requires ended { Ended tokens.now }
-    ensures ok { IfOk result (λ x. Parsed Part.Declaration (written.declaration (declaration_tree x.0)) tokens.now x.1.now) }
-    ensures ended { IfOk result (λ x. Ended x.1.now) }
-    ensures shorter { IfOk result (λ x. length x.1.now < length tokens.now) }
-    ensures fault { IfErr result (λ e. OnStop e (PartFault Part.Declaration tokens.now)) }
+#[tactic(auto, using(crate::proofs::Steps::step_declaration))]
+fn declaration(alloc: Global, tokens: &mut Cursor<'_>) -> Result<Declaration, Stop>
+    ensures { Gives (λ d. written.declaration (declaration_tree d)) (read Part.Declaration tokens.old) result tokens.new }
 {
-    if begins_word(tokens, WordKind::TypeWord) {
-        let (found, end) = type_declaration(alloc, tokens)?;
-        return Ok((Declaration::Physical(found), end));
+    if tokens.begins(Word(WordKind::TypeWord)) {
+        return Ok(Declaration::Physical(type_declaration(alloc, tokens)?));
     }
-    let (unit, end) = unit_declaration(alloc, tokens)?;
-    Ok((Declaration::Unit(unit), end))
+    if tokens.begins(Word(WordKind::UnitWord)) {
+        return Ok(Declaration::Unit(unit_declaration(alloc, tokens)?));
+    }
+    if tokens.begins(Word(WordKind::EnumWord)) {
+        return Ok(Declaration::Enum(enum_declaration(alloc, tokens)?));
+    }
+    if let Some(kind) = plain_kind(tokens) {
+        return Ok(Declaration::Compound(plain_compound(alloc, kind, tokens)?));
+    }
+    if let Some(kind) = owned_kind(tokens) {
+        return Ok(Declaration::Compound(owned_compound(alloc, kind, tokens)?));
+    }
+    extension(alloc, tokens)
 }
 
-fn declaration(alloc: Global, tokens: &[Token]) -> Result<(Declaration, &[Token]), Stop>
-    requires { Ended tokens.now }
-    ensures ok { IfOk result (λ x. Parsed Part.Declaration (written.declaration (declaration_tree x.0)) tokens.now x.1.now) }
-    ensures ended { IfOk result (λ x. Ended x.1.now) }
-    ensures shorter { IfOk result (λ x. length x.1.now < length tokens.now) }
-    ensures fault { IfErr result (λ e. OnStop e (PartFault Part.Declaration tokens.now)) }
-{
-    if let Some(kind) = compound_kind(tokens) {
-        let (found, end) = compound(alloc, kind, tokens)?;
-        return Ok((Declaration::Compound(found), end));
-    }
-    if begins_word(tokens, WordKind::EnumWord) {
-        let (items, end) = enum_declaration(alloc, tokens)?;
-        return Ok((Declaration::Enum(items), end));
-    }
-    if begins_type_or_unit(tokens) {
-        let (declared, end) = type_or_unit(alloc, tokens)?;
-        return Ok((declared, end));
-    }
-    let (extension, end) = extension(alloc, tokens)?;
-    Ok((extension, end))
-}
+impl Repeated for Declaration {
+    ghost tail = { Part.Declarations };
 
-/// Whether the first token begins a type or a unit.
-fn begins_type_or_unit(tokens: &[Token]) -> bool
-    requires { Ended tokens.now }
-    ensures { result ≡ starts unit_codes tokens.now }
-{
-    begins_word(tokens, WordKind::TypeWord) || begins_word(tokens, WordKind::UnitWord)
-}
+    ghost rest = { λ ds. written.declarations (map declaration_tree ds) };
 
-/// Whether the first token begins a type with members.
-fn begins_compound(tokens: &[Token]) -> bool
-    requires { Ended tokens.now }
-    ensures { result ≡ starts compound_codes tokens.now }
-{
-    begins_word(tokens, WordKind::StructWord)
-        || begins_word(tokens, WordKind::ActorWord)
-        || begins_word(tokens, WordKind::ActionWord)
-        || begins_word(tokens, WordKind::ScenarioWord)
-}
-
-/// Whether the first token begins a declaration.
-fn begins_declaration(tokens: &[Token]) -> bool
-    requires { Ended tokens.now }
-    ensures { result ≡ starts (first Part.Declaration) tokens.now }
-{
-    begins_type_or_unit(tokens)
-        || begins_word(tokens, WordKind::EnumWord)
-        || begins_compound(tokens)
-        || begins_word(tokens, WordKind::ExtendWord)
+    #[tactic(auto, using(crate::proofs::Steps::step_declarations, crate::proofs::Lengths::lengths))]
+    fn next(alloc: Global, tokens: &mut Cursor<'_>) -> Result<Option<Declaration>, Stop> {
+        if !begins_declaration(tokens) {
+            return Ok(None);
+        }
+        Ok(Some(declaration(alloc, tokens)?))
+    }
 }
 
 /// The declarations of a file.
-pub fn declarations(alloc: Global, tokens: &[Token]) -> Result<(Row<Declaration>, &[Token]), Stop>
-    requires { Ended tokens.now }
-    ensures ok { IfOk result (λ x. Parsed Part.Declarations (written.declarations (map declaration_tree x.0)) tokens.now x.1.now) }
-    ensures ended { IfOk result (λ x. Ended x.1.now) }
-    ensures shorter { IfOk result (λ x. length x.1.now ≤ length tokens.now) }
-    ensures fault { IfErr result (λ e. OnStop e (PartFault Part.Declarations tokens.now)) }
+pub fn declarations(alloc: Global, tokens: &mut Cursor<'_>) -> Result<Row<Declaration>, Stop>
+    ensures { Gives (λ ds. written.declarations (map declaration_tree ds)) (read Part.Declarations tokens.old) result tokens.new }
 {
-    let mut items = Row::new(alloc);
-    let mut rest = tokens;
-    'reading: while begins_declaration(rest) {
-        let (item, after) = declaration(alloc, rest)?;
-        items.push(item)?;
-        rest = after;
-    }
-    Ok((items, rest))
+    rest_of_row(alloc, tokens)
 }
