@@ -8,8 +8,11 @@ use Rattle.dsl_tree.specs.declared.expr.Further.{Further}
 use Rattle.dsl_tree.specs.declared.expr.Operator.{Operator}
 use Rattle.dsl_tree.specs.declared.expr.Suffix.{Suffix}
 use Rattle.dsl_tree.specs.declared.token.Token.{Token}
+use Rattle.dsl_tree.specs.declared.token.TokenKind.{TokenKind}
+use Rattle.dsl_tree.specs.declared.token.MarkKind.{MarkKind}
+use Rattle.dsl_tree.specs.Codes.{mark_code}
 use Rattle.dsl_tree.specs.Grammar.{Part, rules}
-use Rattle.dsl_tree.specs.Forest.{Forest, nil, seen, sub}
+use Rattle.dsl_tree.specs.Forest.{Forest, nil, seen, bare, sub}
 use Rattle.dsl_tree.specs.Lookahead.{first, empty}
 use Rattle.dsl_tree.specs.Reading.{starts, Starts, Stops, Parsed}
 use Rattle.dsl_tree.specs.Written.{operator_kind}
@@ -18,7 +21,7 @@ use Rattle.dsl_parser.specs.declared.levels.RowLevel.{RowLevel}
 use Rattle.dsl_parser.specs.declared.levels.RowLevel.TheVariants.{OrRow, AndRow, SumRow, ProductRow}
 use Rattle.dsl_parser.specs.Cursor.{at}
 use Rattle.dsl_parser.specs.Descent.{Outcome, onto, and_then, take, after, only_part, in_row, by_rules, optional, begins_label, plain_argument, named_argument, is_arguments, in_part, read}
-use Rattle.dsl_parser.specs.Levels.{at_level, row_part, row_level, item_part, item_level, tail_part, operators, tail_of, suffixes_of}
+use Rattle.dsl_parser.specs.Levels.{at_level, row_part, row_level, item_part, item_level, tail_part, operators, tail_of, suffixes_of, items_of}
 use Rattle.dsl_parser.specs.Rows.{Grows}
 use Rattle.dsl_parser.proofs.ExprForests.{level_lower, level_of_part, row_forest, row_alone, post_none, post_forest}
 use Rattle.dsl_parser.proofs.Lengths.{take_shorter, read_within}
@@ -152,3 +155,26 @@ suffixes_read e head [] ts m z one start two so = begun_tail Part.SuffixesTail m
 suffixes_read e head (s ∷ others) ts m z one start two so =
     read_step Part.Postfix ts ∙ pair_read Part.Primary Part.SuffixesTail (at_level 9 head) (suffixes_of (s ∷ others)) ts m z one two
     ∙ ap (λ (f : Forest). read_so f z) (sym (so s others refl))
+
+-- Items of a list
+
+abbrev comma : List ℕ
+comma = mark_code MarkKind.Comma ∷ []
+
+taken_comma : (place : Place) (ts m : List Token) → Starts comma ts → take comma ts ≡ Ok (at (TokenKind.Mark MarkKind.Comma) place, m) → read Part.ListedTail ts ≡ onto (bare (TokenKind.Mark MarkKind.Comma)) (pair Part.Expr Part.ListedTail m)
+taken_comma place ts m start h = optional_some Part.ListedTail ts refl refl start ∙ ap (λ (o : Took). after o (λ t m. onto (bare t.kind) (pair Part.Expr Part.ListedTail m))) h
+
+pub list_grows : (place : Place) (item : Expr) (ts m z : List Token) → Starts comma ts → take comma ts ≡ Ok (at (TokenKind.Mark MarkKind.Comma) place, m) → read Part.Expr m ≡ Ok (at_level 0 item, z) → Grows Part.ListedTail items_of ts item z
+list_grows place item ts m z start h one = (
+  let a : length m < length ts = take_shorter comma ts (at (TokenKind.Mark MarkKind.Comma) place) m h in
+  let b : length z ≤ length m = read_within Part.Expr m (at_level 0 item) z one in
+  omega (arith, a, b),
+  λ others end two. taken_comma place ts m start h ∙ ap (onto (bare (TokenKind.Mark MarkKind.Comma))) (pair_read Part.Expr Part.ListedTail (at_level 0 item) (items_of others) m z end one two),
+  λ e two. taken_comma place ts m start h ∙ ap (onto (bare (TokenKind.Mark MarkKind.Comma))) (pair_second Part.Expr Part.ListedTail (at_level 0 item) m z e one two),
+)
+
+pub list_stops : (place : Place) (ts m : List Token) (e : Stop ℕ) → Starts comma ts → take comma ts ≡ Ok (at (TokenKind.Mark MarkKind.Comma) place, m) → read Part.Expr m ≡ Err e → read Part.ListedTail ts ≡ Err e
+list_stops place ts m e start h one = taken_comma place ts m start h ∙ ap (onto (bare (TokenKind.Mark MarkKind.Comma))) (pair_first Part.Expr Part.ListedTail m e one)
+
+pub list_ends : (ts : List Token) → Stops comma ts → read Part.ListedTail ts ≡ Ok (nil, ts)
+list_ends ts stop = optional_none Part.ListedTail ts refl refl stop

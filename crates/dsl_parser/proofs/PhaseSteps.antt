@@ -4,19 +4,15 @@ use Rattle.osc_base.specs.declared.stop.Stop.{Stop}
 use Rattle.dsl_tree.specs.declared.token.Token.{Token}
 use Rattle.dsl_tree.specs.declared.phases.Phase.{Phase}
 use Rattle.dsl_tree.specs.Grammar.{Part}
-use Rattle.dsl_tree.specs.Forest.{Forest}
 use Rattle.dsl_tree.specs.Lookahead.{first}
 use Rattle.dsl_tree.specs.Reading.{Starts}
-use Rattle.dsl_tree.specs.PhaseTree.{row_of}
 use Rattle.dsl_tree.specs.Views.{phase_tree}
 use Rattle.dsl_tree.specs.WrittenPhases as written
 use Rattle.dsl_parser.specs.Descent.{read}
+use Rattle.dsl_parser.specs.Phases.{phases_rest}
 use Rattle.dsl_parser.specs.Rows.{Grows}
 use Rattle.dsl_parser.proofs.ExprSteps.{pair, pair_read, pair_second, pair_first, optional_some}
 use Rattle.dsl_parser.proofs.Lengths.{read_shorter}
-
-abbrev pub phases_rest : List Phase → Forest
-phases_rest ps = written.phases_tail (row_of (map phase_tree ps))
 
 pub phase_grows : (item : Phase) (ts m : List Token) → Starts (first Part.PhasesTail) ts → read Part.Phase ts ≡ Ok (written.phase (phase_tree item), m) → Grows Part.PhasesTail phases_rest ts item m
 phase_grows item ts m start h = (

@@ -5,7 +5,7 @@ use Rattle.dsl_tree.specs.declared.expr.Expr.{Expr}
 use Rattle.dsl_tree.specs.declared.expr.Further.{Further}
 use Rattle.dsl_tree.specs.declared.expr.Suffix.{Suffix}
 use Rattle.dsl_tree.specs.declared.token.MarkKind.{MarkKind}
-use Rattle.dsl_tree.specs.declared.token.WordKind.TheVariants.{RangeWord}
+use Rattle.dsl_tree.specs.declared.token.WordKind.TheVariants.{ActorWord, FalseWord, ItWord, RangeWord, TrueWord}
 use Rattle.dsl_tree.specs.Codes.{mark_code, word_code}
 use Rattle.dsl_tree.specs.Grammar.{Part, Symbol}
 use Rattle.dsl_tree.specs.Forest.{Forest, nil, seen, sub}
@@ -93,6 +93,10 @@ items_of (item ∷ rest) = mark MarkKind.Comma (sub (at_level 0 item) (sub (item
 abbrev pub bracket_rest : Forest → Forest
 bracket_rest (seen place kind (sub first (sub f nil))) = f
 bracket_rest f = f
+
+-- the codes of words that are operands
+abbrev pub truth_codes : List ℕ
+truth_codes = word_code TrueWord ∷ word_code FalseWord ∷ word_code ItWord ∷ word_code ActorWord ∷ []
 
 -- the codes of brackets and of `range`
 abbrev pub bracket_codes : List ℕ

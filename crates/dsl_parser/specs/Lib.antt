@@ -4,6 +4,7 @@ pub mod Cursor
 pub mod Descent
 pub mod Levels
 pub mod Members
+pub mod Operands
 pub mod Phases
 pub mod Readers
 pub mod Rests

@@ -11,6 +11,8 @@ use Rattle.dsl_tree.specs.declared.token.WordKind.{WordKind}
 use Rattle.dsl_tree.specs.declared.token.WordKind.TheVariants.{SerialWord, ParallelWord, OneOfWord}
 use Rattle.dsl_tree.specs.declared.parts.Ident.{Ident}
 use Rattle.dsl_tree.specs.declared.phases.CompKind.{CompKind}
+use Rattle.dsl_tree.specs.declared.phases.Phase.{Phase}
+use Rattle.dsl_tree.specs.PhaseTree.{row_of}
 use Rattle.dsl_tree.specs.Codes.{word_code}
 use Rattle.dsl_tree.specs.Grammar.{Part, Symbol}
 use Rattle.dsl_tree.specs.Forest.{Forest, nil, seen, bare, sub}
@@ -59,6 +61,10 @@ headed head block =
     written.word_at head.place (phases.comp_word head.kind)
     (sub (phases.composition_arguments (map argument_tree head.arguments)) (written.mark MarkKind.Colon block))
 
+-- further phases of a block
+abbrev pub phases_rest : List Phase → Forest
+phases_rest ps = phases.phases_tail (row_of (map phase_tree ps))
+
 -- what stands after a label, and after the name at the beginning, as the whole phase
 abbrev pub behind_label : Ident → Forest → Forest
 behind_label label f = written.ident label (sub (written.mark MarkKind.Colon (sub f nil)) nil)
@@ -98,7 +104,7 @@ IsHeaded old (Ok head) new =
 IsHeaded old (Err e) new = e ≢ Memory → read Part.Composition old ≡ Err e
 
 -- its block was opened
-abbrev pub IsOpened : List Token → Result Unit {0} (Stop ℕ) → List Token → Type 0
+abbrev pub IsOpened : List Token → Result (Unit {0}) (Stop ℕ) → List Token → Type 0
 IsOpened old (Ok done) new =
     (length new < length old)
     × ((block : Forest) (end : List Token) → in_row read phases_block new ≡ Ok (block, end) → in_row read composition_block old ≡ Ok (phases.opened block, end))

@@ -94,6 +94,14 @@ by_factor (Some factor) offset = written.mark MarkKind.Colon (sub (signed factor
 abbrev pub written_factor_rest : UnitEnd → Forest
 written_factor_rest e = by_factor e.factor e.offset
 
+-- Rules
+
+abbrev pub keep_rule : List Symbol
+keep_rule = rule_at Part.Rule 0
+
+abbrev pub remove_rule : List Symbol
+remove_rule = rule_at Part.Rule 1
+
 -- The words of declarations
 
 abbrev pub unit_codes : List ℕ

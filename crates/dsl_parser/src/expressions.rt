@@ -301,7 +301,7 @@ fn listed(alloc: Global, first: Expr, tokens: &mut Cursor<'_>) -> Result<Row<Exp
 {
     let mut items = Row::new(alloc);
     items.push(first)?;
-    'items: while tokens.take(Mark(MarkKind::Comma)).is_some() {
+    'items: while let Some(_) = tokens.take(Mark(MarkKind::Comma)) {
         let item = expression(alloc, tokens)?;
         items.push(item)?;
     }

@@ -1,42 +1,55 @@
 //! Operands of a token or two.
 
-ghost use Rattle.std.specs.Prelude.{◌≡◌, [], ◌∷◌, true, false};
-ghost use Rattle.dsl_tree.specs.Codes.{word_code};
+ghost use Rattle.std.specs.Prelude.{◌≡◌, [], ◌∷◌, true, false, IfSome, IfNone};
+ghost use Rattle.dsl_tree.specs.Codes.{has, word_code};
 ghost use Rattle.dsl_tree.specs.Forest.{sub, nil};
 ghost use Rattle.dsl_tree.specs.Grammar.{Part};
 ghost use Rattle.dsl_tree.specs.Reading.{starts};
-ghost use Rattle.dsl_tree.specs.Written.{ident};
+ghost use Rattle.dsl_tree.specs.Written.{ident, word_at};
 ghost use Rattle.dsl_parser.specs.Descent.{read, in_row, Gives};
-ghost use Rattle.dsl_parser.specs.Levels.{at_level, bracket_codes, name_rule};
+ghost use Rattle.dsl_parser.specs.Levels.{at_level, bracket_codes, truth_codes, name_rule};
+ghost use Rattle.dsl_parser.specs.Operands.{operand_codes};
 ghost use Rattle.dsl_parser.specs.Readers.{enum_member as member_forest};
 
 use crate::headings::enum_member;
-use crate::signs::Sign::Word;
 use crate::stop::Stop;
 use crate::tokens::Cursor;
 use dsl_tree::{Expr, Ident, TokenKind, WordKind};
+use osc_base::Place;
 use std::alloc::Global;
 
-/// The operand that is the word, which is the first token, if it is one.
-#[tactic(auto, using(crate::proofs::Steps::step_primary, crate::proofs::LeafForests::word_forests, crate::proofs::Lengths::take_within))]
-fn word_operand(tokens: &mut Cursor<'_>, word: WordKind) -> Result<Expr, Stop>
+/// The operand that is this word, if it is one.
+#[tactic(auto, using(crate::proofs::LeafForests::word_forests))]
+fn word_operand(place: Place, word: WordKind) -> Option<Expr>
+    ensures some { IfSome result (λ e. at_level 9 e ≡ word_at place word nil) }
+    ensures fits { IfSome result (λ e. has truth_codes (word_code word) ≡ true) }
+    ensures none { IfNone result (has operand_codes (word_code word) ≡ false) }
+{
+    match word {
+        WordKind::TrueWord => Some(Expr::Truth { place, value: true }),
+        WordKind::FalseWord => Some(Expr::Truth {
+            place,
+            value: false,
+        }),
+        WordKind::ItWord => Some(Expr::It(place)),
+        WordKind::ActorWord => Some(Expr::Actor(place)),
+        _ => None,
+    }
+}
+
+/// The operand that is the first token, which is a word.
+#[tactic(auto, using(crate::proofs::Steps::step_primary), unfolding(crate::specs::Descent::take))]
+fn word_leaf(tokens: &mut Cursor<'_>, word: WordKind) -> Result<Expr, Stop>
     requires begun { starts (word_code word ∷ []) tokens.old ≡ true }
     requires plain { starts bracket_codes tokens.old ≡ false }
     ensures { Gives (at_level 9) (read Part.Primary tokens.old) result tokens.new }
 {
-    match word {
-        WordKind::TrueWord => Ok(Expr::Truth {
-            place: tokens.expect(Word(WordKind::TrueWord))?,
-            value: true,
-        }),
-        WordKind::FalseWord => Ok(Expr::Truth {
-            place: tokens.expect(Word(WordKind::FalseWord))?,
-            value: false,
-        }),
-        WordKind::ItWord => Ok(Expr::It(tokens.expect(Word(WordKind::ItWord))?)),
-        WordKind::ActorWord => Ok(Expr::Actor(tokens.expect(Word(WordKind::ActorWord))?)),
-        _ => Err(tokens.miss()),
-    }
+    let (first, _) = tokens.split();
+    let Some(operand) = word_operand(first.place, word) else {
+        return Err(tokens.miss());
+    };
+    tokens.pass();
+    Ok(operand)
 }
 
 #[tactic(auto, using(crate::proofs::LeafForests::name_forests))]
@@ -75,7 +88,7 @@ pub fn leaf(alloc: Global, tokens: &mut Cursor<'_>) -> Result<Expr, Stop>
             let (place, text) = tokens.expect_text(alloc)?;
             Ok(Expr::Chars { place, text })
         }
-        TokenKind::Word(word) => word_operand(tokens, *word),
+        TokenKind::Word(word) => word_leaf(tokens, *word),
         TokenKind::Name(_) => name_operand(alloc, tokens),
         _ => Err(tokens.miss()),
     }

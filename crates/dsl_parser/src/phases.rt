@@ -1,12 +1,14 @@
 //! Phases of a behaviour. They nest in the blocks of compositions.
 
-ghost use Rattle.std.specs.Prelude.{◌≡◌, ◌<◌, length, map, IfOk};
+ghost use Rattle.std.specs.Prelude.{◌≡◌, ◌≢◌, [], ◌∷◌, map, Err, IfOk, IfErr};
+ghost use Rattle.osc_base.specs.declared.stop.Stop.TheVariants.{Memory};
 ghost use Rattle.dsl_tree.specs.Grammar.{Part};
 ghost use Rattle.dsl_tree.specs.PhaseTree.{PhaseTree, row_of};
 ghost use Rattle.dsl_tree.specs.Views.{phase_tree, expr_tree, argument_tree, part_tree};
 ghost use Rattle.dsl_tree.specs.WrittenPhases as written;
 ghost use Rattle.dsl_parser.specs.Descent.{take, read, in_row, Gives};
-ghost use Rattle.dsl_parser.specs.Phases.{wait_rest, written_wait_rest, composition_codes, composition_token, composition_block, phases_block, core_of, behind_label, behind_name, label_rest, name_rest, IsStarted, IsHeaded, IsOpened};
+ghost use Rattle.dsl_parser.specs.Phases.{wait_rest, written_wait_rest, composition_codes, composition_token, composition_block, phases_block, core_of, behind_label, behind_name, label_rest, name_rest, phases_rest, IsStarted, IsHeaded, IsOpened};
+ghost use Rattle.dsl_parser.specs.Rows.{IsRow};
 
 use crate::expressions::expr;
 use crate::invocations::{InvocationRest, composition_arguments, invocation_rest};
@@ -223,6 +225,7 @@ fn composed(label: Option<Ident>, head: CompositionHead, members: Row<Phase>) ->
 
 /// A phase.
 #[cycle(phase_readers)]
+#[tactic(auto, using(crate::proofs::Lengths::lengths))]
 pub fn phase(alloc: Global, tokens: &mut Cursor<'_>) -> Result<Phase, Stop>
     ensures { Gives (λ p. written.phase (phase_tree p)) (read Part.Phase tokens.old) result tokens.new }
 {
@@ -236,15 +239,33 @@ pub fn phase(alloc: Global, tokens: &mut Cursor<'_>) -> Result<Phase, Stop>
     Ok(composed(label, head, members))
 }
 
+/// The phases of a block and its end.
 #[cycle(phase_readers)]
+#[tactic(auto, using(crate::proofs::Lengths::lengths))]
 fn phases_in_block(alloc: Global, tokens: &mut Cursor<'_>) -> Result<Row<Phase>, Stop>
     ensures { Gives (λ ps. written.block_phases (row_of (map phase_tree ps))) (in_row read phases_block tokens.old) result tokens.new }
 {
-    let mut phases = one_row(alloc, phase(alloc, tokens)?)?;
+    let first = phase(alloc, tokens)?;
+    let phases = phases_from(alloc, first, tokens)?;
+    tokens.expect(Sign::Dedent)?;
+    Ok(phases)
+}
+
+/// The phases of a block from this one on.
+#[cycle(phase_readers)]
+#[tactic(auto, using(crate::proofs::Lengths::lengths))]
+fn phases_from(
+    alloc: Global,
+    first: Phase,
+    tokens: &mut Cursor<'_>,
+) -> Result<Row<Phase>, Stop>
+    ensures ok { IfOk result (λ phases. IsRow Part.PhasesTail phases_rest (first ∷ []) phases tokens.old tokens.new) }
+    ensures err { IfErr result (λ e. e ≢ Memory → read Part.PhasesTail tokens.old ≡ Err e) }
+{
+    let mut phases = one_row(alloc, first)?;
     'phases: while begins_phase(tokens) {
         let item = phase(alloc, tokens)?;
         phases.push(item)?;
     }
-    tokens.expect(Sign::Dedent)?;
     Ok(phases)
 }

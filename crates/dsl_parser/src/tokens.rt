@@ -2,7 +2,7 @@
 //!
 //! If the first token is another one, `take..` returns none, and `expect..` a stop.
 
-ghost use Rattle.std.specs.Prelude.{◌≡◌, [], ◌∷◌, length};
+ghost use Rattle.std.specs.Prelude.{◌≡◌, [], ◌∷◌, length, false};
 ghost use Rattle.osc_base.specs.declared.stop.Stop.{Stop};
 ghost use Rattle.dsl_tree.specs.declared.token.TokenKind.{TokenKind};
 ghost use Rattle.dsl_tree.specs.Codes.{code, small_number, text_code, physical_code};

@@ -211,7 +211,8 @@ fn unit_rest(alloc: Global, first: BasePart, tokens: &mut Cursor<'_>) -> Result<
 {
     let mut bases = row_of(alloc, first)?;
     'bases: loop {
-        match unit_next(alloc, tokens)? {
+        let next = unit_next(alloc, tokens)?;
+        match next {
             UnitNext::Base(base) => bases.push(base)?,
             UnitNext::End(end) => return Ok(UnitBases { bases, end }),
         }

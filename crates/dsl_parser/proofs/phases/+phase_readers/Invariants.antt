@@ -1,8 +1,7 @@
-use Rattle.std.proofs.Common.{◌*◌, ◌+◌, ◌≤◌, length}
-use Rattle.dsl_tree.specs.declared.phases.Phase.{Phase}
+use Rattle.std.proofs.Common.{◌*◌, ◌+◌, ◌≤◌, [], ◌∷◌, length}
 use Rattle.dsl_tree.specs.Grammar.{Part}
+use Rattle.dsl_parser.specs.Phases.{phases_rest}
 use Rattle.dsl_parser.proofs.Loops.{Along}
-use Rattle.dsl_parser.proofs.PhaseSteps.{phases_rest}
 use Rattle.dsl_parser.proofs.phases.+phase_readers.Given as goal
 
 abbrev pub decreases-phase : goal.decreases-phase
@@ -11,8 +10,11 @@ decreases-phase l = 2 * length l.tokens.now + 0
 abbrev pub decreases-phases_in_block : goal.decreases-phases_in_block
 decreases-phases_in_block l = 2 * length l.tokens.now + 1
 
-abbrev pub invariant-phases_in_block-phases : goal.invariant-phases_in_block-phases
-invariant-phases_in_block-phases l = Along Part.PhasesTail phases_rest l.initial.phases l.phases l.initial.tokens l.tokens × (length l.tokens ≤ length l.initial.tokens)
+abbrev pub decreases-phases_from : goal.decreases-phases_from
+decreases-phases_from l = 2 * length l.tokens.now + 1
 
-abbrev pub decreases-phases_in_block-phases : goal.decreases-phases_in_block-phases
-decreases-phases_in_block-phases l = length l.tokens
+abbrev pub invariant-phases_from-phases : goal.invariant-phases_from-phases
+invariant-phases_from-phases l = Along Part.PhasesTail phases_rest (l.fn.first ∷ []) l.phases l.fn.tokens l.tokens × (length l.tokens ≤ length l.fn.tokens)
+
+abbrev pub decreases-phases_from-phases : goal.decreases-phases_from-phases
+decreases-phases_from-phases l = length l.tokens
