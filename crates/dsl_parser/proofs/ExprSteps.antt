@@ -122,8 +122,8 @@ pub tail_grows : (l : RowLevel) (place : Place) (operator : Operator) (part : Ex
     → read (item_part l) m ≡ Ok (at_level (item_level l) part, z) → Grows (tail_part l) (tail_of (item_level l)) ts (record { place = place; operator = operator; part = part }) z
 tail_grows l place operator part ts m z start h one = (
   let a : length m < length ts = take_shorter (operators l) ts (at (operator_kind operator) place) m h in
-  let b : length z ≤ length m = read_within (item_part l) m (at_level (item_level l) part) z one in
-  omega (arith, a, b),
+      let b : length z ≤ length m = read_within (item_part l) m (at_level (item_level l) part) z one in
+      omega (arith, a, b),
   λ others end two. taken_operator l place operator ts m start h
       ∙ ap (onto (seen place (operator_kind operator))) (pair_read (item_part l) (tail_part l) (at_level (item_level l) part) (tail_of (item_level l) others) m z end one two),
   λ e two. taken_operator l place operator ts m start h ∙ ap (onto (seen place (operator_kind operator))) (pair_second (item_part l) (tail_part l) (at_level (item_level l) part) m z e one two),
@@ -167,8 +167,8 @@ taken_comma place ts m start h = optional_some Part.ListedTail ts refl refl star
 pub list_grows : (place : Place) (item : Expr) (ts m z : List Token) → Starts comma ts → take comma ts ≡ Ok (at (TokenKind.Mark MarkKind.Comma) place, m) → read Part.Expr m ≡ Ok (at_level 0 item, z) → Grows Part.ListedTail items_of ts item z
 list_grows place item ts m z start h one = (
   let a : length m < length ts = take_shorter comma ts (at (TokenKind.Mark MarkKind.Comma) place) m h in
-  let b : length z ≤ length m = read_within Part.Expr m (at_level 0 item) z one in
-  omega (arith, a, b),
+      let b : length z ≤ length m = read_within Part.Expr m (at_level 0 item) z one in
+      omega (arith, a, b),
   λ others end two. taken_comma place ts m start h ∙ ap (onto (bare (TokenKind.Mark MarkKind.Comma))) (pair_read Part.Expr Part.ListedTail (at_level 0 item) (items_of others) m z end one two),
   λ e two. taken_comma place ts m start h ∙ ap (onto (bare (TokenKind.Mark MarkKind.Comma))) (pair_second Part.Expr Part.ListedTail (at_level 0 item) m z e one two),
 )

@@ -245,7 +245,9 @@ Optional p rs = AnyRule rs (λ s. s ≡ []) × AnyRule rs (λ s. s ≡ optional 
 
 optional_rules : (p : Part) (rs : List (List Symbol)) → is_optional p rs ≡ true → Optional p rs
 optional_rules p ([] ∷ r ∷ []) h = (
-  inl refl, inr (inl refl), not_true (empties r) (left_of (not (empties r)) (subset (first p) (firsts r)) h),
+  inl refl,
+  inr (inl refl),
+  not_true (empties r) (left_of (not (empties r)) (subset (first p) (firsts r)) h),
   right_of (not (empties r)) (subset (first p) (firsts r)) h,
 )
 optional_rules p [] h = absurd (cc)

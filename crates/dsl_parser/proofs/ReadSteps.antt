@@ -200,7 +200,7 @@ part_same R S p ts agree well = go (is_arguments p) last
 
     go : (b : Bool) → cond b (below (rank p) named_argument && below (rank p) plain_argument) true ≡ true
         → cond b (cond (begins_label ts) (in_row R named_argument ts) (in_row R plain_argument ts)) (cond (empty p) (cond (starts (first p) ts) (in_row R (optional (rules p)) ts) (Ok (nil, ts))) (by_rules R (rules p) ts))
-            ≡ cond b (cond (begins_label ts) (in_row S named_argument ts) (in_row S plain_argument ts)) (cond (empty p) (cond (starts (first p) ts) (in_row S (optional (rules p)) ts) (Ok (nil, ts))) (by_rules S (rules p) ts))
+        ≡ cond b (cond (begins_label ts) (in_row S named_argument ts) (in_row S plain_argument ts)) (cond (empty p) (cond (starts (first p) ts) (in_row S (optional (rules p)) ts) (Ok (nil, ts))) (by_rules S (rules p) ts))
     go true h =
         ap (λ (o : Outcome). cond (begins_label ts) o (in_row R plain_argument ts)) (row named_argument (left_of (below (rank p) named_argument) (below (rank p) plain_argument) h))
         ∙ ap (λ (o : Outcome). cond (begins_label ts) (in_row S named_argument ts) o) (row plain_argument (right_of (below (rank p) named_argument) (below (rank p) plain_argument) h))

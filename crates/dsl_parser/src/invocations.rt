@@ -90,10 +90,7 @@ fn invocation_arguments(alloc: Global, tokens: &mut Cursor<'_>) -> Result<Row<Ar
 
 /// The arguments of a composition in their brackets, if there are any.
 #[tactic(auto, using(crate::proofs::Steps::step_composition_arguments, crate::proofs::Blocks::some_arguments))]
-pub fn composition_arguments(
-    alloc: Global,
-    tokens: &mut Cursor<'_>,
-) -> Result<Row<Argument>, Stop>
+pub fn composition_arguments(alloc: Global, tokens: &mut Cursor<'_>) -> Result<Row<Argument>, Stop>
     ensures { Gives (λ xs. written.composition_arguments (map argument_tree xs)) (read Part.CompositionArguments tokens.old) result tokens.new }
 {
     if tokens.take(Mark(MarkKind::OpenRound)).is_none() {

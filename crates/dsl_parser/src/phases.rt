@@ -91,19 +91,11 @@ fn start_behind_label(
     if tokens.begins_name() {
         let name = tokens.expect_name(alloc)?;
         let rest = invocation_rest(alloc, tokens)?;
-        return Ok(PhaseStart::Whole(invoke(
-            Some(label),
-            InvokeHead::Name(name),
-            rest,
-        )));
+        return Ok(PhaseStart::Whole(invoke(Some(label), InvokeHead::Name(name), rest)));
     }
     if let Some(place) = tokens.take(Word(WordKind::ActorWord)) {
         let rest = invocation_rest(alloc, tokens)?;
-        return Ok(PhaseStart::Whole(invoke(
-            Some(label),
-            InvokeHead::Actor(place),
-            rest,
-        )));
+        return Ok(PhaseStart::Whole(invoke(Some(label), InvokeHead::Actor(place), rest)));
     }
     if begins_composition(tokens) {
         return Ok(PhaseStart::Composition(Some(label)));
@@ -124,11 +116,7 @@ fn start_behind_name(
         return start_behind_label(alloc, name, tokens);
     }
     let rest = invocation_rest(alloc, tokens)?;
-    Ok(PhaseStart::Whole(invoke(
-        None,
-        InvokeHead::Name(name),
-        rest,
-    )))
+    Ok(PhaseStart::Whole(invoke(None, InvokeHead::Name(name), rest)))
 }
 
 #[tactic(auto, using(crate::proofs::Steps::step_phase, crate::proofs::Lengths::lengths))]
@@ -144,11 +132,7 @@ fn start(alloc: Global, tokens: &mut Cursor<'_>) -> Result<PhaseStart, Stop>
     }
     if let Some(place) = tokens.take(Word(WordKind::ActorWord)) {
         let rest = invocation_rest(alloc, tokens)?;
-        return Ok(PhaseStart::Whole(invoke(
-            None,
-            InvokeHead::Actor(place),
-            rest,
-        )));
+        return Ok(PhaseStart::Whole(invoke(None, InvokeHead::Actor(place), rest)));
     }
     let (place, elapsed) = wait(alloc, tokens)?;
     Ok(PhaseStart::Whole(waiting(None, place, elapsed)))
@@ -254,11 +238,7 @@ fn phases_in_block(alloc: Global, tokens: &mut Cursor<'_>) -> Result<Row<Phase>,
 /// The phases of a block from this one on.
 #[cycle(phase_readers)]
 #[tactic(auto, using(crate::proofs::Lengths::lengths))]
-fn phases_from(
-    alloc: Global,
-    first: Phase,
-    tokens: &mut Cursor<'_>,
-) -> Result<Row<Phase>, Stop>
+fn phases_from(alloc: Global, first: Phase, tokens: &mut Cursor<'_>) -> Result<Row<Phase>, Stop>
     ensures ok { IfOk result (λ phases. IsRow Part.PhasesTail phases_rest (first ∷ []) phases tokens.old tokens.new) }
     ensures err { IfErr result (λ e. e ≢ Memory → read Part.PhasesTail tokens.old ≡ Err e) }
 {

@@ -26,7 +26,6 @@ pub struct Cursor<'a> {
 
 impl<'a> Model for Cursor<'a> {
     ghost use Rattle.std.specs.Prelude.{List};
-
     ghost use Rattle.dsl_tree.specs.declared.token.Token.{Token};
 
     ghost Value = { List Token };
