@@ -6,6 +6,7 @@ mod LeafForests
 mod Lengths
 mod Loops
 mod OtherRules
+mod OtherTokens
 mod PathForests
 mod PhaseSteps
 mod Ranks

@@ -51,7 +51,7 @@ onto_err wrap (Err d) e h = h
 abbrev pub Took : Type 0
 Took = Result (Token × List Token) (Stop ℕ)
 
-abbrev took : Token → List Token → Took
+abbrev pub took : Token → List Token → Took
 took t ts = Ok (t, ts)
 
 abbrev token_of : Token → Took → Token

@@ -14,8 +14,8 @@ ghost use Rattle.dsl_tree.specs.Views.{expr_tree};
 ghost use Rattle.dsl_tree.specs.Written as written;
 ghost use Rattle.dsl_parser.specs.Descent.{read, in_row, Gives};
 ghost use Rattle.dsl_parser.specs.Levels as level;
-ghost use Rattle.dsl_parser.specs.Levels.{at_level, row_part, row_level, item_part, item_level, tail_part, tail_of, suffixes_of, items_of};
-ghost use Rattle.dsl_parser.specs.Rows.{IsNext, IsRow};
+ghost use Rattle.dsl_parser.specs.Levels.{at_level, row_part, row_level, item_part, item_level, tail_part, tail_of, suffix_of, suffixes_of, items_of};
+ghost use Rattle.dsl_parser.specs.Rows.{IsRow};
 
 use crate::levels::{RowLevel, begins_operator, row_of, take_operator, take_sign};
 use crate::nodes;
@@ -118,7 +118,7 @@ fn not(alloc: Global, tokens: &mut Cursor<'_>) -> Result<Expr, Stop>
 
 /// A relation, or its left side alone.
 #[cycle(expressions)]
-#[tactic(auto, using(crate::proofs::Steps::step_relation, crate::proofs::Steps::step_relation_tail, crate::proofs::ExprSteps::alone_relation, crate::proofs::ExprForests::relation_forest, crate::proofs::Lengths::lengths))]
+#[tactic(auto, using(crate::proofs::Steps::step_relation, crate::proofs::Steps::step_relation_tail, crate::proofs::ExprSteps::alone_relation, crate::proofs::ExprForests::relation_forest, crate::proofs::Lengths::take_within, crate::proofs::Lengths::lengths))]
 fn relation(alloc: Global, tokens: &mut Cursor<'_>) -> Result<Expr, Stop>
     ensures gives { Gives (at_level 4) (read Part.Relation tokens.old) result tokens.new }
     ensures shorter { IfOk result (λ found. length tokens.new < length tokens.old) }
@@ -171,13 +171,15 @@ fn postfix(alloc: Global, tokens: &mut Cursor<'_>) -> Result<Expr, Stop>
 
 /// The suffixes that the tokens begin with.
 #[cycle(expressions)]
+#[tactic(auto, using(crate::proofs::Lengths::lengths))]
 pub fn suffixes(alloc: Global, tokens: &mut Cursor<'_>) -> Result<Row<Suffix>, Stop>
     ensures gives { Gives suffixes_of (read Part.SuffixesTail tokens.old) result tokens.new }
     ensures shorter { IfOk result (λ found. length tokens.new ≤ length tokens.old) }
 {
     let mut suffixes = Row::new(alloc);
-    'suffixes: while let Some(suffix) = suffix(alloc, tokens)? {
-        suffixes.push(suffix)?;
+    'suffixes: while begins_suffix(tokens) {
+        let item = suffix(alloc, tokens)?;
+        suffixes.push(item)?;
     }
     Ok(suffixes)
 }
@@ -188,22 +190,21 @@ fn begins_suffix(tokens: &Cursor<'_>) -> bool
     tokens.begins(Mark(MarkKind::Dot)) || tokens.begins(Mark(MarkKind::OpenSquare))
 }
 
-/// A suffix, if the tokens begin with one.
+/// A point and a name, or an index in square brackets.
 #[cycle(expressions)]
-#[tactic(auto, using(crate::proofs::Steps::step_suffixes_tail, crate::proofs::Steps::step_suffix, crate::proofs::ExprForests::suffix_forests, crate::proofs::Lengths::lengths))]
-fn suffix(alloc: Global, tokens: &mut Cursor<'_>) -> Result<Option<Suffix>, Stop>
-    ensures { IsNext Part.SuffixesTail suffixes_of tokens.old result tokens.new }
+#[tactic(auto, using(crate::proofs::Steps::step_suffix, crate::proofs::ExprForests::suffix_forests, crate::proofs::Lengths::lengths))]
+fn suffix(alloc: Global, tokens: &mut Cursor<'_>) -> Result<Suffix, Stop>
+    ensures gives { Gives suffix_of (read Part.Suffix tokens.old) result tokens.new }
+    ensures shorter { IfOk result (λ found. length tokens.new < length tokens.old) }
 {
     if tokens.take(Mark(MarkKind::Dot)).is_some() {
         let name = tokens.expect_name(alloc)?;
-        return Ok(Some(Suffix::Dot(name)));
+        return Ok(Suffix::Dot(name));
     }
-    let Some(place) = tokens.take(Mark(MarkKind::OpenSquare)) else {
-        return Ok(None);
-    };
+    let place = tokens.expect(Mark(MarkKind::OpenSquare))?;
     let index = expression(alloc, tokens)?;
     tokens.expect(Mark(MarkKind::CloseSquare))?;
-    Ok(Some(Suffix::Index { place, index }))
+    Ok(Suffix::Index { place, index })
 }
 
 /// An operand.

@@ -1,14 +1,14 @@
 //! Operands of a token or two.
 
 ghost use Rattle.std.specs.Prelude.{◌≡◌, [], ◌∷◌, true, false, IfSome, IfNone};
-ghost use Rattle.dsl_tree.specs.Codes.{has, word_code};
-ghost use Rattle.dsl_tree.specs.Forest.{sub, nil};
+ghost use Rattle.dsl_tree.specs.Codes.{code, has};
+ghost use Rattle.dsl_tree.specs.Forest.{nil, seen, sub};
 ghost use Rattle.dsl_tree.specs.Grammar.{Part};
 ghost use Rattle.dsl_tree.specs.Reading.{starts};
-ghost use Rattle.dsl_tree.specs.Written.{ident, word_at};
+ghost use Rattle.dsl_tree.specs.Written.{ident};
 ghost use Rattle.dsl_parser.specs.Descent.{read, in_row, Gives};
 ghost use Rattle.dsl_parser.specs.Levels.{at_level, bracket_codes, truth_codes, name_rule};
-ghost use Rattle.dsl_parser.specs.Operands.{operand_codes};
+ghost use Rattle.dsl_parser.specs.Operands.{value_codes};
 ghost use Rattle.dsl_parser.specs.Readers.{enum_member as member_forest};
 
 use crate::headings::enum_member;
@@ -18,34 +18,34 @@ use dsl_tree::{Expr, Ident, TokenKind, WordKind};
 use osc_base::Place;
 use std::alloc::Global;
 
-/// The operand that is this word, if it is one.
+/// The operand that is the token, if it is a word that is one.
 #[tactic(auto, using(crate::proofs::LeafForests::word_forests))]
-fn word_operand(place: Place, word: WordKind) -> Option<Expr>
-    ensures some { IfSome result (λ e. at_level 9 e ≡ word_at place word nil) }
-    ensures fits { IfSome result (λ e. has truth_codes (word_code word) ≡ true) }
-    ensures none { IfNone result (has operand_codes (word_code word) ≡ false) }
+fn word_operand(place: Place, kind: &TokenKind) -> Option<Expr>
+    ensures some { IfSome result (λ e. at_level 9 e ≡ seen place kind.now nil) }
+    ensures fits { IfSome result (λ e. has truth_codes (code kind.now) ≡ true) }
+    ensures none { IfNone result (has truth_codes (code kind.now) ≡ false) }
 {
-    match word {
-        WordKind::TrueWord => Some(Expr::Truth { place, value: true }),
-        WordKind::FalseWord => Some(Expr::Truth {
+    match kind {
+        TokenKind::Word(WordKind::TrueWord) => Some(Expr::Truth { place, value: true }),
+        TokenKind::Word(WordKind::FalseWord) => Some(Expr::Truth {
             place,
             value: false,
         }),
-        WordKind::ItWord => Some(Expr::It(place)),
-        WordKind::ActorWord => Some(Expr::Actor(place)),
+        TokenKind::Word(WordKind::ItWord) => Some(Expr::It(place)),
+        TokenKind::Word(WordKind::ActorWord) => Some(Expr::Actor(place)),
         _ => None,
     }
 }
 
-/// The operand that is the first token, which is a word.
+/// The operand that is the first token, which has to be a word.
 #[tactic(auto, using(crate::proofs::Steps::step_primary), unfolding(crate::specs::Descent::take))]
-fn word_leaf(tokens: &mut Cursor<'_>, word: WordKind) -> Result<Expr, Stop>
-    requires begun { starts (word_code word ∷ []) tokens.old ≡ true }
+fn word_leaf(tokens: &mut Cursor<'_>) -> Result<Expr, Stop>
+    requires word { starts value_codes tokens.old ≡ false }
     requires plain { starts bracket_codes tokens.old ≡ false }
     ensures { Gives (at_level 9) (read Part.Primary tokens.old) result tokens.new }
 {
     let (first, _) = tokens.split();
-    let Some(operand) = word_operand(first.place, word) else {
+    let Some(operand) = word_operand(first.place, &first.kind) else {
         return Err(tokens.miss());
     };
     tokens.pass();
@@ -88,8 +88,7 @@ pub fn leaf(alloc: Global, tokens: &mut Cursor<'_>) -> Result<Expr, Stop>
             let (place, text) = tokens.expect_text(alloc)?;
             Ok(Expr::Chars { place, text })
         }
-        TokenKind::Word(word) => word_leaf(tokens, *word),
         TokenKind::Name(_) => name_operand(alloc, tokens),
-        _ => Err(tokens.miss()),
+        _ => word_leaf(tokens),
     }
 }
