@@ -21,10 +21,10 @@ use Rattle.dsl_parser.specs.declared.levels.RowLevel.{RowLevel}
 use Rattle.dsl_parser.specs.declared.levels.RowLevel.TheVariants.{OrRow, AndRow, SumRow, ProductRow}
 use Rattle.dsl_parser.specs.Cursor.{at}
 use Rattle.dsl_parser.specs.Descent.{Outcome, onto, and_then, take, after, only_part, in_row, by_rules, optional, begins_label, plain_argument, named_argument, is_arguments, in_part, read}
-use Rattle.dsl_parser.specs.Levels.{at_level, row_part, row_level, item_part, item_level, tail_part, operators, tail_of, suffixes_of, items_of}
+use Rattle.dsl_parser.specs.Levels.{at_level, row_part, row_level, item_part, item_level, tail_part, operators, tail_of, suffix_of, suffixes_of, items_of}
 use Rattle.dsl_parser.specs.Rows.{Grows}
 use Rattle.dsl_parser.proofs.ExprForests.{level_lower, level_of_part, row_forest, row_alone, post_none, post_forest}
-use Rattle.dsl_parser.proofs.Lengths.{take_shorter, read_within}
+use Rattle.dsl_parser.proofs.Lengths.{take_shorter, read_within, read_shorter}
 use Rattle.dsl_parser.proofs.ReadParts.{Took}
 use Rattle.dsl_parser.proofs.ReadSteps.{read_step, read_parsed}
 
@@ -133,6 +133,9 @@ pub operator_stops : (l : RowLevel) (place : Place) (operator : Operator) (ts m 
     → read (item_part l) m ≡ Err e → read (tail_part l) ts ≡ Err e
 operator_stops l place operator ts m e start h one = taken_operator l place operator ts m start h ∙ ap (onto (seen place (operator_kind operator))) (pair_first (item_part l) (tail_part l) m e one)
 
+pub operators_end : (l : RowLevel) (ts m : List Token) → Stops (operators l) ts → m ≡ ts → read (tail_part l) ts ≡ Ok (nil, m)
+operators_end l ts m stop same = no_operator l ts stop ∙ ap (read_so nil) (sym same)
+
 -- tokens that begin a tail have some of it
 begun_tail : (p : Part) (ts z : List Token) → Starts (first p) ts → read p ts ≡ Ok (nil, z) → {A : Type 0} → A
 begun_tail p ts z start h =
@@ -176,5 +179,20 @@ list_grows place item ts m z start h one = (
 pub list_stops : (place : Place) (ts m : List Token) (e : Stop ℕ) → Starts comma ts → take comma ts ≡ Ok (at (TokenKind.Mark MarkKind.Comma) place, m) → read Part.Expr m ≡ Err e → read Part.ListedTail ts ≡ Err e
 list_stops place ts m e start h one = taken_comma place ts m start h ∙ ap (onto (bare (TokenKind.Mark MarkKind.Comma))) (pair_first Part.Expr Part.ListedTail m e one)
 
-pub list_ends : (ts : List Token) → Stops comma ts → read Part.ListedTail ts ≡ Ok (nil, ts)
-list_ends ts stop = optional_none Part.ListedTail ts refl refl stop
+pub list_ends : (ts m : List Token) → Stops comma ts → m ≡ ts → read Part.ListedTail ts ≡ Ok (nil, m)
+list_ends ts m stop same = optional_none Part.ListedTail ts refl refl stop ∙ ap (read_so nil) (sym same)
+
+-- Suffixes
+
+pub suffix_grows : (item : Suffix) (ts m : List Token) → Starts (first Part.SuffixesTail) ts → read Part.Suffix ts ≡ Ok (suffix_of item, m) → Grows Part.SuffixesTail suffixes_of ts item m
+suffix_grows item ts m start h = (
+  read_shorter Part.Suffix ts (suffix_of item) m refl h,
+  λ others end two. optional_some Part.SuffixesTail ts refl refl start ∙ pair_read Part.Suffix Part.SuffixesTail (suffix_of item) (suffixes_of others) ts m end h two,
+  λ e two. optional_some Part.SuffixesTail ts refl refl start ∙ pair_second Part.Suffix Part.SuffixesTail (suffix_of item) ts m e h two,
+)
+
+pub suffix_stops : (ts : List Token) (e : Stop ℕ) → Starts (first Part.SuffixesTail) ts → read Part.Suffix ts ≡ Err e → read Part.SuffixesTail ts ≡ Err e
+suffix_stops ts e start h = optional_some Part.SuffixesTail ts refl refl start ∙ pair_first Part.Suffix Part.SuffixesTail ts e h
+
+pub suffixes_end : (ts : List Token) → Stops (first Part.SuffixesTail) ts → read Part.SuffixesTail ts ≡ Ok (nil, ts)
+suffixes_end ts stop = optional_none Part.SuffixesTail ts refl refl stop

@@ -1,13 +1,14 @@
 -- The invariant of a loop that reads the items of a row.
 use Rattle.std.proofs.Common.{◌≡◌, ◌≢◌, ◌<◌, ℕ, List, [], ◌∷◌, ◌++◌, length, refl, sym, ◌∙◌, ap, subst, append_assoc, Option, Some, None, Result, Ok, Err, IfErr}
 use Rattle.std.specs.Result.{IsErr, IsErrAnd}
+use Rattle.std.proofs.lemmas.Bool.{false≢true}
 use Rattle.std.proofs.lemmas.List.{append-nil}
 use Rattle.osc_base.specs.declared.stop.Stop.{Stop}
 use Rattle.osc_base.specs.declared.stop.Stop.TheVariants.{Memory}
 use Rattle.dsl_tree.specs.declared.token.Token.{Token}
 use Rattle.dsl_tree.specs.Grammar.{Part}
 use Rattle.dsl_tree.specs.Forest.{Forest}
-use Rattle.dsl_parser.specs.Descent.{read}
+use Rattle.dsl_parser.specs.Descent.{read, Gives}
 use Rattle.dsl_parser.specs.Rows.{Grows, IsRow}
 
 -- What is read of the rest of the row is read of the whole of it, with the items so far before it.
@@ -21,7 +22,7 @@ pub start : {X : Type 0} (p : Part) (rest : List X → Forest) (begun : List X) 
 start p rest begun old = record { added = []; split = sym (append-nil begun); reads = λ others end h. h; fails = λ e h. h }
 
 pub step : {X : Type 0} (p : Part) (rest : List X → Forest) (begun so_far grown : List X) (old now new : List Token) (item : X) → Along p rest begun so_far old now → Grows p rest now item new → grown ≡ so_far ++ item ∷ [] → Along p rest begun grown old new
-step p rest begun so_far grown old now new item along (less, reads, fails) grows = record {
+step {X = X} p rest begun so_far grown old now new item along (less, reads, fails) grows = record {
   added = along.added ++ item ∷ [];
   split = grows ∙ (ap (λ (v : List X). v ++ item ∷ []) along.split ∙ append_assoc begun along.added (item ∷ []));
   reads = λ others end h. subst (λ (v : List X). read p old ≡ Ok (rest v, end)) (sym (append_assoc along.added (item ∷ []) others)) (along.reads (item ∷ others) end (reads others end h));
@@ -29,11 +30,17 @@ step p rest begun so_far grown old now new item along (less, reads, fails) grows
 }
 
 pub finish : {X : Type 0} (p : Part) (rest : List X → Forest) (begun so_far : List X) (old now new : List Token) → Along p rest begun so_far old now → read p now ≡ Ok (rest [], new) → IsRow p rest begun so_far old new
-finish p rest begun so_far old now new along h = record {
+finish {X = X} p rest begun so_far old now new along h = record {
   others = along.added;
   split = along.split;
   reads = subst (λ (v : List X). read p old ≡ Ok (rest v, new)) (append-nil along.added) (along.reads [] new h);
 }
+
+-- a row that began with no item
+pub whole : {X : Type 0} (p : Part) (rest : List X → Forest) (so_far : List X) (old now new : List Token) → Along p rest [] so_far old now → read p now ≡ Ok (rest [], new) → read p old ≡ Ok (rest so_far, new)
+whole {X = X} p rest so_far old now new along h =
+    let row : IsRow p rest [] so_far old new = finish p rest [] so_far old now new along h in
+    subst (λ (v : List X). read p old ≡ Ok (rest v, new)) (sym row.split) row.reads
 
 pub stop : {X : Type 0} (p : Part) (rest : List X → Forest) (begun so_far : List X) (old now : List Token) (e : Stop ℕ) → Along p rest begun so_far old now → (e ≢ Memory → read p now ≡ Err e) → e ≢ Memory → read p old ≡ Err e
 stop p rest begun so_far old now e along h some = along.fails e (h some)
@@ -42,3 +49,7 @@ stop p rest begun so_far old now e along h some = along.fails e (h some)
 pub raise : {A : Type 0} (r : Result A (Stop ℕ)) (e : Stop ℕ) (P : Stop ℕ → Type 0) → IsErr r × IsErrAnd r (λ d. d ≡ e) → P e → IfErr r P
 raise (Ok x) e P h p = tt
 raise (Err d) e P h p = subst P (sym h.1) p
+
+pub raise_gives : {A B : Type 0} (view : A → B) (outcome : Result (B × List Token) (Stop ℕ)) (r : Result A (Stop ℕ)) (e : Stop ℕ) (new : List Token) → IsErr r × IsErrAnd r (λ d. d ≡ e) → (e ≢ Memory → outcome ≡ Err e) → Gives view outcome r new
+raise_gives view outcome (Ok x) e new h p = absurd (false≢true h.0)
+raise_gives view outcome (Err d) e new h p = subst (λ (x : Stop ℕ). x ≢ Memory → outcome ≡ Err x) (sym h.1) p
