@@ -3,22 +3,35 @@ use Rattle.std.specs.Prelude.{◌≡◌, ◌≢◌, ◌<◌, ℕ, List, [], ◌�
 use Rattle.osc_base.specs.declared.stop.Stop.{Stop}
 use Rattle.osc_base.specs.declared.stop.Stop.TheVariants.{Memory}
 use Rattle.dsl_tree.specs.declared.token.Token.{Token}
+use Rattle.dsl_tree.specs.declared.token.MarkKind.{MarkKind}
 use Rattle.dsl_tree.specs.declared.phases.Argument.{Argument}
 use Rattle.dsl_tree.specs.Grammar.{Part}
-use Rattle.dsl_tree.specs.Forest.{Forest}
+use Rattle.dsl_tree.specs.Forest.{Forest, nil, sub}
 use Rattle.dsl_tree.specs.Views.{argument_tree}
+use Rattle.dsl_tree.specs.Written.{mark}
 use Rattle.dsl_tree.specs.WrittenPhases as written
-use Rattle.dsl_parser.specs.Descent.{read}
+use Rattle.dsl_parser.specs.Descent.{read, in_row, named_argument}
 
 abbrev pub arguments_of : List Argument → Forest
 arguments_of items = written.arguments (map argument_tree items)
 
--- the first argument with a name was read, and the others with names are left
+-- an argument with a name was read, and the others with names are left
 abbrev pub IsNamed : List Token → Result Argument (Stop ℕ) → List Token → Type 0
 IsNamed old (Ok item) new =
-    ((others : List Argument) (end : List Token) → read Part.NamedTail new ≡ Ok (written.named_tail (map argument_tree others), end) → read Part.Arguments old ≡ Ok (arguments_of (item ∷ others), end))
-    × ((e : Stop ℕ) → read Part.NamedTail new ≡ Err e → read Part.Arguments old ≡ Err e)
-IsNamed old (Err e) new = e ≢ Memory → read Part.Arguments old ≡ Err e
+    (length new < length old)
+    × ((others : List Argument) → written.named_tail (map argument_tree (item ∷ others)) ≡ mark MarkKind.Comma (arguments_of (item ∷ others)))
+    × ((others : List Argument) (end : List Token) → read Part.NamedTail new ≡ Ok (written.named_tail (map argument_tree others), end) → in_row read named_argument old ≡ Ok (arguments_of (item ∷ others), end))
+    × ((e : Stop ℕ) → read Part.NamedTail new ≡ Err e → in_row read named_argument old ≡ Err e)
+IsNamed old (Err e) new = e ≢ Memory → in_row read named_argument old ≡ Err e
+
+-- whether more arguments are left after one without a name
+abbrev pub HasMore : List Token → Result Bool (Stop ℕ) → List Token → Type 0
+HasMore old (Ok false) new = read Part.ArgumentsTail old ≡ Ok (mark MarkKind.CloseRound nil, new)
+HasMore old (Ok true) new =
+    (length new < length old)
+    × ((others : Forest) (end : List Token) → read Part.Arguments new ≡ Ok (others, end) → read Part.ArgumentsTail old ≡ Ok (mark MarkKind.Comma (sub others nil), end))
+    × ((e : Stop ℕ) → read Part.Arguments new ≡ Err e → read Part.ArgumentsTail old ≡ Err e)
+HasMore old (Err e) new = e ≢ Memory → read Part.ArgumentsTail old ≡ Err e
 
 -- an argument without a name was read: the last one, or one with others after it
 abbrev pub IsPlain : List Token → Result (Argument × Bool) (Stop ℕ) → List Token → Type 0

@@ -5,7 +5,7 @@ ghost use Rattle.dsl_tree.specs.Grammar.{Part};
 ghost use Rattle.dsl_tree.specs.Views.{argument_tree};
 ghost use Rattle.dsl_tree.specs.WrittenPhases as written;
 ghost use Rattle.dsl_parser.specs.Descent.{read, begins_label as has_label, Gives};
-ghost use Rattle.dsl_parser.specs.Arguments.{IsPlain, IsNamed};
+ghost use Rattle.dsl_parser.specs.Arguments.{HasMore, IsPlain, IsNamed};
 ghost use Rattle.dsl_parser.specs.Rows.{IsNext};
 
 use crate::expressions::expr;
@@ -40,21 +40,18 @@ impl Repeated for Argument {
 
     #[tactic(auto, using(crate::proofs::Steps::step_named_tail, crate::proofs::Lengths::lengths))]
     fn next(alloc: Global, tokens: &mut Cursor<'_>) -> Result<Option<Argument>, Stop> {
-        if tokens.take(Mark(MarkKind::CloseRound)).is_some() {
-            return Ok(None);
+        match tokens.take(Mark(MarkKind::CloseRound)) {
+            Some(_) => Ok(None),
+            None => {
+                tokens.expect(Mark(MarkKind::Comma))?;
+                Ok(Some(named(alloc, tokens)?))
+            }
         }
-        tokens.expect(Mark(MarkKind::Comma))?;
-        let name = Some(tokens.expect_name(alloc)?);
-        tokens.expect(Mark(MarkKind::Colon))?;
-        let value = expr(alloc, tokens)?;
-        Ok(Some(Argument { name, value }))
     }
 }
 
-/// The first argument with a name.
-#[tactic(auto, using(crate::proofs::Steps::step_arguments))]
+/// An argument with a name, and not what stands after it.
 fn named(alloc: Global, tokens: &mut Cursor<'_>) -> Result<Argument, Stop>
-    requires { has_label tokens.old ≡ true }
     ensures { IsNamed tokens.old result tokens.new }
 {
     let name = Some(tokens.expect_name(alloc)?);
@@ -63,22 +60,31 @@ fn named(alloc: Global, tokens: &mut Cursor<'_>) -> Result<Argument, Stop>
     Ok(Argument { name, value })
 }
 
+/// Whether another argument stands after one without a name: a comma, or the closing bracket.
+#[tactic(auto, using(crate::proofs::Steps::step_arguments_tail, crate::proofs::Lengths::lengths))]
+fn more(tokens: &mut Cursor<'_>) -> Result<bool, Stop>
+    ensures { HasMore tokens.old result tokens.new }
+{
+    if tokens.take(Mark(MarkKind::CloseRound)).is_some() {
+        return Ok(false);
+    }
+    tokens.expect(Mark(MarkKind::Comma))?;
+    Ok(true)
+}
+
 /// An argument without a name, and whether another one stands after it.
-#[tactic(auto, using(crate::proofs::Steps::step_arguments, crate::proofs::Steps::step_arguments_tail, crate::proofs::Lengths::lengths))]
+#[tactic(auto, using(crate::proofs::ArgumentRows::unlabelled, crate::proofs::Lengths::lengths))]
 fn plain(alloc: Global, tokens: &mut Cursor<'_>) -> Result<(Argument, bool), Stop>
     requires { has_label tokens.old ≡ false }
     ensures { IsPlain tokens.old result tokens.new }
 {
     let value = expr(alloc, tokens)?;
-    let plain = Argument { name: None, value };
-    if tokens.take(Mark(MarkKind::CloseRound)).is_some() {
-        return Ok((plain, false));
-    }
-    tokens.expect(Mark(MarkKind::Comma))?;
-    Ok((plain, true))
+    let more = more(tokens)?;
+    Ok((Argument { name: None, value }, more))
 }
 
 /// Arguments, one or more, and the closing bracket after them.
+#[tactic(auto, using(crate::proofs::ArgumentRows::labelled, crate::proofs::ArgumentRows::unlabelled))]
 pub fn arguments(alloc: Global, tokens: &mut Cursor<'_>) -> Result<Row<Argument>, Stop>
     ensures gives { Gives (λ xs. written.arguments (map argument_tree xs)) (read Part.Arguments tokens.old) result tokens.new }
     ensures some { IfOk result (λ xs. 0 < length xs) }
