@@ -13,3 +13,4 @@ pub mod LowestTerms
 pub mod ConstantValues
 pub mod Resolved
 pub mod Bounded
+pub mod PathSteps

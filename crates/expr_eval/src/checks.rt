@@ -23,7 +23,12 @@ use type_model::Types;
 
 /// What is known of an expression.
 #[cycle(checks)]
-fn walked(alloc: Global, types: &Types, scope: &Scope, expr: &Expr) -> Result<Checked, AllocError>
+fn walked(
+    alloc: Global,
+    types: &Types,
+    scope: &Scope<'_>,
+    expr: &Expr,
+) -> Result<Checked, AllocError>
     ensures { IfOk result (λ c. IsWalked types.now.table (seen_scope scope.now) expr.now c) }
 {
     match expr {
@@ -123,7 +128,7 @@ fn walked(alloc: Global, types: &Types, scope: &Scope, expr: &Expr) -> Result<Ch
 fn with_right(
     alloc: Global,
     types: &Types,
-    scope: &Scope,
+    scope: &Scope<'_>,
     right: &Expr,
     pair: Pair,
     place: Place,
@@ -140,7 +145,7 @@ fn with_right(
 fn with_rest(
     alloc: Global,
     types: &Types,
-    scope: &Scope,
+    scope: &Scope<'_>,
     rest: &[Further],
     level: Level,
     first: Checked,
@@ -160,7 +165,7 @@ fn with_rest(
 fn at_index(
     alloc: Global,
     types: &Types,
-    scope: &Scope,
+    scope: &Scope<'_>,
     index: &Expr,
     place: Place,
     head: Checked,
@@ -176,7 +181,7 @@ fn at_index(
 fn with_suffix(
     alloc: Global,
     types: &Types,
-    scope: &Scope,
+    scope: &Scope<'_>,
     suffix: &Suffix,
     head: Checked,
 ) -> Result<Checked, AllocError>
@@ -193,7 +198,7 @@ fn with_suffix(
 fn with_suffixes(
     alloc: Global,
     types: &Types,
-    scope: &Scope,
+    scope: &Scope<'_>,
     suffixes: &[Suffix],
     head: Checked,
 ) -> Result<Checked, AllocError>
@@ -211,7 +216,7 @@ fn with_suffixes(
 fn items_of(
     alloc: Global,
     types: &Types,
-    scope: &Scope,
+    scope: &Scope<'_>,
     items: &[Expr],
 ) -> Result<Items, AllocError>
     ensures { IfOk result (λ known. AreChecked types.now.table (seen_scope scope.now) (map expr_tree items.now) known) }
@@ -228,7 +233,7 @@ fn items_of(
 pub fn checked(
     alloc: Global,
     types: &Types,
-    scope: &Scope,
+    scope: &Scope<'_>,
     expr: &Expr,
 ) -> Result<Checked, AllocError>
     ensures { IfOk result (λ c. IsChecked types.now.table (seen_scope scope.now) (expr_tree expr.now) c) }

@@ -68,7 +68,7 @@ pub(crate) fn physical_number(
 pub(crate) fn it(
     alloc: Global,
     types: &Types,
-    scope: &Scope,
+    scope: &Scope<'_>,
     place: Place,
 ) -> Result<Checked, AllocError>
     ensures { IfOk result (λ c. IsChecked types.now.table (seen_scope scope.now) (ExprTree.It place) c) }
@@ -80,7 +80,7 @@ pub(crate) fn it(
 pub(crate) fn actor(
     alloc: Global,
     types: &Types,
-    scope: &Scope,
+    scope: &Scope<'_>,
     place: Place,
 ) -> Result<Checked, AllocError>
     ensures { IfOk result (λ c. IsChecked types.now.table (seen_scope scope.now) (ExprTree.Actor place) c) }
@@ -92,7 +92,7 @@ pub(crate) fn actor(
 pub(crate) fn name(
     alloc: Global,
     types: &Types,
-    scope: &Scope,
+    scope: &Scope<'_>,
     name: &Ident,
 ) -> Result<Checked, AllocError>
     ensures { IfOk result (λ c. IsChecked types.now.table (seen_scope scope.now) (ExprTree.Name name.now) c) }

@@ -7,6 +7,7 @@ mod items;
 mod laws;
 mod leaves;
 mod pairs;
+mod paths;
 mod quotients;
 mod typing;
 
@@ -14,4 +15,5 @@ pub use checks::checked;
 pub use expr_nodes::parts::Checked;
 pub use expr_value::{Reading, value};
 pub use laws::{exponents_are_bounded, typed_or_refused};
+pub use paths::{path_checked, path_place};
 pub use typing::{TypeStop, type_of};

@@ -49,7 +49,12 @@ fn settled(known: Checked) -> Result<Typed, TypeStop>
 /// It asks for a table and a scope that leave nothing open: it is known what each label and `it` stand for, and each
 /// physical type and unit has exponents. So do the scopes of a program whose names, types, members and uses have no
 /// fault. `checked` asks for nothing.
-pub fn type_of(alloc: Global, types: &Types, scope: &Scope, expr: &Expr) -> Result<Typed, TypeStop>
+pub fn type_of(
+    alloc: Global,
+    types: &Types,
+    scope: &Scope<'_>,
+    expr: &Expr,
+) -> Result<Typed, TypeStop>
     requires { IsResolved types.now.table (seen_scope scope.now) }
     ensures { IsTyped types.now.table (seen_scope scope.now) (expr_tree expr.now) result }
 {

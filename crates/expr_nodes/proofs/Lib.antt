@@ -13,3 +13,5 @@ pub mod Settled
 pub mod SlotValues
 pub mod StepFaults
 pub mod NoReads
+mod LabelPlaces
+mod StepRows

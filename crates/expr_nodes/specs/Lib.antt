@@ -2,6 +2,7 @@ pub mod Kinds
 pub mod Typed
 pub mod Value
 pub mod Scope
+pub mod Ways
 pub mod Sizes
 pub mod Parts
 pub mod Names

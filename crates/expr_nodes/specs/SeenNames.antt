@@ -1,5 +1,5 @@
 -- What the program's own scopes and meanings stand for in the definitions.
-use Rattle.std.specs.Prelude.{ℕ, ℤ, true, cond, List, Option, None, option_map, option_and_then, map, find, bytes_eq}
+use Rattle.std.specs.Prelude.{ℕ, ℤ, true, cond, not, List, [], Option, Some, None, option_copied, option_map, option_and_then, map}
 use Rattle.osc_base.specs.declared.fault.Place.{Place}
 use Rattle.osc_base.specs.declared.path.Path.{Path}
 use Rattle.osc_base.specs.LowestTerms.{lowest}
@@ -10,8 +10,11 @@ use Rattle.type_heads.specs.Units.{digits_number}
 use Rattle.type_heads.specs.Form.{Form}
 use Rattle.type_heads.specs.Table.{has_members}
 use Rattle.expr_nodes.specs.declared.scope.It.{It}
-use Rattle.expr_nodes.specs.declared.scope.Label.{Label}
+use Rattle.expr_nodes.specs.declared.labels.Label.{Label}
+use Rattle.expr_nodes.specs.declared.labels.LabelTable.{LabelTable}
 use Rattle.expr_nodes.specs.declared.scope.Scope.{Scope}
+use Rattle.expr_nodes.specs.declared.ways.Turn.{Turn}
+use Rattle.expr_nodes.specs.Ways.{leads_into}
 use Rattle.expr_nodes.specs.Kinds.{ValueKind, kind_of}
 use Rattle.expr_nodes.specs.Operators.{constant_at, is_long}
 use Rattle.expr_nodes.specs.Typed.{Typed, Whole, Read, Listed}
@@ -27,13 +30,18 @@ abbrev pub seen_it : It → Scopes.It
 seen_it (It.Of f) = Scopes.It.Of f.of f.length
 seen_it It.Unresolved = Scopes.It.Unresolved
 
--- a label
-abbrev pub seen_label : Label → Scopes.Label
-seen_label l = record { name = l.name; path = l.path; made = seen_made l.made; hidden = l.hidden }
+-- a label, as it is seen from a way
+abbrev pub seen_label : List Turn → Label → Scopes.Label
+seen_label way l = record { name = l.name; path = l.path; made = seen_made l.made; hidden = not (leads_into way l.way) }
+
+-- the labels of a table, or none
+abbrev pub labels_in : Option LabelTable → List Label
+labels_in None = []
+labels_in (Some t) = t.labels.items
 
 -- a scope
 abbrev pub seen_scope : Scope → Scopes.Scope
-seen_scope s = record { holder = s.holder; it = option_map seen_it s.it; labels = map seen_label s.labels }
+seen_scope s = record { holder = s.holder; it = option_map seen_it s.it; labels = map (seen_label s.way.now) (labels_in (option_copied s.labels)) }
 
 -- a field of one value or object, whose type is of that form
 abbrev pub single_in : Place → Path → ℕ → Form → Option Typed
@@ -44,10 +52,6 @@ abbrev pub seen_meaning : Meaning → Names.Meaning
 seen_meaning Meaning.Nothing = Names.Nothing
 seen_meaning Meaning.Several = Names.Several
 seen_meaning (Meaning.Something typed) = Names.Something (seen_part typed)
-
--- the label of a name
-abbrev pub label_in : List Scopes.Label → List ℕ → Option Scopes.Label
-label_in labels name = find (λ (l : Scopes.Label). bytes_eq l.name name) labels
 
 -- a list field whose elements are of that form
 abbrev pub list_in : Place → Path → ℕ → Form → ℕ → Option Typed

@@ -15,6 +15,7 @@ use crate::names::{
     Meaning, duration_at, is_behaviour, is_duration, label_at, label_of, member_meant, path_of,
 };
 use crate::parts::{Checked, fault_if, least};
+use crate::ways::leads_into;
 use crate::{Scope, Typed};
 use dsl_tree::Ident;
 use osc_base::{Boxed, Fault, FaultCode, Path, Place};
@@ -38,7 +39,7 @@ pub(crate) fn field_meant(
 fn by_duration(
     alloc: Global,
     types: &Types,
-    scope: &Scope,
+    scope: &Scope<'_>,
     name: &Ident,
 ) -> Result<Meaning, AllocError>
     ensures { IfOk result (λ m. seen_meaning m ≡ meaning_by_duration types.now.table name.now (named_duration name.now.text && of_behaviour (form types.now.table.heads scope.now.holder))) }
@@ -56,12 +57,12 @@ fn by_duration(
 fn by_label(
     alloc: Global,
     types: &Types,
-    scope: &Scope,
+    scope: &Scope<'_>,
     name: &Ident,
 ) -> Result<Meaning, AllocError>
     ensures { IfOk result (λ m. seen_meaning m ≡ meaning_by_label types.now.table (seen_scope scope.now) name.now (label_named (seen_scope scope.now) name.now.text)) }
 {
-    match label_of(scope.labels.as_slice(), name.text.as_str()) {
+    match label_of(scope, name.text.as_str()) {
         Some(label) => {
             let typed = label_at(alloc, name.place, label)?;
             Ok(Meaning::Something(Some(typed)))
@@ -71,7 +72,12 @@ fn by_label(
 }
 
 /// What a name means.
-fn meaning(alloc: Global, types: &Types, scope: &Scope, name: &Ident) -> Result<Meaning, AllocError>
+fn meaning(
+    alloc: Global,
+    types: &Types,
+    scope: &Scope<'_>,
+    name: &Ident,
+) -> Result<Meaning, AllocError>
     ensures { IfOk result (λ m. seen_meaning m ≡ meant types.now.table (seen_scope scope.now) name.now) }
 {
     match types.field(scope.holder, name.text.as_str()) {
@@ -108,17 +114,17 @@ pub(crate) fn typed_of(meaning: Meaning) -> Option<Boxed<Typed>>
 }
 
 /// The label of that name is hidden.
-fn is_label_hidden(scope: &Scope, name: &str) -> bool
+fn is_label_hidden(scope: &Scope<'_>, name: &str) -> bool
     ensures { result ≡ option_map_or (λ l. l.hidden) (label_named (seen_scope scope.now) name.now) false }
 {
-    match label_of(scope.labels.as_slice(), name) {
-        Some(label) => label.hidden,
+    match label_of(scope, name) {
+        Some(label) => !leads_into(scope.way, label.way.as_slice()),
         None => false,
     }
 }
 
 /// The name is that of a hidden label, and of no field.
-fn is_hidden(types: &Types, scope: &Scope, name: &str) -> bool
+fn is_hidden(types: &Types, scope: &Scope<'_>, name: &str) -> bool
     ensures { result ≡ label_hidden types.now.table (seen_scope scope.now) name.now }
 {
     types.field(scope.holder, name).is_none() && is_label_hidden(scope, name)
@@ -128,7 +134,7 @@ fn is_hidden(types: &Types, scope: &Scope, name: &str) -> bool
 pub fn name(
     alloc: Global,
     types: &Types,
-    scope: &Scope,
+    scope: &Scope<'_>,
     name: &Ident,
 ) -> Result<Checked, AllocError>
     ensures fault { IfOk result (λ c. c.fault ≡ first_fault (name_rows types.now.table (seen_scope scope.now) name.now)) }

@@ -1,6 +1,7 @@
 //! What names mean: fields, labels, durations and members of enums.
 
-ghost use Rattle.std.specs.Prelude.{◌≡◌, map, option_map, IfOk};
+ghost use Rattle.std.specs.Prelude.{◌≡◌, [], false, true, option_copied, option_map, IfOk};
+ghost use Rattle.std.specs.Option.{option_map_or};
 ghost use Rattle.osc_base.specs.Number.{whole};
 ghost use Rattle.osc_base.specs.Paths.{root, then_name};
 ghost use Rattle.type_heads.specs.Table.{enums_with, form, is_behaviour as of_behaviour, enum_number};
@@ -8,13 +9,12 @@ ghost use Rattle.type_heads.specs.Shown.{kind_form};
 ghost use Rattle.expr_nodes.specs.Kinds as Kinds;
 ghost use Rattle.expr_nodes.specs.Typed as Nodes;
 ghost use Rattle.expr_nodes.specs.Sizes.{info_at, constant_size};
-ghost use Rattle.expr_nodes.specs.Names.{is_duration as named_duration, duration_at as duration_read, label_at as label_node, member_meant as member_found, member_at as member_node};
+ghost use Rattle.expr_nodes.specs.Names.{is_duration as named_duration, duration_at as duration_read, label_at as label_node, label_named, member_meant as member_found, member_at as member_node};
 ghost use Rattle.expr_nodes.specs.Seen.{seen};
-ghost use Rattle.expr_nodes.specs.SeenNames.{seen_label, seen_meaning, label_in};
+ghost use Rattle.expr_nodes.specs.SeenNames.{seen_label, seen_meaning, seen_scope};
 
 use crate::fields::with_name;
-use crate::scope::Label;
-use crate::{Info, Size, Typed, ValueKind};
+use crate::{Info, Label, Scope, Size, Typed, ValueKind};
 use dsl_tree::Ident;
 use osc_base::{Boxed, Fraction, Path, Place, Row, Text};
 use std::alloc::{AllocError, Global};
@@ -147,16 +147,21 @@ pub(crate) fn member_meant(
     }
 }
 
-/// The label of that name.
-pub(crate) fn label_of<'a>(labels: &'a [Label], name: &str) -> Option<&'a Label>
-    ensures { option_map (λ l. seen_label l.now) result ≡ label_in (map seen_label labels.now) name.now }
+/// The first label of that name.
+pub(crate) fn label_of<'a>(scope: &Scope<'a>, name: &str) -> Option<&'a Label>
+    ensures { option_map (seen_label scope.now.way.now) (option_copied result) ≡ label_named (seen_scope scope.now) name.now }
 {
-    for label in labels {
-        if label.name.as_str() == name {
-            return Some(label);
-        }
+    match scope.labels {
+        Some(table) => table.named(name),
+        None => None,
     }
-    None
+}
+
+/// Whether a label has the name.
+pub fn has_label(scope: &Scope<'_>, name: &str) -> bool
+    ensures { result ≡ option_map_or (λ l. true) (label_named (seen_scope scope.now) name.now) false }
+{
+    label_of(scope, name).is_some()
 }
 
 /// A label stands for its whole phase.
@@ -165,7 +170,7 @@ pub(crate) fn label_at(
     place: Place,
     label: &Label,
 ) -> Result<Boxed<Typed>, AllocError>
-    ensures { IfOk result (λ t. seen t ≡ label_node place (seen_label label.now)) }
+    ensures { IfOk result (λ t. seen t ≡ label_node place (seen_label [] label.now)) }
 {
     let info = Info {
         place,

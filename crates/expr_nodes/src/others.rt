@@ -38,7 +38,12 @@ fn it_at(
 }
 
 /// `it`.
-pub fn it(alloc: Global, types: &Types, scope: &Scope, place: Place) -> Result<Checked, AllocError>
+pub fn it(
+    alloc: Global,
+    types: &Types,
+    scope: &Scope<'_>,
+    place: Place,
+) -> Result<Checked, AllocError>
     ensures fault { IfOk result (λ c. c.fault ≡ first_fault (it_rows (seen_scope scope.now) place)) }
     ensures typed { IfOk result (λ c. seen_part c.typed ≡ it_typed types.now.table (seen_scope scope.now) place) }
 {
@@ -58,7 +63,7 @@ pub fn it(alloc: Global, types: &Types, scope: &Scope, place: Place) -> Result<C
 pub fn actor(
     alloc: Global,
     types: &Types,
-    scope: &Scope,
+    scope: &Scope<'_>,
     place: Place,
 ) -> Result<Checked, AllocError>
     ensures fault { IfOk result (λ c. c.fault ≡ first_fault (actor_rows types.now.table (seen_scope scope.now) place)) }

@@ -1,7 +1,9 @@
 //! Where an expression stands: what its names mean.
 
-use crate::Made;
-use osc_base::{Path, Row, Text};
+ghost use Rattle.std.specs.Prelude.{◌≡◌, [], option_map};
+ghost use Rattle.expr_nodes.specs.SeenNames.{seen_it, seen_scope};
+
+use crate::{LabelTable, Turn};
 use type_model::{FieldType, TypeId};
 
 /// What `it` stands for.
@@ -13,22 +15,26 @@ pub enum It {
     Unresolved,
 }
 
-/// A label of a phase, the phase's path from the object, and what it makes.
-///
-/// It is hidden if it stands in a member of a `one_of` outside which the expression stands.
+/// The type in whose declaration or extension an expression is written, what `it` stands for, the labels of the type's
+/// `do`, and the way to the expression in the `do`, from which they are seen. A scope may have no labels.
 #[derive(Drop)]
-pub struct Label {
-    pub name: Text,
-    pub path: Path,
-    pub made: Made,
-    pub hidden: bool,
-}
-
-/// The type in whose declaration or extension an expression is written, what `it` stands for, and the labels of the
-/// type's `do`.
-#[derive(Drop)]
-pub struct Scope {
+pub struct Scope<'a> {
     pub holder: TypeId,
     pub it: Option<It>,
-    pub labels: Row<Label>,
+    pub labels: Option<&'a LabelTable>,
+    pub way: &'a [Turn],
+}
+
+impl<'a> Scope<'a> {
+    /// A scope without labels.
+    pub fn unlabelled(holder: TypeId, it: Option<It>) -> Scope<'a>
+        ensures { seen_scope result ≡ record { holder = holder; it = option_map seen_it it; labels = [] } }
+    {
+        Scope {
+            holder,
+            it,
+            labels: None,
+            way: &[],
+        }
+    }
 }

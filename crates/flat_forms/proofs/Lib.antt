@@ -1,3 +1,4 @@
+pub mod Defaults
 pub mod ItemRows
 pub mod RowSteps
 pub mod SceneParts

@@ -7,14 +7,13 @@ ghost use Rattle.program_texts.specs.SeenTexts.{types_in};
 ghost use Rattle.type_heads.specs.Members.{fields as fields_of};
 ghost use Rattle.work_counts.specs.Amounts.{kept};
 ghost use Rattle.expr_nodes.specs.Seen.{seen_part};
-ghost use Rattle.expr_nodes.specs.SeenNames.{seen_scope};
-ghost use Rattle.node_counts.specs.Arguments.{argument_amount, arguments_amount, duration_amount, field_amount, is_duration_argument, is_parameter as takes_value, named_amount, object_scope, reads_one};
+ghost use Rattle.node_counts.specs.Arguments.{argument_amount, arguments_amount, duration_amount, field_amount, is_duration_argument, is_parameter as takes_value, named_amount, reads_one};
 
 use dsl_tree::{Argument, Expr, Ident};
 use expr_nodes::others::it;
 use expr_nodes::steps::pointed;
 use expr_nodes::{It, Scope, Typed};
-use osc_base::{Boxed, Place, Row};
+use osc_base::{Boxed, Place};
 use program_calls::first_place;
 use program_texts::{ProgramTexts, TypeField};
 use std::alloc::{AllocError, Global};
@@ -31,17 +30,6 @@ fn is_read(typed: &Option<Boxed<Typed>>) -> bool
     }
 }
 
-/// The scope in which `it` is an object of a type.
-fn scope_of(alloc: Global, of: TypeId) -> Scope
-    ensures { seen_scope result ≡ object_scope of }
-{
-    Scope {
-        holder: of,
-        it: Some(It::Of(FieldType { of, length: None })),
-        labels: Row::new(alloc),
-    }
-}
-
 /// Whether the field of that name of an object of a type has one value.
 fn is_parameter(
     alloc: Global,
@@ -52,7 +40,12 @@ fn is_parameter(
 ) -> Result<bool, AllocError>
     ensures { IfOk result (λ is. is ≡ takes_value types.now.table of place name.now) }
 {
-    let scope = scope_of(alloc, of);
+    let scope = Scope {
+        holder: of,
+        it: Some(It::Of(FieldType { of, length: None })),
+        labels: None,
+        way: &[],
+    };
     let object = it(alloc, types, &scope, place)?;
     let field = pointed(alloc, types, object, name)?;
     Ok(is_read(&field.typed))

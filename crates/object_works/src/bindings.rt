@@ -2,7 +2,6 @@
 
 ghost use Rattle.std.specs.Prelude.{◌≡◌, ◌++◌, None, Some, map, option_and_then, option_copied, option_map, IfOk, OnOk};
 ghost use Rattle.dsl_tree.specs.Views.{argument_tree, expr_tree};
-ghost use Rattle.composition.specs.Calls as calls;
 ghost use Rattle.composition.specs.Expansion as Expansion;
 ghost use Rattle.composition.specs.Expansion.{argument_binding, here_in, of_arguments};
 ghost use Rattle.composition.specs.SeenParts.{seen_binding};
@@ -12,7 +11,8 @@ ghost use Rattle.expr_nodes.specs.Seen.{seen, seen_part};
 ghost use Rattle.expr_nodes.specs.SeenNames.{seen_scope};
 ghost use Rattle.expr_nodes.specs.Typing.{typed as typed_in};
 ghost use Rattle.program_calls.specs.SeenCallees.{seen_callee};
-ghost use Rattle.program_calls.specs.SeenLabels.{do_labels, seen_phase_label};
+ghost use Rattle.program_calls.specs.SeenLabels.{do_labels, seen_labels};
+ghost use Rattle.type_heads.specs.Types.{Types};
 ghost use Rattle.scene_expansion.specs.SeenWorks.{seen_call};
 ghost use Rattle.scene_texts.specs.Moving.{seen_bound};
 ghost use Rattle.program_texts.specs.SeenFields.{seen_field};
@@ -23,56 +23,22 @@ ghost use Rattle.object_works.specs.Arguments as arguments_of;
 use composition::Binding;
 use dsl_tree::{Argument, Ident, InvokeNode};
 use expr_eval::checked;
-use expr_nodes::{It, Scope, Typed};
+use expr_nodes::{It, LabelTable, Scope, Typed};
 use osc_base::{Boxed, Path, Row};
-use program_calls::{
-    Callee, PhaseLabel, actor_checked, callee_of, phase_labels, phases_in, scope_at,
-};
+use program_calls::{Callee, actor_checked, callee_of, scope_at};
 use program_texts::{ProgramTexts, TypeField};
 use scene_expansion::Call;
 use scene_texts::{Bound, Moves, then_name};
 use std::alloc::{AllocError, Global};
 use type_model::{FieldType, TypeId};
 
-/// The labels of the `do` of a type.
-fn labels_of(
-    alloc: Global,
-    texts: &ProgramTexts<'_>,
-    of: TypeId,
-) -> Result<Vec<PhaseLabel>, AllocError>
-    ensures { IfOk result (λ ls. map seen_phase_label ls.items ≡ do_labels (types_in texts.now) of) }
+/// The scope of the arguments of a call, in which `it` is the object that the call makes. The labels are those of the
+/// `do` in which the call stands.
+pub fn call_scope<'c>(labels: &'c LabelTable, call: &'c Call, of: TypeId) -> Scope<'c>
+    ensures { (ts : Types) → seen_labels labels.entry.now ≡ do_labels ts call.entry.now.holder → seen_scope result ≡ (here_in ts (seen_call call.entry.now) (Some (Scopes.It.Of of None))).scope }
 {
-    let Some(behaviour) = texts.the_do(of) else {
-        return Ok(Vec::new(alloc));
-    };
-    let phases = phases_in(alloc, behaviour.phase)?;
-    phase_labels(
-        alloc,
-        texts.types(),
-        TypeId(behaviour.holder),
-        phases.as_slice(),
-    )
-}
-
-/// The scope of the arguments of a call, in which `it` is the object that the call makes.
-pub fn call_scope(
-    alloc: Global,
-    texts: &ProgramTexts<'_>,
-    call: &Call,
-    of: TypeId,
-) -> Result<Scope, AllocError>
-    ensures { IfOk result (λ s. seen_scope s ≡ (here_in (types_in texts.now) (seen_call call.now) (Some (Scopes.It.Of of None))).scope) }
-{
-    let labels = labels_of(alloc, texts, call.holder)?;
     let it = It::Of(FieldType { of, length: None });
-    let scope = scope_at(
-        alloc,
-        call.holder,
-        Some(it),
-        labels.as_slice(),
-        call.way.as_slice(),
-    )?;
-    Ok(scope)
+    scope_at(call.holder, Some(it), labels, call.way.as_slice())
 }
 
 /// The path of a whole object or phase.
@@ -199,7 +165,7 @@ fn push_argument(
     into: &mut Row<Binding>,
     call: &Call,
     homes: &[Bound],
-    scope: &Scope,
+    scope: &Scope<'_>,
     field: &TypeField<'_>,
     argument: &Argument,
 ) -> Result<(), AllocError>
@@ -223,7 +189,7 @@ fn push_arguments(
     into: &mut Row<Binding>,
     call: &Call,
     homes: &[Bound],
-    scope: &Scope,
+    scope: &Scope<'_>,
     fields: &[TypeField<'_>],
     arguments: &[Argument],
 ) -> Result<(), AllocError>
@@ -235,17 +201,6 @@ fn push_arguments(
         }
     }
     Ok(())
-}
-
-/// The scope of a type's text without its labels, in which the paths to actors are read.
-fn without_labels(alloc: Global, holder: TypeId) -> Scope
-    ensures { seen_scope result ≡ calls.without_labels holder }
-{
-    Scope {
-        holder,
-        it: None,
-        labels: Row::new(alloc),
-    }
 }
 
 /// Puts the binding of `actor` at the end, if an actor is invoked.
@@ -261,7 +216,12 @@ fn push_actor(
     match callee {
         Callee::Alone(_) | Callee::NoName(_) => Ok(()),
         Callee::Owned { head, names, .. } => {
-            let scope = without_labels(alloc, call.holder);
+            let scope = Scope {
+                holder: call.holder,
+                it: None,
+                labels: None,
+                way: &[],
+            };
             let homes = bounds_of(alloc, call.bindings.as_slice())?;
             let known = actor_checked(alloc, texts.types(), &scope, head, names)?;
             push_bound(alloc, into, call, homes.as_slice(), "actor", &known.typed)
@@ -270,7 +230,7 @@ fn push_actor(
 }
 
 /// Puts the bindings that the arguments of an invocation of a type make at the end.
-fn push_given(
+fn push_all_given(
     alloc: Global,
     texts: &ProgramTexts<'_>,
     into: &mut Row<Binding>,
@@ -280,7 +240,8 @@ fn push_given(
 ) -> Result<(), AllocError>
     ensures { OnOk result (map seen_binding into.new ≡ map seen_binding into.old ++ of_arguments (types_in texts.now) of (argument_binding (types_in texts.now) (seen_call call.now) (here_in (types_in texts.now) (seen_call call.now) (Some (Scopes.It.Of of None)))) 0 (map argument_tree arguments.now)) }
 {
-    let scope = call_scope(alloc, texts, call, of)?;
+    let labels = texts.labels(alloc, call.holder)?;
+    let scope = call_scope(labels.table(), call, of);
     let fields = texts.fields(alloc, of)?;
     let homes = bounds_of(alloc, call.bindings.as_slice())?;
     push_arguments(
@@ -293,6 +254,23 @@ fn push_given(
         fields.as_slice(),
         arguments,
     )
+}
+
+/// Puts the bindings that the arguments of an invocation of a type make at the end. Without arguments no scope is made.
+fn push_given(
+    alloc: Global,
+    texts: &ProgramTexts<'_>,
+    into: &mut Row<Binding>,
+    call: &Call,
+    arguments: &[Argument],
+    of: TypeId,
+) -> Result<(), AllocError>
+    ensures { OnOk result (map seen_binding into.new ≡ map seen_binding into.old ++ of_arguments (types_in texts.now) of (argument_binding (types_in texts.now) (seen_call call.now) (here_in (types_in texts.now) (seen_call call.now) (Some (Scopes.It.Of of None)))) 0 (map argument_tree arguments.now)) }
+{
+    match arguments {
+        [] => Ok(()),
+        [_argument, ..] => push_all_given(alloc, texts, into, call, arguments, of),
+    }
 }
 
 /// The bindings that an invocation of a type makes: that of `actor`, if an actor is invoked, and those of arguments.

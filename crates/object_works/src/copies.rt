@@ -3,8 +3,8 @@
 ghost use Rattle.std.specs.Prelude.{◌≡◌, IfOk};
 
 use composition::{Binding, Guard, ValueRange};
+use expr_nodes::Turn;
 use osc_base::Row;
-use program_calls::Turn;
 use std::alloc::{AllocError, Global};
 
 /// An equal condition.

@@ -8,4 +8,4 @@ pub mod PathForms
 mod PathTests
 mod PhaseLabels
 mod PhaseLists
-mod StepRows
+mod WayLaws

@@ -5,3 +5,4 @@ pub mod NameExprs
 pub mod SeenCallees
 pub mod SeenLabels
 pub mod LibraryTypes
+pub mod Named

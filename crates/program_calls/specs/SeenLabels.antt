@@ -9,9 +9,10 @@ use Rattle.type_heads.specs.Types.{Types, Do}
 use Rattle.type_heads.specs.Members.{the_do}
 use Rattle.expr_nodes.specs.Kinds.{Made}
 use Rattle.expr_nodes.specs.Scope.{Label}
+use Rattle.expr_nodes.specs.declared.labels.Label.{Label as OwnLabel}
+use Rattle.expr_nodes.specs.declared.labels.LabelTable.{LabelTable}
 use Rattle.expr_nodes.specs.Seen.{seen_made}
 use Rattle.composition.specs.Calls.{PhaseHere, Turn, callee, label_of, leads_into, phases_in}
-use Rattle.program_calls.specs.declared.scopes.PhaseLabel.{PhaseLabel}
 use Rattle.program_calls.specs.PlacedPhases.{seen_turn}
 use Rattle.program_calls.specs.SeenCallees.{called_in}
 
@@ -53,5 +54,9 @@ abbrev pub label_seen_from : List Turn → LabelHere → Label
 label_seen_from way l = record { name = l.name; path = l.path; made = l.made; hidden = not (leads_into way l.way) }
 
 -- a label of the program's own
-abbrev pub seen_phase_label : PhaseLabel → LabelHere
-seen_phase_label l = record { name = l.name; path = l.place.path; way = map seen_turn l.place.way; made = seen_made l.made }
+abbrev pub seen_phase_label : OwnLabel → LabelHere
+seen_phase_label l = record { name = l.name; path = l.path; way = map seen_turn l.way; made = seen_made l.made }
+
+-- the labels of a table of the program's own
+abbrev pub seen_labels : LabelTable → List LabelHere
+seen_labels t = map seen_phase_label t.labels.items

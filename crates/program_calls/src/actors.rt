@@ -16,7 +16,7 @@ use expr_nodes::others::actor;
 use expr_nodes::parts::Checked;
 use expr_nodes::steps::pointed;
 use expr_nodes::{Scope, Typed};
-use osc_base::{Boxed, Place, Row};
+use osc_base::{Boxed, Place};
 use std::alloc::{AllocError, Global};
 use type_model::{TypeId, Types};
 
@@ -24,7 +24,7 @@ use type_model::{TypeId, Types};
 fn head_checked(
     alloc: Global,
     types: &Types,
-    scope: &Scope,
+    scope: &Scope<'_>,
     head: &InvokeHead,
 ) -> Result<Checked, AllocError>
     ensures { IfOk result (λ c. IsChecked types.now.table (seen_scope scope.now) (head_tree head.now) c) }
@@ -39,7 +39,7 @@ fn head_checked(
 pub fn actor_checked(
     alloc: Global,
     types: &Types,
-    scope: &Scope,
+    scope: &Scope<'_>,
     head: &InvokeHead,
     names: &[Ident],
 ) -> Result<Checked, AllocError>
@@ -72,17 +72,6 @@ pub fn head_place(head: &InvokeHead) -> Place
     }
 }
 
-/// The scope of a type's text without its labels, in which the paths to actors are read.
-fn without_labels(alloc: Global, holder: TypeId) -> Scope
-    ensures { seen_scope result ≡ scope_without holder }
-{
-    Scope {
-        holder,
-        it: None,
-        labels: Row::new(alloc),
-    }
-}
-
 /// The actor type to which a path in the text of a type leads.
 pub fn resolved_actor(
     alloc: Global,
@@ -93,7 +82,12 @@ pub fn resolved_actor(
 ) -> Result<Option<TypeId>, AllocError>
     ensures { IfOk result (λ o. o ≡ actor_in types.now.table.heads (typed_in types.now.table (scope_without holder) (actor_tree head.now names.now))) }
 {
-    let scope = without_labels(alloc, holder);
+    let scope = Scope {
+        holder,
+        it: None,
+        labels: None,
+        way: &[],
+    };
     let path = actor_checked(alloc, types, &scope, head, names)?;
     Ok(actor_type(types, &path.typed))
 }

@@ -1,19 +1,18 @@
 //! The labels of a `do`, and what their phases make.
 
-ghost use Rattle.std.specs.Prelude.{◌≡◌, map, option_copied, IfOk};
+ghost use Rattle.std.specs.Prelude.{◌≡◌, [], map, option_copied, IfOk};
 ghost use Rattle.dsl_tree.specs.Views.{phase_tree};
-ghost use Rattle.composition.specs.Calls.{callee, label_of as label_before};
+ghost use Rattle.composition.specs.Calls.{callee, label_of as label_before, phases_in as all_phases};
 ghost use Rattle.expr_nodes.specs.Seen.{seen_made};
 ghost use Rattle.program_calls.specs.PlacedPhases.{seen_phase};
 ghost use Rattle.program_calls.specs.SeenCallees.{called_in};
-ghost use Rattle.program_calls.specs.SeenLabels.{labelled as label_with, labels_here, made_in, made_of, seen_phase_label};
+ghost use Rattle.program_calls.specs.SeenLabels.{labelled as label_with, labels_here, made_in, made_of, seen_labels, seen_phase_label};
 
-use crate::PhaseLabel;
 use crate::actors::called;
 use crate::callees::callee_of;
-use crate::phases::{PlacedPhase, copy_place};
+use crate::phases::{PlacedPhase, copy_way, phases_in};
 use dsl_tree::{Ident, InvokeNode, Phase};
-use expr_nodes::Made;
+use expr_nodes::{Label, LabelTable, Made};
 use osc_base::Text;
 use std::alloc::{AllocError, Global};
 use type_model::{TypeId, Types};
@@ -72,24 +71,25 @@ fn labelled(
     holder: TypeId,
     placed: &PlacedPhase<'_>,
     name: &Ident,
-) -> Result<PhaseLabel, AllocError>
+) -> Result<Label, AllocError>
     ensures { IfOk result (λ l. seen_phase_label l ≡ label_with types.now.table holder (seen_phase placed.now) name.now) }
 {
     let made = made(alloc, types, holder, placed.phase)?;
-    Ok(PhaseLabel {
+    Ok(Label {
         name: Text::copy(alloc, name.text.as_str())?,
-        place: copy_place(alloc, &placed.place)?,
+        path: placed.place.path.copy(alloc)?,
+        way: copy_way(alloc, placed.place.way.as_slice())?,
         made,
     })
 }
 
 /// The labels of the phases of a `do` that is written in the text of a type.
-pub fn phase_labels(
+fn phase_labels(
     alloc: Global,
     types: &Types,
     holder: TypeId,
     phases: &[PlacedPhase<'_>],
-) -> Result<Vec<PhaseLabel>, AllocError>
+) -> Result<Vec<Label>, AllocError>
     ensures { IfOk result (λ labels. map seen_phase_label labels.items ≡ labels_here types.now.table holder (map seen_phase phases.now)) }
 {
     let mut labels = Vec::new(alloc);
@@ -99,4 +99,40 @@ pub fn phase_labels(
         }
     }
     Ok(labels)
+}
+
+/// The labels of a `do` that is written in the text of a type, in order.
+fn labels_in(
+    alloc: Global,
+    types: &Types,
+    holder: TypeId,
+    phase: &Phase,
+) -> Result<Vec<Label>, AllocError>
+    ensures { IfOk result (λ labels. map seen_phase_label labels.items ≡ labels_here types.now.table holder (all_phases (phase_tree phase.now))) }
+{
+    let phases = phases_in(alloc, phase)?;
+    let labels = phase_labels(alloc, types, holder, phases.as_slice())?;
+    Ok(labels)
+}
+
+/// The labels of a `do` that is written in the text of a type.
+pub fn do_labels(
+    alloc: Global,
+    types: &Types,
+    holder: TypeId,
+    phase: &Phase,
+) -> Result<LabelTable, AllocError>
+    ensures { IfOk result (λ table. seen_labels table ≡ labels_here types.now.table holder (all_phases (phase_tree phase.now))) }
+{
+    let labels = labels_in(alloc, types, holder, phase)?;
+    let table = LabelTable::of(alloc, labels)?;
+    Ok(table)
+}
+
+/// A table of no labels.
+pub fn no_labels(alloc: Global) -> Result<LabelTable, AllocError>
+    ensures { IfOk result (λ table. seen_labels table ≡ []) }
+{
+    let table = LabelTable::of(alloc, Vec::new(alloc))?;
+    Ok(table)
 }

@@ -3,6 +3,7 @@
 #![tactic(auto)]
 
 mod actors;
+mod arguments;
 mod callees;
 mod few;
 mod first_tokens;
@@ -16,13 +17,14 @@ mod phases;
 mod scopes;
 
 pub use actors::{actor_checked, actor_type, called, head_place, resolved_actor};
+pub use arguments::argument_named;
 pub use callees::{Callee, actor_of, behaviour_named, callee_of};
 pub use first_tokens::first_place;
 pub use kinds::{is_drive, is_kind_of, is_vehicle};
 pub use label_paths::{begins_with_label, begins_with_label_at};
-pub use labels::{invoked, phase_labels};
+pub use labels::{do_labels, invoked, no_labels};
 pub use modifier_forms::{ModifierForm, is_modifier, modifier_form};
 pub use name_exprs::{head_name, is_path, name_of};
 pub use owned::owned_behaviour;
-pub use phases::{PhasePlace, PlacedPhase, Turn, phases_in};
-pub use scopes::{PhaseLabel, labels_from, scope_at};
+pub use phases::{PhasePlace, PlacedPhase, phases_in};
+pub use scopes::scope_at;

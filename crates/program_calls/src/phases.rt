@@ -7,15 +7,9 @@ ghost use Rattle.composition.specs.Calls.{phases_at, phases_in as all_phases, tu
 ghost use Rattle.program_calls.specs.PlacedPhases.{members_placed, seen_phase, seen_turn};
 
 use dsl_tree::{CompKind, CompNode, Phase};
+use expr_nodes::Turn;
 use osc_base::{Path, Row, Step, Text};
 use std::alloc::{AllocError, Global};
-
-/// A `one_of` on the way to a phase, and the number of the member that the way takes.
-#[derive(Drop)]
-pub struct Turn {
-    pub phase: Path,
-    pub member: u32,
-}
 
 /// The path of a phase from the object whose `do` it is in, and the turns on its way, outermost first.
 #[derive(Drop)]
@@ -51,7 +45,7 @@ fn copy_turn(alloc: Global, turn: &Turn) -> Result<Turn, AllocError>
 }
 
 /// Equal turns.
-fn copy_way(alloc: Global, way: &[Turn]) -> Result<Row<Turn>, AllocError>
+pub(crate) fn copy_way(alloc: Global, way: &[Turn]) -> Result<Row<Turn>, AllocError>
     ensures { IfOk result (λ turns. turns ≡ way.now) }
 {
     let mut copies = Row::new(alloc);
@@ -59,17 +53,6 @@ fn copy_way(alloc: Global, way: &[Turn]) -> Result<Row<Turn>, AllocError>
         copies.push(copy_turn(alloc, turn)?)?;
     }
     Ok(copies)
-}
-
-/// An equal place.
-pub(crate) fn copy_place(alloc: Global, place: &PhasePlace) -> Result<PhasePlace, AllocError>
-    ensures path { IfOk result (λ p. p.path ≡ place.now.path) }
-    ensures way { IfOk result (λ p. p.way ≡ place.now.way) }
-{
-    Ok(PhasePlace {
-        path: place.path.copy(alloc)?,
-        way: copy_way(alloc, place.way.as_slice())?,
-    })
 }
 
 /// The way into a member of a composition, which is longer if the composition is a `one_of`.

@@ -43,7 +43,7 @@ fn is_large_among(
     requires built { types.now ≡ told (types_with members.now types.now.table) }
     ensures { IfOk result (λ past. past ≡ too_large (types_with members.now types.now.table) of setting) }
 {
-    let layout = ProgramLayout::of(types, members);
+    let layout = ProgramLayout::of(alloc, types, members)?;
     let past = scene_expansion::is_too_large(alloc, &layout, of, setting)?;
     Ok(past)
 }

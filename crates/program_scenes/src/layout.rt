@@ -1,6 +1,6 @@
 //! The works of a program.
 
-ghost use Rattle.std.specs.Prelude.{◌≡◌};
+ghost use Rattle.std.specs.Prelude.{◌≡◌, IfOk};
 ghost use Rattle.program_texts.specs.SeenTexts.{types_in, types_with};
 ghost use Rattle.type_heads.specs.Told.{told};
 
@@ -26,13 +26,16 @@ pub struct ProgramLayout<'p> {
 
 impl<'p> ProgramLayout<'p> {
     /// The works of the scenarios of a program with these types and members. Both are those of one program.
-    pub fn of(types: &'p Types, members: &'p ProgramMembers<'p>) -> ProgramLayout<'p>
+    pub fn of(
+        alloc: Global,
+        types: &'p Types,
+        members: &'p ProgramMembers<'p>,
+    ) -> Result<ProgramLayout<'p>, AllocError>
         requires built { types.now ≡ told (types_with members.now types.now.table) }
-        ensures { types_in result.texts ≡ types_with members.entry.now types.entry.now.table }
+        ensures { IfOk result (λ layout. types_in layout.texts ≡ types_with members.entry.now types.entry.now.table) }
     {
-        ProgramLayout {
-            texts: ProgramTexts::of(types, members),
-        }
+        let texts = ProgramTexts::of(alloc, types, members)?;
+        Ok(ProgramLayout { texts })
     }
 }
 

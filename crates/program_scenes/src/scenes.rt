@@ -43,7 +43,7 @@ fn scene_among(
     requires built { types.now ≡ told (types_with members.now types.now.table) }
     ensures { IfOk result (IsSceneFound (types_with members.now types.now.table) of setting) }
 {
-    let layout = ProgramLayout::of(types, members);
+    let layout = ProgramLayout::of(alloc, types, members)?;
     let found = scene_expansion::scene_of(alloc, &layout, of, setting)?;
     Ok(found)
 }

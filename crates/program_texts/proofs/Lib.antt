@@ -3,3 +3,4 @@ pub mod ConditionSteps
 pub mod AskedOnce
 pub mod ExprKinds
 pub mod NamedFields
+mod HeldLabels

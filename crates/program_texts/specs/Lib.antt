@@ -3,3 +3,4 @@ pub mod SeenTexts
 pub mod Ranges
 pub mod SeenConditions
 pub mod Asked
+pub mod OwnLabels

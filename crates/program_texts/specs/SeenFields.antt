@@ -8,8 +8,8 @@ use Rattle.type_heads.specs.Members.{do_declared}
 use Rattle.type_heads.specs.Table.{Table}
 use Rattle.type_heads.specs.Types.{Do, Field, Member, Types}
 use Rattle.type_heads.specs.declared.body.Body.{Body}
-use Rattle.type_members.specs.Listed.{seen_listed}
-use Rattle.type_members.specs.declared.listed.ListedMember.{ListedMember}
+use Rattle.type_members.specs.Listed.{lists_of}
+use Rattle.type_members.specs.declared.member_lists.MemberLists.{MemberLists}
 use Rattle.program_texts.specs.declared.texts.TypeDo.{TypeDo}
 use Rattle.program_texts.specs.declared.texts.TypeField.{TypeField}
 
@@ -34,5 +34,5 @@ abbrev pub first_do_in : List Member → Option Do
 first_do_in members = find (λ d. true) (filter_map (λ m. do_declared m m.written.member) members)
 
 -- the types with these bodies, members and table
-abbrev pub types_of_parts : List Body → Option ℕ → List (List ListedMember) → Table → Types
-types_of_parts bodies library lists table = record { bodies = map seen_body bodies; library = library; members = map (map seen_listed) lists; table = table }
+abbrev pub types_of_parts : List Body → Option ℕ → MemberLists → Table → Types
+types_of_parts bodies library lists table = record { bodies = map seen_body bodies; library = library; members = lists_of lists; table = table }

@@ -1,6 +1,6 @@
 //! What is asked of the types of a program.
 
-ghost use Rattle.std.specs.Prelude.{◌≡◌, find, map, option_copied, option_map, IfOk};
+ghost use Rattle.std.specs.Prelude.{◌≡◌, find, map, option_copied, option_map, IfOk, IfSome};
 ghost use Rattle.composition.specs.SceneFaults.{named_scenario};
 ghost use Rattle.composition.specs.Expanded as expanded;
 ghost use Rattle.dsl_tree.specs.Views.{field_tree};
@@ -10,14 +10,19 @@ ghost use Rattle.type_heads.specs.Told.{told as all_told};
 ghost use Rattle.type_heads.specs.Table.{form};
 ghost use Rattle.type_heads.specs.Table as table;
 ghost use Rattle.type_members.specs.Listed.{seen_listed};
+ghost use Rattle.program_calls.specs.SeenLabels.{do_labels as do_labels_of, seen_labels};
+ghost use Rattle.program_texts.specs.OwnLabels.{seen_type_labels};
 ghost use Rattle.program_texts.specs.Ranges.{object_kind};
 ghost use Rattle.program_texts.specs.SeenFields.{fields_named, has_name, seen_do, seen_field};
 ghost use Rattle.program_texts.specs.SeenTexts.{types_in, types_with};
 
 use crate::gathered::{fields_of, first_do};
+use crate::labels::{TypeLabels, own_labels};
 use crate::texts::{ProgramTexts, TypeDo, TypeField};
 use dsl_tree::{FieldDecl, HeirCondition, Member};
+use expr_nodes::LabelTable;
 use osc_base::{Place, Row};
+use program_calls::{do_labels, no_labels};
 use program_members::ProgramMembers;
 use std::alloc::{AllocError, Global};
 use type_members::heir_condition;
@@ -33,16 +38,23 @@ const NOWHERE: Place = Place {
 
 impl<'a> ProgramTexts<'a> {
     /// The texts of a program with these types and members. Both are those of one program.
-    pub fn of(types: &'a Types, members: &'a ProgramMembers<'a>) -> ProgramTexts<'a>
+    pub fn of(
+        alloc: Global,
+        types: &'a Types,
+        members: &'a ProgramMembers<'a>,
+    ) -> Result<ProgramTexts<'a>, AllocError>
         requires built { types.now ≡ all_told (types_with members.now types.now.table) }
-        ensures { types_in result ≡ types_with members.entry.now types.entry.now.table }
+        ensures { IfOk result (λ texts. types_in texts ≡ types_with members.entry.now types.entry.now.table) }
     {
-        ProgramTexts {
+        let lists = &members.lists;
+        let labels = own_labels(alloc, types, lists)?;
+        Ok(ProgramTexts {
             types,
             library: members.library,
             bodies: members.bodies.as_slice(),
-            lists: members.lists.rows(),
-        }
+            lists,
+            labels,
+        })
     }
 
     /// The types.
@@ -66,14 +78,44 @@ impl<'a> ProgramTexts<'a> {
         first_do(self.members(of))
     }
 
+    /// The labels of the `do` of a type, its own or an inherited one.
+    pub fn labels(&self, alloc: Global, of: TypeId) -> Result<TypeLabels<'_>, AllocError>
+        ensures { IfOk result (λ labels. seen_type_labels labels ≡ do_labels_of (types_in self.now) of) }
+    {
+        match self.own_labels(of) {
+            Some(table) => Ok(TypeLabels::Own(table)),
+            None => {
+                let table = self.made_labels(alloc, of)?;
+                Ok(TypeLabels::Inherited(table))
+            }
+        }
+    }
+
+    /// The labels of a `do` of a type that stands in its own text.
+    fn own_labels(&self, of: TypeId) -> Option<&LabelTable>
+        ensures { IfSome result (λ table. seen_labels table.now ≡ do_labels_of (types_in self.now) of) }
+    {
+        match self.labels.get(of.0 as usize) {
+            Some(table) => table.as_ref(),
+            None => None,
+        }
+    }
+
+    /// The labels of the `do` of a type, made anew.
+    fn made_labels(&self, alloc: Global, of: TypeId) -> Result<LabelTable, AllocError>
+        ensures { IfOk result (λ table. seen_labels table ≡ do_labels_of (types_in self.now) of) }
+    {
+        match self.the_do(of) {
+            Some(found) => do_labels(alloc, self.types, TypeId(found.holder), found.phase),
+            None => no_labels(alloc),
+        }
+    }
+
     /// The members of a type, in order.
     pub fn members(&self, of: TypeId) -> &'a [ListedMember<'a>]
         ensures { map seen_listed result.now ≡ told.members (types_in self.now) of }
     {
-        match self.lists.get(of.0 as usize) {
-            Some(members) => members.as_slice(),
-            None => &[],
-        }
+        self.lists.of(of)
     }
 
     /// The place of the name of a type.

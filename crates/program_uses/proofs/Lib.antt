@@ -1,7 +1,6 @@
 mod RowSteps
 mod ExprKinds
 mod BareForms
-mod PathSteps
 mod RuleSteps
 mod FieldSteps
 mod ArgumentSteps

@@ -15,7 +15,7 @@ use Rattle.expr_nodes.specs.Seen.{seen_part}
 use Rattle.expr_nodes.specs.Typing.{expr_rows, first, typed}
 use Rattle.expr_nodes.specs.declared.parts.Checked.{Checked}
 use Rattle.program_uses.specs.RuleRows.{remove_rows}
-use Rattle.program_uses.proofs.PathSteps.{path_is_path}
+use Rattle.expr_eval.proofs.PathSteps.{path_is_path}
 
 pub removed : (before own last : Option Fault) (place : Place) (known : Checked) (table : Table) (sc : Scope) (p : PathNode) (wrong : Bool) →
     wrong ≡ of_one (seen_part known.typed) (λ t. not (is_read t)) → own ≡ first_of before (row_fault (row place FaultCode.WrongKind wrong)) → place ≡ first (path_tree p) →

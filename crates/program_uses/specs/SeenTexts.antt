@@ -3,10 +3,11 @@ use Rattle.std.specs.Prelude.{◌≡◌, ℕ, List, [], None, map, option_map, s
 use Rattle.osc_base.specs.FaultRows.{FaultRow}
 use Rattle.dsl_tree.specs.Views.{field_tree, phase_tree}
 use Rattle.type_heads.specs.Bodied.{seen_body}
-use Rattle.type_heads.specs.Members.{fields, nowhere, the_do}
+use Rattle.type_heads.specs.Members.{nowhere, the_do}
 use Rattle.type_heads.specs.Told.{Told}
 use Rattle.type_heads.specs.Types.{Do, Field, Types, Written}
 use Rattle.type_heads.specs.declared.body.Body.{Body}
+use Rattle.type_members.specs.Listed.{lists_of}
 use Rattle.composition.specs.Uses.{member_use_rows}
 use Rattle.program_uses.specs.declared.program_texts.TypeDo.{TypeDo}
 use Rattle.program_uses.specs.declared.program_texts.TypeField.{TypeField}
@@ -28,10 +29,10 @@ bare_body = record { place = nowhere; heir = None; own = []; more = [] }
 abbrev pub written_rows : Types → ℕ → Written → List FaultRow
 written_rows ts t w = member_use_rows ts t w.member
 
--- the fields, the `do` and the body of each type of the program
+-- the members, the `do` and the body of each type of the program
 pub record HasTextsOf (ts : Types) (p : ProgramTexts) : Type 0 where
   pub library : p.library ≡ ts.library
-  pub fields_told : (t : ℕ) → map seen_field (slice_index_or p.fields.items t []) ≡ fields ts t
+  pub members_told : lists_of p.lists.now ≡ ts.members
   pub do_told : (t : ℕ) → option_map seen_do (slice_index_or p.dos.items t None) ≡ the_do ts t
   pub bodies_told : map seen_body p.bodies.now ≡ ts.bodies
 

@@ -104,7 +104,7 @@ fn is_no_object_of(types: &Types, of: TypeId, typed: &Option<Boxed<Typed>>) -> b
 fn with_object(
     alloc: Global,
     types: &Types,
-    scope: &Scope,
+    scope: &Scope<'_>,
     first: Option<Fault>,
     of: TypeId,
     value: &Expr,
@@ -122,7 +122,7 @@ fn with_object(
 fn with_value(
     alloc: Global,
     types: &Types,
-    scope: &Scope,
+    scope: &Scope<'_>,
     first: Option<Fault>,
     of: TypeId,
     value: &Expr,
@@ -139,7 +139,7 @@ fn with_value(
 fn with_given(
     alloc: Global,
     types: &Types,
-    scope: &Scope,
+    scope: &Scope<'_>,
     first: Option<Fault>,
     of: TypeId,
     value: &Expr,
@@ -157,7 +157,7 @@ fn with_given(
 fn with_field_value(
     alloc: Global,
     types: &Types,
-    scope: &Scope,
+    scope: &Scope<'_>,
     first: Option<Fault>,
     decl: &FieldDecl,
     value: &Expr,
@@ -174,7 +174,7 @@ fn with_field_value(
 fn with_unlisted(
     alloc: Global,
     types: &Types,
-    scope: &Scope,
+    scope: &Scope<'_>,
     first: Option<Fault>,
     decl: &FieldDecl,
     value: &Expr,
@@ -198,7 +198,7 @@ fn is_refused(is_met: bool, is_list: bool) -> bool
 fn with_field<'a>(
     alloc: Global,
     types: &Types,
-    scope: &Scope,
+    scope: &Scope<'_>,
     first: Option<Fault>,
     met: &mut TextSet<'a>,
     field: TypeField<'a>,
@@ -218,7 +218,7 @@ fn with_field<'a>(
 pub(crate) fn with_stated_duration(
     alloc: Global,
     types: &Types,
-    scope: &Scope,
+    scope: &Scope<'_>,
     first: Option<Fault>,
     value: &Expr,
 ) -> Result<Option<Fault>, AllocError>
@@ -232,7 +232,7 @@ pub(crate) fn with_stated_duration(
 fn with_duration_argument(
     alloc: Global,
     types: &Types,
-    scope: &Scope,
+    scope: &Scope<'_>,
     first: Option<Fault>,
     met: &mut TextSet<'_>,
     argument: &Argument,
@@ -249,7 +249,7 @@ fn with_duration_argument(
 fn with_assigned<'a>(
     alloc: Global,
     types: &Types,
-    scope: &Scope,
+    scope: &Scope<'_>,
     first: Option<Fault>,
     met: &mut TextSet<'a>,
     to: Assigned<'a>,
@@ -272,7 +272,7 @@ fn with_assigned<'a>(
 pub(crate) fn with_arguments<'a>(
     alloc: Global,
     types: &Types,
-    scope: &Scope,
+    scope: &Scope<'_>,
     first: Option<Fault>,
     fields: &[TypeField<'a>],
     arguments: &'a [Argument],

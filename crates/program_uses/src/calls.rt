@@ -5,7 +5,9 @@ ghost use Rattle.std.specs.Option.{option_map_or};
 ghost use Rattle.osc_base.specs.FaultRows.{first_from};
 ghost use Rattle.dsl_tree.specs.PhaseTree.{ArgumentTree};
 ghost use Rattle.dsl_tree.specs.Views.{argument_tree, part_tree};
+ghost use Rattle.type_heads.specs.Members.{fields_among};
 ghost use Rattle.type_heads.specs.Types.{Types as TypesOf};
+ghost use Rattle.type_members.specs.Listed.{lists_of};
 ghost use Rattle.expr_nodes.specs.Parts.{of_one};
 ghost use Rattle.expr_nodes.specs.Seen.{seen_part};
 ghost use Rattle.expr_nodes.specs.SeenNames.{seen_it, seen_scope};
@@ -14,10 +16,11 @@ ghost use Rattle.composition.specs.Calls.{Callee as CalleeOf, actor_type as acto
 ghost use Rattle.composition.specs.Uses.{begins_with_label as begins_so, call_rows, callee_rows, it_made as made_it, part_rows};
 ghost use Rattle.program_calls.specs.SeenCallees.{actor_tree, head_tree};
 ghost use Rattle.program_uses.specs.ArgumentRows.{arguments_in};
-ghost use Rattle.program_uses.specs.SeenTexts.{Tells, seen_field};
+ghost use Rattle.program_uses.specs.SeenTexts.{Tells};
 ghost use Rattle.program_uses.specs.TableTypes.{of_table};
 
 use crate::arguments::with_arguments;
+use crate::gathered::fields_of;
 use crate::modifiers::with_modifier;
 use crate::program_texts::ProgramTexts;
 use crate::rules::{with_expr, with_known, with_rule};
@@ -62,7 +65,7 @@ fn lacks_behaviour(
 /// Whether a path begins with a label, or is known and leads to no actor.
 fn is_wrong_path(
     types: &Types,
-    scope: &Scope,
+    scope: &Scope<'_>,
     head: &InvokeHead,
     typed: &Option<Boxed<Typed>>,
 ) -> bool
@@ -75,7 +78,7 @@ fn is_wrong_path(
 fn with_owned(
     alloc: Global,
     types: &Types,
-    scope: &Scope,
+    scope: &Scope<'_>,
     first: Option<Fault>,
     head: &InvokeHead,
     names: &[Ident],
@@ -95,7 +98,7 @@ fn with_owned(
 pub(crate) fn with_callee(
     alloc: Global,
     types: &Types,
-    scope: &Scope,
+    scope: &Scope<'_>,
     first: Option<Fault>,
     head: &InvokeHead,
     names: &[Ident],
@@ -118,7 +121,7 @@ pub(crate) fn with_callee(
 fn with_unresolved(
     alloc: Global,
     types: &Types,
-    scope: &Scope,
+    scope: &Scope<'_>,
     first: Option<Fault>,
     arguments: &[Argument],
 ) -> Result<Option<Fault>, AllocError>
@@ -136,17 +139,15 @@ fn with_resolved<'a>(
     alloc: Global,
     types: &Types,
     texts: &ProgramTexts<'a>,
-    scope: &Scope,
+    scope: &Scope<'_>,
     first: Option<Fault>,
     of: TypeId,
     arguments: &'a [Argument],
 ) -> Result<Option<Fault>, AllocError>
-    ensures { IfOk result (λ f. f ≡ first_from first (arguments_in types.now.table (seen_scope scope.now) (map seen_field (slice_index_or texts.now.fields.items of [])) [] 0 (map argument_tree arguments.entry.now))) }
+    ensures { IfOk result (λ f. f ≡ first_from first (arguments_in types.now.table (seen_scope scope.now) (fields_among (slice_index_or (lists_of texts.now.lists.now) of [])) [] 0 (map argument_tree arguments.entry.now))) }
 {
-    match texts.fields.get(of.0 as usize) {
-        Some(row) => with_arguments(alloc, types, scope, first, row.as_slice(), arguments),
-        None => with_arguments(alloc, types, scope, first, &[], arguments),
-    }
+    let fields = fields_of(alloc, texts.lists.of(of))?;
+    with_arguments(alloc, types, scope, first, fields.as_slice(), arguments)
 }
 
 /// Faults of the arguments of an invocation.
@@ -154,7 +155,7 @@ pub(crate) fn with_call<'a>(
     alloc: Global,
     types: &Types,
     texts: &ProgramTexts<'a>,
-    scope: &Scope,
+    scope: &Scope<'_>,
     first: Option<Fault>,
     of: &Option<TypeId>,
     arguments: &'a [Argument],
@@ -185,7 +186,7 @@ fn with_part(
     alloc: Global,
     types: &Types,
     library: Option<u32>,
-    scope: &Scope,
+    scope: &Scope<'_>,
     first: Option<Fault>,
     of: &Option<TypeId>,
     part: &InvokePart,
@@ -205,7 +206,7 @@ pub(crate) fn with_parts(
     alloc: Global,
     types: &Types,
     library: Option<u32>,
-    scope: &Scope,
+    scope: &Scope<'_>,
     first: Option<Fault>,
     of: &Option<TypeId>,
     parts: &[InvokePart],

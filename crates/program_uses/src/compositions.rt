@@ -52,7 +52,7 @@ fn takes_overlap(kind: CompKind) -> bool
 pub(crate) fn with_whole_duration(
     alloc: Global,
     types: &Types,
-    scope: &Scope,
+    scope: &Scope<'_>,
     first: Option<Fault>,
     value: &Expr,
 ) -> Result<Option<Fault>, AllocError>
@@ -67,7 +67,7 @@ pub(crate) fn with_whole_duration(
 fn with_other(
     alloc: Global,
     types: &Types,
-    scope: &Scope,
+    scope: &Scope<'_>,
     first: Option<Fault>,
     kind: CompKind,
     name: &Ident,
@@ -86,7 +86,7 @@ fn with_other(
 fn with_valued(
     alloc: Global,
     types: &Types,
-    scope: &Scope,
+    scope: &Scope<'_>,
     first: Option<Fault>,
     kind: CompKind,
     name: &Ident,
@@ -105,7 +105,7 @@ fn with_valued(
 fn with_named<'a>(
     alloc: Global,
     types: &Types,
-    scope: &Scope,
+    scope: &Scope<'_>,
     first: Option<Fault>,
     met: &mut TextSet<'a>,
     kind: CompKind,
@@ -123,7 +123,7 @@ fn with_named<'a>(
 fn with_argument<'a>(
     alloc: Global,
     types: &Types,
-    scope: &Scope,
+    scope: &Scope<'_>,
     first: Option<Fault>,
     met: &mut TextSet<'a>,
     kind: CompKind,
@@ -148,7 +148,7 @@ fn with_argument<'a>(
 pub(crate) fn with_composition<'a>(
     alloc: Global,
     types: &Types,
-    scope: &Scope,
+    scope: &Scope<'_>,
     first: Option<Fault>,
     kind: CompKind,
     arguments: &'a [Argument],

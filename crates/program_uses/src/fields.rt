@@ -29,7 +29,7 @@ use value_fits::with_initial;
 fn with_value(
     alloc: Global,
     types: &Types,
-    scope: &Scope,
+    scope: &Scope<'_>,
     first: Option<Fault>,
     held: &Held,
     value: &Expr,
@@ -45,7 +45,7 @@ fn with_value(
 fn with_values(
     alloc: Global,
     types: &Types,
-    scope: &Scope,
+    scope: &Scope<'_>,
     first: Option<Fault>,
     held: &Held,
     values: &[Expr],
@@ -70,7 +70,7 @@ fn items_given(is_list: bool, initial: &Expr) -> Option<&[Expr]>
 fn with_given(
     alloc: Global,
     types: &Types,
-    scope: &Scope,
+    scope: &Scope<'_>,
     first: Option<Fault>,
     is_list: bool,
     held: &Held,
@@ -88,7 +88,7 @@ fn with_given(
 fn with_fitted(
     alloc: Global,
     types: &Types,
-    scope: &Scope,
+    scope: &Scope<'_>,
     first: Option<Fault>,
     field: &FieldDecl,
     initial: &Expr,
@@ -116,7 +116,7 @@ fn with_fitted(
 fn with_initial_value(
     alloc: Global,
     types: &Types,
-    scope: &Scope,
+    scope: &Scope<'_>,
     first: Option<Fault>,
     field: &FieldDecl,
 ) -> Result<Option<Fault>, AllocError>
@@ -171,13 +171,14 @@ fn it_of(types: &Types, field: &FieldDecl) -> Result<Option<It>, AllocError>
 fn with_both(
     alloc: Global,
     types: &Types,
-    scope: &mut Scope,
+    scope: &mut Scope<'_>,
     first: Option<Fault>,
     field: &FieldDecl,
 ) -> Result<Option<Fault>, AllocError>
     ensures faults { IfOk result (λ f. f ≡ first_from first (field_in types.now.table (seen_scope scope.old) (field_tree field.now))) }
     ensures holder { IfOk result (λ f. scope.new.holder ≡ scope.old.holder) }
     ensures labels { IfOk result (λ f. scope.new.labels ≡ scope.old.labels) }
+    ensures way { IfOk result (λ f. scope.new.way ≡ scope.old.way) }
 {
     let valued = with_initial_value(alloc, types, scope, first, field)?;
     let it = it_of(types, field)?;
@@ -189,7 +190,7 @@ fn with_both(
 pub(crate) fn with_field(
     alloc: Global,
     types: &Types,
-    scope: &mut Scope,
+    scope: &mut Scope<'_>,
     first: Option<Fault>,
     field: &FieldDecl,
 ) -> Result<Option<Fault>, AllocError>

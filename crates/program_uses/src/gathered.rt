@@ -3,7 +3,7 @@
 ghost use Rattle.std.specs.Prelude.{◌≡◌, ◌++◌, map, option_map, IfOk, OnOk};
 ghost use Rattle.dsl_tree.specs.Views.{field_tree};
 ghost use Rattle.type_heads.specs.Members.{do_declared, fields_among, fields_declared};
-ghost use Rattle.type_members.specs.Listed.{seen_listed};
+ghost use Rattle.type_members.specs.Listed.{lists_of, seen_listed};
 ghost use Rattle.program_uses.specs.GatheredLists.{fields_named, first_do_in};
 ghost use Rattle.program_uses.specs.SeenTexts.{seen_do, seen_field};
 
@@ -11,7 +11,7 @@ use crate::program_texts::{TypeDo, TypeField};
 use dsl_tree::{FieldDecl, Member};
 use osc_base::Row;
 use std::alloc::{AllocError, Global};
-use type_members::ListedMember;
+use type_members::{ListedMember, MemberLists};
 use type_model::TypeId;
 
 /// Puts a field for each name of a declaration at the end.
@@ -51,7 +51,7 @@ fn push_fields<'a>(
 }
 
 /// The fields that members declare, name by name.
-fn fields_of<'a>(
+pub(crate) fn fields_of<'a>(
     alloc: Global,
     members: &'a [ListedMember<'a>],
 ) -> Result<Row<TypeField<'a>>, AllocError>
@@ -62,20 +62,6 @@ fn fields_of<'a>(
         push_fields(&mut fields, listed)?;
     }
     Ok(Row::of(fields))
-}
-
-/// The fields among the members of each type.
-pub(crate) fn all_fields<'a>(
-    alloc: Global,
-    lists: &'a [Row<ListedMember<'a>>],
-) -> Result<Vec<Row<TypeField<'a>>>, AllocError>
-    ensures { IfOk result (λ all. map (map seen_field) all.items ≡ map fields_among (map (map seen_listed) lists.entry.now)) }
-{
-    let mut all = Vec::new(alloc);
-    for members in lists {
-        all.push(fields_of(alloc, members.as_slice())?)?;
-    }
-    Ok(all)
 }
 
 /// The `do` that a member is.
@@ -108,13 +94,13 @@ fn first_do<'a>(members: &'a [ListedMember<'a>]) -> Option<TypeDo<'a>>
 /// The first `do` among the members of each type.
 pub(crate) fn all_dos<'a>(
     alloc: Global,
-    lists: &'a [Row<ListedMember<'a>>],
+    lists: &'a MemberLists<'a>,
 ) -> Result<Vec<Option<TypeDo<'a>>>, AllocError>
-    ensures { IfOk result (λ all. map (option_map seen_do) all.items ≡ map first_do_in (map (map seen_listed) lists.entry.now)) }
+    ensures { IfOk result (λ all. map (option_map seen_do) all.items ≡ map first_do_in (lists_of lists.entry.now)) }
 {
     let mut all = Vec::new(alloc);
-    for members in lists {
-        all.push(first_do(members.as_slice()))?;
+    for span in lists.spans() {
+        all.push(first_do(lists.at(span)))?;
     }
     Ok(all)
 }

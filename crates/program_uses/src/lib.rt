@@ -10,7 +10,6 @@ mod gathered;
 mod held;
 mod invocations;
 mod modifiers;
-mod paths;
 mod phases;
 mod program;
 mod program_texts;

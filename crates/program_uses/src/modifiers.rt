@@ -78,7 +78,7 @@ fn is_at(argument: &Argument) -> bool
 fn with_argument(
     alloc: Global,
     types: &Types,
-    scope: &Scope,
+    scope: &Scope<'_>,
     first: Option<Fault>,
     argument: &Argument,
 ) -> Result<Option<Fault>, AllocError>
@@ -94,7 +94,7 @@ fn with_argument(
 fn with_arguments(
     alloc: Global,
     types: &Types,
-    scope: &Scope,
+    scope: &Scope<'_>,
     first: Option<Fault>,
     arguments: &[Argument],
 ) -> Result<Option<Fault>, AllocError>
@@ -111,7 +111,7 @@ fn with_arguments(
 fn with_range(
     alloc: Global,
     types: &Types,
-    scope: &Scope,
+    scope: &Scope<'_>,
     first: Option<Fault>,
     kind: Kind,
     range: Option<&Expr>,
@@ -147,7 +147,7 @@ fn with_other(
     alloc: Global,
     types: &Types,
     library: Option<u32>,
-    scope: &Scope,
+    scope: &Scope<'_>,
     first: Option<Fault>,
     other: Option<&Expr>,
 ) -> Result<Option<Fault>, AllocError>
@@ -169,7 +169,7 @@ fn with_form(
     alloc: Global,
     types: &Types,
     library: Option<u32>,
-    scope: &Scope,
+    scope: &Scope<'_>,
     first: Option<Fault>,
     form: Option<ModifierForm<'_>>,
 ) -> Result<Option<Fault>, AllocError>
@@ -218,7 +218,7 @@ pub(crate) fn with_modifier(
     alloc: Global,
     types: &Types,
     library: Option<u32>,
-    scope: &Scope,
+    scope: &Scope<'_>,
     first: Option<Fault>,
     of: &Option<TypeId>,
     modifier: &ModifierNode,

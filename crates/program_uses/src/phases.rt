@@ -9,7 +9,7 @@ ghost use Rattle.expr_nodes.specs.SeenNames.{seen_scope};
 ghost use Rattle.composition.specs.Calls.{phases_in as all_phases};
 ghost use Rattle.composition.specs.Uses.{phase_rows};
 ghost use Rattle.program_calls.specs.PlacedPhases.{seen_phase, seen_turn};
-ghost use Rattle.program_calls.specs.SeenLabels.{do_labels, seen_phase_label};
+ghost use Rattle.program_calls.specs.SeenLabels.{do_labels, seen_labels};
 ghost use Rattle.program_uses.specs.PhaseRows.{phase_in, placed_rows};
 ghost use Rattle.program_uses.specs.SeenTexts.{Tells};
 
@@ -17,9 +17,9 @@ use crate::calls::{it_made, with_call, with_callee, with_parts};
 use crate::compositions::{with_composition, with_whole_duration};
 use crate::program_texts::ProgramTexts;
 use dsl_tree::{InvokeNode, Phase};
-use expr_nodes::Scope;
+use expr_nodes::{LabelTable, Scope};
 use osc_base::Fault;
-use program_calls::{PhaseLabel, PlacedPhase, invoked, phases_in, scope_at};
+use program_calls::{PlacedPhase, invoked, phases_in, scope_at};
 use std::alloc::{AllocError, Global};
 use type_model::{TypeId, Types};
 
@@ -28,7 +28,7 @@ fn with_invocation<'a>(
     alloc: Global,
     types: &Types,
     texts: &ProgramTexts<'a>,
-    scope: &mut Scope,
+    scope: &mut Scope<'_>,
     first: Option<Fault>,
     invocation: &'a InvokeNode,
 ) -> Result<Option<Fault>, AllocError>
@@ -49,7 +49,7 @@ fn with_phase<'a>(
     alloc: Global,
     types: &Types,
     texts: &ProgramTexts<'a>,
-    scope: &mut Scope,
+    scope: &mut Scope<'_>,
     first: Option<Fault>,
     phase: &'a Phase,
 ) -> Result<Option<Fault>, AllocError>
@@ -72,15 +72,15 @@ fn with_placed<'a>(
     alloc: Global,
     types: &Types,
     texts: &ProgramTexts<'a>,
-    labels: &[PhaseLabel],
+    labels: &LabelTable,
     holder: TypeId,
     first: Option<Fault>,
     placed: &PlacedPhase<'a>,
 ) -> Result<Option<Fault>, AllocError>
-    ensures { IfOk result (λ f. (ts : TypesOf) → Tells ts types.now texts.now → map seen_phase_label labels.now ≡ do_labels ts holder → f ≡ first_from first (phase_rows ts holder (map seen_turn placed.now.place.way) (phase_tree placed.now.phase.now))) }
+    ensures { IfOk result (λ f. (ts : TypesOf) → Tells ts types.now texts.now → seen_labels labels.now ≡ do_labels ts holder → f ≡ first_from first (phase_rows ts holder (map seen_turn placed.now.place.way) (phase_tree placed.now.phase.now))) }
 {
     let way = placed.place.way.as_slice();
-    let mut scope = scope_at(alloc, holder, None, labels, way)?;
+    let mut scope = scope_at(holder, None, labels, way);
     with_phase(alloc, types, texts, &mut scope, first, placed.phase)
 }
 
@@ -89,12 +89,12 @@ pub(crate) fn with_phases<'a>(
     alloc: Global,
     types: &Types,
     texts: &ProgramTexts<'a>,
-    labels: &[PhaseLabel],
+    labels: &LabelTable,
     holder: TypeId,
     first: Option<Fault>,
     phase: &'a Phase,
 ) -> Result<Option<Fault>, AllocError>
-    ensures { IfOk result (λ f. (ts : TypesOf) → Tells ts types.now texts.now → map seen_phase_label labels.now ≡ do_labels ts holder → f ≡ first_from first (flat_map (placed_rows ts holder) (all_phases (phase_tree phase.entry.now)))) }
+    ensures { IfOk result (λ f. (ts : TypesOf) → Tells ts types.now texts.now → seen_labels labels.now ≡ do_labels ts holder → f ≡ first_from first (flat_map (placed_rows ts holder) (all_phases (phase_tree phase.entry.now)))) }
 {
     let phases = phases_in(alloc, phase)?;
     let mut fault = first;

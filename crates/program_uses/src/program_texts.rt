@@ -4,8 +4,9 @@ ghost use Rattle.std.specs.Prelude.{◌≡◌, None, slice_index_or};
 ghost use Rattle.program_uses.specs.SeenTexts.{bare_body};
 
 use dsl_tree::{FieldDecl, Ident, Phase};
-use osc_base::{Place, Row};
+use osc_base::Place;
 use type_heads::{Body, WrittenMember};
+use type_members::MemberLists;
 use type_model::TypeId;
 
 /// The place of what no file declares.
@@ -36,11 +37,11 @@ pub(crate) struct TypeDo<'a> {
     pub under: &'a [TypeId],
 }
 
-/// The fields, the `do` and the body of each type.
+/// The members, the `do` and the body of each type.
 #[derive(Drop)]
 pub(crate) struct ProgramTexts<'a> {
     pub library: Option<u32>,
-    pub fields: Vec<Row<TypeField<'a>>>,
+    pub lists: &'a MemberLists<'a>,
     pub dos: Vec<Option<TypeDo<'a>>>,
     pub bodies: &'a [Body<'a>],
 }

@@ -17,9 +17,8 @@ ghost use Rattle.composition.specs.Uses.{default_rows, has_no_target as lacks_ta
 ghost use Rattle.program_uses.specs.RuleRows.{keep_rows, remove_rows};
 
 use crate::expr_parts::relation_left;
-use crate::paths::{path_checked, path_place};
 use dsl_tree::{Expr, KeepKind, PathNode, RuleDecl};
-use expr_eval::{Checked, checked};
+use expr_eval::{Checked, checked, path_checked, path_place};
 use expr_nodes::parts::least;
 use expr_nodes::{Scope, Typed};
 use name_scope::with_fault;
@@ -40,7 +39,7 @@ pub(crate) fn with_known(first: Option<Fault>, known: &Checked) -> Option<Fault>
 pub(crate) fn with_expr(
     alloc: Global,
     types: &Types,
-    scope: &Scope,
+    scope: &Scope<'_>,
     first: Option<Fault>,
     expr: &Expr,
 ) -> Result<Option<Fault>, AllocError>
@@ -77,7 +76,7 @@ fn is_no_read_truth(typed: &Option<Boxed<Typed>>) -> bool
 fn isnt_value_path(
     alloc: Global,
     types: &Types,
-    scope: &Scope,
+    scope: &Scope<'_>,
     expr: &Expr,
 ) -> Result<bool, AllocError>
     ensures { IfOk result (λ b. b ≡ isnt_path_to types.now.table (seen_scope scope.now) Fits.is_read (expr_tree expr.now)) }
@@ -90,7 +89,7 @@ fn isnt_value_path(
 fn isnt_truth_path(
     alloc: Global,
     types: &Types,
-    scope: &Scope,
+    scope: &Scope<'_>,
     expr: &Expr,
 ) -> Result<bool, AllocError>
     ensures { IfOk result (λ b. b ≡ isnt_path_to types.now.table (seen_scope scope.now) is_read_truth (expr_tree expr.now)) }
@@ -103,7 +102,7 @@ fn isnt_truth_path(
 fn has_no_target(
     alloc: Global,
     types: &Types,
-    scope: &Scope,
+    scope: &Scope<'_>,
     expr: &Expr,
 ) -> Result<bool, AllocError>
     ensures { IfOk result (λ b. b ≡ lacks_target types.now.table (seen_scope scope.now) (expr_tree expr.now)) }
@@ -118,7 +117,7 @@ fn has_no_target(
 fn with_default(
     alloc: Global,
     types: &Types,
-    scope: &Scope,
+    scope: &Scope<'_>,
     first: Option<Fault>,
     kind: KeepKind,
     expr: &Expr,
@@ -139,7 +138,7 @@ fn with_default(
 fn with_keep(
     alloc: Global,
     types: &Types,
-    scope: &Scope,
+    scope: &Scope<'_>,
     first: Option<Fault>,
     kind: KeepKind,
     expr: &Expr,
@@ -156,7 +155,7 @@ fn with_keep(
 fn with_removal(
     alloc: Global,
     types: &Types,
-    scope: &Scope,
+    scope: &Scope<'_>,
     first: Option<Fault>,
     path: &PathNode,
 ) -> Result<Option<Fault>, AllocError>
@@ -172,7 +171,7 @@ fn with_removal(
 pub(crate) fn with_rule(
     alloc: Global,
     types: &Types,
-    scope: &Scope,
+    scope: &Scope<'_>,
     first: Option<Fault>,
     rule: &RuleDecl,
 ) -> Result<Option<Fault>, AllocError>
@@ -188,7 +187,7 @@ pub(crate) fn with_rule(
 pub(crate) fn with_rules(
     alloc: Global,
     types: &Types,
-    scope: &Scope,
+    scope: &Scope<'_>,
     first: Option<Fault>,
     rules: &[RuleDecl],
 ) -> Result<Option<Fault>, AllocError>

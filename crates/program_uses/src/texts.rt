@@ -9,7 +9,7 @@ ghost use Rattle.composition.specs.Calls.{scope_at as scope_in};
 ghost use Rattle.composition.specs.Uses.{member_use_rows, text_rows};
 ghost use Rattle.std.specs.Prelude.{[], flat_map, map};
 ghost use Rattle.type_heads.specs.Table.{all_types};
-ghost use Rattle.program_calls.specs.SeenLabels.{do_labels, seen_phase_label};
+ghost use Rattle.program_calls.specs.SeenLabels.{do_labels, seen_labels};
 ghost use Rattle.type_heads.specs.Bodied.{seen_written};
 ghost use Rattle.program_uses.specs.SeenTexts.{Tells, written_rows};
 
@@ -18,9 +18,9 @@ use crate::phases::with_phases;
 use crate::program_texts::ProgramTexts;
 use crate::rules::with_rule;
 use dsl_tree::Member;
-use expr_nodes::Scope;
+use expr_nodes::{LabelTable, Scope};
 use osc_base::Fault;
-use program_calls::{PhaseLabel, phase_labels, phases_in, scope_at};
+use program_calls::{do_labels, no_labels, scope_at};
 use std::alloc::{AllocError, Global};
 use type_heads::WrittenMember;
 use type_model::{TypeId, Types};
@@ -30,13 +30,13 @@ fn with_member<'a>(
     alloc: Global,
     types: &Types,
     texts: &ProgramTexts<'a>,
-    labels: &[PhaseLabel],
+    labels: &LabelTable,
     of: TypeId,
-    scope: &mut Scope,
+    scope: &mut Scope<'_>,
     first: Option<Fault>,
     member: &'a Member,
 ) -> Result<Option<Fault>, AllocError>
-    ensures faults { IfOk result (λ f. (ts : TypesOf) → Tells ts types.now texts.now → map seen_phase_label labels.now ≡ do_labels ts of → seen_scope scope.old ≡ scope_in ts of None [] → f ≡ first_from first (member_use_rows ts of (member_tree member.entry.now))) }
+    ensures faults { IfOk result (λ f. (ts : TypesOf) → Tells ts types.now texts.now → seen_labels labels.now ≡ do_labels ts of → seen_scope scope.old ≡ scope_in ts of None [] → f ≡ first_from first (member_use_rows ts of (member_tree member.entry.now))) }
     ensures scope { IfOk result (λ f. scope.new ≡ scope.old) }
 {
     match member {
@@ -51,14 +51,14 @@ fn with_members<'a>(
     alloc: Global,
     types: &Types,
     texts: &ProgramTexts<'a>,
-    labels: &[PhaseLabel],
+    labels: &LabelTable,
     of: TypeId,
     first: Option<Fault>,
     members: &[WrittenMember<'a>],
 ) -> Result<Option<Fault>, AllocError>
-    ensures { IfOk result (λ f. (ts : TypesOf) → Tells ts types.now texts.now → map seen_phase_label labels.now ≡ do_labels ts of → f ≡ first_from first (flat_map (written_rows ts of) (map seen_written members.now))) }
+    ensures { IfOk result (λ f. (ts : TypesOf) → Tells ts types.now texts.now → seen_labels labels.now ≡ do_labels ts of → f ≡ first_from first (flat_map (written_rows ts of) (map seen_written members.now))) }
 {
-    let mut scope = scope_at(alloc, of, None, labels, &[])?;
+    let mut scope = scope_at(of, None, labels, &[]);
     let mut fault = first;
     for written in members {
         let member = written.member;
@@ -72,11 +72,11 @@ fn with_labelled(
     alloc: Global,
     types: &Types,
     texts: &ProgramTexts<'_>,
-    labels: &[PhaseLabel],
+    labels: &LabelTable,
     first: Option<Fault>,
     of: TypeId,
 ) -> Result<Option<Fault>, AllocError>
-    ensures { IfOk result (λ f. (ts : TypesOf) → Tells ts types.now texts.now → map seen_phase_label labels.now ≡ do_labels ts of → f ≡ first_from first (text_rows ts of)) }
+    ensures { IfOk result (λ f. (ts : TypesOf) → Tells ts types.now texts.now → seen_labels labels.now ≡ do_labels ts of → f ≡ first_from first (text_rows ts of)) }
 {
     let declared = with_members(alloc, types, texts, labels, of, first, texts.own(of))?;
     let found = with_members(alloc, types, texts, labels, of, declared, texts.more(of))?;
@@ -95,13 +95,13 @@ fn with_text(
 {
     match texts.the_do(of) {
         Some(found) => {
-            let phases = phases_in(alloc, found.phase)?;
-            let placed = phases.as_slice();
-            let all = phase_labels(alloc, types, TypeId(found.holder), placed)?;
-            let labels = all.as_slice();
-            with_labelled(alloc, types, texts, labels, first, of)
+            let labels = do_labels(alloc, types, TypeId(found.holder), found.phase)?;
+            with_labelled(alloc, types, texts, &labels, first, of)
         }
-        None => with_labelled(alloc, types, texts, &[], first, of),
+        None => {
+            let none = no_labels(alloc)?;
+            with_labelled(alloc, types, texts, &none, first, of)
+        }
     }
 }
 

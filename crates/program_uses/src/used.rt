@@ -8,7 +8,7 @@ ghost use Rattle.type_members.specs.Listed.{lists_of};
 ghost use Rattle.composition.specs.Uses.{use_rows};
 ghost use Rattle.program_uses.specs.SeenTexts.{HasTextsOf, Tells};
 
-use crate::gathered::{all_dos, all_fields};
+use crate::gathered::all_dos;
 use crate::invocations::with_invocations;
 use crate::program_texts::ProgramTexts;
 use crate::texts::with_texts;
@@ -18,7 +18,7 @@ use type_heads::Body;
 use type_members::MemberLists;
 use type_model::Types;
 
-/// The fields, the `do` and the body of each type.
+/// The members, the `do` and the body of each type.
 fn texts_of<'a>(
     alloc: Global,
     library: Option<u32>,
@@ -27,12 +27,10 @@ fn texts_of<'a>(
 ) -> Result<ProgramTexts<'a>, AllocError>
     ensures { IfOk result (λ t. (ts : TypesOf) → library ≡ ts.library → map seen_body bodies.entry.now ≡ ts.bodies → lists_of lists.entry.now ≡ ts.members → HasTextsOf ts t) }
 {
-    let rows = lists.rows();
-    let fields = all_fields(alloc, rows)?;
-    let dos = all_dos(alloc, rows)?;
+    let dos = all_dos(alloc, lists)?;
     Ok(ProgramTexts {
         library,
-        fields,
+        lists,
         dos,
         bodies,
     })

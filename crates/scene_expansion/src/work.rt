@@ -2,8 +2,8 @@
 
 use composition::{Binding, Guard, ValueRange};
 use dsl_tree::{CompNode, InvokeNode, WaitNode};
+use expr_nodes::Turn;
 use osc_base::{Path, Row};
-use program_calls::Turn;
 use type_model::TypeId;
 
 /// A phase of an object: the object and its bindings, the type that holds the text of its `do`, the turns on the

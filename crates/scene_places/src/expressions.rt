@@ -1,8 +1,8 @@
 //! Expressions with their paths at their homes in a scene.
 
-ghost use Rattle.std.specs.Prelude.{◌≡◌, map, IfOk};
+ghost use Rattle.std.specs.Prelude.{◌≡◌, map, option_map, IfOk};
 ghost use Rattle.expr_nodes.specs.Typed.{moved as moved_by};
-ghost use Rattle.expr_nodes.specs.Seen.{seen, reached};
+ghost use Rattle.expr_nodes.specs.Seen.{reached, seen, seen_part};
 ghost use Rattle.scene_texts.specs.Moving.{moved_part};
 ghost use Rattle.scene_places.specs.Placed.{place_in};
 
@@ -127,4 +127,18 @@ fn moved_earlier(
         })?;
     }
     Ok(row)
+}
+
+/// An expression that may be missing, with its paths replaced by their homes.
+pub fn moved_part(
+    alloc: Global,
+    places: &Places<'_>,
+    typed: &Option<Boxed<Typed>>,
+) -> Result<Option<Typed>, AllocError>
+    ensures { IfOk result (λ t. seen_part t ≡ option_map (moved_by (place_in places.now)) (seen_part typed.now)) }
+{
+    match typed {
+        Some(typed) => Ok(Some(moved(alloc, places, typed.get())?)),
+        None => Ok(None),
+    }
 }

@@ -4,5 +4,5 @@
 mod expressions;
 mod places;
 
-pub use expressions::moved;
+pub use expressions::{moved, moved_part};
 pub use places::Places;

@@ -18,7 +18,7 @@ pub struct Places<'a> {
 
 impl Places<'_> {
     /// The home of a path of the text.
-    #[tactic(auto, unfolding(crate::specs::Placed::place_in))]
+    #[tactic(auto, unfolding(crate::specs::Placed::home_under))]
     pub fn place(&self, alloc: Global, path: &Path) -> Result<Path, AllocError>
         ensures { IfOk result (λ p. p ≡ place_in self.now path.now) }
     {

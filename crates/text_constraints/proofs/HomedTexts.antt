@@ -12,7 +12,8 @@ use Rattle.composition.specs.Homes.{home}
 use Rattle.composition.specs.Scenes.{Binding}
 use Rattle.scene_texts.specs.Moving.{path_under}
 use Rattle.scene_texts.proofs.MovedTwice.{from_root_is, moved_home}
-use Rattle.text_constraints.specs.Sites.{Site, at_home, here_of, home_under, left_home, path_home, read_home, typed_home}
+use Rattle.text_constraints.specs.Sites.{Site, at_home, here_of, left_home, path_home, read_home, typed_home}
+use Rattle.scene_places.specs.Placed.{home_under}
 
 -- ---- reads
 

@@ -1,4 +1,3 @@
-pub mod PathSteps
 pub mod ListSteps
 pub mod LineSteps
 pub mod Relations
@@ -8,3 +7,4 @@ pub mod ScopeSteps
 pub mod HomedTexts
 pub mod KeptTexts
 pub mod ElementTexts
+mod LabelSteps

@@ -12,11 +12,10 @@ use Rattle.expr_nodes.specs.SeenNames.{seen_scope}
 use Rattle.expr_nodes.specs.Typed.{Typed, moved}
 use Rattle.expr_nodes.specs.Typing.{typed, is_path}
 use Rattle.composition.specs.Givens.{Here, read_at}
-use Rattle.composition.specs.Homes.{home}
 use Rattle.composition.specs.Scenes.{Binding}
 use Rattle.composition.specs.SeenScenes.{seen_scene}
-use Rattle.scene_texts.specs.Moving.{path_under}
-use Rattle.text_constraints.specs.declared.homes.Homes.{Homes}
+use Rattle.scene_places.specs.Placed.{home_under}
+use Rattle.scene_places.specs.declared.places.Places.{Places}
 use Rattle.text_constraints.specs.declared.targets.TextSite.{TextSite}
 
 -- the object in whose members a text stands, what `it` is, the scope of its names, and the bindings that tell homes
@@ -30,24 +29,16 @@ pub record Site : Type 0 where
 abbrev pub here_of : Site → Here
 here_of s = record { object = s.object; it = s.it; scope = s.scope }
 
--- the home of a path of a text
-unfoldable pub home_under : List Binding → Path → Path → Path → Path
-home_under bindings object it path = home bindings (path_under object it path)
-
--- by the program's own scene
-abbrev pub homed : Homes → Path → Path
-homed h = home_under (seen_scene h.scene.now).bindings h.object.now h.it.now
-
 -- a path of the text of a site
 abbrev pub at_home : Site → Path → Path
 at_home s = home_under s.bindings s.object s.it
 
 -- the site that the program's own one is seen as
 abbrev pub seen_site : TextSite → Site
-seen_site t = record { object = t.homes.object.now; it = t.homes.it.now; scope = seen_scope t.scope.now; bindings = (seen_scene t.homes.scene.now).bindings }
+seen_site t = record { object = t.places.object.now; it = t.places.it.now; scope = seen_scope t.scope.now; bindings = (seen_scene t.places.scene.now).bindings }
 
 -- a site of some homes and names
-abbrev pub site_of : Homes → Scope → Site
+abbrev pub site_of : Places → Scope → Site
 site_of h sc = record { object = h.object.now; it = h.it.now; scope = sc; bindings = (seen_scene h.scene.now).bindings }
 
 -- an expression whose paths are at their homes

@@ -68,7 +68,7 @@ fn value_place(of: &Ident, value: &ConditionValue) -> Place
 pub fn field_checked(
     alloc: Global,
     types: &Types,
-    scope: &Scope,
+    scope: &Scope<'_>,
     place: Place,
     name: &Ident,
 ) -> Result<Checked, AllocError>
@@ -82,7 +82,7 @@ pub fn field_checked(
 fn condition(
     alloc: Global,
     types: &Types,
-    text: &TextSite<'_, '_>,
+    text: &TextSite<'_, '_, '_>,
     owner: &Owner<'_, '_>,
     place: Place,
     condition: &HeirCondition,
@@ -110,7 +110,7 @@ fn condition(
 fn push_condition(
     alloc: Global,
     texts: &ProgramTexts<'_>,
-    text: &TextSite<'_, '_>,
+    text: &TextSite<'_, '_, '_>,
     owner: &Owner<'_, '_>,
     into: &mut Vec<Occurrence>,
     place: Place,
@@ -130,7 +130,7 @@ fn push_condition(
 fn push_base(
     alloc: Global,
     texts: &ProgramTexts<'_>,
-    text: &TextSite<'_, '_>,
+    text: &TextSite<'_, '_, '_>,
     owner: &Owner<'_, '_>,
     into: &mut Vec<Occurrence>,
     place: Place,
@@ -168,7 +168,7 @@ fn line_of(alloc: Global, texts: &ProgramTexts<'_>, of: TypeId) -> Result<Row<Ty
 fn push_line(
     alloc: Global,
     texts: &ProgramTexts<'_>,
-    text: &TextSite<'_, '_>,
+    text: &TextSite<'_, '_, '_>,
     owner: &Owner<'_, '_>,
     into: &mut Vec<Occurrence>,
     place: Place,
@@ -189,7 +189,7 @@ fn push_line(
 pub(crate) fn push_conditions(
     alloc: Global,
     texts: &ProgramTexts<'_>,
-    text: &TextSite<'_, '_>,
+    text: &TextSite<'_, '_, '_>,
     owner: &Owner<'_, '_>,
     into: &mut Vec<Occurrence>,
     place: Place,

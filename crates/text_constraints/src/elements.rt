@@ -97,7 +97,8 @@ pub(crate) fn sample_list(
     let scope = Scope {
         holder: of,
         it: Some(It::Of(FieldType { of, length })),
-        labels: Row::new(alloc),
+        labels: None,
+        way: &[],
     };
     let known = it(alloc, types, &scope, place)?;
     Ok(known.typed)

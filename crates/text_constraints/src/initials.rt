@@ -33,7 +33,7 @@ use type_model::{TypeId, Types};
 fn initial(
     alloc: Global,
     types: &Types,
-    text: &TextSite<'_, '_>,
+    text: &TextSite<'_, '_, '_>,
     owner: &Owner<'_, '_>,
     value: &Expr,
 ) -> Result<Occurrence, AllocError>
@@ -58,7 +58,7 @@ fn initial(
 fn sampled_element(
     alloc: Global,
     types: &Types,
-    text: &TextSite<'_, '_>,
+    text: &TextSite<'_, '_, '_>,
     owner: &Owner<'_, '_>,
     sample: Sample,
     number: u32,
@@ -85,7 +85,7 @@ fn sampled_element(
 fn initial_element(
     alloc: Global,
     types: &Types,
-    text: &TextSite<'_, '_>,
+    text: &TextSite<'_, '_, '_>,
     owner: &Owner<'_, '_>,
     list: &Option<Boxed<Typed>>,
     number: u32,
@@ -117,7 +117,7 @@ fn element_number(place: usize) -> Result<u32, AllocError>
 fn push_element(
     alloc: Global,
     types: &Types,
-    text: &TextSite<'_, '_>,
+    text: &TextSite<'_, '_, '_>,
     owner: &Owner<'_, '_>,
     into: &mut Vec<Occurrence>,
     list: &Option<Boxed<Typed>>,
@@ -135,7 +135,7 @@ fn push_element(
 fn push_elements(
     alloc: Global,
     types: &Types,
-    text: &TextSite<'_, '_>,
+    text: &TextSite<'_, '_, '_>,
     owner: &Owner<'_, '_>,
     into: &mut Vec<Occurrence>,
     list: &Option<Boxed<Typed>>,
@@ -168,7 +168,7 @@ fn list_of(
 fn push_listed(
     alloc: Global,
     types: &Types,
-    text: &TextSite<'_, '_>,
+    text: &TextSite<'_, '_, '_>,
     owner: &Owner<'_, '_>,
     into: &mut Vec<Occurrence>,
     of: &Option<TypeId>,
@@ -194,7 +194,7 @@ fn items_given(is_list: bool, initial: &Expr) -> Option<&[Expr]>
 pub(crate) fn push_initial(
     alloc: Global,
     types: &Types,
-    text: &TextSite<'_, '_>,
+    text: &TextSite<'_, '_, '_>,
     owner: &Owner<'_, '_>,
     into: &mut Vec<Occurrence>,
     of: &Option<TypeId>,

@@ -4,15 +4,12 @@
 mod conditions;
 mod copies;
 mod elements;
-mod homes;
 mod initials;
 mod members;
-mod paths;
 mod rules;
 mod targets;
 
 pub use conditions::field_checked;
-pub use homes::{Homes, moved_part};
-pub use members::{Standing, push_own, text_labels};
+pub use members::{Standing, push_own};
 pub use rules::{Owner, constraint, push_rule, typed_home};
 pub use targets::{TextSite, read_at, read_of};

@@ -6,17 +6,16 @@ ghost use Rattle.composition.specs.SeenScenes.{seen_scene};
 ghost use Rattle.dsl_tree.specs.FileTree.{MemberTree};
 ghost use Rattle.dsl_tree.specs.Views.{expr_tree, field_tree, rule_tree};
 ghost use Rattle.expr_nodes.specs.SeenNames.{seen_it, seen_scope};
-ghost use Rattle.program_calls.specs.SeenLabels.{do_labels, seen_phase_label};
 ghost use Rattle.program_texts.specs.SeenTexts.{types_in};
 ghost use Rattle.type_members.specs.Listed.{seen_listed};
 ghost use Rattle.expansion_laws.specs.WorkNodes.{own_within};
 ghost use Rattle.composition.specs.Expanded.{occurrence_of};
 ghost use Rattle.text_constraints.specs.Kept.{seen_owner};
+ghost use Rattle.text_constraints.specs.Labelled.{IsLabelled};
 ghost use Rattle.text_constraints.specs.OwnTexts.{HasIt, IsTextScope, conditions_kept, initials_kept, it_given, listed_kept, member_kept, name_kept, own_rule_kept, texts_kept, without_it};
 ghost use Rattle.text_constraints.specs.Sites.{seen_site};
 
 use crate::conditions::push_conditions;
-use crate::homes::Homes;
 use crate::initials::push_initial;
 use crate::rules::{Owner, push_rule, push_rules};
 use crate::targets::TextSite;
@@ -24,8 +23,9 @@ use composition::{Guard, Occurrence, Scene};
 use dsl_tree::{Expr, FieldDecl, Ident, Member, RuleDecl};
 use expr_nodes::{It, Scope};
 use osc_base::{Path, Place};
-use program_calls::{PhaseLabel, phase_labels, phases_in, scope_at};
-use program_texts::{ProgramTexts, list_length};
+use program_calls::scope_at;
+use program_texts::{ProgramTexts, TypeLabels, list_length};
+use scene_places::Places;
 use scene_texts::then_name;
 use std::alloc::{AllocError, Global};
 use type_model::{FieldType, ListedMember, TypeId};
@@ -42,7 +42,7 @@ pub struct Standing<'a> {
 fn push_declared(
     alloc: Global,
     texts: &ProgramTexts<'_>,
-    text: &TextSite<'_, '_>,
+    text: &TextSite<'_, '_, '_>,
     owner: &Owner<'_, '_>,
     into: &mut Vec<Occurrence>,
     place: Place,
@@ -60,7 +60,7 @@ fn push_declared(
 fn push_value(
     alloc: Global,
     texts: &ProgramTexts<'_>,
-    text: &TextSite<'_, '_>,
+    text: &TextSite<'_, '_, '_>,
     owner: &Owner<'_, '_>,
     into: &mut Vec<Occurrence>,
     of: &Option<TypeId>,
@@ -81,7 +81,7 @@ fn push_value(
 fn push_texts(
     alloc: Global,
     texts: &ProgramTexts<'_>,
-    text: &TextSite<'_, '_>,
+    text: &TextSite<'_, '_, '_>,
     owner: &Owner<'_, '_>,
     into: &mut Vec<Occurrence>,
     of: &Option<TypeId>,
@@ -117,7 +117,7 @@ fn push_name(
     alloc: Global,
     texts: &ProgramTexts<'_>,
     standing: &Standing<'_>,
-    scope: &Scope,
+    scope: &Scope<'_>,
     under: &[Guard],
     into: &mut Vec<Occurrence>,
     name: &Ident,
@@ -126,12 +126,12 @@ fn push_name(
     ensures { OnOk result ((seen_scope scope.now).it ≡ it_given (types_in texts.now) (field_tree decl.now) → map seen_occurrence into.new.items ≡ map seen_occurrence into.old.items ++ name_kept (types_in texts.now) (seen_scene standing.now.scene.now).bindings standing.now.object.now (seen_scope scope.now) under.now name.now (field_tree decl.now)) }
 {
     let it = then_name(alloc, standing.object, name.text.as_str())?;
-    let homes = Homes {
+    let places = Places {
         object: standing.object,
         it: &it,
         scene: standing.scene,
     };
-    let text = TextSite { homes, scope };
+    let text = TextSite { places, scope };
     let owner = Owner {
         holder: standing.object,
         under,
@@ -145,7 +145,7 @@ fn push_names(
     alloc: Global,
     texts: &ProgramTexts<'_>,
     standing: &Standing<'_>,
-    scope: &Scope,
+    scope: &Scope<'_>,
     under: &[Guard],
     into: &mut Vec<Occurrence>,
     decl: &FieldDecl,
@@ -163,19 +163,19 @@ fn push_own_rule(
     alloc: Global,
     texts: &ProgramTexts<'_>,
     standing: &Standing<'_>,
-    scope: &Scope,
+    scope: &Scope<'_>,
     under: &[Guard],
     into: &mut Vec<Occurrence>,
     rule: &RuleDecl,
 ) -> Result<(), AllocError>
     ensures { OnOk result (map seen_occurrence into.new.items ≡ map seen_occurrence into.old.items ++ own_rule_kept (types_in texts.now).table (seen_scene standing.now.scene.now).bindings standing.now.object.now (seen_scope scope.now) under.now (rule_tree rule.now) ∷ []) }
 {
-    let homes = Homes {
+    let places = Places {
         object: standing.object,
         it: standing.object,
         scene: standing.scene,
     };
-    let text = TextSite { homes, scope };
+    let text = TextSite { places, scope };
     let owner = Owner {
         holder: standing.object,
         under,
@@ -188,7 +188,7 @@ fn push_field(
     alloc: Global,
     texts: &ProgramTexts<'_>,
     standing: &Standing<'_>,
-    scope: &mut Scope,
+    scope: &mut Scope<'_>,
     listed: &ListedMember<'_>,
     into: &mut Vec<Occurrence>,
     decl: &FieldDecl,
@@ -207,7 +207,7 @@ fn push_member_rule(
     alloc: Global,
     texts: &ProgramTexts<'_>,
     standing: &Standing<'_>,
-    scope: &mut Scope,
+    scope: &mut Scope<'_>,
     listed: &ListedMember<'_>,
     into: &mut Vec<Occurrence>,
     rule: &RuleDecl,
@@ -225,7 +225,7 @@ fn push_member(
     alloc: Global,
     texts: &ProgramTexts<'_>,
     standing: &Standing<'_>,
-    scope: &mut Scope,
+    scope: &mut Scope<'_>,
     listed: &ListedMember<'_>,
     into: &mut Vec<Occurrence>,
 ) -> Result<(), AllocError>
@@ -239,51 +239,56 @@ fn push_member(
     }
 }
 
-/// The labels of the `do` of a type.
-pub fn text_labels(
-    alloc: Global,
-    texts: &ProgramTexts<'_>,
-    of: TypeId,
-) -> Result<Vec<PhaseLabel>, AllocError>
-    ensures { IfOk result (λ ls. map seen_phase_label ls.items ≡ do_labels (types_in texts.now) of) }
-{
-    let Some(behaviour) = texts.the_do(of) else {
-        return Ok(Vec::new(alloc));
-    };
-    let phases = phases_in(alloc, behaviour.phase)?;
-    phase_labels(
-        alloc,
-        texts.types(),
-        TypeId(behaviour.holder),
-        phases.as_slice(),
-    )
-}
-
-/// The scope of the text of a type outside its `do`.
-fn text_scope(alloc: Global, texts: &ProgramTexts<'_>, holder: TypeId) -> Result<Scope, AllocError>
-    ensures { IfOk result (λ s. IsTextScope (types_in texts.now) holder (seen_scope s)) }
-{
-    let labels = text_labels(alloc, texts, holder)?;
-    let scope = scope_at(alloc, holder, None, labels.as_slice(), &[])?;
-    Ok(scope)
-}
-
-/// The scope of the text of a type outside its `do`, given one of the text of some type.
-fn scope_for(
-    alloc: Global,
-    texts: &ProgramTexts<'_>,
-    scope: Scope,
+/// The labels of the text of a type, and the type.
+#[derive(Drop)]
+struct TextLabels<'t> {
     holder: TypeId,
-) -> Result<Scope, AllocError>
-    ensures { IfOk result (λ s. IsTextScope (types_in texts.now) scope.holder (seen_scope scope) → IsTextScope (types_in texts.now) holder (seen_scope s)) }
-{
-    if scope.holder == holder {
-        return Ok(scope);
-    }
-    text_scope(alloc, texts, holder)
+    labels: TypeLabels<'t>,
 }
 
-/// Puts what members of the object give at the end. The labels of a text are made once for members in a row.
+/// The labels of the text of a type.
+fn text_labels<'t>(
+    alloc: Global,
+    texts: &'t ProgramTexts<'_>,
+    holder: TypeId,
+) -> Result<TextLabels<'t>, AllocError>
+    ensures { IfOk result (λ l. IsLabelled (types_in texts.entry.now) holder l) }
+{
+    let labels = texts.labels(alloc, holder)?;
+    Ok(TextLabels { holder, labels })
+}
+
+/// The labels of the text of a type, given those of the text of some type.
+fn labels_for<'t>(
+    alloc: Global,
+    texts: &'t ProgramTexts<'_>,
+    known: TextLabels<'t>,
+    holder: TypeId,
+) -> Result<TextLabels<'t>, AllocError>
+    ensures { IfOk result (λ l. IsLabelled (types_in texts.entry.now) known.entry.holder known.entry → IsLabelled (types_in texts.entry.now) holder l) }
+{
+    if known.holder == holder {
+        return Ok(known);
+    }
+    text_labels(alloc, texts, holder)
+}
+
+/// Puts what a member of the object gives at the end, given the labels of the member's text.
+fn push_labelled(
+    alloc: Global,
+    texts: &ProgramTexts<'_>,
+    standing: &Standing<'_>,
+    labels: &TextLabels<'_>,
+    listed: &ListedMember<'_>,
+    into: &mut Vec<Occurrence>,
+) -> Result<(), AllocError>
+    ensures { OnOk result (IsLabelled (types_in texts.now) listed.now.holder labels.now → map seen_occurrence into.new.items ≡ map seen_occurrence into.old.items ++ listed_kept (types_in texts.now) (seen_scene standing.now.scene.now).bindings standing.now.object.now standing.now.of (seen_listed listed.now)) }
+{
+    let mut scope = scope_at(labels.holder, None, labels.labels.table(), &[]);
+    push_member(alloc, texts, standing, &mut scope, listed, into)
+}
+
+/// Puts what members of the object give at the end. Labels that are made for a text serve all members in a row.
 fn push_members(
     alloc: Global,
     texts: &ProgramTexts<'_>,
@@ -293,10 +298,10 @@ fn push_members(
 ) -> Result<(), AllocError>
     ensures { OnOk result (map seen_occurrence into.new.items ≡ map seen_occurrence into.old.items ++ flat_map (listed_kept (types_in texts.now) (seen_scene standing.now.scene.now).bindings standing.now.object.now standing.now.of) (map seen_listed members.now)) }
 {
-    let mut scope = text_scope(alloc, texts, standing.of)?;
+    let mut labels = text_labels(alloc, texts, standing.of)?;
     for listed in members {
-        scope = scope_for(alloc, texts, scope, listed.holder)?;
-        push_member(alloc, texts, standing, &mut scope, listed, into)?;
+        labels = labels_for(alloc, texts, labels, listed.holder)?;
+        push_labelled(alloc, texts, standing, &labels, listed, into)?;
     }
     Ok(())
 }

@@ -14,7 +14,6 @@ ghost use Rattle.text_constraints.specs.Kept.{constraint as constraint_of, equal
 ghost use Rattle.text_constraints.specs.Sites.{seen_site, typed_home as home_typed};
 
 use crate::copies::copy_guards;
-use crate::homes::moved_part;
 use crate::targets::{TextSite, default_home, read_home, relation_home, removed_home};
 use composition::{Guard, Occurrence};
 use dsl_tree::{Expr, KeepKind, PathNode, RelationSign, RuleDecl};
@@ -22,6 +21,7 @@ use expr_eval::{Checked, checked};
 use expr_nodes::Typed;
 use expr_nodes::steps::related;
 use osc_base::{Mark, Path, Place, Strength};
+use scene_places::moved_part;
 use std::alloc::{AllocError, Global};
 use type_model::Types;
 
@@ -68,7 +68,7 @@ fn strength_of(kind: KeepKind) -> Strength
 fn mark_home(
     alloc: Global,
     types: &Types,
-    text: &TextSite<'_, '_>,
+    text: &TextSite<'_, '_, '_>,
     kind: KeepKind,
     expr: &Expr,
 ) -> Result<Option<Path>, AllocError>
@@ -84,20 +84,20 @@ fn mark_home(
 pub fn typed_home(
     alloc: Global,
     types: &Types,
-    text: &TextSite<'_, '_>,
+    text: &TextSite<'_, '_, '_>,
     expr: &Expr,
 ) -> Result<Option<Typed>, AllocError>
     ensures { IfOk result (λ t. seen_part t ≡ home_typed types.now.table (seen_site text.now) (expr_tree expr.now)) }
 {
     let known = checked(alloc, types, text.scope, expr)?;
-    moved_part(alloc, &text.homes, &known.typed)
+    moved_part(alloc, &text.places, &known.typed)
 }
 
 /// The constraint that a `keep` gives.
 fn kept(
     alloc: Global,
     types: &Types,
-    text: &TextSite<'_, '_>,
+    text: &TextSite<'_, '_, '_>,
     owner: &Owner<'_, '_>,
     place: Place,
     kind: KeepKind,
@@ -114,7 +114,7 @@ fn kept(
 fn removed(
     alloc: Global,
     types: &Types,
-    text: &TextSite<'_, '_>,
+    text: &TextSite<'_, '_, '_>,
     owner: &Owner<'_, '_>,
     place: Place,
     path: &PathNode,
@@ -129,7 +129,7 @@ fn removed(
 fn rule_of(
     alloc: Global,
     types: &Types,
-    text: &TextSite<'_, '_>,
+    text: &TextSite<'_, '_, '_>,
     owner: &Owner<'_, '_>,
     rule: &RuleDecl,
 ) -> Result<Occurrence, AllocError>
@@ -147,7 +147,7 @@ fn rule_of(
 pub fn push_rule(
     alloc: Global,
     types: &Types,
-    text: &TextSite<'_, '_>,
+    text: &TextSite<'_, '_, '_>,
     owner: &Owner<'_, '_>,
     into: &mut Vec<Occurrence>,
     rule: &RuleDecl,
@@ -162,7 +162,7 @@ pub fn push_rule(
 pub(crate) fn push_rules(
     alloc: Global,
     types: &Types,
-    text: &TextSite<'_, '_>,
+    text: &TextSite<'_, '_, '_>,
     owner: &Owner<'_, '_>,
     into: &mut Vec<Occurrence>,
     rules: &[RuleDecl],
@@ -178,7 +178,7 @@ pub(crate) fn push_rules(
 /// The relation that a field equals a value, with its paths at their homes. Both sides are known.
 fn equal_typed(
     alloc: Global,
-    text: &TextSite<'_, '_>,
+    text: &TextSite<'_, '_, '_>,
     place: Place,
     left: Checked,
     right: Checked,
@@ -186,13 +186,13 @@ fn equal_typed(
     ensures { IfOk result (λ t. (table : Table) (l v : ExprTree) → place ≡ first v → IsChecked table (seen_site text.now).scope l left → IsChecked table (seen_site text.now).scope v right → seen_part t ≡ home_typed table (seen_site text.now) (ExprTree.Relation place RelationSign.Equal l v)) }
 {
     let known = related(alloc, place, RelationSign::Equal, left, right)?;
-    moved_part(alloc, &text.homes, &known.typed)
+    moved_part(alloc, &text.places, &known.typed)
 }
 
 /// The constraint that a field equals a value, which begins at a place. Both are known.
 pub(crate) fn equal(
     alloc: Global,
-    text: &TextSite<'_, '_>,
+    text: &TextSite<'_, '_, '_>,
     owner: &Owner<'_, '_>,
     place: Place,
     strength: Strength,
@@ -202,7 +202,7 @@ pub(crate) fn equal(
 ) -> Result<Occurrence, AllocError>
     ensures { IfOk result (λ o. (table : Table) (l v : ExprTree) → begins ≡ first v → IsChecked table (seen_site text.now).scope l left → IsChecked table (seen_site text.now).scope v right → seen_occurrence o ≡ equal_kept table (seen_site text.now) (seen_owner owner.now) place strength l v) }
 {
-    let target = read_home(alloc, &text.homes, &left.typed)?;
+    let target = read_home(alloc, &text.places, &left.typed)?;
     let typed = equal_typed(alloc, text, begins, left, right)?;
     constraint(alloc, owner, place, strength, target, typed)
 }

@@ -4,23 +4,23 @@ ghost use Rattle.std.specs.Prelude.{◌≡◌, option_and_then, option_copied, o
 ghost use Rattle.dsl_tree.specs.Views.{expr_tree, path_tree};
 ghost use Rattle.composition.specs.Givens.{read_at as read_in};
 ghost use Rattle.expr_nodes.specs.Seen.{seen, seen_part};
-ghost use Rattle.text_constraints.specs.Sites.{homed, left_home, left_in, path_home, seen_expr, seen_site, whole_home};
+ghost use Rattle.text_constraints.specs.Sites.{left_home, left_in, path_home, seen_expr, seen_site, whole_home};
+ghost use Rattle.scene_places.specs.Placed.{place_in};
 
-use crate::homes::{Homes, place};
-use crate::paths::path_checked;
 use dsl_tree::{Expr, PathNode};
-use expr_eval::checked;
+use expr_eval::{checked, path_checked};
 use expr_nodes::{Scope, Typed};
 use osc_base::{Boxed, Path};
 use program_calls::is_path;
+use scene_places::Places;
 use std::alloc::{AllocError, Global};
 use type_model::Types;
 
 /// Where a text stands: the homes of its paths, and the scope of its names.
 #[derive(Clone, Copy)]
-pub struct TextSite<'a, 's> {
-    pub homes: Homes<'a>,
-    pub scope: &'s Scope,
+pub struct TextSite<'a, 's, 'l> {
+    pub places: Places<'a>,
+    pub scope: &'s Scope<'l>,
 }
 
 /// The path that is read, if the expression is one read.
@@ -55,13 +55,13 @@ pub fn read_at(typed: &Option<Boxed<Typed>>) -> Option<&Path>
 /// The home of what is read, if the expression is one read.
 pub(crate) fn read_home(
     alloc: Global,
-    homes: &Homes<'_>,
+    places: &Places<'_>,
     typed: &Option<Boxed<Typed>>,
 ) -> Result<Option<Path>, AllocError>
-    ensures { IfOk result (λ p. p ≡ option_map (homed homes.now) (option_and_then read_in (seen_part typed.now))) }
+    ensures { IfOk result (λ p. p ≡ option_map (place_in places.now) (option_and_then read_in (seen_part typed.now))) }
 {
     match read_at(typed) {
-        Some(path) => Ok(Some(place(alloc, homes, path)?)),
+        Some(path) => Ok(Some(places.place(alloc, path)?)),
         None => Ok(None),
     }
 }
@@ -70,7 +70,7 @@ pub(crate) fn read_home(
 fn expr_home(
     alloc: Global,
     types: &Types,
-    text: &TextSite<'_, '_>,
+    text: &TextSite<'_, '_, '_>,
     expr: &Expr,
 ) -> Result<Option<Path>, AllocError>
     ensures { IfOk result (λ p. p ≡ path_home types.now.table (seen_site text.now) (expr_tree expr.now)) }
@@ -79,7 +79,7 @@ fn expr_home(
         return Ok(None);
     }
     let known = checked(alloc, types, text.scope, expr)?;
-    read_home(alloc, &text.homes, &known.typed)
+    read_home(alloc, &text.places, &known.typed)
 }
 
 /// What stands on the left of a relation.
@@ -96,7 +96,7 @@ fn left_of(expr: &Expr) -> Option<&Expr>
 pub(crate) fn relation_home(
     alloc: Global,
     types: &Types,
-    text: &TextSite<'_, '_>,
+    text: &TextSite<'_, '_, '_>,
     expr: &Expr,
 ) -> Result<Option<Path>, AllocError>
     ensures { IfOk result (λ p. p ≡ left_home types.now.table (seen_site text.now) (expr_tree expr.now)) }
@@ -111,7 +111,7 @@ pub(crate) fn relation_home(
 pub(crate) fn default_home(
     alloc: Global,
     types: &Types,
-    text: &TextSite<'_, '_>,
+    text: &TextSite<'_, '_, '_>,
     expr: &Expr,
 ) -> Result<Option<Path>, AllocError>
     ensures { IfOk result (λ p. p ≡ whole_home types.now.table (seen_site text.now) (expr_tree expr.now)) }
@@ -126,11 +126,11 @@ pub(crate) fn default_home(
 pub(crate) fn removed_home(
     alloc: Global,
     types: &Types,
-    text: &TextSite<'_, '_>,
+    text: &TextSite<'_, '_, '_>,
     path: &PathNode,
 ) -> Result<Option<Path>, AllocError>
     ensures { IfOk result (λ p. p ≡ path_home types.now.table (seen_site text.now) (path_tree path.now)) }
 {
     let known = path_checked(alloc, types, text.scope, path)?;
-    read_home(alloc, &text.homes, &known.typed)
+    read_home(alloc, &text.places, &known.typed)
 }

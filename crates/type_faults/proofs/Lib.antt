@@ -19,3 +19,5 @@ mod TypeNumbers
 mod HeadingRows
 mod FoundFields
 mod ConditionSteps
+mod HeldFall
+mod PlainFaults

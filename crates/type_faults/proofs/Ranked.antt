@@ -28,7 +28,7 @@ module _ (low : ℕ → Bool) where
   all_joined : (xs ys : List ℕ) → list_all low xs ≡ true → list_all low ys ≡ true → list_all low (xs ++ ys) ≡ true
   all_joined xs ys h k = list_all-append low xs ys ∙ both (list_all low xs) (list_all low ys) h k
 
-  all_fresh : (seen xs : List ℕ) → list_all low xs ≡ true → list_all low (fresh seen xs) ≡ true
+  pub all_fresh : (seen xs : List ℕ) → list_all low xs ≡ true → list_all low (fresh seen xs) ≡ true
   all_fresh seen [] h = refl
   all_fresh seen (x ∷ xs) h = by (has x seen) (all_fresh seen xs (right_of (low x) (list_all low xs) h))
       (both (low x) (list_all low (fresh (x ∷ seen) xs)) (left_of (low x) (list_all low xs) h) (all_fresh (x ∷ seen) xs (right_of (low x) (list_all low xs) h)))
@@ -42,7 +42,7 @@ module _ (low : ℕ → Bool) where
   all_next step stays (x ∷ xs) h =
       all_joined (step x) (flat_map step xs) (stays x (left_of (low x) (list_all low xs) h)) (all_next step stays xs (right_of (low x) (list_all low xs) h))
 
-  all_reached : (step : ℕ → List ℕ) → ((x : ℕ) → low x ≡ true → list_all low (step x) ≡ true) → (n : ℕ) (found new : List ℕ) → list_all low found ≡ true → list_all low new ≡ true →
+  pub all_reached : (step : ℕ → List ℕ) → ((x : ℕ) → low x ≡ true → list_all low (step x) ≡ true) → (n : ℕ) (found new : List ℕ) → list_all low found ≡ true → list_all low new ≡ true →
       list_all low (reached n step found new) ≡ true
   all_reached step stays zero found new h k = h
   all_reached step stays (suc n) found [] h k = h

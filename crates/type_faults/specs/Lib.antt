@@ -9,3 +9,5 @@ pub mod Holding
 pub mod Passing
 pub mod ListedRows
 pub mod ConditionRows
+pub mod HeldRanks
+pub mod PlainLists

@@ -7,6 +7,7 @@ mod heirs;
 mod held;
 mod held_types;
 mod items;
+mod levels;
 mod members;
 mod names;
 mod references;

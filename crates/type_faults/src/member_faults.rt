@@ -8,6 +8,7 @@ mod dos;
 mod fields;
 mod initial;
 mod names;
+mod plain;
 
 pub use declared::with_types;
 pub use depends_on::DependsOn;

@@ -19,7 +19,8 @@ pub struct Ranking {
     pub ranks: Vec<u32>,
 }
 
-fn rank_of(ranks: &[u32], of: TypeId) -> u32
+/// The rank of a type.
+pub fn rank_of(ranks: &[u32], of: TypeId) -> u32
     ensures { result ≡ rank ranks.now of }
 {
     match ranks.get(of.0 as usize) {
@@ -62,7 +63,7 @@ fn all_level(ranks: &[u32], next: &[Row<TypeId>]) -> bool
 }
 
 /// Whether all these steps from a type lead to lower ranks.
-fn falls(ranks: &[u32], of: TypeId, next: &[TypeId]) -> bool
+pub fn falls(ranks: &[u32], of: TypeId, next: &[TypeId]) -> bool
     ensures { result ≡ all_fall ranks.now of next.now }
 {
     for to in next {

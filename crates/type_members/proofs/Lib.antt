@@ -1,2 +1,4 @@
 mod Tasks
 mod Listings
+mod Inheriting
+mod RowSteps

@@ -12,6 +12,7 @@ use Rattle.type_heads.specs.Members.{has, body, Line, line_of, through, subtypes
 use Rattle.type_heads.proofs.LineSteps.{line_none}
 use Rattle.type_members.specs.Listed.{AreSubtypes}
 use Rattle.type_members.specs.Listing.{Way, member_in, deeper, kept, listed_within, listed_along}
+use Rattle.type_members.specs.RowEnds.{own_part}
 
 or_swap : (a b c d : Bool) → ((a || b) || (c || d)) ≡ ((a || c) || (b || d))
 or_swap true b c d = refl
@@ -196,3 +197,14 @@ pub members_listed : (heads : List TypeHead) (bodies : List TypeBody) (lists : L
 members_listed heads bodies lists t steps line way are count line_is way_is =
     ap (λ n. listed_along n bodies lists line [] way) count ∙ ap (λ ts. listed_along (length heads) bodies lists ts [] way) line_is
     ∙ ap (listed_along (length heads) bodies lists (t ∷ bases heads t) []) way_is ∙ listed_members heads bodies lists t are
+
+-- the members that are listed down from a type
+pub part_listed : (heads : List TypeHead) (bodies : List TypeBody) (lists : List (List ℕ)) (t steps : ℕ) (line skipped : List ℕ) → AreSubtypes heads bodies lists →
+    steps ≡ length heads → line ≡ t ∷ bases heads t → skipped ≡ [] →
+    listed_within steps (record { bodies = bodies; subtypes = lists; line = line; skipped = skipped }) [] t ≡ own_part heads bodies t
+part_listed heads bodies lists t steps line skipped are count line_is none =
+    ap (λ n. listed_within n (record { bodies = bodies; subtypes = lists; line = line; skipped = skipped }) [] t) count
+    ∙ ap (λ ts. listed_within (length heads) (record { bodies = bodies; subtypes = lists; line = ts; skipped = skipped }) [] t) line_is
+    ∙ ap (λ ss. listed_within (length heads) (record { bodies = bodies; subtypes = lists; line = t ∷ bases heads t; skipped = ss }) [] t) none
+    ∙ within_law heads bodies lists are (t ∷ bases heads t) (length heads) [] [] t
+    ∙ ap (map (member_of (t ∷ bases heads t))) (all_kept heads bodies lists are (t ∷ bases heads t) (down heads bodies t))

@@ -1,13 +1,19 @@
 //! The members of each type, and what is worked out of them: fields, conditions, texts and the numbers of enums.
 #![tactic(auto)]
 
+mod along;
 mod bodied;
+mod heirs;
 mod listed;
 mod listing;
 mod member_lists;
+mod places;
+mod rows;
 mod subtypes;
 
 pub use bodied::heir_condition;
 pub use listed::ListedMember;
 pub use member_lists::MemberLists;
+pub use places::Span;
+pub use rows::{MemberRow, RowEnd};
 pub use subtypes::Subtypes;

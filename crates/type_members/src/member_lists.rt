@@ -1,84 +1,130 @@
 //! The members of each type.
 
-ghost use Rattle.std.specs.Prelude.{◌≡◌, ◌<◌, ◌∷◌, [], length, map, slice_index_or, IfOk};
+ghost use Rattle.std.specs.Prelude.{◌≡◌, [], map, slice_index_or, take, IfOk, OnOk};
 ghost use Rattle.type_heads.specs.Bodied.{seen_body};
 ghost use Rattle.type_heads.specs.Members.{members_of};
-ghost use Rattle.type_heads.specs.Table.{all_types, bases};
-ghost use Rattle.type_members.specs.Listed.{AreSubtypes, lists_of, seen_listed};
-ghost use Rattle.type_members.specs.Listing.{listed_along};
+ghost use Rattle.type_heads.specs.Table.{all_types};
+ghost use Rattle.type_members.specs.Listed.{AreSubtypes, list_at, lists_of, seen_listed, seen_row};
+ghost use Rattle.type_members.specs.RowEnds.{AreRows};
 
-use crate::listing::Descent;
+use crate::heirs::{first_heirs, row_order};
+use crate::places::{Places, Span, span_in};
+use crate::rows::{MemberRow, row_from};
 use crate::{ListedMember, Subtypes};
-use osc_base::Row;
 use std::alloc::{AllocError, Global};
-use type_heads::{Body, Heads, TypeId, line};
+use type_heads::{Body, Heads, TypeId};
 
-/// The members of each type, that `lists_of` sees as a list of lists.
+/// The members of each type, that `lists_of` sees as a list of lists. A type that inherits without a condition has the
+/// members of its base first. So one row serves for a type, one that inherits from it, one that inherits from that, and
+/// so on.
 #[derive(Drop)]
 pub struct MemberLists<'a> {
-    rows: Vec<Row<ListedMember<'a>>>,
+    rows: Vec<MemberRow<'a>>,
+    spans: Vec<Span>,
+    /// The members of a type that isn't there.
+    none: Vec<ListedMember<'a>>,
 }
 
-/// A type and then those that it inherits from.
-fn whole_line(alloc: Global, heads: &Heads, of: TypeId) -> Result<Vec<TypeId>, AllocError>
-    ensures { IfOk result (λ whole. whole.items ≡ of ∷ bases heads.now of) }
-{
-    let mut whole = vec![in alloc; of]?;
-    let bases = line(alloc, heads, heads.base(of))?;
-    whole.extend_from_slice(bases.as_slice())?;
-    Ok(whole)
+/// Rows of members, and where the members of each type stand in them.
+#[derive(Drop)]
+struct PlacedRows<'a> {
+    rows: Vec<MemberRow<'a>>,
+    places: Places,
 }
 
-/// Lists the members that come down from a type and from those that it inherits from, farthest first.
-fn list_along<'a>(
-    alloc: Global,
-    bodies: &[Body<'a>],
-    subtypes: &Subtypes,
-    steps: u32,
-    line: &[TypeId],
-    way: &[TypeId],
-) -> Result<Vec<ListedMember<'a>>, AllocError>
-    ensures { IfOk result (λ members. map seen_listed members.items ≡ listed_along steps (map seen_body bodies.now) subtypes.now line.now [] way.now) }
-{
-    let mut members = Vec::new(alloc);
-    let mut left = way.len();
-    while left > 0 {
-        left -= 1;
-        let skipped = &way[..left];
-        let descent = Descent {
-            bodies,
-            subtypes,
-            line,
-            skipped,
-        };
-        descent.list(alloc, &mut members, steps, way[left])?;
+impl<'a> PlacedRows<'a> {
+    /// Makes a row that begins with the members of a type.
+    fn push_from(
+        &mut self,
+        alloc: Global,
+        heads: &Heads,
+        bodies: &[Body<'a>],
+        subtypes: &Subtypes,
+        heirs: &[Option<TypeId>],
+        of: TypeId,
+    ) -> Result<(), AllocError>
+        requires subtypes { AreSubtypes heads.now (map seen_body bodies.now) subtypes.now }
+        requires rows { AreRows heads.now (map seen_body bodies.now) self.old.rows.items }
+        ensures { OnOk result (AreRows heads.now (map seen_body bodies.now) self.new.rows.items) }
+    {
+        let row = row_from(alloc, heads, bodies, subtypes, heirs, of)?;
+        self.places.put(self.rows.len(), row.ends.as_slice());
+        self.rows.push(row)?;
+        Ok(())
     }
-    Ok(members)
 }
 
-/// The members of a type.
-fn members<'a>(
+/// Rows in which the members of all types stand.
+fn placed_rows<'a>(
     alloc: Global,
     heads: &Heads,
     bodies: &[Body<'a>],
     subtypes: &Subtypes,
-    of: TypeId,
-) -> Result<Row<ListedMember<'a>>, AllocError>
+    heirs: &[Option<TypeId>],
+    order: &[TypeId],
+) -> Result<PlacedRows<'a>, AllocError>
     requires { AreSubtypes heads.now (map seen_body bodies.now) subtypes.now }
-    ensures { IfOk result (λ members. map seen_listed members ≡ members_of heads.now (map seen_body bodies.now) of) }
+    ensures { IfOk result (λ placed. AreRows heads.now (map seen_body bodies.now) placed.rows.items) }
 {
-    let whole = whole_line(alloc, heads, of)?;
-    let way = line(alloc, heads, Some(of))?;
-    let steps = heads.count();
-    let members = list_along(
-        alloc,
-        bodies,
-        subtypes,
-        steps,
-        whole.as_slice(),
-        way.as_slice(),
-    )?;
-    Ok(Row::of(members))
+    let mut placed = PlacedRows {
+        rows: Vec::new(alloc),
+        places: Places::new(alloc, heads.count())?,
+    };
+    for of in order {
+        if !placed.places.is_put(*of) {
+            placed.push_from(alloc, heads, bodies, subtypes, heirs, *of)?;
+        }
+    }
+    Ok(placed)
+}
+
+/// Where the members of each type stand in rows.
+fn all_spans(
+    alloc: Global,
+    heads: &Heads,
+    bodies: &[Body<'_>],
+    placed: &PlacedRows<'_>,
+) -> Result<Vec<Span>, AllocError>
+    requires { AreRows heads.now (map seen_body bodies.now) placed.now.rows.items }
+    ensures { IfOk result (λ spans. map (list_at (map seen_row placed.now.rows.items)) spans.items ≡ map (members_of heads.now (map seen_body bodies.now)) (all_types heads.now)) }
+{
+    let mut spans = Vec::new(alloc);
+    for number in 0..heads.count() {
+        let Some(span) = span_in(placed.rows.as_slice(), &placed.places, TypeId(number)) else {
+            // each type was put down
+            return Err(AllocError);
+        };
+        spans.push(span)?;
+    }
+    Ok(spans)
+}
+
+/// Rows of the members of all types.
+fn all_rows<'a>(
+    alloc: Global,
+    heads: &Heads,
+    bodies: &[Body<'a>],
+    subtypes: &Subtypes,
+) -> Result<PlacedRows<'a>, AllocError>
+    requires { AreSubtypes heads.now (map seen_body bodies.now) subtypes.now }
+    ensures { IfOk result (λ placed. AreRows heads.now (map seen_body bodies.now) placed.rows.items) }
+{
+    let heirs = first_heirs(alloc, heads, bodies)?;
+    let heirs = heirs.as_slice();
+    let order = row_order(alloc, heirs)?;
+    let placed = placed_rows(alloc, heads, bodies, subtypes, heirs, order.as_slice())?;
+    Ok(placed)
+}
+
+/// The first of some members, or all of them if there are fewer.
+fn first_of<'l, 'a>(members: &'l [ListedMember<'a>], len: usize) -> &'l [ListedMember<'a>]
+    ensures { map seen_listed result.now ≡ take len (map seen_listed members.now) }
+{
+    if len < members.len() {
+        &members[..len]
+    } else {
+        members
+    }
 }
 
 impl<'a> MemberLists<'a> {
@@ -92,25 +138,46 @@ impl<'a> MemberLists<'a> {
         requires { AreSubtypes heads.now (map seen_body bodies.now) subtypes.now }
         ensures { IfOk result (λ m. lists_of m ≡ map (members_of heads.now (map seen_body bodies.now)) (all_types heads.now)) }
     {
-        let mut rows = Vec::new(alloc);
-        for number in 0..heads.count() {
-            rows.push(members(alloc, heads, bodies, subtypes, TypeId(number))?)?;
-        }
-        Ok(MemberLists { rows })
+        let placed = all_rows(alloc, heads, bodies, subtypes)?;
+        let spans = all_spans(alloc, heads, bodies, &placed)?;
+        Ok(MemberLists {
+            rows: placed.rows,
+            spans,
+            none: Vec::new(alloc),
+        })
     }
 
-    /// The members of each type, in order.
-    pub fn rows(&self) -> &[Row<ListedMember<'a>>]
-        ensures { map (map seen_listed) result.now ≡ lists_of self.now }
+    /// The rows of members, which types share.
+    pub fn rows(&self) -> &[MemberRow<'a>]
+        ensures { result.now ≡ self.now.rows.items }
     {
         self.rows.as_slice()
     }
 
+    /// Where the members of each type stand in the rows.
+    pub fn spans(&self) -> &[Span]
+        ensures { result.now ≡ self.now.spans.items }
+    {
+        self.spans.as_slice()
+    }
+
+    /// The members that stand at a place in the rows.
+    pub fn at(&self, span: &Span) -> &[ListedMember<'a>]
+        ensures { map seen_listed result.now ≡ list_at (map seen_row self.now.rows.items) span.now }
+    {
+        match self.rows.get(span.row) {
+            Some(row) => first_of(row.members.as_slice(), span.len),
+            None => first_of(self.none.as_slice(), 0),
+        }
+    }
+
     /// The members of a type, in order.
     pub fn of(&self, of: TypeId) -> &[ListedMember<'a>]
-        requires { of < length (lists_of self.now) }
         ensures { map seen_listed result.now ≡ slice_index_or (lists_of self.now) of [] }
     {
-        self.rows[of.0 as usize].as_slice()
+        match self.spans.get(of.0 as usize) {
+            Some(span) => self.at(span),
+            None => first_of(self.none.as_slice(), 0),
+        }
     }
 }

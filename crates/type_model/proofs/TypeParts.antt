@@ -13,7 +13,6 @@ use Rattle.type_heads.specs.UnitsPlaced.{units_in}
 use Rattle.type_heads.specs.DeclaredTypes.{Placed, placed, types_from, types_of}
 use Rattle.type_heads.specs.HeadsGrouped.{all_heads}
 use Rattle.type_heads.specs.Bodied.{all_bodies, seen_body}
-use Rattle.type_heads.specs.Shown.{shown_member}
 use Rattle.type_heads.specs.declared.body.Body.{Body}
 use Rattle.type_heads.specs.Placing.{seen_placed}
 use Rattle.type_heads.specs.declared.placed.PlacedDecl.{PlacedDecl}
@@ -99,14 +98,14 @@ pub told_parts : (p : Program) (all : List Placed) (of_program : all ≡ placed 
     (m : MemberTables) → AreMemberTables heads (map seen_body slice) lists m → (t : ProgramTables) → AreProgramTables all heads t →
     ◌≡◌ {A = Told}
     (record {
-      table = record { heads = heads; fields = m.fields.items; units = t.units; texts = t.texts };
-      members = map (map shown_member) m.members.items;
+      table = record { heads = heads; fields = m.fields; units = t.units; texts = t.texts };
+      members = m.members;
       conditions = m.conditions.items;
     })
     (told (types_of p))
 told_parts p all of_program heads same_heads entries slice same same_bodies lists same_lists m members t program =
     told_types p all of_program heads same_heads (map seen_body entries) same_bodies lists same_lists
-    m.fields.items t.units t.texts (map (map shown_member) m.members.items) m.conditions.items
+    m.fields t.units t.texts m.members m.conditions.items
     members.fields program.units program.texts members.members
     (members.conditions ∙ ap (λ bs. map (condition_of heads (map seen_body bs) lists) (all_types heads)) same)
 

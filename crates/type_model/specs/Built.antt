@@ -7,7 +7,6 @@ use Rattle.type_heads.specs.Table.{TypeHead, all_types}
 use Rattle.type_heads.specs.Types.{Program, TypeBody, Member, Types}
 use Rattle.type_heads.specs.Texts.{declaration_exprs, texts_in, with_text}
 use Rattle.type_heads.specs.Told.{Told, member_told, told}
-use Rattle.type_heads.specs.Shown.{shown_member}
 use Rattle.type_heads.specs.DeclaredTypes.{Placed, placed, types_of}
 use Rattle.type_heads.specs.HeadingFaults.{heading_rows}
 use Rattle.type_heads.specs.MemberFaults.{member_fault_rows}
@@ -33,8 +32,8 @@ texts_among all = fold with_text ([] ∷ []) (flat_map (λ (p : Placed). flat_ma
 
 -- what is worked out of the members of each type
 pub record AreMemberTables (heads : List TypeHead) (bodies : List TypeBody) (lists : List (List Member)) (t : MemberTables) : Type 0 where
-  pub fields : t.fields.items ≡ map (table_fields heads) lists
-  pub members : map (map shown_member) t.members.items ≡ map (map member_told) lists
+  pub fields : t.fields ≡ map (table_fields heads) lists
+  pub members : t.members ≡ map (map member_told) lists
   pub conditions : t.conditions.items ≡ map (condition_of heads bodies lists) (all_types heads)
 
 -- what is worked out of the declarations alone

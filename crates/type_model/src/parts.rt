@@ -7,13 +7,13 @@ ghost use Rattle.type_heads.specs.UnitsPlaced.{units_in};
 ghost use Rattle.type_members.specs.Listed.{lists_of};
 ghost use Rattle.type_model.specs.Built.{AreBodies, AreMemberTables, AreProgramTables, texts_among};
 
-use crate::refs::all_refs;
+use crate::refs::MemberRefs;
 use osc_base::{Row, Text};
 use std::alloc::{AllocError, Global};
 use string_texts::texts;
-use type_heads::{Body, ConditionEntry, Declarations, Heads, MemberRef, bodies, unit_entries};
+use type_heads::{Body, ConditionEntry, Declarations, Heads, bodies, unit_entries};
 use type_members::{MemberLists, Subtypes};
-use type_tables::{FieldTable, TextTable, UnitTable, all_conditions, all_fields, all_numbers};
+use type_tables::{FieldLists, TextTable, UnitTable, all_conditions, all_numbers};
 
 /// The bodies and the conditional subtypes of all types.
 #[derive(Drop)]
@@ -41,8 +41,8 @@ impl<'a> Bodies<'a> {
 /// What is worked out of the members of each type.
 #[derive(Drop)]
 pub struct MemberTables {
-    pub fields: Vec<FieldTable>,
-    pub members: Vec<Row<MemberRef>>,
+    pub fields: FieldLists,
+    pub members: MemberRefs,
     pub conditions: Vec<Option<ConditionEntry>>,
 }
 
@@ -56,8 +56,8 @@ impl MemberTables {
     ) -> Result<MemberTables, AllocError>
         ensures { IfOk result (AreMemberTables heads.now (map seen_body bodies.now) (lists_of lists.now)) }
     {
-        let fields = all_fields(alloc, heads, lists)?;
-        let members = all_refs(alloc, lists)?;
+        let fields = FieldLists::of(alloc, heads, lists)?;
+        let members = MemberRefs::of(alloc, lists)?;
         let conditions = all_conditions(alloc, heads, bodies, lists)?;
         Ok(MemberTables {
             fields,

@@ -8,11 +8,12 @@ ghost use Rattle.type_model.specs.Kept.{AreKept};
 ghost use Rattle.type_heads.specs.Shown.{bare, condition_told, hit_of, kind_form, members_told, shown_field, shown_member, shown_unit, unit_parts};
 
 use crate::parts::{MemberTables, ProgramTables};
+use crate::refs::MemberRefs;
 use dsl_tree::CompoundKind;
 use osc_base::{Row, Text};
 use std::marker::Model;
 use type_heads::{ConditionEntry, EnumHit, FieldType, Form, Heads, MemberRef, TypeId, TypeKind};
-use type_tables::{FieldTable, TextTable, UnitTable};
+use type_tables::{FieldLists, TextTable, UnitTable};
 use units_si::Unit;
 
 /// The greatest magnitude of what a field holds.
@@ -25,26 +26,24 @@ const GREATEST_VALUE: i64 = 1_000_000_000;
 #[derive(Drop)]
 pub struct Types {
     heads: Heads,
-    fields: Vec<FieldTable>,
+    fields: FieldLists,
     units: UnitTable,
     texts: TextTable,
-    members: Vec<Row<MemberRef>>,
+    members: MemberRefs,
     conditions: Vec<Option<ConditionEntry>>,
     numbers: Vec<Row<i64>>,
 }
 
 impl Model for Types {
-    ghost use Rattle.std.specs.Prelude.{map};
     ghost use Rattle.type_heads.specs.Told.{Told};
 
     ghost Value = { Told };
 
-    ghost use Rattle.type_heads.specs.Shown.{shown_member};
     ghost use Rattle.type_model.specs.Kept.{AreKept};
 
     ghost view = { λ s. record {
-      table = record { heads = s.heads; fields = s.fields.items; units = s.units; texts = s.texts };
-      members = map (map shown_member) s.members.items;
+      table = record { heads = s.heads; fields = s.fields; units = s.units; texts = s.texts };
+      members = s.members;
       conditions = s.conditions.items;
     } };
 
@@ -55,7 +54,7 @@ impl Types {
     /// The types with these heads and tables.
     pub(crate) fn of(heads: Heads, members: MemberTables, program: ProgramTables) -> Types
         requires { AreKept heads program.numbers.items program.units program.texts }
-        ensures { result ≡ record { table = record { heads = heads; fields = members.fields.items; units = program.units; texts = program.texts }; members = map (map shown_member) members.members.items; conditions = members.conditions.items } }
+        ensures { result ≡ record { table = record { heads = heads; fields = members.fields; units = program.units; texts = program.texts }; members = members.members; conditions = members.conditions.items } }
     {
         Types {
             heads,
@@ -127,18 +126,14 @@ impl Types {
     pub fn members(&self, of: TypeId) -> &[MemberRef]
         ensures { map shown_member result.now ≡ members_told self.now of }
     {
-        match self.members.get(of.0 as usize) {
-            Some(members) => members.as_slice(),
-            None => &[],
-        }
+        self.members.members(of)
     }
 
     /// The type of the field of that name.
     pub fn field(&self, of: TypeId, name: &str) -> Option<FieldType>
         ensures { result ≡ option_map shown_field (field_of self.now.table of name.now) }
     {
-        let fields = self.fields.get(of.0 as usize)?;
-        let field = fields.named(name)?;
+        let field = self.fields.named(of, name)?;
         Some(field.of())
     }
 

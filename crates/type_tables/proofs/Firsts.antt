@@ -1,12 +1,14 @@
 -- First places, and what stands there.
-use Rattle.std.proofs.Common.{◌≡◌, ◌∙◌, refl, sym, ap, ℕ, ◌+◌, ◌<◌, ◌≤◌, List, [], ◌∷◌, ◌++◌, Bool, true, false, cond, Option, Some, None, length, take, arith, bytes_eq, get_or, length-append, append_assoc, Bor, option_copied}
+use Rattle.std.proofs.Common.{◌≡◌, ◌∙◌, refl, sym, ap, ℕ, zero, suc, ◌+◌, ◌<◌, ◌≤◌, nat_lt, List, [], ◌∷◌, ◌++◌, Bool, true, false, cond, Option, Some, None, length, take, arith, bytes_eq, get_or, length-append, append_assoc, Bor, option_copied}
 use Rattle.std.specs.Prelude.{slice_get, find, option_and_then}
 use Rattle.std.specs.Option.{option_or}
 use Rattle.std.specs.Slice.{IsItemAt}
+use Rattle.std.proofs.lemmas.Bool.Decides.{nat_tests}
 use Rattle.std.proofs.lemmas.Slice.Eq.{bytes_eq-Decides}
 use Rattle.std.proofs.lemmas.Option.{slice_get_past, slice_get-get_or}
 use Rattle.name_scope.specs.Declaring.{first_place}
 use Rattle.name_scope.proofs.Tables.{place_next}
+use Rattle.type_tables.specs.Places.{low_place}
 
 -- what stands at the first place is the first that passes
 at_end : {X : Type 0} (before : List X) (x : X) (xs : List X) → slice_get (before ++ x ∷ xs) (length before) ≡ Some x
@@ -59,3 +61,72 @@ text_turned a b =
 pub text_place : (text : List ℕ) (n : ℕ) (xs : List (List ℕ)) → first_place (λ x. bytes_eq x text) n xs ≡ first_place (bytes_eq text) n xs
 text_place text n [] = refl
 text_place text n (x ∷ xs) = λ k. cond (text_turned x text k) (Some n) (text_place text (n + 1) xs k)
+
+-- a place isn't before the start
+abbrev From : ℕ → Option ℕ → Type 0
+From start None = Unit {0}
+From start (Some i) = start ≤ i
+
+weaker : (start : ℕ) (o : Option ℕ) → From (start + 1) o → From start o
+weaker start None h = tt
+weaker start (Some i) h = omega (arith, h)
+
+at_or_past : (start : ℕ) (o : Option ℕ) (b : Bool) → From start o → From start (cond b (Some start) o)
+at_or_past start o true h = let le : start ≤ start = omega arith in le
+at_or_past start o false h = h
+
+from : {X : Type 0} (test : X → Bool) (start : ℕ) (ys : List X) → From start (first_place test start ys)
+from test start [] = tt
+from test start (y ∷ ys) = at_or_past start (first_place test (start + 1) ys) (test y) (weaker start (first_place test (start + 1) ys) (from test (start + 1) ys))
+
+not_less : (start i : ℕ) → start ≤ i → nat_lt i (start + zero) ≡ false
+not_less start i h = grind (arith, nat_tests)
+
+past : (start : ℕ) (o : Option ℕ) → From start o → option_and_then (λ i. cond (nat_lt i (start + zero)) (Some i) None) o ≡ None
+past start None h = refl
+past start (Some i) h = ap (λ b. cond b (Some i) None) (not_less start i h)
+
+is_less : (start n : ℕ) → nat_lt start (start + suc n) ≡ true
+is_less start n = grind (arith, nat_tests)
+
+-- the first place is among the first things, or none of these passes
+low_is : {X : Type 0} (test : X → Bool) (n start : ℕ) (xs : List X) →
+    first_place test start (take n xs) ≡ option_and_then (λ i. cond (nat_lt i (start + n)) (Some i) None) (first_place test start xs)
+low_is test zero start [] = refl
+low_is test (suc n) start [] = refl
+low_is test zero start (x ∷ xs) = sym (past start (first_place test start (x ∷ xs)) (from test start (x ∷ xs)))
+low_is test (suc n) start (x ∷ xs) = by (test x) (low_is test n (start + 1) xs)
+  where
+    by : (b : Bool) → first_place test (start + 1) (take n xs) ≡ option_and_then (λ i. cond (nat_lt i (start + 1 + n)) (Some i) None) (first_place test (start + 1) xs) →
+        cond b (Some start) (first_place test (start + 1) (take n xs))
+        ≡ option_and_then (λ i. cond (nat_lt i (start + suc n)) (Some i) None) (cond b (Some start) (first_place test (start + 1) xs))
+    by true h = sym (ap (λ b. cond b (Some start) None) (is_less start n))
+    by false h =
+        let same : start + 1 + n ≡ start + suc n = omega arith in
+        h ∙ ap (λ m. option_and_then (λ i. cond (nat_lt i m) (Some i) None) (first_place test (start + 1) xs)) same
+
+one_less : (i n : ℕ) → nat_lt (suc i) (suc n) ≡ true → nat_lt i n ≡ true
+one_less i n h = grind (arith, nat_tests)
+
+low_item : {X : Type 0} (n i : ℕ) (xs : List X) → nat_lt i n ≡ true → slice_get (take n xs) i ≡ slice_get xs i
+low_item zero i xs less = let below : i < 0 = grind (arith, nat_tests) in absurd (omega (arith, below))
+low_item (suc n) i [] less = refl
+low_item (suc n) zero (x ∷ xs) less = refl
+low_item (suc n) (suc i) (x ∷ xs) less = low_item n i xs (one_less i n less)
+
+-- the first that passes among the first things
+pub found_low : {X : Type 0} (test : X → Bool) (n : ℕ) (xs : List X) (o : Option ℕ) → o ≡ low_place n (first_place test 0 xs) →
+    find test (take n xs) ≡ option_and_then (slice_get xs) o
+found_low test n xs o is =
+    let same : 0 + n ≡ n = omega arith in
+    find_is test (take n xs)
+    ∙ ap (option_and_then (slice_get (take n xs))) (low_is test n 0 xs ∙ ap (λ m. low_place m (first_place test 0 xs)) same)
+    ∙ by (first_place test 0 xs) ∙ ap (option_and_then (slice_get xs)) (sym is)
+  where
+    in_low : (i : ℕ) (b : Bool) → nat_lt i n ≡ b → option_and_then (slice_get (take n xs)) (cond b (Some i) None) ≡ option_and_then (slice_get xs) (cond b (Some i) None)
+    in_low i true less = low_item n i xs less
+    in_low i false less = refl
+
+    by : (p : Option ℕ) → option_and_then (slice_get (take n xs)) (low_place n p) ≡ option_and_then (slice_get xs) (low_place n p)
+    by None = refl
+    by (Some i) = in_low i (nat_lt i n) refl

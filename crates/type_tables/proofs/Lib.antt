@@ -1,4 +1,5 @@
 mod Ascending
 mod FieldLists
+mod FieldSpans
 mod ListLengths
 mod Firsts

@@ -1,3 +1,4 @@
 pub mod Entries
+pub mod FieldEnds
 pub mod Looked
 pub mod Places

@@ -1,5 +1,5 @@
 -- The place of each name in a list.
-use Rattle.std.specs.Prelude.{◌≡◌, ℕ, ◌<◌, List, Option, bytes_eq, length}
+use Rattle.std.specs.Prelude.{◌≡◌, ℕ, true, List, Option, Some, None, bytes_eq, cond, nat_lt, option_and_then}
 use Rattle.std.specs.HashMap.{get_by_text}
 use Rattle.name_scope.specs.Declaring.{first_place}
 use Rattle.type_tables.specs.declared.first_places.FirstPlaces.{FirstPlaces}
@@ -12,6 +12,10 @@ place_in t name = get_by_text t.places name
 abbrev pub HasPlaces : {T : Type 0} → FirstPlaces → (T → List ℕ) → List T → Type 0
 HasPlaces t name_of things = (name : List ℕ) → place_in t name ≡ first_place (λ x. bytes_eq (name_of x) name) 0 things
 
--- the same, unless there are few things
+-- the same, if places are kept
 abbrev pub Places : {T : Type 0} → FirstPlaces → (T → List ℕ) → List T → Type 0
-Places t name_of things = 8 < length things → HasPlaces t name_of things
+Places t name_of things = t.is_kept ≡ true → HasPlaces t name_of things
+
+-- a place, if it is among the first n
+abbrev pub low_place : ℕ → Option ℕ → Option ℕ
+low_place n place = option_and_then (λ i. cond (nat_lt i n) (Some i) None) place

@@ -73,10 +73,7 @@ fn condition(
     let Some(condition) = heir_condition(bodies, of) else {
         return Ok(None);
     };
-    match lists.rows().get(base.0 as usize) {
-        Some(members) => condition_on(alloc, heads, members.as_slice(), of, condition),
-        None => condition_on(alloc, heads, &[], of, condition),
-    }
+    condition_on(alloc, heads, lists.of(base), of, condition)
 }
 
 /// The condition of each type, if it is a conditional subtype.

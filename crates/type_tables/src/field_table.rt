@@ -1,9 +1,9 @@
-//! The fields of one type.
+//! The fields of a row of members.
 
-ghost use Rattle.std.specs.Prelude.{◌≡◌, option_copied, IfOk};
+ghost use Rattle.std.specs.Prelude.{◌≡◌, length, option_copied, take, IfOk};
 ghost use Rattle.type_heads.specs.Table.{field_in};
 
-use crate::first_places::{FirstPlaces, HasName, found};
+use crate::first_places::{FirstPlaces, HasName, found_before};
 use std::alloc::{AllocError, Global};
 use std::marker::Model;
 use type_heads::FieldEntry;
@@ -16,7 +16,7 @@ impl HasName for FieldEntry {
     }
 }
 
-/// The fields of a type, and the place of each name. Contracts see them as the list of the fields.
+/// The fields of a row of members, and the place of each name. Contracts see them as the list of the fields.
 #[derive(Drop)]
 pub struct FieldTable {
     entries: Vec<FieldEntry>,
@@ -36,18 +36,29 @@ impl Model for FieldTable {
 }
 
 impl FieldTable {
-    /// These fields. More of them than a `u32` counts are out of memory.
-    pub fn of(alloc: Global, entries: Vec<FieldEntry>) -> Result<FieldTable, AllocError>
+    /// These fields, with places of their names or without. More of them than a `u32` counts are out of memory.
+    pub fn of(
+        alloc: Global,
+        entries: Vec<FieldEntry>,
+        is_indexed: bool,
+    ) -> Result<FieldTable, AllocError>
         ensures { IfOk result (λ table. table ≡ entries.items) }
     {
-        let places = FirstPlaces::of(alloc, entries.as_slice())?;
+        let places = FirstPlaces::of(alloc, entries.as_slice(), is_indexed)?;
         Ok(FieldTable { entries, places })
     }
 
-    /// The first field of that name.
-    pub fn named(&self, name: &str) -> Option<&FieldEntry>
-        ensures { option_copied result ≡ field_in self.now name.now }
+    /// How many there are.
+    pub fn len(&self) -> usize
+        ensures { result ≡ length self.now }
     {
-        found(&self.places, self.entries.as_slice(), name)
+        self.entries.len()
+    }
+
+    /// The first field of that name among the first `len` fields.
+    pub fn named_among(&self, len: usize, name: &str) -> Option<&FieldEntry>
+        ensures { option_copied result ≡ field_in (take len self.now) name.now }
+    {
+        found_before(&self.places, self.entries.as_slice(), len, name)
     }
 }

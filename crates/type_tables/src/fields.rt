@@ -1,19 +1,18 @@
-//! The fields of each type.
+//! The fields that members declare.
 
 ghost use Rattle.std.specs.Prelude.{◌≡◌, ◌++◌, None, Some, bytes_eq, cond, find, map, option_map, IfOk, OnOk};
 ghost use Rattle.std.specs.List.{list_any};
 ghost use Rattle.dsl_tree.specs.Views.{expr_tree, field_tree, member_tree};
-ghost use Rattle.type_heads.specs.Members.{fields_among, items_in, list_length as length_of, table_fields};
+ghost use Rattle.type_heads.specs.Members.{fields_among, items_in, list_length as length_of};
 ghost use Rattle.type_heads.specs.Types.{Field};
-ghost use Rattle.type_members.specs.Listed.{lists_of, seen_listed};
+ghost use Rattle.type_members.specs.Listed.{seen_listed};
 ghost use Rattle.type_tables.specs.Entries.{entries, field_entries, member_entries, named_among, named_in};
 
-use crate::FieldTable;
 use dsl_tree::{Expr, FieldDecl, Ident, Member};
 use osc_base::Text;
 use std::alloc::{AllocError, Global};
 use type_heads::{FieldEntry, FieldType, Heads, TypeId};
-use type_members::{ListedMember, MemberLists};
+use type_members::ListedMember;
 
 /// The number of elements of a list constructor, and 0 of another expression. More of them than a `u32` counts are
 /// out of memory.
@@ -88,7 +87,7 @@ fn push_field(
 }
 
 /// Puts the fields of a member at the end.
-fn push_member(
+pub(crate) fn push_member(
     alloc: Global,
     into: &mut Vec<FieldEntry>,
     heads: &Heads,
@@ -103,48 +102,6 @@ fn push_member(
         }
         Member::Rule(_) | Member::Do { place: _, phase: _ } => Ok(()),
     }
-}
-
-/// The fields among members.
-fn fields(
-    alloc: Global,
-    heads: &Heads,
-    members: &[ListedMember<'_>],
-) -> Result<Vec<FieldEntry>, AllocError>
-    ensures { IfOk result (λ fields. fields.items ≡ table_fields heads.now (map seen_listed members.now)) }
-{
-    let mut into = Vec::new(alloc);
-    for member in members {
-        push_member(alloc, &mut into, heads, member)?;
-    }
-    Ok(into)
-}
-
-/// The fields among members, found by their names.
-fn field_table(
-    alloc: Global,
-    heads: &Heads,
-    members: &[ListedMember<'_>],
-) -> Result<FieldTable, AllocError>
-    ensures { IfOk result (λ table. table ≡ table_fields heads.now (map seen_listed members.now)) }
-{
-    let entries = fields(alloc, heads, members)?;
-    FieldTable::of(alloc, entries)
-}
-
-/// The fields of each type.
-pub fn all_fields(
-    alloc: Global,
-    heads: &Heads,
-    lists: &MemberLists<'_>,
-) -> Result<Vec<FieldTable>, AllocError>
-    ensures { IfOk result (λ all. all.items ≡ map (table_fields heads.now) (lists_of lists.now)) }
-{
-    let mut all = Vec::new(alloc);
-    for members in lists.rows() {
-        all.push(field_table(alloc, heads, members.as_slice())?)?;
-    }
-    Ok(all)
 }
 
 /// Whether one of the names is that name.

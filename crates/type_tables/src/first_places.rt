@@ -1,9 +1,9 @@
 //! The first place of each name in a list.
 
-ghost use Rattle.std.specs.Prelude.{◌≡◌, ℕ, ◌+◌, ◌<◌, ◌^◌, List, None, Some, bytes_eq, cond, find, option_copied, IfOk, OnOk};
+ghost use Rattle.std.specs.Prelude.{◌≡◌, ℕ, ◌+◌, ◌<◌, ◌^◌, List, None, Some, bytes_eq, cond, find, option_copied, take, IfOk, OnOk};
 ghost use Rattle.std.specs.Option.{option_or};
 ghost use Rattle.name_scope.specs.Declaring.{first_place};
-ghost use Rattle.type_tables.specs.Places.{HasPlaces, Places, place_in};
+ghost use Rattle.type_tables.specs.Places.{HasPlaces, Places, low_place, place_in};
 
 use indexmap::IndexMap;
 use std::alloc::{AllocError, Global};
@@ -20,9 +20,10 @@ pub trait HasName {
 /// A list of so few things is gone over. No places are kept for it, which saves memory for types with few fields.
 const FEW: usize = 8;
 
-/// The first place of each name in a list of fewer than 2^32 things. Those of a list of few things aren't kept.
+/// The first place of each name in a list of fewer than 2^32 things, if places are kept for the list. Else it is gone over.
 #[derive(Drop)]
 pub struct FirstPlaces {
+    is_kept: bool,
     places: IndexMap<String, u32>,
 }
 
@@ -35,10 +36,12 @@ fn next_place(place: u32) -> Result<u32, AllocError>
 }
 
 impl FirstPlaces {
-    fn new(alloc: Global) -> FirstPlaces
-        ensures { (name : List ℕ) → place_in result name ≡ None }
+    fn new(alloc: Global, is_kept: bool) -> FirstPlaces
+        ensures kept { result.is_kept ≡ is_kept }
+        ensures none { (name : List ℕ) → place_in result name ≡ None }
     {
         FirstPlaces {
+            is_kept,
             places: IndexMap::new(alloc),
         }
     }
@@ -61,12 +64,17 @@ impl FirstPlaces {
         Ok(())
     }
 
-    /// The first place of each name, unless there are few things. More things than a `u32` counts are out of memory.
-    pub fn of<T: HasName>(alloc: Global, things: &[T]) -> Result<FirstPlaces, AllocError>
+    /// The first place of each name, if places are wanted and there are more than a few things. More things than a `u32`
+    /// counts are out of memory.
+    pub fn of<T: HasName>(
+        alloc: Global,
+        things: &[T],
+        is_wanted: bool,
+    ) -> Result<FirstPlaces, AllocError>
         ensures { IfOk result (λ t. Places t T.name_of things.now) }
     {
-        if things.len() <= FEW {
-            return Ok(FirstPlaces::new(alloc));
+        if !is_wanted || things.len() <= FEW {
+            return Ok(FirstPlaces::new(alloc, false));
         }
         let places = FirstPlaces::of_many(alloc, things)?;
         Ok(places)
@@ -76,7 +84,7 @@ impl FirstPlaces {
     fn of_many<T: HasName>(alloc: Global, things: &[T]) -> Result<FirstPlaces, AllocError>
         ensures { IfOk result (λ t. HasPlaces t T.name_of things.now) }
     {
-        let mut index = FirstPlaces::new(alloc);
+        let mut index = FirstPlaces::new(alloc, true);
         let mut place: u32 = 0;
         for thing in things {
             index.note(alloc, thing.own_name(), place)?;
@@ -91,10 +99,36 @@ pub fn found<'a, T: HasName>(places: &FirstPlaces, things: &'a [T], name: &str) 
     requires { Places places.now T.name_of things.now }
     ensures { option_copied result ≡ find (λ x. bytes_eq (T.name_of x) name.now) things.now }
 {
-    if things.len() <= FEW {
+    if !places.is_kept {
         return first_named(things, name);
     }
     found_by_place(places, things, name)
+}
+
+/// The first of the things of that name, if it is among the first `len` things.
+pub fn found_before<'a, T: HasName>(
+    places: &FirstPlaces,
+    things: &'a [T],
+    len: usize,
+    name: &str,
+) -> Option<&'a T>
+    requires { Places places.now T.name_of things.now }
+    ensures { option_copied result ≡ find (λ x. bytes_eq (T.name_of x) name.now) (take len things.now) }
+{
+    match if_low(place_of(places, things, name), len) {
+        Some(place) => things.get(place),
+        None => None,
+    }
+}
+
+/// A place, if it is among the first `len`.
+fn if_low(place: Option<usize>, len: usize) -> Option<usize>
+    ensures { result ≡ low_place len place }
+{
+    match place {
+        Some(place) if place < len => Some(place),
+        _ => None,
+    }
 }
 
 /// The first of the things of that name.
@@ -124,7 +158,7 @@ pub fn place_of<T: HasName>(places: &FirstPlaces, things: &[T], name: &str) -> O
     requires { Places places.now T.name_of things.now }
     ensures { result ≡ first_place (λ x. bytes_eq (T.name_of x) name.now) 0 things.now }
 {
-    if things.len() <= FEW {
+    if !places.is_kept {
         return place_among(things, name);
     }
     places.get(name).map(|place| place as usize)

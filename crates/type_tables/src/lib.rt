@@ -2,6 +2,8 @@
 #![tactic(auto)]
 
 mod conditions;
+mod field_lists;
+mod field_rows;
 mod field_table;
 mod fields;
 mod first_places;
@@ -10,8 +12,9 @@ mod text_table;
 mod unit_table;
 
 pub use conditions::all_conditions;
+pub use field_lists::FieldLists;
 pub use field_table::FieldTable;
-pub use fields::{all_fields, field_named};
+pub use fields::field_named;
 pub use numbers::all_numbers;
 pub use text_table::TextTable;
 pub use unit_table::UnitTable;

@@ -41,8 +41,8 @@ fn in_order(rt: HostRuntime) -> Result<(), Fail> {
 /// Each member with the type that holds it, and how many conditional subtypes it is under.
 fn holders(alloc: Global, lists: &MemberLists<'_>) -> Result<String, AllocError> {
     let mut text = String::new(alloc);
-    for row in lists.rows() {
-        for member in row.as_slice() {
+    for span in lists.spans() {
+        for member in lists.at(span) {
             let under = member.under.as_slice().len();
             let line = format!(in alloc; "{}/{under} ", member.holder.0)?;
             text.push_str(line.as_str())?;

@@ -1,5 +1,5 @@
 -- The constraints of phases, at their homes.
-use Rattle.std.specs.Prelude.{ℕ, ◌+◌, Bool, true, false, bytes_eq, List, [], ◌∷◌, ◌++◌, Option, Some, None, cond, find, flat_map, is_some, map, option_map, option_to_list, slice_get}
+use Rattle.std.specs.Prelude.{ℕ, ◌+◌, Bool, true, false, List, [], ◌∷◌, ◌++◌, Option, Some, None, cond, find, flat_map, is_some, map, option_map, option_to_list, slice_get}
 use Rattle.std.specs.Option.{option_map_or}
 use Rattle.osc_base.specs.declared.path.Path.{Path}
 use Rattle.osc_base.specs.declared.mark.Strength.{Strength}
@@ -34,10 +34,6 @@ with_it s it = record s { scope = record s.scope { it = it } }
 -- a phase, with no conditions of its own
 abbrev pub phase_holder : Path → Holder
 phase_holder path = record { holder = path; under = [] }
-
--- an argument has that name
-abbrev pub has_argument_name : List ℕ → ArgumentTree → Bool
-has_argument_name name a = option_map_or (λ (i : Ident). bytes_eq i.text name) a.name false
 
 -- ---- what is required
 

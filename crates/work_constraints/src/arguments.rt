@@ -17,8 +17,9 @@ use composition::Occurrence;
 use dsl_tree::{Argument, Expr, Ident, InvokeNode, InvokePart};
 use expr_nodes::{It, Scope};
 use program_texts::TypeField;
+use scene_places::Places;
 use std::alloc::{AllocError, Global};
-use text_constraints::{Homes, Owner, TextSite, push_rule};
+use text_constraints::{Owner, TextSite, push_rule};
 use type_model::{FieldType, TypeId, Types};
 
 /// Whether an argument is for the duration.
@@ -61,18 +62,18 @@ fn field_of<'f, 'p>(
 fn push_stated(
     alloc: Global,
     types: &Types,
-    homes: &Homes<'_>,
+    places: &Places<'_>,
     owner: &Owner<'_, '_>,
-    scope: &mut Scope,
+    scope: &mut Scope<'_>,
     into: &mut Vec<Occurrence>,
     value: &Expr,
 ) -> Result<(), AllocError>
     ensures scope { without_it (seen_scope scope.new) ≡ without_it (seen_scope scope.old) }
-    ensures kept { OnOk result (map seen_occurrence into.new.items ≡ map seen_occurrence into.old.items ++ CallTexts.duration_kept types.now.table (with_it (site_of homes.now (seen_scope scope.old)) None) (seen_owner owner.now) (expr_tree value.now) ∷ []) }
+    ensures kept { OnOk result (map seen_occurrence into.new.items ≡ map seen_occurrence into.old.items ++ CallTexts.duration_kept types.now.table (with_it (site_of places.now (seen_scope scope.old)) None) (seen_owner owner.now) (expr_tree value.now) ∷ []) }
 {
     scope.it = None;
     let text = TextSite {
-        homes: *homes,
+        places: *places,
         scope: &*scope,
     };
     push_duration(alloc, types, &text, owner, into, value)
@@ -82,20 +83,20 @@ fn push_stated(
 fn push_given(
     alloc: Global,
     types: &Types,
-    homes: &Homes<'_>,
+    places: &Places<'_>,
     owner: &Owner<'_, '_>,
-    scope: &mut Scope,
+    scope: &mut Scope<'_>,
     of: TypeId,
     into: &mut Vec<Occurrence>,
     name: &Ident,
     value: &Expr,
 ) -> Result<(), AllocError>
     ensures scope { without_it (seen_scope scope.new) ≡ without_it (seen_scope scope.old) }
-    ensures kept { OnOk result (map seen_occurrence into.new.items ≡ map seen_occurrence into.old.items ++ CallTexts.parameter_kept types.now.table (with_it (site_of homes.now (seen_scope scope.old)) (Some (Scopes.It.Of of None))) (seen_owner owner.now) (expr_tree value.now) name.now) }
+    ensures kept { OnOk result (map seen_occurrence into.new.items ≡ map seen_occurrence into.old.items ++ CallTexts.parameter_kept types.now.table (with_it (site_of places.now (seen_scope scope.old)) (Some (Scopes.It.Of of None))) (seen_owner owner.now) (expr_tree value.now) name.now) }
 {
     scope.it = Some(It::Of(FieldType { of, length: None }));
     let text = TextSite {
-        homes: *homes,
+        places: *places,
         scope: &*scope,
     };
     push_parameter(alloc, types, &text, owner, into, name, value)
@@ -105,20 +106,20 @@ fn push_given(
 fn push_fielded(
     alloc: Global,
     types: &Types,
-    homes: &Homes<'_>,
+    places: &Places<'_>,
     owner: &Owner<'_, '_>,
-    scope: &mut Scope,
+    scope: &mut Scope<'_>,
     of: TypeId,
     into: &mut Vec<Occurrence>,
     field: Option<&TypeField<'_>>,
     value: &Expr,
 ) -> Result<(), AllocError>
     ensures scope { without_it (seen_scope scope.new) ≡ without_it (seen_scope scope.old) }
-    ensures kept { OnOk result (map seen_occurrence into.new.items ≡ map seen_occurrence into.old.items ++ flat_map (CallTexts.field_argument types.now.table (site_of homes.now (seen_scope scope.old)) (seen_owner owner.now) of (expr_tree value.now)) (option_to_list (option_map seen_field (option_copied field.entry)))) }
+    ensures kept { OnOk result (map seen_occurrence into.new.items ≡ map seen_occurrence into.old.items ++ flat_map (CallTexts.field_argument types.now.table (site_of places.now (seen_scope scope.old)) (seen_owner owner.now) of (expr_tree value.now)) (option_to_list (option_map seen_field (option_copied field.entry)))) }
 {
     match field {
         Some(field) => push_given(
-            alloc, types, homes, owner, scope, of, into, field.name, value,
+            alloc, types, places, owner, scope, of, into, field.name, value,
         ),
         None => Ok(()),
     }
@@ -128,9 +129,9 @@ fn push_fielded(
 fn push_argument(
     alloc: Global,
     types: &Types,
-    homes: &Homes<'_>,
+    places: &Places<'_>,
     owner: &Owner<'_, '_>,
-    scope: &mut Scope,
+    scope: &mut Scope<'_>,
     of: TypeId,
     fields: &[TypeField<'_>],
     into: &mut Vec<Occurrence>,
@@ -138,16 +139,16 @@ fn push_argument(
     argument: &Argument,
 ) -> Result<(), AllocError>
     ensures scope { without_it (seen_scope scope.new) ≡ without_it (seen_scope scope.old) }
-    ensures kept { OnOk result (map seen_occurrence into.new.items ≡ map seen_occurrence into.old.items ++ argument_kept types.now.table (site_of homes.now (seen_scope scope.old)) (seen_owner owner.now) of (map seen_field fields.now) place (argument_tree argument.now)) }
+    ensures kept { OnOk result (map seen_occurrence into.new.items ≡ map seen_occurrence into.old.items ++ argument_kept types.now.table (site_of places.now (seen_scope scope.old)) (seen_owner owner.now) of (map seen_field fields.now) place (argument_tree argument.now)) }
 {
     if is_for_duration(&argument.name) {
-        return push_stated(alloc, types, homes, owner, scope, into, &argument.value);
+        return push_stated(alloc, types, places, owner, scope, into, &argument.value);
     }
     let field = field_of(fields, place, &argument.name);
     push_fielded(
         alloc,
         types,
-        homes,
+        places,
         owner,
         scope,
         of,
@@ -161,20 +162,20 @@ fn push_argument(
 fn push_arguments(
     alloc: Global,
     types: &Types,
-    homes: &Homes<'_>,
+    places: &Places<'_>,
     owner: &Owner<'_, '_>,
-    scope: &mut Scope,
+    scope: &mut Scope<'_>,
     of: TypeId,
     fields: &[TypeField<'_>],
     into: &mut Vec<Occurrence>,
     arguments: &[Argument],
 ) -> Result<(), AllocError>
     ensures scope { without_it (seen_scope scope.new) ≡ without_it (seen_scope scope.old) }
-    ensures kept { OnOk result (map seen_occurrence into.new.items ≡ map seen_occurrence into.old.items ++ arguments_kept types.now.table (site_of homes.now (seen_scope scope.old)) (seen_owner owner.now) of (map seen_field fields.now) 0 (map argument_tree arguments.now)) }
+    ensures kept { OnOk result (map seen_occurrence into.new.items ≡ map seen_occurrence into.old.items ++ arguments_kept types.now.table (site_of places.now (seen_scope scope.old)) (seen_owner owner.now) of (map seen_field fields.now) 0 (map argument_tree arguments.now)) }
 {
     for (place, argument) in arguments.iter().enumerate() {
         push_argument(
-            alloc, types, homes, owner, scope, of, fields, into, place, argument,
+            alloc, types, places, owner, scope, of, fields, into, place, argument,
         )?;
     }
     Ok(())
@@ -184,7 +185,7 @@ fn push_arguments(
 fn push_part(
     alloc: Global,
     types: &Types,
-    text: &TextSite<'_, '_>,
+    text: &TextSite<'_, '_, '_>,
     owner: &Owner<'_, '_>,
     into: &mut Vec<Occurrence>,
     part: &InvokePart,
@@ -201,7 +202,7 @@ fn push_part(
 fn push_parts(
     alloc: Global,
     types: &Types,
-    text: &TextSite<'_, '_>,
+    text: &TextSite<'_, '_, '_>,
     owner: &Owner<'_, '_>,
     into: &mut Vec<Occurrence>,
     parts: &[InvokePart],
@@ -218,18 +219,18 @@ fn push_parts(
 fn push_with(
     alloc: Global,
     types: &Types,
-    homes: &Homes<'_>,
+    places: &Places<'_>,
     owner: &Owner<'_, '_>,
-    scope: &mut Scope,
+    scope: &mut Scope<'_>,
     of: TypeId,
     into: &mut Vec<Occurrence>,
     parts: &[InvokePart],
 ) -> Result<(), AllocError>
-    ensures { OnOk result (map seen_occurrence into.new.items ≡ map seen_occurrence into.old.items ++ flat_map (part_kept types.now.table (with_it (site_of homes.now (seen_scope scope.old)) (Some (Scopes.It.Of of None))) (seen_owner owner.now)) (map part_tree parts.now)) }
+    ensures { OnOk result (map seen_occurrence into.new.items ≡ map seen_occurrence into.old.items ++ flat_map (part_kept types.now.table (with_it (site_of places.now (seen_scope scope.old)) (Some (Scopes.It.Of of None))) (seen_owner owner.now)) (map part_tree parts.now)) }
 {
     scope.it = Some(It::Of(FieldType { of, length: None }));
     let text = TextSite {
-        homes: *homes,
+        places: *places,
         scope: &*scope,
     };
     push_parts(alloc, types, &text, owner, into, parts)
@@ -240,24 +241,24 @@ fn push_with(
 pub(crate) fn push_invocation(
     alloc: Global,
     types: &Types,
-    homes: &Homes<'_>,
+    places: &Places<'_>,
     owner: &Owner<'_, '_>,
-    scope: &mut Scope,
+    scope: &mut Scope<'_>,
     of: TypeId,
     fields: &[TypeField<'_>],
     into: &mut Vec<Occurrence>,
     node: &InvokeNode,
 ) -> Result<(), AllocError>
-    ensures { OnOk result (map seen_occurrence into.new.items ≡ map seen_occurrence into.old.items ++ invocation_kept types.now.table (site_of homes.now (seen_scope scope.old)) (seen_owner owner.now) of (map seen_field fields.now) (map argument_tree node.now.arguments) (map part_tree node.now.parts)) }
+    ensures { OnOk result (map seen_occurrence into.new.items ≡ map seen_occurrence into.old.items ++ invocation_kept types.now.table (site_of places.now (seen_scope scope.old)) (seen_owner owner.now) of (map seen_field fields.now) (map argument_tree node.now.arguments) (map part_tree node.now.parts)) }
 {
     let arguments = node.arguments.as_slice();
     push_arguments(
-        alloc, types, homes, owner, scope, of, fields, into, arguments,
+        alloc, types, places, owner, scope, of, fields, into, arguments,
     )?;
     push_with(
         alloc,
         types,
-        homes,
+        places,
         owner,
         scope,
         of,

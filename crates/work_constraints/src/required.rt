@@ -17,18 +17,18 @@ ghost use Rattle.expr_nodes.specs.Typing.{first, typed as typed_in};
 ghost use Rattle.osc_base.specs.Paths.{then_duration as duration_of};
 ghost use Rattle.work_constraints.specs.CallTexts.{duration_kept, is_span as span, one_read, parameter_kept, required_kept};
 ghost use Rattle.text_constraints.specs.Kept.{seen_owner};
-ghost use Rattle.text_constraints.specs.Sites.{at_home, homed, seen_site, typed_home as home_typed};
+ghost use Rattle.text_constraints.specs.Sites.{at_home, seen_site, typed_home as home_typed};
+ghost use Rattle.scene_places.specs.Placed.{place_in};
 
 use composition::Occurrence;
 use dsl_tree::{Expr, Ident};
 use expr_nodes::{Compare, Info, Size, Typed, ValueKind};
 use osc_base::{Boxed, Path, Place, Strength};
 use program_calls::first_place;
+use scene_places::{Places, moved_part};
 use scene_texts::then_duration;
 use std::alloc::{AllocError, Global};
-use text_constraints::{
-    Homes, Owner, TextSite, constraint, field_checked, moved_part, read_at, read_of, typed_home,
-};
+use text_constraints::{Owner, TextSite, constraint, field_checked, read_at, read_of, typed_home};
 use type_model::Types;
 use units_si::Exponents;
 
@@ -143,7 +143,7 @@ fn required_part(
 fn required_typed(
     alloc: Global,
     types: &Types,
-    text: &TextSite<'_, '_>,
+    text: &TextSite<'_, '_, '_>,
     left: Typed,
     value: &Expr,
 ) -> Result<Option<Typed>, AllocError>
@@ -167,7 +167,7 @@ fn path_read(alloc: Global, typed: &Typed) -> Result<Option<Path>, AllocError>
 fn required(
     alloc: Global,
     types: &Types,
-    text: &TextSite<'_, '_>,
+    text: &TextSite<'_, '_, '_>,
     owner: &Owner<'_, '_>,
     left: Typed,
     value: &Expr,
@@ -183,14 +183,14 @@ fn required(
 /// The duration of a phase, which is read at its home.
 fn duration_home(
     alloc: Global,
-    homes: &Homes<'_>,
+    places: &Places<'_>,
     owner: &Owner<'_, '_>,
     value: &Expr,
 ) -> Result<Typed, AllocError>
-    ensures { IfOk result (λ t. seen t ≡ duration_read (first (expr_tree value.now)) (home (seen_scene homes.now.scene.now).bindings (duration_of owner.now.holder.now))) }
+    ensures { IfOk result (λ t. seen t ≡ duration_read (first (expr_tree value.now)) (home (seen_scene places.now.scene.now).bindings (duration_of owner.now.holder.now))) }
 {
     let duration = then_duration(alloc, owner.holder)?;
-    let home = homes.scene.moved(alloc, &duration)?;
+    let home = places.scene.moved(alloc, &duration)?;
     Ok(duration_at(first_place(value), home))
 }
 
@@ -198,14 +198,14 @@ fn duration_home(
 pub(crate) fn push_duration(
     alloc: Global,
     types: &Types,
-    text: &TextSite<'_, '_>,
+    text: &TextSite<'_, '_, '_>,
     owner: &Owner<'_, '_>,
     into: &mut Vec<Occurrence>,
     value: &Expr,
 ) -> Result<(), AllocError>
     ensures { OnOk result (map seen_occurrence into.new.items ≡ map seen_occurrence into.old.items ++ duration_kept types.now.table (seen_site text.now) (seen_owner owner.now) (expr_tree value.now) ∷ []) }
 {
-    let left = duration_home(alloc, &text.homes, owner, value)?;
+    let left = duration_home(alloc, &text.places, owner, value)?;
     into.push(required(alloc, types, text, owner, left, value)?)?;
     Ok(())
 }
@@ -213,13 +213,13 @@ pub(crate) fn push_duration(
 /// An expression that is one read, with its path at its home.
 fn read_moved(
     alloc: Global,
-    homes: &Homes<'_>,
+    places: &Places<'_>,
     typed: &Option<Boxed<Typed>>,
 ) -> Result<Option<Typed>, AllocError>
-    ensures { IfOk result (λ t. seen_part t ≡ option_map (moved_by (homed homes.now)) (one_read (seen_part typed.now))) }
+    ensures { IfOk result (λ t. seen_part t ≡ option_map (moved_by (place_in places.now)) (one_read (seen_part typed.now))) }
 {
     match read_at(typed) {
-        Some(_path) => moved_part(alloc, homes, typed),
+        Some(_path) => moved_part(alloc, places, typed),
         None => Ok(None),
     }
 }
@@ -228,21 +228,21 @@ fn read_moved(
 fn parameter(
     alloc: Global,
     types: &Types,
-    text: &TextSite<'_, '_>,
+    text: &TextSite<'_, '_, '_>,
     place: Place,
     name: &Ident,
 ) -> Result<Option<Typed>, AllocError>
     ensures { IfOk result (λ t. seen_part t ≡ option_map (moved_by (at_home (seen_site text.now))) (one_read (typed_in types.now.table (seen_site text.now).scope (ExprTree.Dot (ExprTree.It place) name.now)))) }
 {
     let known = field_checked(alloc, types, text.scope, place, name)?;
-    read_moved(alloc, &text.homes, &known.typed)
+    read_moved(alloc, &text.places, &known.typed)
 }
 
 /// Puts what an argument for a parameter of `it` gives at the end. One for an object gives nothing.
 pub(crate) fn push_parameter(
     alloc: Global,
     types: &Types,
-    text: &TextSite<'_, '_>,
+    text: &TextSite<'_, '_, '_>,
     owner: &Owner<'_, '_>,
     into: &mut Vec<Occurrence>,
     name: &Ident,

@@ -1,6 +1,6 @@
 //! The constraints of a work.
 
-ghost use Rattle.std.specs.Prelude.{◌≡◌, ◌++◌, ◌∷◌, [], None, codes, map, option_map, option_to_list, IfOk, OnOk};
+ghost use Rattle.std.specs.Prelude.{◌≡◌, ◌++◌, ◌∷◌, [], None, codes, map, option_to_list, OnOk};
 ghost use Rattle.composition.specs.Calls as Calls;
 ghost use Rattle.composition.specs.Expanded.{occurrence_of};
 ghost use Rattle.composition.specs.Expansion.{argument_named, given_duration};
@@ -10,37 +10,31 @@ ghost use Rattle.dsl_tree.specs.Views.{argument_tree, expr_tree, part_tree};
 ghost use Rattle.expansion_laws.specs.WorkNodes.{node_of};
 ghost use Rattle.expr_nodes.specs.SeenNames.{seen_scope};
 ghost use Rattle.program_calls.specs.PlacedPhases.{seen_turn};
+ghost use Rattle.program_calls.specs.SeenLabels.{do_labels, seen_labels};
 ghost use Rattle.program_texts.specs.SeenTexts.{types_in};
+ghost use Rattle.type_heads.specs.Types.{Types};
 ghost use Rattle.scene_expansion.specs.SeenWorks.{seen_call, seen_work};
-ghost use Rattle.work_constraints.specs.CallTexts.{has_argument_name, invoke_kept, phase_holder};
+ghost use Rattle.work_constraints.specs.CallTexts.{invoke_kept, phase_holder};
 ghost use Rattle.text_constraints.specs.Kept.{seen_owner};
-ghost use Rattle.text_constraints.specs.Sites.{seen_expr};
 
 use crate::arguments::push_invocation;
 use crate::required::push_duration;
 use composition::{Occurrence, Scene};
-use dsl_tree::{Argument, CompNode, Expr, InvokeNode};
-use expr_nodes::Scope;
-use program_calls::scope_at;
+use dsl_tree::{CompNode, Expr, InvokeNode};
+use expr_nodes::{LabelTable, Scope};
+use program_calls::{argument_named, scope_at};
 use program_texts::ProgramTexts;
 use scene_expansion::{Call, Work};
+use scene_places::Places;
 use std::alloc::{AllocError, Global};
-use text_constraints::{Homes, Owner, Standing, TextSite, push_own, text_labels};
+use text_constraints::{Owner, Standing, TextSite, push_own};
 use type_model::TypeId;
 
-/// The scope of the texts of a phase, in which `it` is nothing.
-fn call_scope(alloc: Global, texts: &ProgramTexts<'_>, call: &Call) -> Result<Scope, AllocError>
-    ensures { IfOk result (λ s. seen_scope s ≡ Calls.scope_at (types_in texts.now) call.now.holder None (map seen_turn call.now.way)) }
+/// The scope of the texts of a phase, in which `it` is nothing. The labels are those of the `do` in which it stands.
+fn call_scope<'c>(labels: &'c LabelTable, call: &'c Call) -> Scope<'c>
+    ensures { (ts : Types) → seen_labels labels.entry.now ≡ do_labels ts call.entry.now.holder → seen_scope result ≡ Calls.scope_at ts call.entry.now.holder None (map seen_turn call.entry.now.way) }
 {
-    let labels = text_labels(alloc, texts, call.holder)?;
-    let scope = scope_at(
-        alloc,
-        call.holder,
-        None,
-        labels.as_slice(),
-        call.way.as_slice(),
-    )?;
-    Ok(scope)
+    scope_at(call.holder, None, labels, call.way.as_slice())
 }
 
 /// A phase, whose constraints are under no conditions of their own.
@@ -50,28 +44,6 @@ fn owner_of(call: &Call) -> Owner<'_, '_>
     Owner {
         holder: &call.path,
         under: &[],
-    }
-}
-
-/// The value of the first argument of that name.
-fn named_argument<'t>(arguments: &'t [Argument], name: &str) -> Option<&'t Expr>
-    ensures { option_map seen_expr result ≡ argument_named name.now (map argument_tree arguments.entry.now) }
-{
-    for argument in arguments {
-        if is_named(argument, name) {
-            return Some(&argument.value);
-        }
-    }
-    None
-}
-
-/// Whether an argument has that name.
-fn is_named(argument: &Argument, name: &str) -> bool
-    ensures { result ≡ has_argument_name name.now (argument_tree argument.now) }
-{
-    match &argument.name {
-        Some(own) => own.text.as_str() == name,
-        None => false,
     }
 }
 
@@ -86,14 +58,15 @@ fn push_stated(
 ) -> Result<(), AllocError>
     ensures { OnOk result (map seen_occurrence into.new.items ≡ map seen_occurrence into.old.items ++ occurrence_of (seen_scene scene.now).bindings (given_duration (types_in texts.now) (seen_call call.now) (expr_tree value.now)) ∷ []) }
 {
-    let scope = call_scope(alloc, texts, call)?;
-    let homes = Homes {
+    let labels = texts.labels(alloc, call.holder)?;
+    let scope = call_scope(labels.table(), call);
+    let places = Places {
         object: &call.object,
         it: &call.path,
         scene,
     };
     let text = TextSite {
-        homes,
+        places,
         scope: &scope,
     };
     let owner = owner_of(call);
@@ -111,7 +84,7 @@ fn push_comp(
 ) -> Result<(), AllocError>
     ensures { OnOk result (map seen_occurrence into.new.items ≡ map seen_occurrence into.old.items ++ map (occurrence_of (seen_scene scene.now).bindings) (map (given_duration (types_in texts.now) (seen_call call.now)) (option_to_list (argument_named (codes "duration") (map argument_tree node.now.arguments))))) }
 {
-    match named_argument(node.arguments.as_slice(), "duration") {
+    match argument_named(node.arguments.as_slice(), "duration") {
         Some(value) => push_stated(alloc, texts, scene, into, call, value),
         None => Ok(()),
     }
@@ -129,9 +102,10 @@ fn push_invoke(
 ) -> Result<(), AllocError>
     ensures { OnOk result (map seen_occurrence into.new.items ≡ map seen_occurrence into.old.items ++ invoke_kept (types_in texts.now) (seen_scene scene.now).bindings (seen_call call.now) of (map argument_tree node.now.arguments) (map part_tree node.now.parts)) }
 {
-    let mut scope = call_scope(alloc, texts, call)?;
+    let labels = texts.labels(alloc, call.holder)?;
+    let mut scope = call_scope(labels.table(), call);
     let fields = texts.fields(alloc, of)?;
-    let homes = Homes {
+    let places = Places {
         object: &call.object,
         it: &call.path,
         scene,
@@ -140,7 +114,7 @@ fn push_invoke(
     push_invocation(
         alloc,
         texts.types(),
-        &homes,
+        &places,
         &owner,
         &mut scope,
         of,

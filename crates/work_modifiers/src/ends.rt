@@ -60,7 +60,7 @@ fn high_end(typed: &Typed) -> &Typed
 pub(crate) fn typed_part(
     alloc: Global,
     types: &Types,
-    scope: &Scope,
+    scope: &Scope<'_>,
     expr: Option<&Expr>,
 ) -> Result<Option<Boxed<Typed>>, AllocError>
     ensures { IfOk result (λ t. seen_part t ≡ option_and_then (typed_in types.now.table (seen_scope scope.now)) (option_map seen_value expr.entry)) }

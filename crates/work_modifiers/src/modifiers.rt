@@ -28,10 +28,10 @@ use type_model::Types;
 /// The invocation in whose `with:` modifiers stand: the types, the invocation, the scope of its text, and where the
 /// paths of the text lead.
 #[derive(Clone, Copy)]
-pub(crate) struct Within<'a> {
+pub(crate) struct Within<'a, 'l> {
     pub types: &'a Types,
     pub call: &'a Call,
-    pub scope: &'a Scope,
+    pub scope: &'a Scope<'l>,
     pub places: Places<'a>,
 }
 
@@ -56,7 +56,7 @@ fn ends_at(
     Ok(Ends { low, high })
 }
 
-impl Within<'_> {
+impl Within<'_, '_> {
     /// The ends of a value or range of the text.
     fn ends(&self, alloc: Global, range: Option<&Expr>) -> Result<Ends, AllocError>
         ensures low { IfOk result (λ e. seen_part e.low ≡ option_map (low_of (place_in self.now.places)) (option_and_then (typed_in self.now.types.now.table (seen_scope self.now.scope.now)) (option_map seen_value range.entry))) }

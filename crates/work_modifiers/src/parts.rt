@@ -29,7 +29,7 @@ use type_model::TypeId;
 fn push_modifier(
     alloc: Global,
     modifiers: &mut Vec<ModifierSpot>,
-    within: &Within<'_>,
+    within: &Within<'_, '_>,
     node: &ModifierNode,
 ) -> Result<(), AllocError>
     ensures { OnOk result (map seen_modifier modifiers.new.items ≡ map seen_modifier modifiers.old.items ++ modifier_among (place_in within.now.places) (actor_home (seen_scene within.now.places.scene.now).bindings (seen_call within.now.call.now)) within.now.types.now.table (seen_scope within.now.scope.now) (seen_call within.now.call.now) (modifier_tree node.now)) }
@@ -45,7 +45,7 @@ fn push_modifier(
 fn push_part(
     alloc: Global,
     modifiers: &mut Vec<ModifierSpot>,
-    within: &Within<'_>,
+    within: &Within<'_, '_>,
     part: &InvokePart,
 ) -> Result<(), AllocError>
     ensures { OnOk result (map seen_modifier modifiers.new.items ≡ map seen_modifier modifiers.old.items ++ part_there (place_in within.now.places) (actor_home (seen_scene within.now.places.scene.now).bindings (seen_call within.now.call.now)) within.now.types.now.table (seen_scope within.now.scope.now) (seen_call within.now.call.now) (part_tree part.now)) }
@@ -60,7 +60,7 @@ fn push_part(
 fn push_parts(
     alloc: Global,
     modifiers: &mut Vec<ModifierSpot>,
-    within: &Within<'_>,
+    within: &Within<'_, '_>,
     parts: &[InvokePart],
 ) -> Result<(), AllocError>
     ensures { OnOk result (map seen_modifier modifiers.new.items ≡ map seen_modifier modifiers.old.items ++ parts_there (place_in within.now.places) (actor_home (seen_scene within.now.places.scene.now).bindings (seen_call within.now.call.now)) within.now.types.now.table (seen_scope within.now.scope.now) (seen_call within.now.call.now) (map part_tree parts.now)) }
@@ -86,7 +86,8 @@ fn push_invocation(
     if node.parts.as_slice().is_empty() {
         return Ok(());
     }
-    let scope = call_scope(alloc, texts, call, of)?;
+    let labels = texts.labels(alloc, call.holder)?;
+    let scope = call_scope(labels.table(), call, of);
     let places = Places {
         object: &call.object,
         it: &call.path,

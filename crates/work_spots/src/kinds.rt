@@ -5,10 +5,9 @@ ghost use Rattle.composition.specs.Expansion as expansions;
 ghost use Rattle.dsl_tree.specs.Views.{argument_tree, expr_tree};
 ghost use Rattle.program_calls.specs.SeenModifiers.{seen_value};
 
-use crate::arguments::argument_named;
 use composition::PhaseKind;
 use dsl_tree::{CompKind, CompNode, Expr};
-use program_calls::name_of;
+use program_calls::{argument_named, name_of};
 
 /// The word after `overlap:`. Members start together if it is no word of the language.
 fn overlap_word(word: &Expr) -> PhaseKind

@@ -2,14 +2,12 @@
 #![tactic(auto)]
 
 mod all_texts;
-mod arguments;
 mod bindings;
 mod kinds;
 mod members;
 mod spots;
 
 pub use all_texts::texts;
-pub use arguments::argument_named;
 pub use bindings::push_bindings;
 pub use kinds::composition_kind;
 pub use spots::spot;

@@ -11,6 +11,7 @@ ghost use Rattle.type_faults.specs.Ranking.{IsShown};
 
 use super::heirs::is_base_of;
 use super::held_types::HeldTypes;
+use super::levels::held_ranking;
 use crate::passing::is_past;
 use crate::reach::Steps;
 use crate::returning::Ranking;
@@ -112,7 +113,7 @@ pub fn with_cycles(
     ensures { IfOk result (λ f. f ≡ first_from first (map (cycle_row held.now.heads.now (map seen_body held.now.bodies.now)) (all_types held.now.heads.now))) }
 {
     let count = held.heads.count();
-    let ranking = Ranking::of(alloc, held, count)?;
+    let ranking = held_ranking(alloc, held)?;
     let mut found = first;
     for number in 0..count {
         found = with_type(alloc, found, held, &ranking, TypeId(number))?;

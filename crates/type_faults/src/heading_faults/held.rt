@@ -99,7 +99,7 @@ fn push_fields(
 }
 
 /// Puts the types of the fields that a type declares at the end.
-fn push_own(
+pub fn push_own(
     heads: &Heads,
     bodies: &[Body<'_>],
     of: TypeId,

@@ -7,9 +7,10 @@ ghost use Rattle.type_heads.specs.Cycles.{returns};
 ghost use Rattle.type_heads.specs.Members.{field};
 ghost use Rattle.type_heads.specs.MemberFaults.{condition_rows, depends_on, type_rows};
 ghost use Rattle.type_heads.specs.Table.{all_types, base};
-ghost use Rattle.type_members.specs.Listed.{lists_of, seen_listed};
+ghost use Rattle.type_members.specs.Listed.{lists_of, seen_listed, seen_row};
 ghost use Rattle.type_faults.specs.ConditionRows.{found_rows};
 ghost use Rattle.type_faults.specs.ListedRows.{found_field, seen_hit, types_with};
+ghost use Rattle.type_faults.specs.PlainLists.{is_plain};
 ghost use Rattle.type_faults.specs.Ranking.{IsShown};
 
 use super::conditions::with_decided;
@@ -18,6 +19,7 @@ use super::dos::with_dos;
 use super::fields::{FieldHit, condition_field};
 use super::initial::with_initials;
 use super::names::with_all_names;
+use super::plain::{is_of_plain, plain_rows};
 use crate::passing::is_past;
 use crate::reach::Steps;
 use crate::returning::Ranking;
@@ -117,8 +119,8 @@ fn with_condition(
     }
 }
 
-/// Faults of the members of a type.
-fn with_type(
+/// Faults of the members of a type, each of which is looked at.
+fn with_listed(
     alloc: Global,
     first: Option<Fault>,
     depends: &DependsOn<'_>,
@@ -138,6 +140,26 @@ fn with_type(
     Ok(found)
 }
 
+/// Faults of the members of a type. Those that stand in a plain row aren't looked at.
+fn with_type(
+    alloc: Global,
+    first: Option<Fault>,
+    depends: &DependsOn<'_>,
+    ranking: &Ranking,
+    plain: &[bool],
+    of: TypeId,
+) -> Result<Option<Fault>, AllocError>
+    requires shown { IsShown (length depends.now.heads.now) (depends_on (types_with depends.now.heads.now (map seen_body depends.now.bodies.now) (lists_of depends.now.lists.now))) ranking.now }
+    requires plain { plain.now ≡ map (is_plain depends.now.heads.now) (map seen_row depends.now.lists.now.rows.items) }
+    ensures { IfOk result (λ f. f ≡ first_from first (type_rows (types_with depends.now.heads.now (map seen_body depends.now.bodies.now) (lists_of depends.now.lists.now)) of)) }
+{
+    if is_of_plain(plain, depends.lists, of) {
+        return with_condition(alloc, first, depends, ranking, of);
+    }
+    let members = depends.lists.of(of);
+    with_listed(alloc, first, depends, ranking, of, members)
+}
+
 /// Faults of the members of all types.
 pub fn with_types(
     alloc: Global,
@@ -149,10 +171,11 @@ pub fn with_types(
 {
     let count = depends.heads.count();
     let ranking = Ranking::of(alloc, depends, count)?;
+    let plain = plain_rows(alloc, depends.heads, depends.lists.rows())?;
     let mut found = first;
     for number in 0..count {
         let of = TypeId(number);
-        found = with_type(alloc, found, depends, &ranking, of, depends.lists.of(of))?;
+        found = with_type(alloc, found, depends, &ranking, plain.as_slice(), of)?;
     }
     Ok(found)
 }

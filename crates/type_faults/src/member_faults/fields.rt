@@ -64,8 +64,7 @@ fn field_among<'l>(members: &'l [ListedMember<'_>], name: &str) -> Option<FieldH
 fn field_of<'l>(lists: &'l MemberLists<'_>, of: TypeId, name: &str) -> Option<FieldHit<'l>>
     ensures { option_map seen_hit result ≡ option_map found_field (find (λ f. bytes_eq f.name.text name.now) (fields_among (slice_index_or (lists_of lists.entry.now) of []))) }
 {
-    let row = lists.rows().get(of.0 as usize)?;
-    field_among(row.as_slice(), name)
+    field_among(lists.of(of), name)
 }
 
 /// The field of its base that the condition of a conditional subtype looks at.

@@ -7,5 +7,6 @@ use Rattle.flat_forms.proofs.marks.targets_of.Goals as goal
 pub returns : goal.returns
 returns c =
     IfOk-weaker c.build.result _ _
-    (λ t h i. h i ∙ ap (λ ms. overriders ms i) (c.as_slice.ensures ∙ c.in_ok-marks.ensures ∙ ap (map (λ (o : Occurrence). o.mark)) c.occurrences.ensures))
+    (λ t h i.
+    h i ∙ ap (λ ms. overriders ms i) c.as_slice.ensures ∙ c.in_ok-marks.ensures i ∙ ap (λ os. overriders (map (λ (o : Occurrence). o.mark) os) i) c.occurrences.ensures)
     c.build.ensures

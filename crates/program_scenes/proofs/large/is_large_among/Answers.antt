@@ -4,4 +4,4 @@ use Rattle.type_heads.specs.Types.{Types}
 use Rattle.program_scenes.proofs.large.is_large_among.Goals as goal
 
 pub returns : goal.returns
-returns c = c.in_ok-past.ensures ∙ ap (λ (ts : Types). is_too_large ts c.args.of c.args.setting) c.of-layout.ensures
+returns c = c.in_ok-past.ensures ∙ ap (λ (ts : Types). is_too_large ts c.args.of c.args.setting) c.in_ok-layout.ensures

@@ -1,23 +1,22 @@
 use Rattle.std.proofs.Common.{◌++◌, flat_map, map, refl}
 use Rattle.composition.specs.SeenParts.{seen_occurrence}
 use Rattle.composition.specs.SeenScenes.{seen_scene}
-use Rattle.expr_nodes.specs.SeenNames.{seen_scope}
 use Rattle.program_texts.specs.SeenTexts.{types_in}
 use Rattle.type_members.specs.Listed.{seen_listed}
 use Rattle.text_constraints.specs.OwnTexts.{listed_kept}
+use Rattle.text_constraints.proofs.LabelSteps.{self_labelled}
 use Rattle.text_constraints.proofs.ListSteps.{each_more}
-use Rattle.text_constraints.proofs.ScopeSteps.{other_it, own_holder}
 use Rattle.text_constraints.proofs.members.push_members.Goals as goal
 
 pub loop-listed-init : goal.loop-listed-init
-loop-listed-init c = (own_holder (types_in c.args.texts.now) c.args.standing.now.of (seen_scope c.in_ok-scope.scope) c.in_ok-scope.ensures, refl)
+loop-listed-init c = (self_labelled (types_in c.args.texts.now) c.args.standing.now.of c.in_ok-labels.labels c.in_ok-labels.ensures, refl)
 
 pub loop-listed-preserved : goal.loop-listed-preserved
 loop-listed-preserved c =
     let ts = types_in c.args.texts.now in
     let give = listed_kept ts (seen_scene c.args.standing.now.scene.now).bindings c.args.standing.now.object.now c.args.standing.now.of in
-    let made = c.in_ok-scope-2.ensures c.loop-listed.invariant.0 in (
-      own_holder ts c.listed-item.result.holder (seen_scope c.push_member.new.scope) (other_it ts c.listed-item.result.holder (seen_scope c.in_ok-scope-2.scope) (seen_scope c.push_member.new.scope) c.push_member.ensures.scope made),
-      each_more give seen_listed c.args.members.now c.loop-listed.listed-index c.listed-item.result (map seen_occurrence c.loop-listed.into.items) (map seen_occurrence c.push_member.new.into.items)
-          (map seen_occurrence c.args.into.now.items ++ flat_map give (map seen_listed c.args.members.now)) c.loop-listed-test.true c.listed-item.is (c.in_ok-push_member.ensures.kept made) c.loop-listed.invariant.1,
+    let made = c.in_ok-labels-2.ensures c.loop-listed.invariant.0 in (
+      self_labelled ts c.listed-item.result.holder c.in_ok-labels-2.labels made,
+      each_more give seen_listed c.args.members.now c.loop-listed.listed-index c.listed-item.result (map seen_occurrence c.loop-listed.into.items) (map seen_occurrence c.push_labelled.new.into.items)
+          (map seen_occurrence c.args.into.now.items ++ flat_map give (map seen_listed c.args.members.now)) c.loop-listed-test.true c.listed-item.is (c.in_ok-push_labelled.ensures made) c.loop-listed.invariant.1,
     )

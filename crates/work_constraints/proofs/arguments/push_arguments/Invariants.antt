@@ -11,5 +11,5 @@ use Rattle.work_constraints.proofs.arguments.push_arguments.Given as goal
 
 abbrev pub invariant-loop-place : goal.invariant-loop-place
 invariant-loop-place l = (without_it (seen_scope l.scope) ≡ without_it (seen_scope l.fn.scope)) × (
-    map seen_occurrence l.into.items ++ arguments_kept l.types.table (site_of l.homes (seen_scope l.fn.scope)) (seen_owner l.owner) l.of (map seen_field l.fields) l.place (map argument_tree (drop l.place l.arguments))
-    ≡ map seen_occurrence l.fn.into.items ++ arguments_kept l.types.table (site_of l.homes (seen_scope l.fn.scope)) (seen_owner l.owner) l.of (map seen_field l.fields) 0 (map argument_tree l.arguments))
+    map seen_occurrence l.into.items ++ arguments_kept l.types.table (site_of l.places (seen_scope l.fn.scope)) (seen_owner l.owner) l.of (map seen_field l.fields) l.place (map argument_tree (drop l.place l.arguments))
+    ≡ map seen_occurrence l.fn.into.items ++ arguments_kept l.types.table (site_of l.places (seen_scope l.fn.scope)) (seen_owner l.owner) l.of (map seen_field l.fields) 0 (map argument_tree l.arguments))

@@ -21,6 +21,6 @@ returns c =
     let later = seen_scope c.push_arguments.new.scope in
     let arguments = map argument_tree c.args.node.now.arguments in
     let parts = map part_tree c.args.node.now.parts in
-    invocation_of table c.args.homes.now h c.args.of later first c.push_arguments.ensures.scope fields arguments parts old mid new c.push_with.result
-    (c.in_ok-push_arguments.ensures.kept ∙ ap (λ given. old ++ arguments_kept table (site_of c.args.homes.now first) h c.args.of fields 0 (map argument_tree given)) c.as_slice-arguments.ensures)
-    (parts_same table (site_of c.args.homes.now later) h c.args.of mid new c.as_slice.result.now c.args.node.now.parts c.as_slice.ensures c.push_with.result c.push_with.ensures)
+    invocation_of table c.args.places.now h c.args.of later first c.push_arguments.ensures.scope fields arguments parts old mid new c.push_with.result
+    (c.in_ok-push_arguments.ensures.kept ∙ ap (λ given. old ++ arguments_kept table (site_of c.args.places.now first) h c.args.of fields 0 (map argument_tree given)) c.as_slice-arguments.ensures)
+    (parts_same table (site_of c.args.places.now later) h c.args.of mid new c.as_slice.result.now c.args.node.now.parts c.as_slice.ensures c.push_with.result c.push_with.ensures)

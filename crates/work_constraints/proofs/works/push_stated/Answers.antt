@@ -19,7 +19,7 @@ returns c =
     let value = expr_tree c.args.value.now in
     let old = map seen_occurrence c.args.into.now.items in
     on_ok _ _ (λ is. is
-    ∙ ap (λ table. old ++ duration_kept table (call_site bindings call (seen_scope c.in_ok-scope.scope)) (seen_owner c.owner_of-owner.result) value ∷ []) c.types.ensures
-    ∙ ap₂ (λ sc h. old ++ duration_kept ts.table (call_site bindings call sc) h value ∷ []) c.in_ok-scope.ensures c.owner_of-owner.ensures
+    ∙ ap (λ table. old ++ duration_kept table (call_site bindings call (seen_scope c.call_scope-scope.result)) (seen_owner c.owner_of-owner.result) value ∷ []) c.types.ensures
+    ∙ ap₂ (λ sc h. old ++ duration_kept ts.table (call_site bindings call sc) h value ∷ []) (c.call_scope-scope.ensures (types_in c.args.texts.now) (c.table.ensures ∙ c.in_ok-labels.ensures)) c.owner_of-owner.ensures
     ∙ ap (λ o. old ++ o ∷ []) (sym (duration_is ts bindings call value)))
     c.push_duration.result c.push_duration.ensures

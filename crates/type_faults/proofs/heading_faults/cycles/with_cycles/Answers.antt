@@ -1,16 +1,11 @@
-use Rattle.std.proofs.Common.{◌∙◌, ◌+◌, ◌<◌, ◌≤◌, [], ◌∷◌, ap, sym, subst, drop, length, map, arith}
+use Rattle.std.proofs.Common.{◌∙◌, ◌+◌, ◌<◌, ◌≤◌, [], ◌∷◌, ap, sym, drop, length, map, arith}
 use Rattle.osc_base.specs.FaultRows.{first_from}
 use Rattle.type_heads.specs.Bodied.{seen_body}
 use Rattle.type_heads.specs.Table.{all_types, numbers_from}
-use Rattle.type_heads.specs.HeadingFaults.{cycle_row, held_types}
-use Rattle.type_faults.specs.Ranking.{IsShown}
+use Rattle.type_heads.specs.HeadingFaults.{cycle_row}
 use Rattle.type_faults.proofs.RowSteps.{done}
 use Rattle.type_faults.proofs.TypeNumbers.{next_number, no_number}
 use Rattle.type_faults.proofs.heading_faults.cycles.with_cycles.Goals as goal
-
-pub with_type-requires : goal.with_type-requires
-with_type-requires c =
-    subst (λ n. IsShown n (held_types c.args.held.now.heads.now (map seen_body c.args.held.now.bodies.now)) c.in_ok-ranking.ranking) c.count-count.ensures c.in_ok-ranking.ensures
 
 pub loop-number-preserved : goal.loop-number-preserved
 loop-number-preserved c =

@@ -3,8 +3,9 @@ use Rattle.osc_base.specs.FaultRows.{first_from}
 use Rattle.type_heads.specs.Bodied.{seen_body}
 use Rattle.type_heads.specs.MemberFaults.{depends_on, type_rows}
 use Rattle.type_heads.specs.Table.{all_types, numbers_from}
-use Rattle.type_members.specs.Listed.{lists_of}
+use Rattle.type_members.specs.Listed.{lists_of, seen_row}
 use Rattle.type_faults.specs.ListedRows.{types_with}
+use Rattle.type_faults.specs.PlainLists.{is_plain}
 use Rattle.type_faults.specs.Ranking.{IsShown}
 use Rattle.type_faults.proofs.RowSteps.{done}
 use Rattle.type_faults.proofs.TypeNumbers.{next_number, no_number}
@@ -14,6 +15,11 @@ pub with_type-requires-clause-shown : goal.with_type-requires-clause-shown
 with_type-requires-clause-shown c =
     let d = c.args.depends.now in
     subst (λ n. IsShown n (depends_on (types_with d.heads.now (map seen_body d.bodies.now) (lists_of d.lists.now))) c.in_ok-ranking.ranking) c.count-count.ensures c.in_ok-ranking.ensures
+
+pub with_type-requires-clause-plain : goal.with_type-requires-clause-plain
+with_type-requires-clause-plain c =
+    let d = c.args.depends.now in
+    c.as_slice.ensures.value ∙ c.in_ok-plain.ensures ∙ ap (λ rows. map (is_plain d.heads.now) (map seen_row rows)) c.rows.ensures
 
 pub loop-number-preserved : goal.loop-number-preserved
 loop-number-preserved c =

@@ -1,0 +1,32 @@
+use Rattle.std.proofs.Common.{◌∙◌, ◌++◌, List, [], ap, flat_map, map, false, slice_index_or}
+use Rattle.std.specs.Prelude.{filter_map}
+use Rattle.osc_base.specs.FaultRows.{FaultRow, first_from}
+use Rattle.type_heads.specs.Bodied.{seen_body}
+use Rattle.type_heads.specs.Members.{do_declared}
+use Rattle.type_heads.specs.MemberFaults.{condition_rows, do_rows, initial_rows, names_among, names_given, repeated_rows}
+use Rattle.type_heads.specs.Table.{form}
+use Rattle.type_heads.specs.Types.{Member}
+use Rattle.type_members.specs.Listed.{lists_of, seen_listed}
+use Rattle.type_faults.specs.ListedRows.{types_with}
+use Rattle.type_faults.proofs.RowSteps.{two}
+use Rattle.type_faults.proofs.member_faults.declared.with_listed.Goals as goal
+
+pub returns : goal.returns
+returns c =
+    let d = c.args.depends.now in
+    let heads = d.heads.now in
+    let of = c.args.of in
+    let ts = types_with heads (map seen_body d.bodies.now) (lists_of d.lists.now) in
+    let same = c.requires.same in
+    let named : List Member → List FaultRow = λ ms. repeated_rows (names_given (form heads of)) (names_among ms) in
+    let dos : List Member → List FaultRow = λ ms. do_rows (form heads of) false (filter_map (λ (m : Member). do_declared m m.written.member) ms) in
+    let initial : List Member → List FaultRow = λ ms. flat_map (λ (m : Member). initial_rows heads m.written.member) ms in
+    let members : List Member = slice_index_or (lists_of d.lists.now) of [] in
+    two (named members ++ dos members ++ initial members) (condition_rows ts of) c.args.first c.with_initials-set.result c.in_ok-found.found
+    (two (named members ++ dos members) (initial members) c.args.first c.with_dos-told.result c.with_initials-set.result
+    (two (named members) (dos members) c.args.first c.in_ok-named.named c.with_dos-told.result
+    (c.in_ok-named.ensures ∙ ap (λ f. first_from c.args.first (repeated_rows (names_given f) (names_among (map seen_listed c.args.members.now)))) c.form.ensures
+    ∙ ap (λ ms. first_from c.args.first (named ms)) same)
+    (c.with_dos-told.ensures ∙ ap (λ ms. first_from c.in_ok-named.named (dos ms)) same))
+    (c.with_initials-set.ensures ∙ ap (λ ms. first_from c.with_dos-told.result (initial ms)) same))
+    c.in_ok-found.ensures

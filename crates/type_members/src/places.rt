@@ -1,0 +1,85 @@
+//! Where the members of each type stand in rows.
+
+ghost use Rattle.std.specs.Prelude.{◌≡◌, List, map, IfSome};
+ghost use Rattle.type_heads.specs.Members.{members_of};
+ghost use Rattle.type_heads.specs.Table.{TypeHead};
+ghost use Rattle.type_heads.specs.Types.{TypeBody};
+ghost use Rattle.type_members.specs.Listed.{list_at, seen_row};
+ghost use Rattle.type_members.specs.RowEnds.{AreRows};
+
+use crate::rows::{MemberRow, RowEnd};
+use std::alloc::{AllocError, Global};
+use type_heads::TypeId;
+
+/// Which row a type's members are the first of, and how many they are.
+#[derive(Clone, Copy)]
+pub struct Span {
+    pub row: usize,
+    pub len: usize,
+}
+
+/// Where each type was put, as a row and one of its ends. No contract says so: whoever asks for a place tests it.
+#[derive(Drop)]
+pub struct Places {
+    ends: Vec<Option<EndAt>>,
+}
+
+#[derive(Clone, Copy)]
+struct EndAt {
+    row: usize,
+    end: usize,
+}
+
+impl Places {
+    /// The places of so many types, none of which is known.
+    pub fn new(alloc: Global, count: u32) -> Result<Places, AllocError> {
+        let mut ends = Vec::new(alloc);
+        for _type in 0..count {
+            ends.push(None)?;
+        }
+        Ok(Places { ends })
+    }
+
+    /// Whether the place of a type is known.
+    pub fn is_put(&self, of: TypeId) -> bool {
+        self.end_of(of).is_some()
+    }
+
+    fn end_of(&self, of: TypeId) -> Option<EndAt> {
+        match self.ends.get(of.0 as usize) {
+            Some(end) => *end,
+            None => None,
+        }
+    }
+
+    fn put_end(&mut self, of: TypeId, at: EndAt) {
+        if let Some(place) = self.ends.get_mut(of.0 as usize) {
+            *place = Some(at);
+        }
+    }
+
+    /// Puts the types of a row of that number down.
+    pub fn put(&mut self, row: usize, ends: &[RowEnd]) {
+        let mut end: usize = 0;
+        for it in ends {
+            self.put_end(it.of, EndAt { row, end });
+            end = end.saturating_add(1);
+        }
+    }
+}
+
+/// The place of a type in rows, if it is the one that was put down.
+pub fn span_in(rows: &[MemberRow<'_>], places: &Places, of: TypeId) -> Option<Span>
+    ensures { (heads : List TypeHead) (bodies : List TypeBody) → AreRows heads bodies rows.now → IfSome result (λ s. list_at (map seen_row rows.now) s ≡ members_of heads bodies of) }
+{
+    let at = places.end_of(of)?;
+    let row = rows.get(at.row)?;
+    let end = row.ends.get(at.end)?;
+    if end.of != of {
+        return None;
+    }
+    Some(Span {
+        row: at.row,
+        len: end.len,
+    })
+}

@@ -1,0 +1,21 @@
+-- How many fields the first members of a list declare, and where the fields of types stand in rows.
+use Rattle.std.specs.Prelude.{ℕ, ◌+◌, List, [], ◌∷◌, length, slice_get, slice_index_or}
+use Rattle.std.specs.Option.{option_map_or}
+use Rattle.type_heads.specs.Table.{TypeHead}
+use Rattle.type_heads.specs.Types.{Member}
+use Rattle.type_members.specs.declared.places.Span.{Span}
+use Rattle.type_tables.specs.Entries.{member_entries}
+use Rattle.type_tables.specs.declared.field_rows.FieldRow.{FieldRow}
+
+-- how many fields there are after each member, with n before the first
+abbrev pub ends_from : List TypeHead → ℕ → List Member → List ℕ
+ends_from heads n [] = []
+ends_from heads n (m ∷ ms) = (n + length (member_entries heads m)) ∷ ends_from heads (n + length (member_entries heads m)) ms
+
+-- how many fields the first members declare: none of them, the first, the first two, and so on
+abbrev pub all_ends : List TypeHead → List Member → List ℕ
+all_ends heads ms = 0 ∷ ends_from heads 0 ms
+
+-- where fields stand, given where the members that declare them stand
+abbrev pub span_of_fields : List FieldRow → Span → Span
+span_of_fields rows s = record { row = s.row; len = option_map_or (λ (r : FieldRow). slice_index_or r.ends.items s.len (length r.table)) (slice_get rows s.row) 0 }

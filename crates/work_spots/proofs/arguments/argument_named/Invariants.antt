@@ -1,7 +1,0 @@
-use Rattle.std.proofs.Common.{◌≡◌, drop, find, map}
-use Rattle.dsl_tree.specs.Views.{argument_tree}
-use Rattle.work_spots.specs.Named.{has_name}
-use Rattle.work_spots.proofs.arguments.argument_named.Given as goal
-
-abbrev pub invariant-loop-argument : goal.invariant-loop-argument
-invariant-loop-argument l = find (has_name l.name) (map argument_tree (drop l.argument-index l.arguments)) ≡ find (has_name l.name) (map argument_tree l.arguments)
