@@ -1,13 +1,13 @@
 -- A type that inherits without a condition has the members of its base, and then its own.
-use Rattle.std.proofs.Common.{◌≡◌, ◌≢◌, ◌∙◌, refl, sym, ap, subst, ℕ, zero, suc, ◌+◌, ◌<◌, ◌≤◌, ◌⊎◌, inl, inr, ◌×◌, ◌||◌, ◌&&◌, Bool, true, false, not, cond, List, [], ◌∷◌, ◌++◌, Option, Some, None, arith, map, length, filter, nat_eq}
+use Rattle.std.proofs.Common.{◌≡◌, ◌≢◌, ◌∙◌, refl, sym, ap, subst, ℕ, zero, suc, ◌+◌, ◌<◌, ◌≤◌, ◌⊎◌, inl, inr, ◌||◌, ◌&&◌, Bool, true, false, not, cond, List, [], ◌∷◌, ◌++◌, Option, Some, None, arith, map, length, filter, nat_eq}
 use Rattle.std.specs.Prelude.{flat_map, option_to_list}
 use Rattle.std.specs.Option.{option_map_or}
-use Rattle.std.specs.List.{list_all, list_any}
+use Rattle.std.specs.List.{list_all}
 use Rattle.std.proofs.lemmas.List.{append-nil, map-append}
 use Rattle.std.proofs.lemmas.List.Folds.{list_all-append}
 use Rattle.std.proofs.lemmas.Bool.Decides.{eqb_tells}
-use Rattle.type_heads.specs.Table.{TypeHead, all_types, base, bases, line_within}
-use Rattle.type_heads.specs.Types.{Written, TypeBody, Member}
+use Rattle.type_heads.specs.Table.{TypeHead, all_types, base, line_within}
+use Rattle.type_heads.specs.Types.{Written, TypeBody}
 use Rattle.type_heads.specs.Members.{has, body, Line, line_of, through, is_conditional, subtypes, down, down_within, lines_within, member_of, members_of}
 use Rattle.type_heads.proofs.LineSteps.{line_none}
 use Rattle.type_members.specs.RowEnds.{own_part}

@@ -2,3 +2,4 @@ mod Tasks
 mod Listings
 mod Inheriting
 mod RowSteps
+mod RowPlaces

@@ -1,19 +1,16 @@
 -- Rows that go on with one type more, and the types whose members are the first of a row.
-use Rattle.std.proofs.Common.{◌≡◌, ◌∙◌, refl, sym, ap, subst, ℕ, ◌+◌, ◌<◌, ◌≤◌, ◌×◌, ◌&&◌, Bool, true, not, nat_eq, true≢false, List, [], ◌∷◌, ◌++◌, Option, Some, None, arith, map, length, take, get_or, slice_index_or, length-append, length-map, false}
-use Rattle.std.specs.List.{All}
+use Rattle.std.proofs.Common.{◌≡◌, ◌∙◌, refl, sym, ap, subst, ℕ, ◌+◌, ◌<◌, ◌≤◌, ◌&&◌, Bool, true, not, nat_eq, true≢false, List, [], ◌∷◌, ◌++◌, Option, Some, None, arith, map, length, take, slice_index_or, length-append, false}
 use Rattle.std.specs.Option.{option_map_or}
 use Rattle.std.proofs.lemmas.Bool.Decides.{nat_tests}
-use Rattle.std.proofs.lemmas.List.{take-append-le}
+use Rattle.std.proofs.lemmas.List.{length-map, take-append-le}
 use Rattle.std.proofs.Math.Seq.{take-length}
 use Rattle.std.proofs.lemmas.List.Elements.{All-nil, All-push}
 use Rattle.type_heads.specs.Table.{TypeHead, base, line_within}
 use Rattle.type_heads.specs.Types.{TypeBody, Member}
 use Rattle.type_heads.specs.Members.{is_conditional, members_of}
-use Rattle.type_members.specs.Listed.{list_at, seen_listed, seen_row}
-use Rattle.type_members.specs.RowEnds.{AreEnds, AreRows, IsEnd, is_heir, own_part}
+use Rattle.type_members.specs.Listed.{seen_listed}
+use Rattle.type_members.specs.RowEnds.{AreEnds, IsEnd, is_heir, own_part}
 use Rattle.type_members.specs.declared.listed.ListedMember.{ListedMember}
-use Rattle.type_members.specs.declared.places.Span.{Span}
-use Rattle.type_members.specs.declared.rows.MemberRow.{MemberRow}
 use Rattle.type_members.specs.declared.rows.RowEnd.{RowEnd}
 use Rattle.type_members.proofs.Inheriting.{HasEnd, end_more, ended, members_more}
 
@@ -46,14 +43,14 @@ first_end heads bodies ms es t is one =
 pub record IsRow (heads : List TypeHead) (bodies : List TypeBody) (ms : List ListedMember) (es : List RowEnd) (last depth : ℕ) : Type 0 where
   pub members : map seen_listed ms ≡ members_of heads bodies last
   pub ends : AreEnds heads bodies (map seen_listed ms) es
-  pub depth : depth < length heads → HasEnd heads (Some last) depth
+  pub ended : depth < length heads → HasEnd heads (Some last) depth
 
 pub went_on : (heads : List TypeHead) (bodies : List TypeBody) (ms new : List ListedMember) (es es' : List RowEnd) (last depth heir : ℕ) → IsRow heads bodies ms es last depth →
     depth < length heads → base heads heir ≡ Some last → is_conditional bodies heir ≡ false → map seen_listed new ≡ map seen_listed ms ++ own_part heads bodies heir →
     es' ≡ es ++ record { of = heir; len = length new } ∷ [] → IsRow heads bodies new es' heir (depth + 1)
 went_on heads bodies ms new es es' last depth heir row below inherits unconditional more ends =
     let is : map seen_listed new ≡ members_of heads bodies heir =
-    more ∙ ap (λ xs. xs ++ own_part heads bodies heir) row.members ∙ sym (members_more heads bodies last heir depth inherits unconditional (row.depth below) below) in
+    more ∙ ap (λ xs. xs ++ own_part heads bodies heir) row.members ∙ sym (members_more heads bodies last heir depth inherits unconditional (row.ended below) below) in
     let before : AreEnds heads bodies (map seen_listed new) es =
     subst (λ xs. AreEnds heads bodies xs es) (sym more) (longer_ends heads bodies (map seen_listed ms) (own_part heads bodies heir) es row.ends) in
     record {
@@ -61,7 +58,7 @@ went_on heads bodies ms new es es' last depth heir row below inherits unconditio
       ends = subst (AreEnds heads bodies (map seen_listed new)) (sym ends)
           (All-push (IsEnd heads bodies (map seen_listed new)) es (record { of = heir; len = length new }) before
           (whole_end heads bodies (map seen_listed new) heir (length new) is (sym (length-map new seen_listed))));
-      depth = λ less. end_more heads last heir depth inherits (row.depth below);
+      ended = λ less. end_more heads last heir depth inherits (row.ended below);
     }
 
 never_both : (a : Bool) → (a && false) ≡ false
@@ -86,5 +83,5 @@ pub began : (heads : List TypeHead) (bodies : List TypeBody) (ms : List ListedMe
 began heads bodies ms es t depth is one long = record {
   members = is;
   ends = first_end heads bodies ms es t is one;
-  depth = λ less. subst (HasEnd heads (Some t)) (sym long) (ended heads (length heads) (Some t) (omega (arith, long, less)));
+  ended = λ less. subst (HasEnd heads (Some t)) (sym long) (ended heads (length heads) (Some t) (omega (arith, long, less)));
 }

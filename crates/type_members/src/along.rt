@@ -94,5 +94,7 @@ pub fn push_part<'a>(
         line: whole.as_slice(),
         skipped: &[],
     };
-    descent.list(alloc, into, heads.count(), of)
+    let steps = heads.count();
+    descent.list(alloc, into, steps, of)?;
+    Ok(())
 }

@@ -1,15 +1,16 @@
 //! The members of each type.
 
-ghost use Rattle.std.specs.Prelude.{◌≡◌, [], map, slice_index_or, take, IfOk, OnOk};
+ghost use Rattle.std.specs.Prelude.{◌≡◌, ℕ, [], map, slice_index_or, take, IfOk, OnOk};
 ghost use Rattle.type_heads.specs.Bodied.{seen_body};
 ghost use Rattle.type_heads.specs.Members.{members_of};
 ghost use Rattle.type_heads.specs.Table.{all_types};
 ghost use Rattle.type_members.specs.Listed.{AreSubtypes, list_at, lists_of, seen_listed, seen_row};
-ghost use Rattle.type_members.specs.RowEnds.{AreRows};
+ghost use Rattle.type_members.specs.RowEnds.{AreRows, IsAt};
+ghost use Rattle.type_members.specs.declared.places.Span.{Span};
 
 use crate::heirs::{first_heirs, row_order};
 use crate::places::{Places, Span, span_in};
-use crate::rows::{MemberRow, row_from};
+use crate::rows::{MemberRow, row_from, row_of};
 use crate::{ListedMember, Subtypes};
 use std::alloc::{AllocError, Global};
 use type_heads::{Body, Heads, TypeId};
@@ -52,6 +53,51 @@ impl<'a> PlacedRows<'a> {
         self.rows.push(row)?;
         Ok(())
     }
+
+    /// Makes a row of the members of a type alone, and says where they stand.
+    fn push_alone(
+        &mut self,
+        alloc: Global,
+        heads: &Heads,
+        bodies: &[Body<'a>],
+        subtypes: &Subtypes,
+        of: TypeId,
+    ) -> Result<Span, AllocError>
+        requires subtypes { AreSubtypes heads.now (map seen_body bodies.now) subtypes.now }
+        requires rows { AreRows heads.now (map seen_body bodies.now) self.old.rows.items }
+        ensures rows { OnOk result (AreRows heads.now (map seen_body bodies.now) self.new.rows.items) }
+        ensures place { IfOk result (λ span. IsAt heads.now (map seen_body bodies.now) self.new.rows.items of span) }
+        ensures kept { OnOk result ((t : ℕ) (s : Span) → IsAt heads.now (map seen_body bodies.now) self.old.rows.items t s → IsAt heads.now (map seen_body bodies.now) self.new.rows.items t s) }
+    {
+        let row = row_of(alloc, heads, bodies, subtypes, of)?;
+        let span = Span {
+            row: self.rows.len(),
+            len: row.members.len(),
+        };
+        self.rows.push(row)?;
+        Ok(span)
+    }
+
+    /// Where the members of a type stand. If its place isn't known, they get a row of their own.
+    fn span_of(
+        &mut self,
+        alloc: Global,
+        heads: &Heads,
+        bodies: &[Body<'a>],
+        subtypes: &Subtypes,
+        of: TypeId,
+    ) -> Result<Span, AllocError>
+        requires subtypes { AreSubtypes heads.now (map seen_body bodies.now) subtypes.now }
+        requires rows { AreRows heads.now (map seen_body bodies.now) self.old.rows.items }
+        ensures rows { OnOk result (AreRows heads.now (map seen_body bodies.now) self.new.rows.items) }
+        ensures place { IfOk result (λ span. IsAt heads.now (map seen_body bodies.now) self.new.rows.items of span) }
+        ensures kept { OnOk result ((t : ℕ) (s : Span) → IsAt heads.now (map seen_body bodies.now) self.old.rows.items t s → IsAt heads.now (map seen_body bodies.now) self.new.rows.items t s) }
+    {
+        match span_in(self.rows.as_slice(), &self.places, of) {
+            Some(span) => Ok(span),
+            None => self.push_alone(alloc, heads, bodies, subtypes, of),
+        }
+    }
 }
 
 /// Rows in which the members of all types stand.
@@ -79,21 +125,20 @@ fn placed_rows<'a>(
 }
 
 /// Where the members of each type stand in rows.
-fn all_spans(
+fn all_spans<'a>(
+    placed: &mut PlacedRows<'a>,
     alloc: Global,
     heads: &Heads,
-    bodies: &[Body<'_>],
-    placed: &PlacedRows<'_>,
+    bodies: &[Body<'a>],
+    subtypes: &Subtypes,
 ) -> Result<Vec<Span>, AllocError>
-    requires { AreRows heads.now (map seen_body bodies.now) placed.now.rows.items }
-    ensures { IfOk result (λ spans. map (list_at (map seen_row placed.now.rows.items)) spans.items ≡ map (members_of heads.now (map seen_body bodies.now)) (all_types heads.now)) }
+    requires subtypes { AreSubtypes heads.now (map seen_body bodies.now) subtypes.now }
+    requires rows { AreRows heads.now (map seen_body bodies.now) placed.old.rows.items }
+    ensures { IfOk result (λ spans. map (list_at (map seen_row placed.new.rows.items)) spans.items ≡ map (members_of heads.now (map seen_body bodies.now)) (all_types heads.now)) }
 {
     let mut spans = Vec::new(alloc);
     for number in 0..heads.count() {
-        let Some(span) = span_in(placed.rows.as_slice(), &placed.places, TypeId(number)) else {
-            // each type was put down
-            return Err(AllocError);
-        };
+        let span = placed.span_of(alloc, heads, bodies, subtypes, TypeId(number))?;
         spans.push(span)?;
     }
     Ok(spans)
@@ -138,8 +183,8 @@ impl<'a> MemberLists<'a> {
         requires { AreSubtypes heads.now (map seen_body bodies.now) subtypes.now }
         ensures { IfOk result (λ m. lists_of m ≡ map (members_of heads.now (map seen_body bodies.now)) (all_types heads.now)) }
     {
-        let placed = all_rows(alloc, heads, bodies, subtypes)?;
-        let spans = all_spans(alloc, heads, bodies, &placed)?;
+        let mut placed = all_rows(alloc, heads, bodies, subtypes)?;
+        let spans = all_spans(&mut placed, alloc, heads, bodies, subtypes)?;
         Ok(MemberLists {
             rows: placed.rows,
             spans,

@@ -1,11 +1,9 @@
 //! Where the members of each type stand in rows.
 
-ghost use Rattle.std.specs.Prelude.{◌≡◌, List, map, IfSome};
-ghost use Rattle.type_heads.specs.Members.{members_of};
+ghost use Rattle.std.specs.Prelude.{List, IfSome};
 ghost use Rattle.type_heads.specs.Table.{TypeHead};
 ghost use Rattle.type_heads.specs.Types.{TypeBody};
-ghost use Rattle.type_members.specs.Listed.{list_at, seen_row};
-ghost use Rattle.type_members.specs.RowEnds.{AreRows};
+ghost use Rattle.type_members.specs.RowEnds.{AreRows, IsAt};
 
 use crate::rows::{MemberRow, RowEnd};
 use std::alloc::{AllocError, Global};
@@ -70,7 +68,7 @@ impl Places {
 
 /// The place of a type in rows, if it is the one that was put down.
 pub fn span_in(rows: &[MemberRow<'_>], places: &Places, of: TypeId) -> Option<Span>
-    ensures { (heads : List TypeHead) (bodies : List TypeBody) → AreRows heads bodies rows.now → IfSome result (λ s. list_at (map seen_row rows.now) s ≡ members_of heads bodies of) }
+    ensures { (heads : List TypeHead) (bodies : List TypeBody) → AreRows heads bodies rows.now → IfSome result (IsAt heads bodies rows.now of) }
 {
     let at = places.end_of(of)?;
     let row = rows.get(at.row)?;

@@ -61,7 +61,7 @@ fn depth(alloc: Global, heads: &Heads, of: TypeId) -> Result<usize, AllocError>
 }
 
 /// A row of the members of a type.
-fn row_of<'a>(
+pub fn row_of<'a>(
     alloc: Global,
     heads: &Heads,
     bodies: &[Body<'a>],

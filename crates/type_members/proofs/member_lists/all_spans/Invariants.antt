@@ -1,10 +1,12 @@
-use Rattle.std.proofs.Common.{◌≡◌, ◌++◌, drop, map}
+use Rattle.std.proofs.Common.{◌≡◌, length, map}
 use Rattle.type_heads.specs.Bodied.{seen_body}
-use Rattle.type_heads.specs.Members.{members_of}
-use Rattle.type_heads.specs.Table.{numbers_from}
-use Rattle.type_members.specs.Listed.{list_at, seen_row}
+use Rattle.type_members.specs.RowEnds.{AreRows}
+use Rattle.type_members.proofs.RowPlaces.{AreAt}
 use Rattle.type_members.proofs.member_lists.all_spans.Given as goal
 
 abbrev pub invariant-loop-number : goal.invariant-loop-number
-invariant-loop-number l = map (list_at (map seen_row l.placed.rows.items)) l.spans.items ++ map (members_of l.heads (map seen_body l.bodies)) (numbers_from l.number (drop l.number l.heads))
-    ≡ map (members_of l.heads (map seen_body l.bodies)) (numbers_from 0 l.heads)
+invariant-loop-number l = record {
+  rows : AreRows l.heads (map seen_body l.bodies) l.placed.rows.items;
+  places : AreAt l.heads (map seen_body l.bodies) l.placed.rows.items 0 l.spans.items;
+  count : length l.spans.items ≡ l.number;
+}
