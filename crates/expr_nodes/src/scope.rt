@@ -1,8 +1,5 @@
 //! Where an expression stands: what its names mean.
 
-ghost use Rattle.std.specs.Prelude.{◌≡◌, [], option_map};
-ghost use Rattle.expr_nodes.specs.SeenNames.{seen_it, seen_scope};
-
 use crate::{LabelTable, Turn};
 use type_model::{FieldType, TypeId};
 
@@ -23,18 +20,4 @@ pub struct Scope<'a> {
     pub it: Option<It>,
     pub labels: Option<&'a LabelTable>,
     pub way: &'a [Turn],
-}
-
-impl<'a> Scope<'a> {
-    /// A scope without labels.
-    pub fn unlabelled(holder: TypeId, it: Option<It>) -> Scope<'a>
-        ensures { seen_scope result ≡ record { holder = holder; it = option_map seen_it it; labels = [] } }
-    {
-        Scope {
-            holder,
-            it,
-            labels: None,
-            way: &[],
-        }
-    }
 }
