@@ -5,3 +5,4 @@ mod SoundForms
 mod TypeParts
 mod Stops
 mod LastNumbers
+mod RowsTold
