@@ -1,5 +1,5 @@
 -- Scopes of texts, but for `it`.
-use Rattle.std.proofs.Common.{◌≡◌, ◌∙◌, refl, sym, ap, ap₂, subst, ℕ, List, [], ◌∷◌, Option, Some, None, flat_map, map}
+use Rattle.std.proofs.Common.{◌≡◌, ◌∙◌, sym, ap, ap₂, ℕ, List, [], ◌∷◌, None, flat_map}
 use Rattle.std.proofs.lemmas.List.Folds.{flat_map-map}
 use Rattle.osc_base.specs.declared.path.Path.{Path}
 use Rattle.dsl_tree.specs.declared.parts.Ident.{Ident}
@@ -13,23 +13,10 @@ use Rattle.composition.specs.Givens.{guards_under}
 use Rattle.composition.specs.Scenes.{Binding, Occurrence}
 use Rattle.text_constraints.specs.OwnTexts.{IsTextScope, field_kept, it_given, member_kept, name_kept, own_rule_kept, without_it}
 
--- a scope is that of the text that holds it
-pub own_holder : (ts : Types) (holder : ℕ) (s : Scope) → IsTextScope ts holder s → IsTextScope ts s.holder s
-unfolding IsTextScope
-own_holder ts holder s is = is ∙ ap (λ t. scope_at ts t None []) (sym (ap (λ (z : Scope). z.holder) is))
-
--- another `it`
-pub other_it : (ts : Types) (holder : ℕ) (a b : Scope) → without_it b ≡ without_it a → IsTextScope ts holder a → IsTextScope ts holder b
-unfolding IsTextScope
-other_it ts holder a b same is = same ∙ is
-
 -- a scope that is made for a text
 pub made_for : (ts : Types) (holder : ℕ) (s : Scope) → s ≡ scope_at ts holder None [] → IsTextScope ts holder s
 unfolding IsTextScope
 made_for ts holder s is = ap without_it is
-
-pub of_holder : (ts : Types) (a b : ℕ) (s : Scope) → a ≡ b → IsTextScope ts a s → IsTextScope ts b s
-of_holder ts a b s same is = subst (λ t. IsTextScope ts t s) same is
 
 module _ (ts : Types) (bindings : List Binding) (object : Path) (t : ℕ) (m : Member) (before now : Scope) (under : List Guard) where
   -- the names of a field

@@ -12,7 +12,7 @@ ghost use Rattle.expansion_laws.specs.WorkNodes.{own_within};
 ghost use Rattle.composition.specs.Expanded.{occurrence_of};
 ghost use Rattle.text_constraints.specs.Kept.{seen_owner};
 ghost use Rattle.text_constraints.specs.Labelled.{IsLabelled};
-ghost use Rattle.text_constraints.specs.OwnTexts.{HasIt, IsTextScope, conditions_kept, initials_kept, it_given, listed_kept, member_kept, name_kept, own_rule_kept, texts_kept, without_it};
+ghost use Rattle.text_constraints.specs.OwnTexts.{HasIt, IsTextScope, conditions_kept, initials_kept, it_given, listed_kept, member_kept, name_kept, own_rule_kept, texts_kept};
 ghost use Rattle.text_constraints.specs.Sites.{seen_site};
 
 use crate::conditions::push_conditions;
@@ -183,54 +183,61 @@ fn push_own_rule(
     push_rule(alloc, texts.types(), &text, &owner, into, rule)
 }
 
-/// Puts what a field of the object gives at the end. The scope becomes that of its texts.
+/// Puts what a field of the object gives at the end. The scope is that of the member's text.
 fn push_field(
     alloc: Global,
     texts: &ProgramTexts<'_>,
     standing: &Standing<'_>,
-    scope: &mut Scope<'_>,
+    scope: &Scope<'_>,
     listed: &ListedMember<'_>,
     into: &mut Vec<Occurrence>,
     decl: &FieldDecl,
 ) -> Result<(), AllocError>
-    ensures scope { without_it (seen_scope scope.new) ≡ without_it (seen_scope scope.old) }
-    ensures kept { OnOk result (IsTextScope (types_in texts.now) listed.now.holder (seen_scope scope.old) → map seen_occurrence into.new.items ≡ map seen_occurrence into.old.items ++ member_kept (types_in texts.now) (seen_scene standing.now.scene.now).bindings standing.now.object.now standing.now.of (seen_listed listed.now) (MemberTree.Field (field_tree decl.now))) }
+    ensures { OnOk result (IsTextScope (types_in texts.now) listed.now.holder (seen_scope scope.now) → map seen_occurrence into.new.items ≡ map seen_occurrence into.old.items ++ member_kept (types_in texts.now) (seen_scene standing.now.scene.now).bindings standing.now.object.now standing.now.of (seen_listed listed.now) (MemberTree.Field (field_tree decl.now))) }
 {
     let it = it_of(texts, decl)?;
     let under = texts.guards_under(alloc, standing.object, standing.of, listed.under.as_slice())?;
-    scope.it = it;
-    push_names(alloc, texts, standing, scope, under.as_slice(), into, decl)
+    let own = Scope {
+        holder: scope.holder,
+        it,
+        labels: scope.labels,
+        way: scope.way,
+    };
+    push_names(alloc, texts, standing, &own, under.as_slice(), into, decl)
 }
 
-/// Puts what a rule among the object's members gives at the end. In the scope, `it` becomes nothing.
+/// Puts what a rule among the object's members gives at the end. The scope is that of the member's text.
 fn push_member_rule(
     alloc: Global,
     texts: &ProgramTexts<'_>,
     standing: &Standing<'_>,
-    scope: &mut Scope<'_>,
+    scope: &Scope<'_>,
     listed: &ListedMember<'_>,
     into: &mut Vec<Occurrence>,
     rule: &RuleDecl,
 ) -> Result<(), AllocError>
-    ensures scope { without_it (seen_scope scope.new) ≡ without_it (seen_scope scope.old) }
-    ensures kept { OnOk result (IsTextScope (types_in texts.now) listed.now.holder (seen_scope scope.old) → map seen_occurrence into.new.items ≡ map seen_occurrence into.old.items ++ member_kept (types_in texts.now) (seen_scene standing.now.scene.now).bindings standing.now.object.now standing.now.of (seen_listed listed.now) (MemberTree.Rule (rule_tree rule.now))) }
+    ensures { OnOk result (IsTextScope (types_in texts.now) listed.now.holder (seen_scope scope.now) → map seen_occurrence into.new.items ≡ map seen_occurrence into.old.items ++ member_kept (types_in texts.now) (seen_scene standing.now.scene.now).bindings standing.now.object.now standing.now.of (seen_listed listed.now) (MemberTree.Rule (rule_tree rule.now))) }
 {
     let under = texts.guards_under(alloc, standing.object, standing.of, listed.under.as_slice())?;
-    scope.it = None;
-    push_own_rule(alloc, texts, standing, scope, under.as_slice(), into, rule)
+    let own = Scope {
+        holder: scope.holder,
+        it: None,
+        labels: scope.labels,
+        way: scope.way,
+    };
+    push_own_rule(alloc, texts, standing, &own, under.as_slice(), into, rule)
 }
 
-/// Puts what a member of the object gives at the end. The scope is that of the member's text, and changes in `it` alone.
+/// Puts what a member of the object gives at the end. The scope is that of the member's text.
 fn push_member(
     alloc: Global,
     texts: &ProgramTexts<'_>,
     standing: &Standing<'_>,
-    scope: &mut Scope<'_>,
+    scope: &Scope<'_>,
     listed: &ListedMember<'_>,
     into: &mut Vec<Occurrence>,
 ) -> Result<(), AllocError>
-    ensures scope { without_it (seen_scope scope.new) ≡ without_it (seen_scope scope.old) }
-    ensures kept { OnOk result (IsTextScope (types_in texts.now) listed.now.holder (seen_scope scope.old) → map seen_occurrence into.new.items ≡ map seen_occurrence into.old.items ++ listed_kept (types_in texts.now) (seen_scene standing.now.scene.now).bindings standing.now.object.now standing.now.of (seen_listed listed.now)) }
+    ensures { OnOk result (IsTextScope (types_in texts.now) listed.now.holder (seen_scope scope.now) → map seen_occurrence into.new.items ≡ map seen_occurrence into.old.items ++ listed_kept (types_in texts.now) (seen_scene standing.now.scene.now).bindings standing.now.object.now standing.now.of (seen_listed listed.now)) }
 {
     match listed.written.member {
         Member::Field(decl) => push_field(alloc, texts, standing, scope, listed, into, decl),
@@ -284,8 +291,8 @@ fn push_labelled(
 ) -> Result<(), AllocError>
     ensures { OnOk result (IsLabelled (types_in texts.now) listed.now.holder labels.now → map seen_occurrence into.new.items ≡ map seen_occurrence into.old.items ++ listed_kept (types_in texts.now) (seen_scene standing.now.scene.now).bindings standing.now.object.now standing.now.of (seen_listed listed.now)) }
 {
-    let mut scope = scope_at(labels.holder, None, labels.labels.table(), &[]);
-    push_member(alloc, texts, standing, &mut scope, listed, into)
+    let scope = scope_at(labels.holder, None, labels.labels.table(), &[]);
+    push_member(alloc, texts, standing, &scope, listed, into)
 }
 
 /// Puts what members of the object give at the end. Labels that are made for a text serve all members in a row.

@@ -10,4 +10,4 @@ returns c =
     on_ok _ _
     (λ kept is. kept (scope_of_labels (types_in c.args.texts.now) c.args.listed.now.holder c.args.labels.now (seen_labels c.table.result.now) (seen_scope c.scope_at-scope.result) is
     c.table.ensures (c.scope_at-scope.ensures (types_in c.args.texts.now))))
-    c.push_member.result c.push_member.ensures.kept
+    c.push_member.result c.push_member.ensures

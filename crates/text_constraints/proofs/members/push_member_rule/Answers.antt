@@ -10,8 +10,8 @@ use Rattle.text_constraints.proofs.ListSteps.{on_ok}
 use Rattle.text_constraints.proofs.ScopeSteps.{rule_here}
 use Rattle.text_constraints.proofs.members.push_member_rule.Goals as goal
 
-pub returns-clause-kept : goal.returns-clause-kept
-returns-clause-kept c =
+pub returns : goal.returns
+returns c =
     let ts = types_in c.args.texts.now in
     let bindings = (seen_scene c.args.standing.now.scene.now).bindings in
     let object = c.args.standing.now.object.now in
