@@ -103,7 +103,7 @@ fn push_invoke(
     ensures { OnOk result (map seen_occurrence into.new.items ≡ map seen_occurrence into.old.items ++ invoke_kept (types_in texts.now) (seen_scene scene.now).bindings (seen_call call.now) of (map argument_tree node.now.arguments) (map part_tree node.now.parts)) }
 {
     let labels = texts.labels(alloc, call.holder)?;
-    let mut scope = call_scope(labels.table(), call);
+    let scope = call_scope(labels.table(), call);
     let fields = texts.fields(alloc, of)?;
     let places = Places {
         object: &call.object,
@@ -116,7 +116,7 @@ fn push_invoke(
         texts.types(),
         &places,
         &owner,
-        &mut scope,
+        &scope,
         of,
         fields.as_slice(),
         into,
