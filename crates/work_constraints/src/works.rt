@@ -48,12 +48,12 @@ fn owner_of(call: &Call) -> Owner<'_, '_>
 }
 
 /// Puts a stated duration of a phase at the end.
-fn push_stated(
+fn push_stated<'x>(
     alloc: Global,
-    texts: &ProgramTexts<'_>,
+    texts: &'x ProgramTexts<'_>,
     scene: &Scene,
     into: &mut Vec<Occurrence>,
-    call: &Call,
+    call: &'x Call,
     value: &Expr,
 ) -> Result<(), AllocError>
     ensures { OnOk result (map seen_occurrence into.new.items ≡ map seen_occurrence into.old.items ++ occurrence_of (seen_scene scene.now).bindings (given_duration (types_in texts.now) (seen_call call.now) (expr_tree value.now)) ∷ []) }
