@@ -1,5 +1,5 @@
 -- If all types fit by ranks, no type holds itself.
-use Rattle.std.proofs.Common.{◌≡◌, ◌∙◌, refl, sym, ap, ℕ, zero, suc, ◌+◌, ◌<◌, ◌≤◌, ◌&&◌, ◌||◌, Bool, true, false, not, cond, List, [], ◌∷◌, ◌++◌, Option, Some, None, filter, length, nat_eq, flat_map, arith, true≢false}
+use Rattle.std.proofs.Common.{◌≡◌, ◌∙◌, refl, sym, ap, ℕ, zero, suc, ◌+◌, ◌<◌, ◌≤◌, ◌&&◌, ◌||◌, Bool, true, false, not, cond, List, [], ◌∷◌, ◌++◌, Option, Some, None, Result, Ok, Err, IfOk, filter, length, nat_eq, flat_map, arith, true≢false}
 use Rattle.std.specs.Prelude.{nat_lt, slice_index_or}
 use Rattle.std.specs.Option.{option_map_or}
 use Rattle.std.specs.List.{list_all}
@@ -20,14 +20,12 @@ use Rattle.type_faults.proofs.Ranked.{both, left_of, right_of, all_fresh, all_re
 
 passes_at : (p : ℕ → Bool) {X : Type 0} (n t : ℕ) (xs : List X) → list_all p (numbers_from n xs) ≡ true → n ≤ t → t < n + length xs → p t ≡ true
 passes_at p n t [] h from below = absurd (omega (arith, from, below))
-passes_at p n t (x ∷ xs) h from below = by (nat_eq n t) refl
+passes_at p n t (x ∷ xs) h from below =
+    by (nat_eq n t) refl (λ later. passes_at p (n + 1) t xs (right_of (p n) (list_all p (numbers_from (n + 1) xs)) h) later (omega (arith, below)))
   where
-    by : (b : Bool) → nat_eq n t ≡ b → p t ≡ true
-    by true e = let same : n ≡ t = grind (arith, nat_tests) in ap p (sym same) ∙ left_of (p n) (list_all p (numbers_from (n + 1) xs)) h
-    by false e =
-        let later : n + 1 ≤ t = grind (arith, nat_tests) in
-        let less : t < (n + 1) + length xs = omega (arith, below) in
-        passes_at p (n + 1) t xs (right_of (p n) (list_all p (numbers_from (n + 1) xs)) h) later less
+    by : (b : Bool) → nat_eq n t ≡ b → (n + 1 ≤ t → p t ≡ true) → p t ≡ true
+    by true e rest = let same : n ≡ t = grind (arith, nat_tests) in ap p (sym same) ∙ left_of (p n) (list_all p (numbers_from (n + 1) xs)) h
+    by false e rest = let later : n + 1 ≤ t = grind (arith, nat_tests) in rest later
 
 past_end : {X : Type 0} (xs : List X) (t : ℕ) (d : X) → length xs ≤ t → slice_index_or xs t d ≡ d
 past_end [] t d past = refl
@@ -170,5 +168,7 @@ module _ (heads : List TypeHead) (bodies : List TypeBody) (ranks : List ℕ) (fi
       (λ u k. fall_twice (rank ranks u) (rank ranks x) (rank ranks t) k h) (held_types heads bodies x) (held_low x))
       (length heads) t (held_low t) (not_below (rank ranks t))
 
-pub none_held : (heads : List TypeHead) (bodies : List TypeBody) (ranks : List ℕ) (r : Ranking) → types_fit heads bodies ranks ≡ true → IsShown (length heads) (held_types heads bodies) r
-none_held heads bodies ranks r fit = λ t shown. never_held heads bodies ranks fit t
+pub none_held : {E : Type 0} (heads : List TypeHead) (bodies : List TypeBody) (ranks : List ℕ) → types_fit heads bodies ranks ≡ true → (r : Result Ranking E) →
+    IfOk r (IsShown (length heads) (held_types heads bodies))
+none_held heads bodies ranks fit (Ok r) = λ t shown. never_held heads bodies ranks fit t
+none_held heads bodies ranks fit (Err e) = tt

@@ -1,7 +1,6 @@
 -- The first members of a list that gives no fault by itself give none in any type.
 use Rattle.std.proofs.Common.{◌≡◌, ◌∙◌, refl, sym, ap, ℕ, zero, suc, ◌||◌, ◌&&◌, Bool, true, false, not, cond, List, [], ◌∷◌, ◌++◌, Option, Some, None, map, take, drop, flat_map, bytes_eq, true≢false}
-use Rattle.std.specs.Prelude.{codes, is_none, is_some, filter_map, slice_get, slice_index_or}
-use Rattle.std.specs.Option.{option_map_or}
+use Rattle.std.specs.Prelude.{codes, is_none, is_some, filter_map, slice_index_or}
 use Rattle.std.specs.List.{cons_option, list_all, list_any}
 use Rattle.std.proofs.lemmas.List.{take-append-drop}
 use Rattle.std.proofs.lemmas.List.Folds.{list_all-append, list_any-append}

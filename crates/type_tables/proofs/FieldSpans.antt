@@ -1,6 +1,6 @@
 -- The fields of the first members of a row are the first fields of the row.
 use Rattle.std.proofs.Common.{◌≡◌, ◌∙◌, refl, sym, ap, ℕ, zero, suc, ◌+◌, ◌<◌, List, [], ◌∷◌, ◌++◌, arith, map, length, take, drop, get_or, slice_index_or, length-append}
-use Rattle.std.specs.Prelude.{filter_map, slice_get}
+use Rattle.std.specs.Prelude.{slice_get}
 use Rattle.std.specs.Option.{option_map_or}
 use Rattle.std.proofs.lemmas.List.{append_assoc, drop_more}
 use Rattle.std.proofs.lemmas.List.Elements.{filter_map-append}
@@ -8,9 +8,10 @@ use Rattle.std.proofs.Math.Seq.{take-append-add}
 use Rattle.type_heads.specs.Table.{TypeHead, TableField}
 use Rattle.type_heads.specs.Types.{Member}
 use Rattle.type_heads.specs.Members.{fields_among, fields_declared, table_field, table_fields}
-use Rattle.type_members.specs.Listed.{list_at, seen_listed}
+use Rattle.type_members.specs.Listed.{list_at, seen_listed, seen_row}
 use Rattle.type_members.specs.declared.listed.ListedMember.{ListedMember}
 use Rattle.type_members.specs.declared.places.Span.{Span}
+use Rattle.type_members.specs.declared.rows.MemberRow.{MemberRow}
 use Rattle.type_tables.specs.Entries.{member_entries}
 use Rattle.type_tables.specs.FieldEnds.{all_ends, ends_from, span_of_fields}
 use Rattle.type_tables.specs.declared.field_rows.FieldRow.{FieldRow}
@@ -36,6 +37,16 @@ module _ (heads : List TypeHead) where
       let first : n + length (table_fields heads (m ∷ take k ms)) ≡ (n + e) + length (table_fields heads (take k ms)) = omega (arith, split_length m (take k ms)) in
       ap (slice_index_or ((n + e) ∷ ends_from heads (n + e) ms) k) all ∙ end_is (n + e) ms k ∙ sym first
 
+  -- with nothing before the first
+  plus_zero : (n : ℕ) → 0 + n ≡ n
+  plus_zero n = omega arith
+
+  end_among : (k : ℕ) (ms : List Member) → slice_index_or (all_ends heads ms) k (length (table_fields heads ms)) ≡ length (table_fields heads (take k ms))
+  end_among k ms =
+      ap (slice_index_or (all_ends heads ms) k) (sym (plus_zero (length (table_fields heads ms))))
+      ∙ end_is 0 ms k
+      ∙ plus_zero (length (table_fields heads (take k ms)))
+
   first_fields : (k : ℕ) (ms : List Member) → take (length (table_fields heads (take k ms))) (table_fields heads ms) ≡ table_fields heads (take k ms)
   first_fields zero ms = refl
   first_fields (suc k) [] = refl
@@ -52,7 +63,7 @@ module _ (heads : List TypeHead) where
   row_law table ends ms len is ends_are =
       ap (λ fs. take (slice_index_or ends len (length fs)) fs) is
       ∙ ap (λ es. take (slice_index_or es len (length (table_fields heads ms))) (table_fields heads ms)) ends_are
-      ∙ ap (λ n. take n (table_fields heads ms)) (end_is 0 ms len)
+      ∙ ap (λ n. take n (table_fields heads ms)) (end_among len ms)
       ∙ first_fields len ms
 
   span_law : (rows : List FieldRow) (lists : List (List Member)) (row len : ℕ) → map (λ (r : FieldRow). r.table) rows ≡ map (table_fields heads) lists →
@@ -77,6 +88,18 @@ module _ (heads : List TypeHead) where
   lists_are rows lists (s ∷ spans) tables ends =
       ap (λ fs. fs ∷ map (list_at (map (λ (r : FieldRow). r.table) rows)) (map (span_of_fields rows) spans)) (span_law rows lists s.row s.len tables ends)
       ∙ ap (λ rest. table_fields heads (list_at lists s) ∷ rest) (lists_are rows lists spans tables ends)
+
+  -- the fields of all types
+  pub all_fields : (rows seen : List FieldRow) (held listed : List MemberRow) (spans placed all : List Span) → seen ≡ rows → listed ≡ held → placed ≡ spans →
+      map (λ (r : FieldRow). r.table) rows ≡ map (table_fields heads) (map seen_row listed) →
+      map (λ (r : FieldRow). r.ends.items) rows ≡ map (all_ends heads) (map seen_row listed) →
+      all ≡ map (span_of_fields seen) placed →
+      map (list_at (map (λ (r : FieldRow). r.table) rows)) all ≡ map (table_fields heads) (map (list_at (map seen_row held)) spans)
+  all_fields rows seen held listed spans placed all same_rows same_lists same_spans tables ends are =
+      ap (map (list_at (map (λ (r : FieldRow). r.table) rows)))
+      (are ∙ ap (λ rs. map (span_of_fields rs) placed) same_rows ∙ ap (map (span_of_fields rows)) same_spans)
+      ∙ lists_are rows (map seen_row held) spans (tables ∙ ap (λ ms. map (table_fields heads) (map seen_row ms)) same_lists)
+      (ends ∙ ap (λ ms. map (all_ends heads) (map seen_row ms)) same_lists)
 
   -- how many fields there are after one member more
   pub ends_more : (members : List ListedMember) (i : ℕ) (m : ListedMember) (into into' : List TableField) (ends ends' all : List ℕ) → i < length members → m ≡ get_or members i m →

@@ -1,5 +1,5 @@
 mod Ascending
-mod FieldLists
+mod MemberFields
 mod FieldSpans
 mod ListLengths
 mod Firsts

@@ -22,17 +22,17 @@ pub struct FieldRow {
 
 /// Fields that are put down, and how many there were after each member.
 #[derive(Drop)]
-struct Fields {
+struct EndedFields {
     entries: Vec<FieldEntry>,
     ends: Vec<usize>,
 }
 
-impl Fields {
-    fn new(alloc: Global) -> Result<Fields, AllocError>
+impl EndedFields {
+    fn new(alloc: Global) -> Result<EndedFields, AllocError>
         ensures entries { IfOk result (λ f. f.entries.items ≡ []) }
         ensures ends { IfOk result (λ f. f.ends.items ≡ 0 ∷ []) }
     {
-        Ok(Fields {
+        Ok(EndedFields {
             entries: Vec::new(alloc),
             ends: vec![in alloc; 0]?,
         })
@@ -55,11 +55,15 @@ impl Fields {
 }
 
 /// The fields among members.
-fn fields(alloc: Global, heads: &Heads, members: &[ListedMember<'_>]) -> Result<Fields, AllocError>
+fn fields(
+    alloc: Global,
+    heads: &Heads,
+    members: &[ListedMember<'_>],
+) -> Result<EndedFields, AllocError>
     ensures entries { IfOk result (λ fields. fields.entries.items ≡ table_fields heads.now (map seen_listed members.now)) }
     ensures ends { IfOk result (λ fields. fields.ends.items ≡ all_ends heads.now (map seen_listed members.now)) }
 {
-    let mut fields = Fields::new(alloc)?;
+    let mut fields = EndedFields::new(alloc)?;
     for member in members {
         fields.push(alloc, heads, member)?;
     }

@@ -36,7 +36,7 @@ impl Model for FieldTable {
 }
 
 impl FieldTable {
-    /// These fields, with places of their names or without. More of them than a `u32` counts are out of memory.
+    /// These fields, with places of their names or without.
     pub fn of(
         alloc: Global,
         entries: Vec<FieldEntry>,

@@ -1,6 +1,6 @@
 //! The first place of each name in a list.
 
-ghost use Rattle.std.specs.Prelude.{◌≡◌, ℕ, ◌+◌, ◌<◌, ◌^◌, List, None, Some, bytes_eq, cond, find, option_copied, take, IfOk, OnOk};
+ghost use Rattle.std.specs.Prelude.{◌≡◌, ℕ, ◌<◌, ◌^◌, List, None, Some, bytes_eq, cond, find, length, option_copied, take, IfOk, OnOk};
 ghost use Rattle.std.specs.Option.{option_or};
 ghost use Rattle.name_scope.specs.Declaring.{first_place};
 ghost use Rattle.type_tables.specs.Places.{HasPlaces, Places, low_place, place_in};
@@ -20,19 +20,14 @@ pub trait HasName {
 /// A list of so few things is gone over. No places are kept for it, which saves memory for types with few fields.
 const FEW: usize = 8;
 
+/// A list of more things than a `u32` counts is gone over, too.
+const MOST: usize = 4_294_967_295;
+
 /// The first place of each name in a list of fewer than 2^32 things, if places are kept for the list. Else it is gone over.
 #[derive(Drop)]
 pub struct FirstPlaces {
     is_kept: bool,
     places: IndexMap<String, u32>,
-}
-
-/// The next place. A place that a `u32` doesn't hold counts as out of memory.
-fn next_place(place: u32) -> Result<u32, AllocError>
-    ensures next { IfOk result (λ n. n ≡ place + 1) }
-    ensures small { IfOk result (λ n. n < 2 ^ 32) }
-{
-    place.checked_add(1).ok_or(AllocError)
 }
 
 impl FirstPlaces {
@@ -64,8 +59,8 @@ impl FirstPlaces {
         Ok(())
     }
 
-    /// The first place of each name, if places are wanted and there are more than a few things. More things than a `u32`
-    /// counts are out of memory.
+    /// The first place of each name, if places are wanted and there are more than a few things, and no more than a `u32`
+    /// counts.
     pub fn of<T: HasName>(
         alloc: Global,
         things: &[T],
@@ -73,7 +68,7 @@ impl FirstPlaces {
     ) -> Result<FirstPlaces, AllocError>
         ensures { IfOk result (λ t. Places t T.name_of things.now) }
     {
-        if !is_wanted || things.len() <= FEW {
+        if !is_wanted || things.len() <= FEW || things.len() > MOST {
             return Ok(FirstPlaces::new(alloc, false));
         }
         let places = FirstPlaces::of_many(alloc, things)?;
@@ -82,13 +77,14 @@ impl FirstPlaces {
 
     /// The first place of each name.
     fn of_many<T: HasName>(alloc: Global, things: &[T]) -> Result<FirstPlaces, AllocError>
+        requires { length things.now < 2 ^ 32 }
         ensures { IfOk result (λ t. HasPlaces t T.name_of things.now) }
     {
         let mut index = FirstPlaces::new(alloc, true);
         let mut place: u32 = 0;
         for thing in things {
             index.note(alloc, thing.own_name(), place)?;
-            place = next_place(place)?;
+            place += 1;
         }
         Ok(index)
     }

@@ -35,7 +35,7 @@ impl Model for TextTable {
 }
 
 impl TextTable {
-    /// These texts. More of them than a `u32` counts are out of memory.
+    /// These texts.
     pub fn of(alloc: Global, entries: Vec<Text>) -> Result<TextTable, AllocError>
         ensures { IfOk result (λ table. table ≡ entries.items) }
     {

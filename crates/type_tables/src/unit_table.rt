@@ -36,7 +36,7 @@ impl Model for UnitTable {
 }
 
 impl UnitTable {
-    /// These units. More of them than a `u32` counts are out of memory.
+    /// These units.
     pub fn of(alloc: Global, entries: Vec<UnitEntry>) -> Result<UnitTable, AllocError>
         ensures { IfOk result (λ table. table ≡ entries.items) }
     {

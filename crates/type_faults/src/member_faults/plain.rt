@@ -36,11 +36,7 @@ fn has_do(members: &[ListedMember<'_>]) -> bool
 }
 
 /// Whether members give no fault by themselves in any type, also in one that has the name `duration` before them.
-fn is_plain(
-    alloc: Global,
-    heads: &Heads,
-    members: &[ListedMember<'_>],
-) -> Result<bool, AllocError>
+fn is_plain(alloc: Global, heads: &Heads, members: &[ListedMember<'_>]) -> Result<bool, AllocError>
     ensures { IfOk result (λ b. b ≡ is_plain_list heads.now (map seen_listed members.now)) }
 {
     let form = Form::Compound(CompoundKind::Scenario);

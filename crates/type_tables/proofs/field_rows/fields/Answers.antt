@@ -2,7 +2,7 @@ use Rattle.std.proofs.Common.{map}
 use Rattle.type_heads.specs.Members.{table_fields}
 use Rattle.type_members.specs.Listed.{seen_listed}
 use Rattle.type_tables.specs.FieldEnds.{all_ends}
-use Rattle.type_tables.proofs.FieldLists.{fields_more}
+use Rattle.type_tables.proofs.MemberFields.{fields_more}
 use Rattle.type_tables.proofs.FieldSpans.{ends_more}
 use Rattle.type_tables.proofs.field_rows.fields.Goals as goal
 

@@ -1,6 +1,6 @@
 use Rattle.std.proofs.Common.{◌∙◌, map}
 use Rattle.type_members.specs.Listed.{seen_listed}
-use Rattle.type_tables.proofs.FieldLists.{found_among}
+use Rattle.type_tables.proofs.MemberFields.{found_among}
 use Rattle.type_tables.proofs.fields.field_named.Goals as goal
 
 pub returns : goal.returns

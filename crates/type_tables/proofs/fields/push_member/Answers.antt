@@ -1,7 +1,7 @@
 use Rattle.std.proofs.Common.{◌∙◌, ◌++◌, ap}
 use Rattle.dsl_tree.specs.Views.{field_tree, member_tree}
 use Rattle.type_members.specs.Listed.{seen_listed}
-use Rattle.type_tables.proofs.FieldLists.{member_fields}
+use Rattle.type_tables.proofs.MemberFields.{member_fields}
 use Rattle.type_tables.proofs.fields.push_member.Goals as goal
 
 pub returns-in_ok-push_field-in-Field : goal.returns-in_ok-push_field-in-Field

@@ -1,4 +1,4 @@
-use Rattle.std.proofs.Common.{◌≡◌, ◌∙◌, ap, map, sym, true}
+use Rattle.std.proofs.Common.{◌≡◌, ◌∙◌, map, sym, true}
 use Rattle.osc_base.specs.FaultRows.{first_from}
 use Rattle.type_heads.specs.Bodied.{seen_body}
 use Rattle.type_heads.specs.MemberFaults.{condition_rows, type_rows}

@@ -1,9 +1,8 @@
-use Rattle.std.proofs.Common.{◌∙◌, ap, map}
-use Rattle.type_members.specs.Listed.{list_at, seen_row}
-use Rattle.type_tables.specs.FieldEnds.{span_of_fields}
-use Rattle.type_tables.specs.declared.field_rows.FieldRow.{FieldRow}
-use Rattle.type_tables.proofs.FieldSpans.{lists_are}
+use Rattle.type_tables.proofs.FieldSpans.{all_fields}
 use Rattle.type_tables.proofs.field_lists.FieldLists.of.Goals as goal
 
 pub returns : goal.returns
-returns c = ?
+returns c =
+    all_fields c.args.heads.now c.in_ok-rows.rows.items c.as_slice.result.now c.args.lists.now.rows.items c.rows.result.now
+    c.args.lists.now.spans.items c.spans.result.now c.in_ok-spans.spans.items
+    c.as_slice.ensures.value c.rows.ensures c.spans.ensures c.in_ok-rows.ensures.tables c.in_ok-rows.ensures.ends c.in_ok-spans.ensures

@@ -6,8 +6,7 @@ use Rattle.type_tables.proofs.first_places.FirstPlaces.of_many.Goals as goal
 
 pub loop-thing-preserved : goal.loop-thing-preserved
 loop-thing-preserved g c = record {
-  count = c.in_ok-place.ensures.next ∙ ap (λ n. n + 1) c.loop-thing.invariant.count;
-  small = c.in_ok-place.ensures.small;
+  count = ap (λ n. n + 1) c.loop-thing.invariant.count;
   places = noted (place_in c.loop-thing.index) (place_in c.note.new.self) g.T.HasName.name_of c.args.things.now c.loop-thing.thing-index c.thing-item.result c.loop-thing.place c.own_name.result.now
       c.loop-thing-test.true c.thing-item.is c.loop-thing.invariant.count c.own_name.ensures c.loop-thing.invariant.places c.in_ok-note.ensures;
 }

@@ -1,10 +1,9 @@
-use Rattle.std.proofs.Common.{◌≡◌, ◌<◌, ◌^◌, take}
+use Rattle.std.proofs.Common.{◌≡◌, take}
 use Rattle.type_tables.specs.Places.{HasPlaces}
 use Rattle.type_tables.proofs.first_places.FirstPlaces.of_many.Given as goal
 
 abbrev pub invariant-loop-thing : goal.invariant-loop-thing
 invariant-loop-thing g l = record {
   count : l.place ≡ l.thing-index;
-  small : l.place < 2 ^ 32;
   places : HasPlaces l.index g.T.HasName.name_of (take l.thing-index l.things);
 }
