@@ -4,6 +4,7 @@ use Rattle.std.specs.Prelude.{nat_lt, slice_get}
 use Rattle.std.proofs.lemmas.Bool.{ltb-false, false≢true}
 use Rattle.std.proofs.lemmas.Option.{none-some, same_Some}
 use Rattle.osc_base.specs.declared.fault.Place.{Place}
+use Rattle.dsl_tree.specs.declared.parts.Ident.{Ident}
 use Rattle.dsl_tree.specs.declared.expr.Expr.{Expr}
 use Rattle.dsl_tree.specs.declared.expr.Further.{Further}
 use Rattle.dsl_tree.specs.declared.expr.Suffix.{Suffix}
@@ -16,9 +17,9 @@ use Rattle.dsl_tree.specs.ExprTree.{ExprTree, row_of}
 use Rattle.dsl_tree.specs.Views.{FurtherTree, SuffixTree, grouped, with_suffixes, named_row, indexed_row, expr_tree, suffix_tree, further_tree}
 use Rattle.dsl_tree.specs.Grammar.{Part, Symbol, rules}
 use Rattle.dsl_tree.specs.Forest.{Forest, nil, seen, sub, wrong, AnyRule}
-use Rattle.dsl_tree.specs.Written.{level, lifted, raised, at, written, operator_kind, sign_kind, next_part, mark, mark_at, word_at, expr, listed_tail}
+use Rattle.dsl_tree.specs.Written.{level, lifted, raised, at, written, operator_kind, sign_kind, next_part, mark, mark_at, word_at, ident, expr, listed_tail}
 use Rattle.dsl_tree.specs.Reading.{Whole, Parsed}
-use Rattle.dsl_tree.proofs.Seen.{seen_implies, seen_or, seen_and, seen_not, seen_relation, seen_sum, seen_product, seen_minus, seen_dot, seen_index, seen_group, seen_span, seen_listed, seen_range_call, seen_further}
+use Rattle.dsl_tree.proofs.Seen.{seen_implies, seen_or, seen_and, seen_not, seen_relation, seen_sum, seen_product, seen_minus, seen_dot, seen_index, seen_group, seen_span, seen_listed, seen_range_call, seen_further, seen_dot_suffix, seen_index_suffix}
 use Rattle.dsl_tree.proofs.WrittenRows.{at_own, at_lower, further_tail, suffix_tail, or_written, and_written, sum_written, product_written, post_written}
 use Rattle.dsl_parser.specs.declared.levels.RowLevel.{RowLevel}
 use Rattle.dsl_parser.specs.Levels.{at_level, row_level, item_level, tail_of, suffix_forest, suffix_of, suffixes_of, is_named, ends_named, items_of}
@@ -212,3 +213,13 @@ pub some_indexed : (head : Expr) (suffixes : List Suffix) → ends_named (map su
     → (s : Suffix) (rest : List Suffix) → suffixes ≡ s ∷ rest → at_level 8 (TheViews.Expr::Index head suffixes) ≡ post_forest head suffixes
 some_indexed head [] h s rest is = absurd (cc)
 some_indexed head (x ∷ xs) h s rest is = post_indexed head x xs h
+
+pub dot_forest : (name : Ident) → suffix_of (Suffix.Suffix::Dot name) ≡ mark MarkKind.Dot (ident name nil)
+unfolding suffix_of
+dot_forest name = ap suffix_forest (seen_dot_suffix name)
+
+pub index_forest : (place : Place) (index : Expr) → suffix_of (Suffix.Suffix::Index place index) ≡ mark_at place MarkKind.OpenSquare (sub (at_level 0 index) (mark MarkKind.CloseSquare nil))
+unfolding suffix_of at_level
+index_forest place index = ap suffix_forest (seen_index_suffix place index)
+
+pub ruleset suffix_forests = (dot_forest, index_forest)

@@ -1,28 +1,24 @@
 -- What operands without brackets are written as.
 use Rattle.std.proofs.Common.{◌≡◌, List, ℕ, true, false, Some, None, refl}
 use Rattle.osc_base.specs.declared.fault.Place.{Place}
+use Rattle.dsl_tree.specs.declared.parts.Digits.{Digits}
 use Rattle.dsl_tree.specs.declared.parts.Ident.{Ident}
 use Rattle.dsl_tree.specs.declared.token.TokenKind.{TokenKind}
 use Rattle.dsl_tree.specs.declared.token.WordKind.{WordKind}
 use Rattle.dsl_tree.specs.declared.expr.Expr.{Expr}
 use Rattle.dsl_tree.specs.ExprTree.{ExprTree}
 use Rattle.dsl_tree.specs.Forest.{nil, seen, sub}
-use Rattle.dsl_tree.specs.Written.{digits, word_at, ident}
+use Rattle.dsl_tree.specs.Written.{word_at, ident}
 use Rattle.dsl_tree.proofs.Seen.{seen_number, seen_physical, seen_chars, seen_truth, seen_it, seen_actor, seen_name, seen_enum_name}
-use Rattle.dsl_parser.specs.Levels.{at_level, enum_member}
+use Rattle.dsl_parser.specs.Levels.{at_level}
+use Rattle.dsl_parser.specs.Readers.{enum_member}
 use Rattle.dsl_parser.proofs.ExprForests.{level_own}
 
-pub number_forest : (place : Place) (digits places : ℕ)
-    → at_level 9 (Expr.Number (record { place = place; digits = digits; places = places })) ≡ seen place (TokenKind.Number digits places) nil
-number_forest place digits places =
-    level_own 9 (Expr.Number (record { place = place; digits = digits; places = places })) (ExprTree.Number (record { place = place; digits = digits; places = places }))
-    (seen_number (record { place = place; digits = digits; places = places })) refl
+pub number_forest : (number : Digits) → at_level 9 (Expr.Number number) ≡ seen number.place (TokenKind.Number number.digits number.places) nil
+number_forest number = level_own 9 (Expr.Number number) (ExprTree.Number number) (seen_number number) refl
 
-pub physical_forest : (place : Place) (digits places : ℕ) (unit : List ℕ)
-    → at_level 9 (Expr.Physical (record { place = place; digits = digits; places = places }) unit) ≡ seen place (TokenKind.Physical digits places unit) nil
-physical_forest place digits places unit =
-    level_own 9 (Expr.Physical (record { place = place; digits = digits; places = places }) unit) (ExprTree.Physical (record { place = place; digits = digits; places = places }) unit)
-    (seen_physical (record { place = place; digits = digits; places = places }) unit) refl
+pub physical_forest : (number : Digits) (unit : List ℕ) → at_level 9 (Expr.Physical number unit) ≡ seen number.place (TokenKind.Physical number.digits number.places unit) nil
+physical_forest number unit = level_own 9 (Expr.Physical number unit) (ExprTree.Physical number unit) (seen_physical number unit) refl
 
 pub chars_forest : (place : Place) (text : List ℕ) → at_level 9 (Expr.Chars place text) ≡ seen place (TokenKind.Chars text) nil
 chars_forest place text = level_own 9 (Expr.Chars place text) (ExprTree.Chars place text) (seen_chars place text) refl

@@ -1,21 +1,20 @@
-pub mod OtherKinds
-pub mod Taking
-pub mod Stopping
-pub mod Loops
-pub mod UnitRows
-pub mod Blocks
-pub mod PhaseForms
-pub mod Compounds
-pub mod Wholes
-pub mod ExprForests
-pub mod Exits
-pub mod LeafForests
-pub mod Productions
-pub mod Listings
-pub mod RowReaders
-pub mod ExprReaders
-pub mod OperandReaders
-pub mod BracketReaders
-pub mod Ranks
-pub mod PathReaders
-pub mod ArgumentReaders
+mod ArgumentRows
+mod Blocks
+mod CompoundForests
+mod ExprForests
+mod ExprSteps
+mod LeafForests
+mod Lengths
+mod Loops
+mod OtherRules
+mod OtherTokens
+mod PathForests
+mod PhaseSteps
+mod Ranks
+mod ReadParts
+mod ReadSteps
+mod RowSteps
+mod StartForms
+mod Steps
+mod UnitRows
+mod Wholes

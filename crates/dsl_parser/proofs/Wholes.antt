@@ -1,11 +1,18 @@
--- The two halves of a first fault, and its token.
-use Rattle.std.proofs.Common.{◌≡◌, ◌-◌, ◌<◌, ◌≤◌, ℕ, suc, List, ◌∷◌, ◌++◌, length, drop, get_or, sym, ◌∙◌, ap, length-append, drop-cons, arith}
+-- What `parse` has of what is read of a file: the two halves of a first fault, its token, and the tree.
+use Rattle.std.proofs.Common.{◌≡◌, ◌≢◌, ◌-◌, ◌<◌, ◌≤◌, ℕ, suc, List, [], ◌∷◌, ◌++◌, length, drop, get_or, sym, ◌∙◌, ap, subst, length-append, drop-cons, Ok, Err, arith}
 use Rattle.osc_base.specs.declared.fault.Fault.{Fault}
+use Rattle.osc_base.specs.declared.stop.Stop.{Stop}
+use Rattle.osc_base.specs.declared.stop.Stop.TheVariants.{At, Memory}
+use Rattle.dsl_tree.specs.declared.file.File.{File}
 use Rattle.dsl_tree.specs.declared.token.Token.{Token}
 use Rattle.dsl_tree.specs.Grammar.{Part}
-use Rattle.dsl_tree.specs.Reading.{PartFault}
+use Rattle.dsl_tree.specs.Reading.{Parsed, PartFault}
 use Rattle.dsl_tree.specs.Language.{FirstFault}
+use Rattle.dsl_tree.specs.Views.{file_tree}
+use Rattle.dsl_tree.specs.WrittenFile.{file}
 use Rattle.dsl_parser.specs.Answers.{HasViableFront, HasDeadToken}
+use Rattle.dsl_parser.specs.Descent.{read}
+use Rattle.dsl_parser.proofs.ReadSteps.{read_parsed, read_fault}
 
 pub viable_half : (ts : List Token) (fault : Fault) → FirstFault ts fault → HasViableFront ts fault
 viable_half ts fault f = record { front = f.front; token = f.token; back = f.back; split = f.split; place = f.place; code = f.code; viable = f.viable }
@@ -30,3 +37,16 @@ token_at ts left t fault e =
     let within : left ≤ length ts = left_within Part.File ts left fault in
     let there : length ts - left < length ts = omega (arith, some, within) in
     drop-cons ts (length ts - left) t there ∙ ap (λ (v : Token). v ∷ drop (suc (length ts - left)) ts) (sym e)
+
+-- What was read
+
+some_stop : (left : ℕ) (e : Stop ℕ) → e ≡ At left → e ≢ Memory
+some_stop left e is h = cc
+
+pub file_fault : (ts us : List Token) (left : ℕ) (e : Stop ℕ) → us ≡ ts → e ≡ At left → (e ≢ Memory → read Part.File us ≡ Err e) → PartFault Part.File ts left
+file_fault ts us left e same is h =
+    subst (λ (v : List Token). PartFault Part.File v left) same
+    (read_fault Part.File us left (subst (λ (x : Stop ℕ). read Part.File us ≡ Err x) is (h (some_stop left e is))))
+
+pub file_parsed : (f : File) (ts us : List Token) → us ≡ ts → read Part.File us ≡ Ok (file (file_tree f), []) → Parsed Part.File (file (file_tree f)) ts []
+file_parsed f ts us same h = subst (λ (v : List Token). Parsed Part.File (file (file_tree f)) v []) same (read_parsed Part.File us (file (file_tree f)) [] h)

@@ -1,21 +1,18 @@
 -- The levels of expressions: `Expr` 0, `Or` 1, `And` 2, `Not` 3, `Relation` 4, `Sum` 5, `Product` 6,
 -- `Minus` 7, `Postfix` 8 and `Primary` 9.
-use Rattle.std.specs.Prelude.{◌≡◌, ℕ, Bool, true, false, List, [], ◌∷◌, Option, Some, None}
-use Rattle.osc_base.specs.declared.fault.Place.{Place}
-use Rattle.dsl_tree.specs.declared.parts.Ident.{Ident}
+use Rattle.std.specs.Prelude.{ℕ, Bool, true, false, List, [], ◌∷◌}
 use Rattle.dsl_tree.specs.declared.expr.Expr.{Expr}
 use Rattle.dsl_tree.specs.declared.expr.Further.{Further}
 use Rattle.dsl_tree.specs.declared.expr.Suffix.{Suffix}
-use Rattle.dsl_tree.specs.declared.token.Token.{Token}
 use Rattle.dsl_tree.specs.declared.token.MarkKind.{MarkKind}
-use Rattle.dsl_tree.specs.declared.token.WordKind.TheVariants.{ActorWord, ItWord, TrueWord, FalseWord}
-use Rattle.dsl_tree.specs.Codes.{word_code, si_name, factor_name, offset_name, other_name, small_number, large_number, point_number, physical_code, text_code}
-use Rattle.dsl_tree.specs.Grammar.{Part}
+use Rattle.dsl_tree.specs.declared.token.WordKind.TheVariants.{ActorWord, FalseWord, ItWord, RangeWord, TrueWord}
+use Rattle.dsl_tree.specs.Codes.{mark_code, word_code}
+use Rattle.dsl_tree.specs.Grammar.{Part, Symbol}
 use Rattle.dsl_tree.specs.Forest.{Forest, nil, seen, sub}
 use Rattle.dsl_tree.specs.Lookahead.{first}
-use Rattle.dsl_tree.specs.Reading.{Parsed}
 use Rattle.dsl_tree.specs.Views.{SuffixTree, Named, At, expr_tree, suffix_tree}
 use Rattle.dsl_tree.specs.Written.{at, written, operator_kind, mark, mark_at, ident, expr}
+use Rattle.dsl_parser.specs.Rests.{rule_at}
 use Rattle.dsl_parser.specs.declared.levels.RowLevel.{RowLevel}
 use Rattle.dsl_parser.specs.declared.levels.RowLevel.TheVariants.{OrRow, AndRow, SumRow, ProductRow}
 
@@ -92,29 +89,27 @@ abbrev pub items_of : List Expr → Forest
 items_of [] = nil
 items_of (item ∷ rest) = mark MarkKind.Comma (sub (at_level 0 item) (sub (items_of rest) nil))
 
--- the member after the name of an enum
-abbrev pub enum_member : Option Ident → Forest
-enum_member None = nil
-enum_member (Some name) = mark MarkKind.Bang (ident name nil)
+-- what stands after the first expression in square brackets
+abbrev pub bracket_rest : Forest → Forest
+bracket_rest (seen place kind (sub first (sub f nil))) = f
+bracket_rest f = f
 
--- the codes of operands that are one token, but for names; and with names
+-- the codes of words that are operands
 abbrev pub truth_codes : List ℕ
 truth_codes = word_code TrueWord ∷ word_code FalseWord ∷ word_code ItWord ∷ word_code ActorWord ∷ []
 
-abbrev pub simple_codes : List ℕ
-simple_codes = small_number ∷ large_number ∷ point_number ∷ physical_code ∷ text_code ∷ truth_codes
+-- the codes of brackets and of `range`
+abbrev pub bracket_codes : List ℕ
+bracket_codes = mark_code MarkKind.OpenRound ∷ mark_code MarkKind.OpenSquare ∷ word_code RangeWord ∷ []
 
-abbrev pub leaf_codes : List ℕ
-leaf_codes = si_name ∷ factor_name ∷ offset_name ∷ other_name ∷ simple_codes
+abbrev pub name_rule : List Symbol
+name_rule = rule_at Part.Primary 6
 
--- a range or list was read after its first expression
-pub record IsBracketed (place : Place) (first expr : Expr) (tokens rest : List Token) : Type 0 where
-  pub behind : Forest
-  pub is : at_level 9 expr ≡ mark_at place MarkKind.OpenSquare (sub (at_level 0 first) (sub behind nil))
-  pub parsed : Parsed Part.BracketRest behind tokens rest
+abbrev pub group_rule : List Symbol
+group_rule = rule_at Part.Primary 7
 
--- items were read after the first one
-pub record IsListing (first : Expr) (items : List Expr) (tokens rest : List Token) : Type 0 where
-  pub others : List Expr
-  pub is : items ≡ first ∷ others
-  pub parsed : Parsed Part.ListedTail (items_of others) tokens rest
+abbrev pub bracket_rule : List Symbol
+bracket_rule = rule_at Part.Primary 8
+
+abbrev pub range_rule : List Symbol
+range_rule = rule_at Part.Primary 9

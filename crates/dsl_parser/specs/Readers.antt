@@ -1,33 +1,27 @@
--- What the readers of tokens ensure.
-use Rattle.std.specs.Prelude.{◌≡◌, ℕ, ◌+◌, List, [], ◌∷◌, length}
-use Rattle.osc_base.specs.declared.fault.Place.{Place}
+-- What parts are written as that the trees have no type of their own for.
+use Rattle.std.specs.Prelude.{ℕ, List, [], ◌∷◌, ◌++◌, Option, Some, None}
+use Rattle.dsl_tree.specs.declared.parts.Ident.{Ident}
+use Rattle.dsl_tree.specs.declared.rules.PathHead.{PathHead}
 use Rattle.dsl_tree.specs.declared.token.Token.{Token}
 use Rattle.dsl_tree.specs.declared.token.TokenKind.{TokenKind}
-use Rattle.dsl_tree.specs.Codes.{si_text, factor_text, offset_text, si_name, factor_name, offset_name, other_name, small_number, large_number, point_number}
-use Rattle.dsl_tree.specs.Language.{Ended}
-use Rattle.dsl_parser.specs.declared.names.KnownName.{KnownName}
-use Rattle.dsl_parser.specs.declared.names.KnownName.TheVariants.{Si, Factor, Offset}
+use Rattle.dsl_tree.specs.declared.token.MarkKind.{MarkKind}
+use Rattle.dsl_tree.specs.declared.token.WordKind.TheVariants.{ItWord, ActorWord}
+use Rattle.dsl_tree.specs.Codes.{word_code}
+use Rattle.dsl_tree.specs.Forest.{Forest, nil}
+use Rattle.dsl_tree.specs.Written.{mark, ident}
+use Rattle.dsl_parser.specs.Cursor.{at, name_token}
+use Rattle.dsl_parser.specs.Descent.{names}
 
--- the first token is this one, and the rest are the tokens after it
-pub record IsRead (place : Place) (kind : TokenKind) (tokens rest : List Token) : Type 0 where
-  pub split : tokens ≡ record { place = place; kind = kind } ∷ rest
-  pub ended : Ended rest
-  pub shorter : length rest + 1 ≡ length tokens
+-- the member after the name of an enum
+abbrev pub enum_member : Option Ident → Forest
+enum_member None = nil
+enum_member (Some name) = mark MarkKind.Bang (ident name nil)
 
-abbrev pub known_text : KnownName → List ℕ
-known_text Si = si_text
-known_text Factor = factor_text
-known_text Offset = offset_text
+-- the token of the head of a path
+abbrev pub head_codes : List ℕ
+head_codes = names ++ (word_code ItWord ∷ word_code ActorWord ∷ [])
 
--- the codes of names: all of them, and those of names of bases; and the codes of numbers
-abbrev pub names : List ℕ
-names = si_name ∷ factor_name ∷ offset_name ∷ other_name ∷ []
-
-abbrev pub base_names : List ℕ
-base_names = si_name ∷ other_name ∷ []
-
-abbrev pub numbers : List ℕ
-numbers = small_number ∷ large_number ∷ point_number ∷ []
-
-abbrev pub whole_numbers : List ℕ
-whole_numbers = small_number ∷ large_number ∷ []
+abbrev pub head_token : PathHead → Token
+head_token (PathHead.Name name) = name_token name
+head_token (PathHead.It place) = at (TokenKind.Word ItWord) place
+head_token (PathHead.Actor place) = at (TokenKind.Word ActorWord) place

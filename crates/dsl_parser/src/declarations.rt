@@ -1,51 +1,69 @@
 //! Declarations and extensions.
 
-ghost use Rattle.std.specs.Prelude.{◌≡◌, ◌<◌, ◌≤◌, [], ◌∷◌, length, map, true, false, IfOk, IfErr, IfSome, IfNone};
-ghost use Rattle.dsl_tree.specs.Codes.{word_code};
+ghost use Rattle.std.specs.Prelude.{◌≡◌, map, true, false, IfOk};
 ghost use Rattle.dsl_tree.specs.Grammar.{Part};
-ghost use Rattle.dsl_tree.specs.FileTree.{DeclarationTree};
-ghost use Rattle.dsl_tree.specs.Lookahead.{first};
 ghost use Rattle.dsl_tree.specs.Views.{compound_tree, declaration_tree};
 ghost use Rattle.dsl_tree.specs.WrittenFile as written;
-ghost use Rattle.dsl_tree.specs.Reading.{starts, Stops, Parsed, Built, PartFault, RowFault};
-ghost use Rattle.dsl_tree.specs.Language.{Ended};
-ghost use Rattle.osc_base.specs.Stops.{OnStop};
-ghost use Rattle.dsl_parser.specs.Compounds.{kind_word, compound_codes, unit_codes, is_plain, heading_rest, written_heading, plain_rule, owned_rule, written_extension, extend_rule};
+ghost use Rattle.dsl_parser.specs.Descent.{take, read, in_row, Gives};
+ghost use Rattle.dsl_parser.specs.Members.{is_plain, compound_token, heading_rest, written_heading, plain_rule, owned_rule, written_extension, extend_rule};
+ghost use Rattle.dsl_parser.specs.Rests.{plain_codes, owned_codes};
+ghost use Rattle.dsl_parser.specs.Rows.{IsNext};
 
 use crate::enums::{enum_declaration, enum_items};
 use crate::headings::{heir, qualified_name};
-use crate::layout_tokens::expect_newline;
-use crate::members::{block, body};
-use crate::names::expect_name;
-use crate::starts::begins_word;
+use crate::members::{body, members};
+use crate::rows::{Repeated, rest_of_row};
+use crate::signs::Sign::{self, Mark, Word};
+use crate::starts::{begins_declaration, begins_owned, begins_plain};
 use crate::stop::Stop;
-use crate::tokens::{expect_mark, expect_word, take_mark};
+use crate::tokens::Cursor;
 use crate::units::{type_declaration, unit_declaration};
 use dsl_tree::{
     CompoundDecl, CompoundKind, Declaration, EnumExtension, EnumItem, Heir, MarkKind, Member,
-    MemberExtension, QName, Token, WordKind,
+    MemberExtension, QName, TokenKind, WordKind,
 };
-use osc_base::Row;
+use osc_base::{Place, Row};
 use std::alloc::Global;
 
-fn word_of(kind: CompoundKind) -> WordKind
-    ensures { result ≡ kind_word kind }
+/// The place and the kind of a type with members and no owner.
+#[tactic(auto, unfolding(crate::specs::Descent::take))]
+fn plain_word(tokens: &mut Cursor<'_>) -> Result<(Place, CompoundKind), Stop>
+    ensures gives { Gives (λ w. compound_token w.0 w.1) (take plain_codes tokens.old) result tokens.new }
+    ensures plain { IfOk result (λ w. is_plain w.1 ≡ true) }
 {
-    match kind {
-        CompoundKind::Struct => WordKind::StructWord,
-        CompoundKind::Actor => WordKind::ActorWord,
-        CompoundKind::Action => WordKind::ActionWord,
-        CompoundKind::Scenario => WordKind::ScenarioWord,
+    let (first, _) = tokens.split();
+    match &first.kind {
+        TokenKind::Word(WordKind::StructWord) => Ok((
+            tokens.expect(Word(WordKind::StructWord))?,
+            CompoundKind::Struct,
+        )),
+        TokenKind::Word(WordKind::ActorWord) => {
+            Ok((
+                tokens.expect(Word(WordKind::ActorWord))?,
+                CompoundKind::Actor,
+            ))
+        }
+        _ => Err(tokens.miss()),
     }
 }
 
-/// Whether the name has no owner.
-fn has_plain_name(kind: CompoundKind) -> bool
-    ensures { result ≡ is_plain kind }
+/// The place and the kind of a type with members and perhaps an owner.
+#[tactic(auto, unfolding(crate::specs::Descent::take))]
+fn owned_word(tokens: &mut Cursor<'_>) -> Result<(Place, CompoundKind), Stop>
+    ensures gives { Gives (λ w. compound_token w.0 w.1) (take owned_codes tokens.old) result tokens.new }
+    ensures owned { IfOk result (λ w. is_plain w.1 ≡ false) }
 {
-    match kind {
-        CompoundKind::Struct | CompoundKind::Actor => true,
-        CompoundKind::Action | CompoundKind::Scenario => false,
+    let (first, _) = tokens.split();
+    match &first.kind {
+        TokenKind::Word(WordKind::ActionWord) => Ok((
+            tokens.expect(Word(WordKind::ActionWord))?,
+            CompoundKind::Action,
+        )),
+        TokenKind::Word(WordKind::ScenarioWord) => Ok((
+            tokens.expect(Word(WordKind::ScenarioWord))?,
+            CompoundKind::Scenario,
+        )),
+        _ => Err(tokens.miss()),
     }
 }
 
@@ -56,94 +74,48 @@ struct HeadingRest {
     members: Row<Member>,
 }
 
-fn heading(alloc: Global, tokens: &[Token]) -> Result<(HeadingRest, &[Token]), Stop>
-    requires { Ended tokens.now }
-    ensures ok { IfOk result (λ x. Built heading_rest (written_heading x.0) tokens.now x.1.now) }
-    ensures ended { IfOk result (λ x. Ended x.1.now) }
-    ensures shorter { IfOk result (λ x. length x.1.now < length tokens.now) }
-    ensures fault { IfErr result (λ e. OnStop e (RowFault heading_rest tokens.now)) }
+fn heading(alloc: Global, tokens: &mut Cursor<'_>) -> Result<HeadingRest, Stop>
+    ensures { Gives written_heading (in_row read heading_rest tokens.old) result tokens.new }
 {
-    let (heir, rest) = heir(alloc, tokens)?;
-    let (members, end) = body(alloc, rest)?;
-    Ok((HeadingRest { heir, members }, end))
+    let heir = heir(alloc, tokens)?;
+    let members = body(alloc, tokens)?;
+    Ok(HeadingRest { heir, members })
 }
 
-fn plain_compound(
-    alloc: Global,
-    kind: CompoundKind,
-    tokens: &[Token],
-) -> Result<(CompoundDecl, &[Token]), Stop>
-    requires plain { is_plain kind ≡ true }
-    requires begins { starts (word_code (kind_word kind) ∷ []) tokens.now ≡ true }
-    requires ended { Ended tokens.now }
-    ensures ok { IfOk result (λ x. Built plain_rule (written.declaration (DeclarationTree.CompoundDeclaration (compound_tree x.0))) tokens.now x.1.now) }
-    ensures ended { IfOk result (λ x. Ended x.1.now) }
-    ensures shorter { IfOk result (λ x. length x.1.now < length tokens.now) }
-    ensures fault { IfErr result (λ e. OnStop e (RowFault plain_rule tokens.now)) }
+#[tactic(auto, using(crate::proofs::CompoundForests::plain_forest))]
+fn plain_compound(alloc: Global, tokens: &mut Cursor<'_>) -> Result<CompoundDecl, Stop>
+    ensures { Gives (λ c. written.compound_heading c.kind (compound_tree c)) (in_row read plain_rule tokens.old) result tokens.new }
 {
-    let (place, behind) = expect_word(tokens, word_of(kind))?;
-    let (first, rest) = expect_name(alloc, behind)?;
-    let (heading, end) = heading(alloc, rest)?;
-    let HeadingRest { heir, members } = heading;
+    let (place, kind) = plain_word(tokens)?;
+    let first = tokens.expect_name(alloc)?;
+    let HeadingRest { heir, members } = heading(alloc, tokens)?;
     let name = QName {
         first,
         second: None,
     };
-    let found = CompoundDecl {
+    Ok(CompoundDecl {
         place,
         kind,
         name,
         heir,
         members,
-    };
-    Ok((found, end))
+    })
 }
 
-fn owned_compound(
-    alloc: Global,
-    kind: CompoundKind,
-    tokens: &[Token],
-) -> Result<(CompoundDecl, &[Token]), Stop>
-    requires owned { is_plain kind ≡ false }
-    requires begins { starts (word_code (kind_word kind) ∷ []) tokens.now ≡ true }
-    requires ended { Ended tokens.now }
-    ensures ok { IfOk result (λ x. Built owned_rule (written.declaration (DeclarationTree.CompoundDeclaration (compound_tree x.0))) tokens.now x.1.now) }
-    ensures ended { IfOk result (λ x. Ended x.1.now) }
-    ensures shorter { IfOk result (λ x. length x.1.now < length tokens.now) }
-    ensures fault { IfErr result (λ e. OnStop e (RowFault owned_rule tokens.now)) }
+#[tactic(auto, using(crate::proofs::CompoundForests::owned_forest))]
+fn owned_compound(alloc: Global, tokens: &mut Cursor<'_>) -> Result<CompoundDecl, Stop>
+    ensures { Gives (λ c. written.compound_heading c.kind (compound_tree c)) (in_row read owned_rule tokens.old) result tokens.new }
 {
-    let (place, behind) = expect_word(tokens, word_of(kind))?;
-    let (name, rest) = qualified_name(alloc, behind)?;
-    let (heading, end) = heading(alloc, rest)?;
-    let HeadingRest { heir, members } = heading;
-    let found = CompoundDecl {
+    let (place, kind) = owned_word(tokens)?;
+    let name = qualified_name(alloc, tokens)?;
+    let HeadingRest { heir, members } = heading(alloc, tokens)?;
+    Ok(CompoundDecl {
         place,
         kind,
         name,
         heir,
         members,
-    };
-    Ok((found, end))
-}
-
-fn compound(
-    alloc: Global,
-    kind: CompoundKind,
-    tokens: &[Token],
-) -> Result<(CompoundDecl, &[Token]), Stop>
-    requires begins { starts (word_code (kind_word kind) ∷ []) tokens.now ≡ true }
-    requires ended { Ended tokens.now }
-    ensures ok { IfOk result (λ x. Parsed Part.Declaration (written.declaration (DeclarationTree.CompoundDeclaration (compound_tree x.0))) tokens.now x.1.now) }
-    ensures ended { IfOk result (λ x. Ended x.1.now) }
-    ensures shorter { IfOk result (λ x. length x.1.now < length tokens.now) }
-    ensures fault { IfErr result (λ e. OnStop e (PartFault Part.Declaration tokens.now)) }
-{
-    if has_plain_name(kind) {
-        let (plain, end) = plain_compound(alloc, kind, tokens)?;
-        return Ok((plain, end));
-    }
-    let (owned, end) = owned_compound(alloc, kind, tokens)?;
-    Ok((owned, end))
+    })
 }
 
 /// What is added to a type.
@@ -153,157 +125,77 @@ enum Addition {
     Members(Row<Member>),
 }
 
-fn extension_rest(alloc: Global, tokens: &[Token]) -> Result<(Addition, &[Token]), Stop>
-    requires { Ended tokens.now }
-    ensures ok { IfOk result (λ x. Parsed Part.ExtensionRest (written_extension x.0) tokens.now x.1.now) }
-    ensures ended { IfOk result (λ x. Ended x.1.now) }
-    ensures shorter { IfOk result (λ x. length x.1.now < length tokens.now) }
-    ensures fault { IfErr result (λ e. OnStop e (PartFault Part.ExtensionRest tokens.now)) }
+#[tactic(auto, using(crate::proofs::Steps::step_extension_rest))]
+fn extension_rest(alloc: Global, tokens: &mut Cursor<'_>) -> Result<Addition, Stop>
+    ensures { Gives written_extension (read Part.ExtensionRest tokens.old) result tokens.new }
 {
-    match take_mark(tokens, MarkKind::OpenSquare) {
-        Some(_) => {
-            let (items, line) = enum_items(alloc, tokens)?;
-            let (_, end) = expect_newline(line)?;
-            Ok((Addition::Items(items), end))
+    if tokens.begins(Mark(MarkKind::OpenSquare)) {
+        let items = enum_items(alloc, tokens)?;
+        tokens.expect(Sign::Newline)?;
+        return Ok(Addition::Items(items));
+    }
+    Ok(Addition::Members(members(alloc, tokens)?))
+}
+
+fn extension(alloc: Global, tokens: &mut Cursor<'_>) -> Result<Declaration, Stop>
+    ensures { Gives (λ d. written.declaration (declaration_tree d)) (in_row read extend_rule tokens.old) result tokens.new }
+{
+    let place = tokens.expect(Word(WordKind::ExtendWord))?;
+    let name = qualified_name(alloc, tokens)?;
+    tokens.expect(Mark(MarkKind::Colon))?;
+    match extension_rest(alloc, tokens)? {
+        Addition::Items(items) => Ok(Declaration::EnumExtension(EnumExtension {
+            place,
+            name,
+            items,
+        })),
+        Addition::Members(members) => Ok(Declaration::MemberExtension(MemberExtension {
+            place,
+            name,
+            members,
+        })),
+    }
+}
+
+#[tactic(auto, using(crate::proofs::Steps::step_declaration))]
+fn declaration(alloc: Global, tokens: &mut Cursor<'_>) -> Result<Declaration, Stop>
+    ensures { Gives (λ d. written.declaration (declaration_tree d)) (read Part.Declaration tokens.old) result tokens.new }
+{
+    if tokens.begins(Word(WordKind::TypeWord)) {
+        return Ok(Declaration::Physical(type_declaration(alloc, tokens)?));
+    }
+    if tokens.begins(Word(WordKind::UnitWord)) {
+        return Ok(Declaration::Unit(unit_declaration(alloc, tokens)?));
+    }
+    if tokens.begins(Word(WordKind::EnumWord)) {
+        return Ok(Declaration::Enum(enum_declaration(alloc, tokens)?));
+    }
+    if begins_plain(tokens) {
+        return Ok(Declaration::Compound(plain_compound(alloc, tokens)?));
+    }
+    if begins_owned(tokens) {
+        return Ok(Declaration::Compound(owned_compound(alloc, tokens)?));
+    }
+    extension(alloc, tokens)
+}
+
+impl Repeated for Declaration {
+    ghost tail = { Part.Declarations };
+
+    ghost rest = { λ ds. written.declarations (map declaration_tree ds) };
+
+    #[tactic(auto, using(crate::proofs::Steps::step_declarations, crate::proofs::Lengths::lengths))]
+    fn next(alloc: Global, tokens: &mut Cursor<'_>) -> Result<Option<Declaration>, Stop> {
+        if !begins_declaration(tokens) {
+            return Ok(None);
         }
-        None => {
-            let (members, end) = block(alloc, tokens)?;
-            Ok((Addition::Members(members), end))
-        }
+        Ok(Some(declaration(alloc, tokens)?))
     }
-}
-
-fn extension(alloc: Global, tokens: &[Token]) -> Result<(Declaration, &[Token]), Stop>
-    requires { Ended tokens.now }
-    ensures ok { IfOk result (λ x. Built extend_rule (written.declaration (declaration_tree x.0)) tokens.now x.1.now) }
-    ensures ended { IfOk result (λ x. Ended x.1.now) }
-    ensures shorter { IfOk result (λ x. length x.1.now < length tokens.now) }
-    ensures fault { IfErr result (λ e. OnStop e (RowFault extend_rule tokens.now)) }
-{
-    let (place, behind) = expect_word(tokens, WordKind::ExtendWord)?;
-    let (name, rest) = qualified_name(alloc, behind)?;
-    let (_, colon) = expect_mark(rest, MarkKind::Colon)?;
-    let (added, end) = extension_rest(alloc, colon)?;
-    match added {
-        Addition::Items(items) => Ok((
-            Declaration::EnumExtension(EnumExtension { place, name, items }),
-            end,
-        )),
-        Addition::Members(members) => Ok((
-            Declaration::MemberExtension(MemberExtension {
-                place,
-                name,
-                members,
-            }),
-            end,
-        )),
-    }
-}
-
-/// The kind of the type with members that begins here, if one does.
-fn compound_kind(tokens: &[Token]) -> Option<CompoundKind>
-    requires { Ended tokens.now }
-    ensures some { IfSome result (λ k. starts (word_code (kind_word k) ∷ []) tokens.now ≡ true) }
-    ensures none { IfNone result (Stops compound_codes tokens.now) }
-{
-    if begins_word(tokens, WordKind::StructWord) {
-        return Some(CompoundKind::Struct);
-    }
-    if begins_word(tokens, WordKind::ActorWord) {
-        return Some(CompoundKind::Actor);
-    }
-    if begins_word(tokens, WordKind::ActionWord) {
-        return Some(CompoundKind::Action);
-    }
-    if begins_word(tokens, WordKind::ScenarioWord) {
-        return Some(CompoundKind::Scenario);
-    }
-    None
-}
-
-fn type_or_unit(alloc: Global, tokens: &[Token]) -> Result<(Declaration, &[Token]), Stop>
-    requires begins { starts unit_codes tokens.now ≡ true }
-    requires ended { Ended tokens.now }
-    ensures ok { IfOk result (λ x. Parsed Part.Declaration (written.declaration (declaration_tree x.0)) tokens.now x.1.now) }
-    ensures ended { IfOk result (λ x. Ended x.1.now) }
-    ensures shorter { IfOk result (λ x. length x.1.now < length tokens.now) }
-    ensures fault { IfErr result (λ e. OnStop e (PartFault Part.Declaration tokens.now)) }
-{
-    if begins_word(tokens, WordKind::TypeWord) {
-        let (found, end) = type_declaration(alloc, tokens)?;
-        return Ok((Declaration::Physical(found), end));
-    }
-    let (unit, end) = unit_declaration(alloc, tokens)?;
-    Ok((Declaration::Unit(unit), end))
-}
-
-fn declaration(alloc: Global, tokens: &[Token]) -> Result<(Declaration, &[Token]), Stop>
-    requires { Ended tokens.now }
-    ensures ok { IfOk result (λ x. Parsed Part.Declaration (written.declaration (declaration_tree x.0)) tokens.now x.1.now) }
-    ensures ended { IfOk result (λ x. Ended x.1.now) }
-    ensures shorter { IfOk result (λ x. length x.1.now < length tokens.now) }
-    ensures fault { IfErr result (λ e. OnStop e (PartFault Part.Declaration tokens.now)) }
-{
-    if let Some(kind) = compound_kind(tokens) {
-        let (found, end) = compound(alloc, kind, tokens)?;
-        return Ok((Declaration::Compound(found), end));
-    }
-    if begins_word(tokens, WordKind::EnumWord) {
-        let (items, end) = enum_declaration(alloc, tokens)?;
-        return Ok((Declaration::Enum(items), end));
-    }
-    if begins_type_or_unit(tokens) {
-        let (declared, end) = type_or_unit(alloc, tokens)?;
-        return Ok((declared, end));
-    }
-    let (extension, end) = extension(alloc, tokens)?;
-    Ok((extension, end))
-}
-
-/// Whether the first token begins a type or a unit.
-fn begins_type_or_unit(tokens: &[Token]) -> bool
-    requires { Ended tokens.now }
-    ensures { result ≡ starts unit_codes tokens.now }
-{
-    begins_word(tokens, WordKind::TypeWord) || begins_word(tokens, WordKind::UnitWord)
-}
-
-/// Whether the first token begins a type with members.
-fn begins_compound(tokens: &[Token]) -> bool
-    requires { Ended tokens.now }
-    ensures { result ≡ starts compound_codes tokens.now }
-{
-    begins_word(tokens, WordKind::StructWord)
-        || begins_word(tokens, WordKind::ActorWord)
-        || begins_word(tokens, WordKind::ActionWord)
-        || begins_word(tokens, WordKind::ScenarioWord)
-}
-
-/// Whether the first token begins a declaration.
-fn begins_declaration(tokens: &[Token]) -> bool
-    requires { Ended tokens.now }
-    ensures { result ≡ starts (first Part.Declaration) tokens.now }
-{
-    begins_type_or_unit(tokens)
-        || begins_word(tokens, WordKind::EnumWord)
-        || begins_compound(tokens)
-        || begins_word(tokens, WordKind::ExtendWord)
 }
 
 /// The declarations of a file.
-pub fn declarations(alloc: Global, tokens: &[Token]) -> Result<(Row<Declaration>, &[Token]), Stop>
-    requires { Ended tokens.now }
-    ensures ok { IfOk result (λ x. Parsed Part.Declarations (written.declarations (map declaration_tree x.0)) tokens.now x.1.now) }
-    ensures ended { IfOk result (λ x. Ended x.1.now) }
-    ensures shorter { IfOk result (λ x. length x.1.now ≤ length tokens.now) }
-    ensures fault { IfErr result (λ e. OnStop e (PartFault Part.Declarations tokens.now)) }
+pub fn declarations(alloc: Global, tokens: &mut Cursor<'_>) -> Result<Row<Declaration>, Stop>
+    ensures { Gives (λ ds. written.declarations (map declaration_tree ds)) (read Part.Declarations tokens.old) result tokens.new }
 {
-    let mut items = Row::new(alloc);
-    let mut rest = tokens;
-    'reading: while begins_declaration(rest) {
-        let (item, after) = declaration(alloc, rest)?;
-        items.push(item)?;
-        rest = after;
-    }
-    Ok((items, rest))
+    rest_of_row(alloc, tokens)
 }

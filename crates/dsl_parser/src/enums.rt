@@ -1,102 +1,72 @@
-//! Enums and their items.
+//! Declarations of enums.
 
-ghost use Rattle.std.specs.Prelude.{◌≡◌, ◌<◌, ◌≤◌, length, IfOk, IfErr};
 ghost use Rattle.dsl_tree.specs.Grammar.{Part};
 ghost use Rattle.dsl_tree.specs.WrittenFile as written;
-ghost use Rattle.dsl_tree.specs.Reading.{Parsed, Built, PartFault, RowFault};
-ghost use Rattle.dsl_tree.specs.Language.{Ended};
-ghost use Rattle.dsl_tree.specs.declared.enums.EnumItem.{EnumItem};
-ghost use Rattle.osc_base.specs.Stops.{OnStop};
+ghost use Rattle.dsl_parser.specs.Descent.{read, in_row, Gives};
 ghost use Rattle.dsl_parser.specs.Rests.{enum_rule};
-ghost use Rattle.dsl_parser.specs.Rows.{Continued};
+ghost use Rattle.dsl_parser.specs.Rows.{IsNext};
 
-use crate::layout_tokens::expect_newline;
-use crate::literals::expect_whole;
-use crate::names::expect_name;
-use crate::rows::row_of;
+use crate::rows::{Repeated, row_from};
+use crate::signs::Sign::{self, Mark, Word};
 use crate::stop::Stop;
-use crate::tokens::{expect_mark, expect_word, take_mark};
-use dsl_tree::{Digits, EnumDecl, EnumItem, MarkKind, Token, WordKind};
+use crate::tokens::Cursor;
+use dsl_tree::{Digits, EnumDecl, EnumItem, MarkKind, WordKind};
 use osc_base::Row;
 use std::alloc::Global;
 
-fn item_number(tokens: &[Token]) -> Result<(Option<Digits>, &[Token]), Stop>
-    requires { Ended tokens.now }
-    ensures ok { IfOk result (λ x. Parsed Part.ItemNumber (written.item_number x.0) tokens.now x.1.now) }
-    ensures ended { IfOk result (λ x. Ended x.1.now) }
-    ensures shorter { IfOk result (λ x. length x.1.now ≤ length tokens.now) }
-    ensures fault { IfErr result (λ e. OnStop e (PartFault Part.ItemNumber tokens.now)) }
+#[tactic(auto, using(crate::proofs::Steps::step_item_number))]
+fn item_number(tokens: &mut Cursor<'_>) -> Result<Option<Digits>, Stop>
+    ensures { Gives written.item_number (read Part.ItemNumber tokens.old) result tokens.new }
 {
-    match take_mark(tokens, MarkKind::Assign) {
-        Some((_, behind)) => {
-            let (number, rest) = expect_whole(behind)?;
-            Ok((Some(number), rest))
+    match tokens.take(Mark(MarkKind::Assign)) {
+        Some(_) => Ok(Some(tokens.expect_whole()?)),
+        None => Ok(None),
+    }
+}
+
+#[tactic(auto, using(crate::proofs::Steps::step_enum_item))]
+fn enum_item(alloc: Global, tokens: &mut Cursor<'_>) -> Result<EnumItem, Stop>
+    ensures { Gives written.enum_item (read Part.EnumItem tokens.old) result tokens.new }
+{
+    let name = tokens.expect_name(alloc)?;
+    let number = item_number(tokens)?;
+    Ok(EnumItem { name, number })
+}
+
+impl Repeated for EnumItem {
+    ghost tail = { Part.ItemsTail };
+
+    ghost rest = { written.items_tail };
+
+    #[tactic(auto, using(crate::proofs::Steps::step_items_tail, crate::proofs::Lengths::lengths))]
+    fn next(alloc: Global, tokens: &mut Cursor<'_>) -> Result<Option<EnumItem>, Stop> {
+        if tokens.take(Mark(MarkKind::Comma)).is_none() {
+            return Ok(None);
         }
-        None => Ok((None, tokens)),
+        Ok(Some(enum_item(alloc, tokens)?))
     }
-}
-
-fn enum_item(alloc: Global, tokens: &[Token]) -> Result<(EnumItem, &[Token]), Stop>
-    requires { Ended tokens.now }
-    ensures ok { IfOk result (λ x. Parsed Part.EnumItem (written.enum_item x.0) tokens.now x.1.now) }
-    ensures ended { IfOk result (λ x. Ended x.1.now) }
-    ensures shorter { IfOk result (λ x. length x.1.now < length tokens.now) }
-    ensures fault { IfErr result (λ e. OnStop e (PartFault Part.EnumItem tokens.now)) }
-{
-    let (name, behind) = expect_name(alloc, tokens)?;
-    let (number, rest) = item_number(behind)?;
-    Ok((EnumItem { name, number }, rest))
-}
-
-/// Appends further items, each after a comma, to `items`.
-fn items_tail(
-    alloc: Global,
-    items: Row<EnumItem>,
-    tokens: &[Token],
-) -> Result<(Row<EnumItem>, &[Token]), Stop>
-    requires { Ended tokens.now }
-    ensures ok { IfOk result (λ x. Continued EnumItem Part.ItemsTail written.items_tail items x.0 tokens.now x.1.now) }
-    ensures ended { IfOk result (λ x. Ended x.1.now) }
-    ensures shorter { IfOk result (λ x. length x.1.now ≤ length tokens.now) }
-    ensures fault { IfErr result (λ e. OnStop e (PartFault Part.ItemsTail tokens.now)) }
-{
-    let mut items = items;
-    let mut rest = tokens;
-    while let Some((_, next)) = take_mark(rest, MarkKind::Comma) {
-        let (item, after) = enum_item(alloc, next)?;
-        items.push(item)?;
-        rest = after;
-    }
-    Ok((items, rest))
 }
 
 /// The items of an enum, in square brackets.
-pub fn enum_items(alloc: Global, tokens: &[Token]) -> Result<(Row<EnumItem>, &[Token]), Stop>
-    requires { Ended tokens.now }
-    ensures ok { IfOk result (λ x. Parsed Part.EnumItems (written.enum_items x.0) tokens.now x.1.now) }
-    ensures ended { IfOk result (λ x. Ended x.1.now) }
-    ensures shorter { IfOk result (λ x. length x.1.now < length tokens.now) }
-    ensures fault { IfErr result (λ e. OnStop e (PartFault Part.EnumItems tokens.now)) }
+#[tactic(auto, using(crate::proofs::Steps::step_enum_items))]
+pub fn enum_items(alloc: Global, tokens: &mut Cursor<'_>) -> Result<Row<EnumItem>, Stop>
+    ensures { Gives written.enum_items (read Part.EnumItems tokens.old) result tokens.new }
 {
-    let (_, open) = expect_mark(tokens, MarkKind::OpenSquare)?;
-    let (first, behind) = enum_item(alloc, open)?;
-    let (items, rest) = items_tail(alloc, row_of(alloc, first)?, behind)?;
-    let (_, end) = expect_mark(rest, MarkKind::CloseSquare)?;
-    Ok((items, end))
+    tokens.expect(Mark(MarkKind::OpenSquare))?;
+    let first = enum_item(alloc, tokens)?;
+    let items = row_from(alloc, first, tokens)?;
+    tokens.expect(Mark(MarkKind::CloseSquare))?;
+    Ok(items)
 }
 
 /// `enum NAME: [ITEMS]` and the line end.
-pub fn enum_declaration(alloc: Global, tokens: &[Token]) -> Result<(EnumDecl, &[Token]), Stop>
-    requires { Ended tokens.now }
-    ensures ok { IfOk result (λ x. Built enum_rule (written.enum_declaration x.0) tokens.now x.1.now) }
-    ensures ended { IfOk result (λ x. Ended x.1.now) }
-    ensures shorter { IfOk result (λ x. length x.1.now < length tokens.now) }
-    ensures fault { IfErr result (λ e. OnStop e (RowFault enum_rule tokens.now)) }
+pub fn enum_declaration(alloc: Global, tokens: &mut Cursor<'_>) -> Result<EnumDecl, Stop>
+    ensures { Gives written.enum_declaration (in_row read enum_rule tokens.old) result tokens.new }
 {
-    let (place, behind) = expect_word(tokens, WordKind::EnumWord)?;
-    let (name, rest) = expect_name(alloc, behind)?;
-    let (_, colon) = expect_mark(rest, MarkKind::Colon)?;
-    let (items, line) = enum_items(alloc, colon)?;
-    let (_, end) = expect_newline(line)?;
-    Ok((EnumDecl { place, name, items }, end))
+    let place = tokens.expect(Word(WordKind::EnumWord))?;
+    let name = tokens.expect_name(alloc)?;
+    tokens.expect(Mark(MarkKind::Colon))?;
+    let items = enum_items(alloc, tokens)?;
+    tokens.expect(Sign::Newline)?;
+    Ok(EnumDecl { place, name, items })
 }

@@ -3,68 +3,60 @@
 //! Each part of the grammar has its reader; those of the four rows of operators are one, by the level
 //! of the row. What stands in a row is read by a loop, so that calls nest only as brackets do.
 
-ghost use Rattle.std.specs.Prelude.{◌≡◌, ◌<◌, ◌≤◌, [], ◌∷◌, length, IfOk, IfErr, IfSome, IfNone};
+ghost use Rattle.std.specs.Prelude.{◌≡◌, ◌≢◌, ◌<◌, ◌≤◌, [], ◌∷◌, length, Err, IfOk, IfErr};
+ghost use Rattle.osc_base.specs.declared.stop.Stop.TheVariants.{Memory};
 ghost use Rattle.dsl_tree.specs.declared.token.MarkKind.{MarkKind};
-ghost use Rattle.dsl_tree.specs.declared.token.WordKind.{WordKind};
-ghost use Rattle.dsl_tree.specs.Codes.{mark_code, word_code};
+ghost use Rattle.dsl_tree.specs.Forest.{nil, sub};
 ghost use Rattle.dsl_tree.specs.Grammar.{Part};
 ghost use Rattle.dsl_tree.specs.Lookahead.{first};
-ghost use Rattle.dsl_tree.specs.Reading.{starts, Starts, Stops, Parsed, PartFault};
-ghost use Rattle.dsl_tree.specs.Language.{Ended};
+ghost use Rattle.dsl_tree.specs.Reading.{starts};
 ghost use Rattle.dsl_tree.specs.Views.{expr_tree};
 ghost use Rattle.dsl_tree.specs.Written as written;
-ghost use Rattle.osc_base.specs.Stops.{OnStop};
-ghost use Rattle.dsl_parser.specs.Levels.{at_level, row_part, row_level, item_part, item_level, tail_part, tail_of, suffix_of, suffixes_of, items_of, IsBracketed, IsListing};
+ghost use Rattle.dsl_parser.specs.Descent.{read, in_row, Gives};
+ghost use Rattle.dsl_parser.specs.Levels as level;
+ghost use Rattle.dsl_parser.specs.Levels.{at_level, row_part, row_level, item_part, item_level, tail_part, tail_of, suffix_of, suffixes_of, items_of};
+ghost use Rattle.dsl_parser.specs.Rows.{IsRow};
 
-use crate::levels::{RowLevel, row_of, starts_operator, take_operator, take_sign};
-use crate::names::expect_name;
-use crate::nodes::{self, before_mark};
+use crate::levels::{RowLevel, begins_operator, row_of, take_operator, take_sign};
+use crate::nodes;
 use crate::operands::leaf;
+use crate::signs::Sign::{Mark, Word};
 use crate::stop::Stop;
-use crate::tokens::{expect_mark, take_mark, take_word};
-use dsl_tree::{Expr, Further, MarkKind, Suffix, Token, WordKind};
+use crate::tokens::Cursor;
+use dsl_tree::{Expr, Further, MarkKind, Suffix, TokenKind, WordKind};
 use osc_base::{Boxed, Place, Row};
 use std::alloc::Global;
 
 /// An expression.
 #[tactic(auto, unfolding(crate::specs::Levels::at_level))]
-pub fn expr(alloc: Global, tokens: &[Token]) -> Result<(Expr, &[Token]), Stop>
-    requires { Ended tokens.now }
-    ensures ok { IfOk result (λ x. Parsed Part.Expr (written.expr (expr_tree x.0)) tokens.now x.1.now) }
-    ensures ended { IfOk result (λ x. Ended x.1.now) }
-    ensures shorter { IfOk result (λ x. length x.1.now < length tokens.now) }
-    ensures fault { IfErr result (λ e. OnStop e (PartFault Part.Expr tokens.now)) }
+pub fn expr(alloc: Global, tokens: &mut Cursor<'_>) -> Result<Expr, Stop>
+    ensures { Gives (λ e. written.expr (expr_tree e)) (read Part.Expr tokens.old) result tokens.new }
 {
     expression(alloc, tokens)
 }
 
 /// A whole expression.
 #[cycle(expressions)]
-pub fn expression(alloc: Global, tokens: &[Token]) -> Result<(Expr, &[Token]), Stop>
-    requires { Ended tokens.now }
-    ensures ok { IfOk result (λ x. Parsed Part.Expr (at_level 0 x.0) tokens.now x.1.now) }
-    ensures ended { IfOk result (λ x. Ended x.1.now) }
-    ensures shorter { IfOk result (λ x. length x.1.now < length tokens.now) }
-    ensures fault { IfErr result (λ e. OnStop e (PartFault Part.Expr tokens.now)) }
+#[tactic(auto, using(crate::proofs::Steps::step_expr, crate::proofs::Steps::step_implies_tail, crate::proofs::ExprSteps::alone_expr, crate::proofs::ExprForests::implies_forest, crate::proofs::Lengths::lengths))]
+pub fn expression(alloc: Global, tokens: &mut Cursor<'_>) -> Result<Expr, Stop>
+    ensures gives { Gives (at_level 0) (read Part.Expr tokens.old) result tokens.new }
+    ensures shorter { IfOk result (λ found. length tokens.new < length tokens.old) }
 {
-    let (left, rest) = row(alloc, tokens, RowLevel::OrRow)?;
-    let Some((place, behind)) = take_mark(rest, MarkKind::Arrow) else {
-        return Ok((left, rest));
+    let left = row(alloc, tokens, RowLevel::OrRow)?;
+    let Some(place) = tokens.take(Mark(MarkKind::Arrow)) else {
+        return Ok(left);
     };
     let left = Boxed::new(alloc, left)?;
-    let (right, rest) = row(alloc, behind, RowLevel::OrRow)?;
+    let right = row(alloc, tokens, RowLevel::OrRow)?;
     let right = Boxed::new(alloc, right)?;
-    Ok((Expr::Implies { place, left, right }, rest))
+    Ok(Expr::Implies { place, left, right })
 }
 
 /// An item of a row.
 #[cycle(expressions)]
-fn item(alloc: Global, tokens: &[Token], level: RowLevel) -> Result<(Expr, &[Token]), Stop>
-    requires { Ended tokens.now }
-    ensures ok { IfOk result (λ x. Parsed (item_part level) (at_level (item_level level) x.0) tokens.now x.1.now) }
-    ensures ended { IfOk result (λ x. Ended x.1.now) }
-    ensures shorter { IfOk result (λ x. length x.1.now < length tokens.now) }
-    ensures fault { IfErr result (λ e. OnStop e (PartFault (item_part level) tokens.now)) }
+fn item(alloc: Global, tokens: &mut Cursor<'_>, level: RowLevel) -> Result<Expr, Stop>
+    ensures gives { Gives (at_level (item_level level)) (read (item_part level) tokens.old) result tokens.new }
+    ensures shorter { IfOk result (λ found. length tokens.new < length tokens.old) }
 {
     match level {
         RowLevel::OrRow => row(alloc, tokens, RowLevel::AndRow),
@@ -76,296 +68,243 @@ fn item(alloc: Global, tokens: &[Token], level: RowLevel) -> Result<(Expr, &[Tok
 
 /// A row of operators, or one item.
 #[cycle(expressions)]
-fn row(alloc: Global, tokens: &[Token], level: RowLevel) -> Result<(Expr, &[Token]), Stop>
-    requires { Ended tokens.now }
-    ensures ok { IfOk result (λ x. Parsed (row_part level) (at_level (row_level level) x.0) tokens.now x.1.now) }
-    ensures ended { IfOk result (λ x. Ended x.1.now) }
-    ensures shorter { IfOk result (λ x. length x.1.now < length tokens.now) }
-    ensures fault { IfErr result (λ e. OnStop e (PartFault (row_part level) tokens.now)) }
+#[tactic(auto, using(crate::proofs::ExprSteps::alone_item, crate::proofs::ExprSteps::items_read, crate::proofs::ExprSteps::step_row, crate::proofs::Lengths::lengths))]
+fn row(alloc: Global, tokens: &mut Cursor<'_>, level: RowLevel) -> Result<Expr, Stop>
+    ensures gives { Gives (at_level (row_level level)) (read (row_part level) tokens.old) result tokens.new }
+    ensures shorter { IfOk result (λ found. length tokens.new < length tokens.old) }
 {
-    let (first, behind) = item(alloc, tokens, level)?;
-    if !starts_operator(behind, level) {
-        return Ok((first, behind));
+    let first = item(alloc, tokens, level)?;
+    if !begins_operator(tokens, level) {
+        return Ok(first);
     }
     let first = Boxed::new(alloc, first)?;
-    let (others, rest) = tail(alloc, behind, level)?;
-    Ok((row_of(level, first, others), rest))
+    let others = tail(alloc, tokens, level)?;
+    Ok(row_of(level, first, others))
 }
 
 /// The operators of a row, each with the item after it.
 #[cycle(expressions)]
-fn tail(alloc: Global, tokens: &[Token], level: RowLevel) -> Result<(Row<Further>, &[Token]), Stop>
-    requires { Ended tokens.now }
-    ensures ok { IfOk result (λ x. Parsed (tail_part level) (tail_of (item_level level) x.0) tokens.now x.1.now) }
-    ensures ended { IfOk result (λ x. Ended x.1.now) }
-    ensures shorter { IfOk result (λ x. length x.1.now ≤ length tokens.now) }
-    ensures fault { IfErr result (λ e. OnStop e (PartFault (tail_part level) tokens.now)) }
+#[tactic(auto, using(crate::proofs::Lengths::lengths))]
+fn tail(alloc: Global, tokens: &mut Cursor<'_>, level: RowLevel) -> Result<Row<Further>, Stop>
+    ensures gives { Gives (tail_of (item_level level)) (read (tail_part level) tokens.old) result tokens.new }
+    ensures shorter { IfOk result (λ found. length tokens.new ≤ length tokens.old) }
 {
     let mut items = Row::new(alloc);
-    let mut rest = tokens;
-    'items: while let Some((place, operator, behind)) = take_operator(rest, level) {
-        let (part, after) = item(alloc, behind, level)?;
+    'items: while let Some((place, operator)) = take_operator(tokens, level) {
+        let part = item(alloc, tokens, level)?;
         items.push(Further {
             place,
             operator,
             part,
         })?;
-        rest = after;
     }
-    Ok((items, rest))
+    Ok(items)
 }
 
 /// A relation with `not` before it, or without.
 #[cycle(expressions)]
-fn not(alloc: Global, tokens: &[Token]) -> Result<(Expr, &[Token]), Stop>
-    requires { Ended tokens.now }
-    ensures ok { IfOk result (λ x. Parsed Part.Not (at_level 3 x.0) tokens.now x.1.now) }
-    ensures ended { IfOk result (λ x. Ended x.1.now) }
-    ensures shorter { IfOk result (λ x. length x.1.now < length tokens.now) }
-    ensures fault { IfErr result (λ e. OnStop e (PartFault Part.Not tokens.now)) }
+#[tactic(auto, using(crate::proofs::Steps::step_not, crate::proofs::ExprSteps::lower_not, crate::proofs::ExprForests::not_forest, crate::proofs::Lengths::lengths))]
+fn not(alloc: Global, tokens: &mut Cursor<'_>) -> Result<Expr, Stop>
+    ensures gives { Gives (at_level 3) (read Part.Not tokens.old) result tokens.new }
+    ensures shorter { IfOk result (λ found. length tokens.new < length tokens.old) }
 {
-    let Some((place, behind)) = take_word(tokens, WordKind::NotWord) else {
+    let Some(place) = tokens.take(Word(WordKind::NotWord)) else {
         return relation(alloc, tokens);
     };
-    let (part, rest) = relation(alloc, behind)?;
+    let part = relation(alloc, tokens)?;
     let part = Boxed::new(alloc, part)?;
-    Ok((Expr::Not { place, part }, rest))
+    Ok(Expr::Not { place, part })
 }
 
 /// A relation, or its left side alone.
 #[cycle(expressions)]
-fn relation(alloc: Global, tokens: &[Token]) -> Result<(Expr, &[Token]), Stop>
-    requires { Ended tokens.now }
-    ensures ok { IfOk result (λ x. Parsed Part.Relation (at_level 4 x.0) tokens.now x.1.now) }
-    ensures ended { IfOk result (λ x. Ended x.1.now) }
-    ensures shorter { IfOk result (λ x. length x.1.now < length tokens.now) }
-    ensures fault { IfErr result (λ e. OnStop e (PartFault Part.Relation tokens.now)) }
+#[tactic(auto, using(crate::proofs::Steps::step_relation, crate::proofs::Steps::step_relation_tail, crate::proofs::ExprSteps::alone_relation, crate::proofs::ExprForests::relation_forest, crate::proofs::Lengths::take_within, crate::proofs::Lengths::lengths))]
+fn relation(alloc: Global, tokens: &mut Cursor<'_>) -> Result<Expr, Stop>
+    ensures gives { Gives (at_level 4) (read Part.Relation tokens.old) result tokens.new }
+    ensures shorter { IfOk result (λ found. length tokens.new < length tokens.old) }
 {
-    let (left, rest) = row(alloc, tokens, RowLevel::SumRow)?;
-    let Some((place, sign, behind)) = take_sign(rest) else {
-        return Ok((left, rest));
+    let left = row(alloc, tokens, RowLevel::SumRow)?;
+    let Some((place, sign)) = take_sign(tokens) else {
+        return Ok(left);
     };
     let left = Boxed::new(alloc, left)?;
-    let (right, rest) = row(alloc, behind, RowLevel::SumRow)?;
+    let right = row(alloc, tokens, RowLevel::SumRow)?;
     let right = Boxed::new(alloc, right)?;
-    let relation = Expr::Relation {
+    Ok(Expr::Relation {
         place,
         sign,
         left,
         right,
-    };
-    Ok((relation, rest))
+    })
 }
 
 /// An operand with a minus before it, or without.
 #[cycle(expressions)]
-fn minus(alloc: Global, tokens: &[Token]) -> Result<(Expr, &[Token]), Stop>
-    requires { Ended tokens.now }
-    ensures ok { IfOk result (λ x. Parsed Part.Minus (at_level 7 x.0) tokens.now x.1.now) }
-    ensures ended { IfOk result (λ x. Ended x.1.now) }
-    ensures shorter { IfOk result (λ x. length x.1.now < length tokens.now) }
-    ensures fault { IfErr result (λ e. OnStop e (PartFault Part.Minus tokens.now)) }
+#[tactic(auto, using(crate::proofs::Steps::step_minus, crate::proofs::ExprSteps::lower_minus, crate::proofs::ExprForests::minus_forest, crate::proofs::Lengths::lengths))]
+fn minus(alloc: Global, tokens: &mut Cursor<'_>) -> Result<Expr, Stop>
+    ensures gives { Gives (at_level 7) (read Part.Minus tokens.old) result tokens.new }
+    ensures shorter { IfOk result (λ found. length tokens.new < length tokens.old) }
 {
-    let Some((place, behind)) = take_mark(tokens, MarkKind::Dash) else {
+    let Some(place) = tokens.take(Mark(MarkKind::Dash)) else {
         return postfix(alloc, tokens);
     };
-    let (part, rest) = postfix(alloc, behind)?;
+    let part = postfix(alloc, tokens)?;
     let part = Boxed::new(alloc, part)?;
-    Ok((Expr::Minus { place, part }, rest))
+    Ok(Expr::Minus { place, part })
 }
 
 /// An operand with its suffixes.
 #[cycle(expressions)]
-fn postfix(alloc: Global, tokens: &[Token]) -> Result<(Expr, &[Token]), Stop>
-    requires { Ended tokens.now }
-    ensures ok { IfOk result (λ x. Parsed Part.Postfix (at_level 8 x.0) tokens.now x.1.now) }
-    ensures ended { IfOk result (λ x. Ended x.1.now) }
-    ensures shorter { IfOk result (λ x. length x.1.now < length tokens.now) }
-    ensures fault { IfErr result (λ e. OnStop e (PartFault Part.Postfix tokens.now)) }
+#[tactic(auto, using(crate::proofs::Steps::step_postfix, crate::proofs::ExprSteps::alone_postfix, crate::proofs::ExprSteps::suffixes_read, crate::proofs::Lengths::lengths))]
+fn postfix(alloc: Global, tokens: &mut Cursor<'_>) -> Result<Expr, Stop>
+    ensures gives { Gives (at_level 8) (read Part.Postfix tokens.old) result tokens.new }
+    ensures shorter { IfOk result (λ found. length tokens.new < length tokens.old) }
 {
-    let (head, behind) = primary(alloc, tokens)?;
-    if !starts_suffix(behind) {
-        return Ok((head, behind));
+    let head = primary(alloc, tokens)?;
+    if !begins_suffix(tokens) {
+        return Ok(head);
     }
     let head = Boxed::new(alloc, head)?;
-    let (suffixes, rest) = suffixes(alloc, behind)?;
-    Ok((nodes::with_suffixes(head, suffixes), rest))
+    let suffixes = suffixes(alloc, tokens)?;
+    Ok(nodes::with_suffixes(head, suffixes))
 }
 
 /// The suffixes that the tokens begin with.
 #[cycle(expressions)]
-pub fn suffixes(alloc: Global, tokens: &[Token]) -> Result<(Row<Suffix>, &[Token]), Stop>
-    requires { Ended tokens.now }
-    ensures ok { IfOk result (λ x. Parsed Part.SuffixesTail (suffixes_of x.0) tokens.now x.1.now) }
-    ensures ended { IfOk result (λ x. Ended x.1.now) }
-    ensures shorter { IfOk result (λ x. length x.1.now ≤ length tokens.now) }
-    ensures fault { IfErr result (λ e. OnStop e (PartFault Part.SuffixesTail tokens.now)) }
+#[tactic(auto, using(crate::proofs::Lengths::lengths))]
+pub fn suffixes(alloc: Global, tokens: &mut Cursor<'_>) -> Result<Row<Suffix>, Stop>
+    ensures gives { Gives suffixes_of (read Part.SuffixesTail tokens.old) result tokens.new }
+    ensures shorter { IfOk result (λ found. length tokens.new ≤ length tokens.old) }
 {
     let mut suffixes = Row::new(alloc);
-    let mut rest = tokens;
-    'suffixes: while let Some((suffix, behind)) = suffix(alloc, rest)? {
-        suffixes.push(suffix)?;
-        rest = behind;
+    'suffixes: while begins_suffix(tokens) {
+        let item = suffix(alloc, tokens)?;
+        suffixes.push(item)?;
     }
-    Ok((suffixes, rest))
+    Ok(suffixes)
 }
 
-fn starts_suffix(tokens: &[Token]) -> bool
-    requires { Ended tokens.now }
+fn begins_suffix(tokens: &Cursor<'_>) -> bool
     ensures { result ≡ starts (first Part.Suffix) tokens.now }
 {
-    take_mark(tokens, MarkKind::Dot).is_some() || take_mark(tokens, MarkKind::OpenSquare).is_some()
+    tokens.begins(Mark(MarkKind::Dot)) || tokens.begins(Mark(MarkKind::OpenSquare))
 }
 
-/// A suffix, if the tokens begin with one.
+/// A point and a name, or an index in square brackets.
 #[cycle(expressions)]
-fn suffix(alloc: Global, tokens: &[Token]) -> Result<Option<(Suffix, &[Token])>, Stop>
-    requires { Ended tokens.now }
-    ensures some { IfOk result (λ o. IfSome o (λ x. Parsed Part.Suffix (suffix_of x.0) tokens.now x.1.now)) }
-    ensures ended { IfOk result (λ o. IfSome o (λ x. Ended x.1.now)) }
-    ensures shorter { IfOk result (λ o. IfSome o (λ x. length x.1.now < length tokens.now)) }
-    ensures none { IfOk result (λ o. IfNone o (Stops (first Part.Suffix) tokens.now)) }
-    ensures fault { IfErr result (λ e. OnStop e (PartFault Part.Suffix tokens.now)) }
-    ensures begun { IfErr result (λ e. OnStop e (λ left. Starts (first Part.Suffix) tokens.now)) }
+#[tactic(auto, using(crate::proofs::Steps::step_suffix, crate::proofs::ExprForests::suffix_forests, crate::proofs::Lengths::lengths))]
+fn suffix(alloc: Global, tokens: &mut Cursor<'_>) -> Result<Suffix, Stop>
+    ensures gives { Gives suffix_of (read Part.Suffix tokens.old) result tokens.new }
+    ensures shorter { IfOk result (λ found. length tokens.new < length tokens.old) }
 {
-    if let Some((_, behind)) = take_mark(tokens, MarkKind::Dot) {
-        let (name, rest) = expect_name(alloc, behind)?;
-        return Ok(Some((Suffix::Dot(name), rest)));
+    if tokens.take(Mark(MarkKind::Dot)).is_some() {
+        let name = tokens.expect_name(alloc)?;
+        return Ok(Suffix::Dot(name));
     }
-    let Some((place, behind)) = take_mark(tokens, MarkKind::OpenSquare) else {
-        return Ok(None);
-    };
-    let (index, rest) = expression(alloc, behind)?;
-    let (index, rest) = before_mark(index, rest, MarkKind::CloseSquare)?;
-    Ok(Some((Suffix::Index { place, index }, rest)))
+    let place = tokens.expect(Mark(MarkKind::OpenSquare))?;
+    let index = expression(alloc, tokens)?;
+    tokens.expect(Mark(MarkKind::CloseSquare))?;
+    Ok(Suffix::Index { place, index })
 }
 
 /// An operand.
 #[cycle(expressions)]
-fn primary(alloc: Global, tokens: &[Token]) -> Result<(Expr, &[Token]), Stop>
-    requires { Ended tokens.now }
-    ensures ok { IfOk result (λ x. Parsed Part.Primary (at_level 9 x.0) tokens.now x.1.now) }
-    ensures ended { IfOk result (λ x. Ended x.1.now) }
-    ensures shorter { IfOk result (λ x. length x.1.now < length tokens.now) }
-    ensures fault { IfErr result (λ e. OnStop e (PartFault Part.Primary tokens.now)) }
+#[tactic(auto, using(crate::proofs::Steps::step_primary, crate::proofs::Lengths::lengths))]
+fn primary(alloc: Global, tokens: &mut Cursor<'_>) -> Result<Expr, Stop>
+    ensures gives { Gives (at_level 9) (read Part.Primary tokens.old) result tokens.new }
+    ensures shorter { IfOk result (λ found. length tokens.new < length tokens.old) }
 {
-    if let Some(found) = leaf(alloc, tokens)? {
-        return Ok(found);
+    let (first, _) = tokens.split();
+    match &first.kind {
+        TokenKind::Mark(MarkKind::OpenRound) => group(alloc, tokens),
+        TokenKind::Mark(MarkKind::OpenSquare) => bracket(alloc, tokens),
+        TokenKind::Word(WordKind::RangeWord) => range_call(alloc, tokens),
+        _ => leaf(alloc, tokens),
     }
-    if let Some(found) = group(alloc, tokens)? {
-        return Ok(found);
-    }
-    if let Some(found) = bracket(alloc, tokens)? {
-        return Ok(found);
-    }
-    if let Some(found) = range_call(alloc, tokens)? {
-        return Ok(found);
-    }
-    Err(Stop::At(tokens.len()))
 }
 
-/// An expression in round brackets, if the tokens begin with one.
+/// An expression in round brackets.
 #[cycle(expressions)]
-fn group(alloc: Global, tokens: &[Token]) -> Result<Option<(Expr, &[Token])>, Stop>
-    requires { Ended tokens.now }
-    ensures some { IfOk result (λ o. IfSome o (λ x. Parsed Part.Primary (at_level 9 x.0) tokens.now x.1.now)) }
-    ensures ended { IfOk result (λ o. IfSome o (λ x. Ended x.1.now)) }
-    ensures shorter { IfOk result (λ o. IfSome o (λ x. length x.1.now < length tokens.now)) }
-    ensures none { IfOk result (λ o. IfNone o (Stops (mark_code MarkKind.OpenRound ∷ []) tokens.now)) }
-    ensures fault { IfErr result (λ e. OnStop e (PartFault Part.Primary tokens.now)) }
+#[tactic(auto, using(crate::proofs::ExprForests::group_forest, crate::proofs::Lengths::lengths))]
+fn group(alloc: Global, tokens: &mut Cursor<'_>) -> Result<Expr, Stop>
+    ensures gives { Gives (at_level 9) (in_row read level.group_rule tokens.old) result tokens.new }
+    ensures shorter { IfOk result (λ found. length tokens.new < length tokens.old) }
 {
-    let Some((place, behind)) = take_mark(tokens, MarkKind::OpenRound) else {
-        return Ok(None);
-    };
-    let (inner, rest) = expression(alloc, behind)?;
+    let place = tokens.expect(Mark(MarkKind::OpenRound))?;
+    let inner = expression(alloc, tokens)?;
     let inner = Boxed::new(alloc, inner)?;
-    let (_, rest) = expect_mark(rest, MarkKind::CloseRound)?;
-    Ok(Some((Expr::Group { place, inner }, rest)))
+    tokens.expect(Mark(MarkKind::CloseRound))?;
+    Ok(Expr::Group { place, inner })
 }
 
-/// `range(LOW, HIGH)`, if the tokens begin with it.
+/// `range(LOW, HIGH)`.
 #[cycle(expressions)]
-fn range_call(alloc: Global, tokens: &[Token]) -> Result<Option<(Expr, &[Token])>, Stop>
-    requires { Ended tokens.now }
-    ensures some { IfOk result (λ o. IfSome o (λ x. Parsed Part.Primary (at_level 9 x.0) tokens.now x.1.now)) }
-    ensures ended { IfOk result (λ o. IfSome o (λ x. Ended x.1.now)) }
-    ensures shorter { IfOk result (λ o. IfSome o (λ x. length x.1.now < length tokens.now)) }
-    ensures none { IfOk result (λ o. IfNone o (Stops (word_code WordKind.RangeWord ∷ []) tokens.now)) }
-    ensures fault { IfErr result (λ e. OnStop e (PartFault Part.Primary tokens.now)) }
+#[tactic(auto, using(crate::proofs::ExprForests::range_forest, crate::proofs::Lengths::lengths))]
+fn range_call(alloc: Global, tokens: &mut Cursor<'_>) -> Result<Expr, Stop>
+    ensures gives { Gives (at_level 9) (in_row read level.range_rule tokens.old) result tokens.new }
+    ensures shorter { IfOk result (λ found. length tokens.new < length tokens.old) }
 {
-    let Some((place, behind)) = take_word(tokens, WordKind::RangeWord) else {
-        return Ok(None);
-    };
-    let (_, behind) = expect_mark(behind, MarkKind::OpenRound)?;
-    let (low, rest) = expression(alloc, behind)?;
+    let place = tokens.expect(Word(WordKind::RangeWord))?;
+    tokens.expect(Mark(MarkKind::OpenRound))?;
+    let low = expression(alloc, tokens)?;
     let low = Boxed::new(alloc, low)?;
-    let (_, behind) = expect_mark(rest, MarkKind::Comma)?;
-    let (high, rest) = expression(alloc, behind)?;
+    tokens.expect(Mark(MarkKind::Comma))?;
+    let high = expression(alloc, tokens)?;
     let high = Boxed::new(alloc, high)?;
-    let (_, rest) = expect_mark(rest, MarkKind::CloseRound)?;
-    Ok(Some((Expr::RangeCall { place, low, high }, rest)))
+    tokens.expect(Mark(MarkKind::CloseRound))?;
+    Ok(Expr::RangeCall { place, low, high })
 }
 
-/// A range or list in square brackets, if the tokens begin with one.
+/// A range or list in square brackets.
 #[cycle(expressions)]
-fn bracket(alloc: Global, tokens: &[Token]) -> Result<Option<(Expr, &[Token])>, Stop>
-    requires { Ended tokens.now }
-    ensures some { IfOk result (λ o. IfSome o (λ x. Parsed Part.Primary (at_level 9 x.0) tokens.now x.1.now)) }
-    ensures ended { IfOk result (λ o. IfSome o (λ x. Ended x.1.now)) }
-    ensures shorter { IfOk result (λ o. IfSome o (λ x. length x.1.now < length tokens.now)) }
-    ensures none { IfOk result (λ o. IfNone o (Stops (mark_code MarkKind.OpenSquare ∷ []) tokens.now)) }
-    ensures fault { IfErr result (λ e. OnStop e (PartFault Part.Primary tokens.now)) }
+#[tactic(auto, using(crate::proofs::Lengths::lengths))]
+fn bracket(alloc: Global, tokens: &mut Cursor<'_>) -> Result<Expr, Stop>
+    ensures gives { Gives (at_level 9) (in_row read level.bracket_rule tokens.old) result tokens.new }
+    ensures shorter { IfOk result (λ found. length tokens.new < length tokens.old) }
 {
-    let Some((place, behind)) = take_mark(tokens, MarkKind::OpenSquare) else {
-        return Ok(None);
-    };
-    let (first, rest) = expression(alloc, behind)?;
-    let (found, rest) = bracket_rest(alloc, place, first, rest)?;
-    Ok(Some((found, rest)))
+    let place = tokens.expect(Mark(MarkKind::OpenSquare))?;
+    let first = expression(alloc, tokens)?;
+    bracket_rest(alloc, place, first, tokens)
 }
 
 /// A range or list, of which the opening bracket and the first expression were read.
 #[cycle(expressions)]
+#[tactic(auto, using(crate::proofs::Steps::step_bracket_rest, crate::proofs::ExprForests::span_forest, crate::proofs::ExprForests::listed_forest, crate::proofs::Lengths::lengths))]
 fn bracket_rest(
     alloc: Global,
     place: Place,
     first: Expr,
-    tokens: &[Token],
-) -> Result<(Expr, &[Token]), Stop>
-    requires { Ended tokens.now }
-    ensures ok { IfOk result (λ x. IsBracketed place first x.0 tokens.now x.1.now) }
-    ensures ended { IfOk result (λ x. Ended x.1.now) }
-    ensures shorter { IfOk result (λ x. length x.1.now < length tokens.now) }
-    ensures fault { IfErr result (λ e. OnStop e (PartFault Part.BracketRest tokens.now)) }
+    tokens: &mut Cursor<'_>,
+) -> Result<Expr, Stop>
+    ensures front { IfOk result (λ e. at_level 9 e ≡ written.mark_at place MarkKind.OpenSquare (sub (at_level 0 first) (sub (level.bracket_rest (at_level 9 e)) nil))) }
+    ensures rest { Gives (λ e. level.bracket_rest (at_level 9 e)) (read Part.BracketRest tokens.old) result tokens.new }
+    ensures shorter { IfOk result (λ found. length tokens.new < length tokens.old) }
 {
-    if let Some((_, behind)) = take_mark(tokens, MarkKind::TwoDots) {
+    if tokens.take(Mark(MarkKind::TwoDots)).is_some() {
         let low = Boxed::new(alloc, first)?;
-        let (high, rest) = expression(alloc, behind)?;
+        let high = expression(alloc, tokens)?;
         let high = Boxed::new(alloc, high)?;
-        let (_, rest) = expect_mark(rest, MarkKind::CloseSquare)?;
-        return Ok((Expr::Span { place, low, high }, rest));
+        tokens.expect(Mark(MarkKind::CloseSquare))?;
+        return Ok(Expr::Span { place, low, high });
     }
-    let (items, rest) = listed(alloc, first, tokens)?;
-    let (_, rest) = expect_mark(rest, MarkKind::CloseSquare)?;
-    Ok((Expr::Listed { place, items }, rest))
+    let items = listed(alloc, first, tokens)?;
+    tokens.expect(Mark(MarkKind::CloseSquare))?;
+    Ok(Expr::Listed { place, items })
 }
 
 /// The items of a list, of which the first was read.
 #[cycle(expressions)]
-fn listed(alloc: Global, first: Expr, tokens: &[Token]) -> Result<(Row<Expr>, &[Token]), Stop>
-    requires { Ended tokens.now }
-    ensures ok { IfOk result (λ x. IsListing first x.0 tokens.now x.1.now) }
-    ensures ended { IfOk result (λ x. Ended x.1.now) }
-    ensures shorter { IfOk result (λ x. length x.1.now ≤ length tokens.now) }
-    ensures fault { IfErr result (λ e. OnStop e (PartFault Part.ListedTail tokens.now)) }
+#[tactic(auto, using(crate::proofs::Lengths::lengths))]
+fn listed(alloc: Global, first: Expr, tokens: &mut Cursor<'_>) -> Result<Row<Expr>, Stop>
+    ensures ok { IfOk result (λ items. IsRow Part.ListedTail items_of (first ∷ []) items tokens.old tokens.new) }
+    ensures err { IfErr result (λ e. e ≢ Memory → read Part.ListedTail tokens.old ≡ Err e) }
+    ensures shorter { IfOk result (λ found. length tokens.new ≤ length tokens.old) }
 {
     let mut items = Row::new(alloc);
     items.push(first)?;
-    let mut rest = tokens;
-    'items: while let Some((_, behind)) = take_mark(rest, MarkKind::Comma) {
-        let (item, after) = expression(alloc, behind)?;
+    'items: while let Some(_) = tokens.take(Mark(MarkKind::Comma)) {
+        let item = expression(alloc, tokens)?;
         items.push(item)?;
-        rest = after;
     }
-    Ok((items, rest))
+    Ok(items)
 }

@@ -1,29 +1,28 @@
 //! Whole files.
 
-ghost use Rattle.std.specs.Prelude.{[], IfOk, IfErr};
+ghost use Rattle.std.specs.Prelude.{◌≡◌, ◌≢◌, [], Ok, Err, IfOk, IfErr};
+ghost use Rattle.osc_base.specs.declared.stop.Stop.TheVariants.{Memory};
 ghost use Rattle.dsl_tree.specs.Grammar.{Part};
 ghost use Rattle.dsl_tree.specs.Views.{file_tree};
 ghost use Rattle.dsl_tree.specs.WrittenFile as written;
-ghost use Rattle.dsl_tree.specs.Reading.{Parsed, PartFault};
-ghost use Rattle.dsl_tree.specs.Language.{Ended};
-ghost use Rattle.osc_base.specs.Stops.{OnStop};
+ghost use Rattle.dsl_parser.specs.Descent.{read};
 
 use crate::declarations::declarations;
 use crate::imports::imports;
-use crate::layout_tokens::expect_end;
 use crate::stop::Stop;
-use dsl_tree::{File, Token};
+use crate::tokens::Cursor;
+use dsl_tree::File;
 use std::alloc::Global;
 
 /// A file, to the end of its tokens.
-pub fn file(alloc: Global, tokens: &[Token]) -> Result<File, Stop>
-    requires { Ended tokens.now }
-    ensures ok { IfOk result (λ f. Parsed Part.File (written.file (file_tree f)) tokens.now []) }
-    ensures fault { IfErr result (λ e. OnStop e (PartFault Part.File tokens.now)) }
+#[tactic(auto, using(crate::proofs::Steps::step_file))]
+pub fn file(alloc: Global, tokens: &mut Cursor<'_>) -> Result<File, Stop>
+    ensures ok { IfOk result (λ f. read Part.File tokens.old ≡ Ok (written.file (file_tree f), [])) }
+    ensures err { IfErr result (λ e. e ≢ Memory → read Part.File tokens.old ≡ Err e) }
 {
-    let (imports, behind) = imports(alloc, tokens)?;
-    let (decls, rest) = declarations(alloc, behind)?;
-    let end = expect_end(rest)?;
+    let imports = imports(alloc, tokens)?;
+    let decls = declarations(alloc, tokens)?;
+    let end = tokens.expect_end()?;
     Ok(File {
         imports,
         decls,

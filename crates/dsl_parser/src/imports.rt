@@ -1,107 +1,97 @@
 //! Imports.
 
-ghost use Rattle.std.specs.Prelude.{◌≡◌, ◌<◌, ◌≤◌, length, IfOk, IfErr};
-ghost use Rattle.dsl_tree.specs.Grammar.{Part};
-ghost use Rattle.dsl_tree.specs.WrittenFile as written;
-ghost use Rattle.dsl_tree.specs.WrittenPhases.{dotted_names};
-ghost use Rattle.dsl_tree.specs.Reading.{Parsed, Built, PartFault, RowFault};
-ghost use Rattle.dsl_tree.specs.Language.{Ended};
-ghost use Rattle.dsl_tree.specs.declared.parts.Ident.{Ident};
+ghost use Rattle.std.specs.Prelude.{◌≡◌, ◌≢◌, Err, IfOk, IfErr};
+ghost use Rattle.osc_base.specs.declared.stop.Stop.TheVariants.{Memory};
 ghost use Rattle.dsl_tree.specs.declared.file.Import.{Import};
-ghost use Rattle.osc_base.specs.Stops.{OnStop};
+ghost use Rattle.dsl_tree.specs.Grammar.{Part};
+ghost use Rattle.dsl_tree.specs.WrittenPhases.{dotted_names};
+ghost use Rattle.dsl_tree.specs.WrittenFile as written;
+ghost use Rattle.dsl_parser.specs.Descent.{read, in_row, Gives};
 ghost use Rattle.dsl_parser.specs.Rests.{dotted_import};
-ghost use Rattle.dsl_parser.specs.Rows.{Continued};
+ghost use Rattle.dsl_parser.specs.Rows.{IsNext, IsRow};
 
-use crate::layout_tokens::expect_newline;
-use crate::literals::take_text;
-use crate::names::expect_name;
-use crate::rows::row_of;
-use crate::starts::begins_word;
+use crate::rows::{Repeated, rest_of_row, row_of};
+use crate::signs::Sign::{self, Mark, Word};
 use crate::stop::Stop;
-use crate::tokens::{expect_word, take_mark};
-use dsl_tree::{Ident, Import, MarkKind, Token, WordKind};
+use crate::tokens::Cursor;
+use dsl_tree::{Ident, Import, MarkKind, WordKind};
 use osc_base::Row;
 use std::alloc::Global;
 
-/// Appends further names, each after a point, to `names`.
+/// A point and the name after it, if the tokens begin with a point.
+#[tactic(auto, using(crate::proofs::Steps::step_dotted_names, crate::proofs::Lengths::lengths))]
+fn next_name(alloc: Global, tokens: &mut Cursor<'_>) -> Result<Option<Ident>, Stop>
+    ensures { IsNext Part.DottedNames dotted_names tokens.old result tokens.new }
+{
+    if tokens.take(Mark(MarkKind::Dot)).is_none() {
+        return Ok(None);
+    }
+    Ok(Some(tokens.expect_name(alloc)?))
+}
+
+/// The names with those after them, each after a point.
 pub fn dotted_names(
     alloc: Global,
-    names: Row<Ident>,
-    tokens: &[Token],
-) -> Result<(Row<Ident>, &[Token]), Stop>
-    requires { Ended tokens.now }
-    ensures ok { IfOk result (λ x. Continued Ident Part.DottedNames dotted_names names x.0 tokens.now x.1.now) }
-    ensures ended { IfOk result (λ x. Ended x.1.now) }
-    ensures shorter { IfOk result (λ x. length x.1.now ≤ length tokens.now) }
-    ensures fault { IfErr result (λ e. OnStop e (PartFault Part.DottedNames tokens.now)) }
+    begun: Row<Ident>,
+    tokens: &mut Cursor<'_>,
+) -> Result<Row<Ident>, Stop>
+    ensures ok { IfOk result (λ names. IsRow Part.DottedNames dotted_names begun names tokens.old tokens.new) }
+    ensures err { IfErr result (λ e. e ≢ Memory → read Part.DottedNames tokens.old ≡ Err e) }
 {
-    let mut names = names;
-    let mut rest = tokens;
-    while let Some((_, next)) = take_mark(rest, MarkKind::Dot) {
-        let (item, after) = expect_name(alloc, next)?;
-        names.push(item)?;
-        rest = after;
+    let mut names = begun;
+    'names: while let Some(name) = next_name(alloc, tokens)? {
+        names.push(name)?;
     }
-    Ok((names, rest))
+    Ok(names)
 }
 
-fn names_of_import(alloc: Global, tokens: &[Token]) -> Result<(Row<Ident>, &[Token]), Stop>
-    requires { Ended tokens.now }
-    ensures ok { IfOk result (λ x. Built dotted_import (written.import_rest (Import.Dotted x.0)) tokens.now x.1.now) }
-    ensures ended { IfOk result (λ x. Ended x.1.now) }
-    ensures shorter { IfOk result (λ x. length x.1.now < length tokens.now) }
-    ensures fault { IfErr result (λ e. OnStop e (RowFault dotted_import tokens.now)) }
+fn names_of_import(alloc: Global, tokens: &mut Cursor<'_>) -> Result<Row<Ident>, Stop>
+    ensures { Gives (λ names. written.import_rest (Import.Dotted names)) (in_row read dotted_import tokens.old) result tokens.new }
 {
-    let (first, behind) = expect_name(alloc, tokens)?;
-    let (names, rest) = dotted_names(alloc, row_of(alloc, first)?, behind)?;
-    let (_, end) = expect_newline(rest)?;
-    Ok((names, end))
+    let first = tokens.expect_name(alloc)?;
+    let names = dotted_names(alloc, row_of(alloc, first)?, tokens)?;
+    tokens.expect(Sign::Newline)?;
+    Ok(names)
 }
 
-fn import_rest(alloc: Global, tokens: &[Token]) -> Result<(Import, &[Token]), Stop>
-    requires { Ended tokens.now }
-    ensures ok { IfOk result (λ x. Parsed Part.ImportRest (written.import_rest x.0) tokens.now x.1.now) }
-    ensures ended { IfOk result (λ x. Ended x.1.now) }
-    ensures shorter { IfOk result (λ x. length x.1.now < length tokens.now) }
-    ensures fault { IfErr result (λ e. OnStop e (PartFault Part.ImportRest tokens.now)) }
+#[tactic(auto, using(crate::proofs::Steps::step_import_rest))]
+fn import_rest(alloc: Global, tokens: &mut Cursor<'_>) -> Result<Import, Stop>
+    ensures { Gives written.import_rest (read Part.ImportRest tokens.old) result tokens.new }
 {
-    match take_text(alloc, tokens)? {
-        Some((place, name, rest)) => {
-            let (_, end) = expect_newline(rest)?;
-            Ok((Import::Named { place, name }, end))
-        }
-        None => {
-            let (names, end) = names_of_import(alloc, tokens)?;
-            Ok((Import::Dotted { names }, end))
-        }
+    if tokens.begins_text() {
+        let (place, name) = tokens.expect_text(alloc)?;
+        tokens.expect(Sign::Newline)?;
+        return Ok(Import::Named { place, name });
     }
+    let names = names_of_import(alloc, tokens)?;
+    Ok(Import::Dotted { names })
 }
 
-fn import(alloc: Global, tokens: &[Token]) -> Result<(Import, &[Token]), Stop>
-    requires { Ended tokens.now }
-    ensures ok { IfOk result (λ x. Parsed Part.Import (written.import_of x.0) tokens.now x.1.now) }
-    ensures ended { IfOk result (λ x. Ended x.1.now) }
-    ensures shorter { IfOk result (λ x. length x.1.now < length tokens.now) }
-    ensures fault { IfErr result (λ e. OnStop e (PartFault Part.Import tokens.now)) }
+#[tactic(auto, using(crate::proofs::Steps::step_import))]
+fn import(alloc: Global, tokens: &mut Cursor<'_>) -> Result<Import, Stop>
+    ensures { Gives written.import_of (read Part.Import tokens.old) result tokens.new }
 {
-    let (_, rest) = expect_word(tokens, WordKind::ImportWord)?;
-    import_rest(alloc, rest)
+    tokens.expect(Word(WordKind::ImportWord))?;
+    import_rest(alloc, tokens)
+}
+
+impl Repeated for Import {
+    ghost tail = { Part.Imports };
+
+    ghost rest = { written.imports };
+
+    #[tactic(auto, using(crate::proofs::Steps::step_imports, crate::proofs::Lengths::lengths))]
+    fn next(alloc: Global, tokens: &mut Cursor<'_>) -> Result<Option<Import>, Stop> {
+        if !tokens.begins(Word(WordKind::ImportWord)) {
+            return Ok(None);
+        }
+        Ok(Some(import(alloc, tokens)?))
+    }
 }
 
 /// The imports of a file.
-pub fn imports(alloc: Global, tokens: &[Token]) -> Result<(Row<Import>, &[Token]), Stop>
-    requires { Ended tokens.now }
-    ensures ok { IfOk result (λ x. Parsed Part.Imports (written.imports x.0) tokens.now x.1.now) }
-    ensures ended { IfOk result (λ x. Ended x.1.now) }
-    ensures shorter { IfOk result (λ x. length x.1.now ≤ length tokens.now) }
-    ensures fault { IfErr result (λ e. OnStop e (PartFault Part.Imports tokens.now)) }
+pub fn imports(alloc: Global, tokens: &mut Cursor<'_>) -> Result<Row<Import>, Stop>
+    ensures { Gives written.imports (read Part.Imports tokens.old) result tokens.new }
 {
-    let mut items = Row::new(alloc);
-    let mut rest = tokens;
-    'reading: while begins_word(rest, WordKind::ImportWord) {
-        let (item, after) = import(alloc, rest)?;
-        items.push(item)?;
-        rest = after;
-    }
-    Ok((items, rest))
+    rest_of_row(alloc, tokens)
 }

@@ -1,159 +1,103 @@
 //! Invocations after their head: arguments, and the block of rules and modifiers.
 
-ghost use Rattle.std.specs.Prelude.{◌≡◌, ◌<◌, ◌≤◌, length, map, IfOk, IfErr};
+ghost use Rattle.std.specs.Prelude.{◌≡◌, map};
 ghost use Rattle.dsl_tree.specs.Grammar.{Part};
 ghost use Rattle.dsl_tree.specs.Views.{argument_tree, part_tree};
 ghost use Rattle.dsl_tree.specs.WrittenPhases as written;
-ghost use Rattle.dsl_tree.specs.Reading.{Parsed, Built, PartFault, RowFault};
-ghost use Rattle.dsl_tree.specs.Language.{Ended};
-ghost use Rattle.dsl_tree.specs.declared.phases.InvokePart.{InvokePart};
-ghost use Rattle.osc_base.specs.Stops.{OnStop};
-ghost use Rattle.dsl_parser.specs.Rests.{modifier_rule, parts_block, with_parts, written_parts, written_with_parts};
-ghost use Rattle.dsl_parser.specs.Rows.{Continued};
+ghost use Rattle.dsl_parser.specs.Descent.{read, in_row, Gives};
+ghost use Rattle.dsl_parser.specs.Phases.{modifier_rule};
+ghost use Rattle.dsl_parser.specs.Rows.{IsNext};
 
 use crate::arguments::arguments;
 use crate::imports::dotted_names;
-use crate::layout_tokens::{expect_dedent, expect_indent, expect_newline};
-use crate::names::expect_name;
-use crate::rows::row_of;
+use crate::rows::{Item, Repeated, block};
 use crate::rules::rule;
+use crate::signs::Sign::{self, Mark, Word};
 use crate::starts::{begins_part, begins_rule};
 use crate::stop::Stop;
-use crate::tokens::{expect_mark, take_mark, take_word};
-use dsl_tree::{Argument, Ident, InvokePart, MarkKind, ModifierNode, Token, WordKind};
+use crate::tokens::Cursor;
+use dsl_tree::{Argument, Ident, InvokePart, MarkKind, ModifierNode, WordKind};
 use osc_base::Row;
 use std::alloc::Global;
 
-fn modifier(alloc: Global, tokens: &[Token]) -> Result<(InvokePart, &[Token]), Stop>
-    requires { Ended tokens.now }
-    ensures ok { IfOk result (λ x. Built modifier_rule (written.invocation_part (part_tree x.0)) tokens.now x.1.now) }
-    ensures ended { IfOk result (λ x. Ended x.1.now) }
-    ensures shorter { IfOk result (λ x. length x.1.now < length tokens.now) }
-    ensures fault { IfErr result (λ e. OnStop e (RowFault modifier_rule tokens.now)) }
+fn modifier(alloc: Global, tokens: &mut Cursor<'_>) -> Result<InvokePart, Stop>
+    ensures { Gives (λ p. written.invocation_part (part_tree p)) (in_row read modifier_rule tokens.old) result tokens.new }
 {
-    let (name, behind) = expect_name(alloc, tokens)?;
-    let (_, open) = expect_mark(behind, MarkKind::OpenRound)?;
-    let (arguments, rest) = arguments(alloc, open)?;
-    let (_, end) = expect_newline(rest)?;
-    Ok((InvokePart::Modifier(ModifierNode { name, arguments }), end))
+    let name = tokens.expect_name(alloc)?;
+    tokens.expect(Mark(MarkKind::OpenRound))?;
+    let arguments = arguments(alloc, tokens)?;
+    tokens.expect(Sign::Newline)?;
+    Ok(InvokePart::Modifier(ModifierNode { name, arguments }))
 }
 
-fn part(alloc: Global, tokens: &[Token]) -> Result<(InvokePart, &[Token]), Stop>
-    requires { Ended tokens.now }
-    ensures ok { IfOk result (λ x. Parsed Part.InvocationPart (written.invocation_part (part_tree x.0)) tokens.now x.1.now) }
-    ensures ended { IfOk result (λ x. Ended x.1.now) }
-    ensures shorter { IfOk result (λ x. length x.1.now < length tokens.now) }
-    ensures fault { IfErr result (λ e. OnStop e (PartFault Part.InvocationPart tokens.now)) }
+#[tactic(auto, using(crate::proofs::Steps::step_invocation_part))]
+fn part(alloc: Global, tokens: &mut Cursor<'_>) -> Result<InvokePart, Stop>
+    ensures { Gives (λ p. written.invocation_part (part_tree p)) (read Part.InvocationPart tokens.old) result tokens.new }
 {
     if begins_rule(tokens) {
-        let (found, end) = rule(alloc, tokens)?;
-        return Ok((InvokePart::Rule(found), end));
+        return Ok(InvokePart::Rule(rule(alloc, tokens)?));
     }
-    let (modifier, end) = modifier(alloc, tokens)?;
-    Ok((modifier, end))
+    modifier(alloc, tokens)
 }
 
-/// Appends further parts to `parts`.
-fn parts_tail(
-    alloc: Global,
-    parts: Row<InvokePart>,
-    tokens: &[Token],
-) -> Result<(Row<InvokePart>, &[Token]), Stop>
-    requires { Ended tokens.now }
-    ensures ok { IfOk result (λ x. Continued InvokePart Part.PartsTail (λ ps. written.parts_tail (map part_tree ps)) parts x.0 tokens.now x.1.now) }
-    ensures ended { IfOk result (λ x. Ended x.1.now) }
-    ensures shorter { IfOk result (λ x. length x.1.now ≤ length tokens.now) }
-    ensures fault { IfErr result (λ e. OnStop e (PartFault Part.PartsTail tokens.now)) }
-{
-    let mut parts = parts;
-    let mut rest = tokens;
-    'reading: while begins_part(rest) {
-        let (item, after) = part(alloc, rest)?;
-        parts.push(item)?;
-        rest = after;
-    }
-    Ok((parts, rest))
-}
+impl Repeated for InvokePart {
+    ghost tail = { Part.PartsTail };
 
-fn parts_in_block(alloc: Global, tokens: &[Token]) -> Result<(Row<InvokePart>, &[Token]), Stop>
-    requires { Ended tokens.now }
-    ensures ok { IfOk result (λ x. Built parts_block (written_parts (map part_tree x.0)) tokens.now x.1.now) }
-    ensures ended { IfOk result (λ x. Ended x.1.now) }
-    ensures shorter { IfOk result (λ x. length x.1.now < length tokens.now) }
-    ensures fault { IfErr result (λ e. OnStop e (RowFault parts_block tokens.now)) }
-{
-    let (first, behind) = part(alloc, tokens)?;
-    let (parts, rest) = parts_tail(alloc, row_of(alloc, first)?, behind)?;
-    let (_, end) = expect_dedent(rest)?;
-    Ok((parts, end))
-}
+    ghost rest = { λ ps. written.parts_tail (map part_tree ps) };
 
-fn parts_behind_with(alloc: Global, tokens: &[Token]) -> Result<(Row<InvokePart>, &[Token]), Stop>
-    requires { Ended tokens.now }
-    ensures ok { IfOk result (λ x. Built with_parts (written_with_parts (map part_tree x.0)) tokens.now x.1.now) }
-    ensures ended { IfOk result (λ x. Ended x.1.now) }
-    ensures shorter { IfOk result (λ x. length x.1.now < length tokens.now) }
-    ensures fault { IfErr result (λ e. OnStop e (RowFault with_parts tokens.now)) }
-{
-    let (_, colon) = expect_mark(tokens, MarkKind::Colon)?;
-    let (_, line) = expect_newline(colon)?;
-    let (_, inside) = expect_indent(line)?;
-    parts_in_block(alloc, inside)
-}
-
-fn invocation_end(alloc: Global, tokens: &[Token]) -> Result<(Row<InvokePart>, &[Token]), Stop>
-    requires { Ended tokens.now }
-    ensures ok { IfOk result (λ x. Parsed Part.InvocationEnd (written.invocation_end (map part_tree x.0)) tokens.now x.1.now) }
-    ensures ended { IfOk result (λ x. Ended x.1.now) }
-    ensures shorter { IfOk result (λ x. length x.1.now < length tokens.now) }
-    ensures fault { IfErr result (λ e. OnStop e (PartFault Part.InvocationEnd tokens.now)) }
-{
-    match take_word(tokens, WordKind::WithWord) {
-        Some((_, behind)) => {
-            let (parts, end) = parts_behind_with(alloc, behind)?;
-            Ok((parts, end))
+    #[tactic(auto, using(crate::proofs::Steps::step_parts_tail, crate::proofs::Lengths::lengths))]
+    fn next(alloc: Global, tokens: &mut Cursor<'_>) -> Result<Option<InvokePart>, Stop> {
+        if !begins_part(tokens) {
+            return Ok(None);
         }
-        None => {
-            let (_, end) = expect_newline(tokens)?;
-            Ok((Row::new(alloc), end))
-        }
+        Ok(Some(part(alloc, tokens)?))
     }
 }
 
-fn invocation_arguments(alloc: Global, tokens: &[Token]) -> Result<(Row<Argument>, &[Token]), Stop>
-    requires { Ended tokens.now }
-    ensures ok { IfOk result (λ x. Parsed Part.InvocationArguments (written.invocation_arguments (map argument_tree x.0)) tokens.now x.1.now) }
-    ensures ended { IfOk result (λ x. Ended x.1.now) }
-    ensures shorter { IfOk result (λ x. length x.1.now < length tokens.now) }
-    ensures fault { IfErr result (λ e. OnStop e (PartFault Part.InvocationArguments tokens.now)) }
-{
-    match take_mark(tokens, MarkKind::CloseRound) {
-        Some((_, rest)) => Ok((Row::new(alloc), rest)),
-        None => {
-            let (found, rest) = arguments(alloc, tokens)?;
-            Ok((found, rest))
-        }
+impl Item for InvokePart {
+    ghost part = { Part.InvocationPart };
+
+    ghost item = { λ p. written.invocation_part (part_tree p) };
+
+    fn item(alloc: Global, tokens: &mut Cursor<'_>) -> Result<InvokePart, Stop> {
+        part(alloc, tokens)
     }
+}
+
+#[tactic(auto, using(crate::proofs::Steps::step_invocation_end, crate::proofs::Blocks::parts_block))]
+fn invocation_end(alloc: Global, tokens: &mut Cursor<'_>) -> Result<Row<InvokePart>, Stop>
+    ensures { Gives (λ ps. written.invocation_end (map part_tree ps)) (read Part.InvocationEnd tokens.old) result tokens.new }
+{
+    if tokens.take(Sign::Newline).is_some() {
+        return Ok(Row::new(alloc));
+    }
+    tokens.expect(Word(WordKind::WithWord))?;
+    tokens.expect(Mark(MarkKind::Colon))?;
+    let parts = block(alloc, tokens)?;
+    Ok(parts)
+}
+
+#[tactic(auto, using(crate::proofs::Steps::step_invocation_arguments, crate::proofs::Blocks::some_arguments))]
+fn invocation_arguments(alloc: Global, tokens: &mut Cursor<'_>) -> Result<Row<Argument>, Stop>
+    ensures { Gives (λ xs. written.invocation_arguments (map argument_tree xs)) (read Part.InvocationArguments tokens.old) result tokens.new }
+{
+    if tokens.take(Mark(MarkKind::CloseRound)).is_some() {
+        return Ok(Row::new(alloc));
+    }
+    let found = arguments(alloc, tokens)?;
+    Ok(found)
 }
 
 /// The arguments of a composition in their brackets, if there are any.
-pub fn composition_arguments(
-    alloc: Global,
-    tokens: &[Token],
-) -> Result<(Row<Argument>, &[Token]), Stop>
-    requires { Ended tokens.now }
-    ensures ok { IfOk result (λ x. Parsed Part.CompositionArguments (written.composition_arguments (map argument_tree x.0)) tokens.now x.1.now) }
-    ensures ended { IfOk result (λ x. Ended x.1.now) }
-    ensures shorter { IfOk result (λ x. length x.1.now ≤ length tokens.now) }
-    ensures fault { IfErr result (λ e. OnStop e (PartFault Part.CompositionArguments tokens.now)) }
+#[tactic(auto, using(crate::proofs::Steps::step_composition_arguments, crate::proofs::Blocks::some_arguments))]
+pub fn composition_arguments(alloc: Global, tokens: &mut Cursor<'_>) -> Result<Row<Argument>, Stop>
+    ensures { Gives (λ xs. written.composition_arguments (map argument_tree xs)) (read Part.CompositionArguments tokens.old) result tokens.new }
 {
-    match take_mark(tokens, MarkKind::OpenRound) {
-        Some((_, open)) => {
-            let (found, rest) = arguments(alloc, open)?;
-            Ok((found, rest))
-        }
-        None => Ok((Row::new(alloc), tokens)),
+    if tokens.take(Mark(MarkKind::OpenRound)).is_none() {
+        return Ok(Row::new(alloc));
     }
+    let found = arguments(alloc, tokens)?;
+    Ok(found)
 }
 
 /// An invocation after its head.
@@ -165,21 +109,17 @@ pub struct InvocationRest {
 }
 
 /// An invocation after its head.
-pub fn invocation_rest(alloc: Global, tokens: &[Token]) -> Result<(InvocationRest, &[Token]), Stop>
-    requires { Ended tokens.now }
-    ensures ok { IfOk result (λ x. Parsed Part.InvocationRest (written.invocation_rest x.0.names (map argument_tree x.0.arguments) (map part_tree x.0.parts)) tokens.now x.1.now) }
-    ensures ended { IfOk result (λ x. Ended x.1.now) }
-    ensures shorter { IfOk result (λ x. length x.1.now < length tokens.now) }
-    ensures fault { IfErr result (λ e. OnStop e (PartFault Part.InvocationRest tokens.now)) }
+#[tactic(auto, using(crate::proofs::Steps::step_invocation_rest))]
+pub fn invocation_rest(alloc: Global, tokens: &mut Cursor<'_>) -> Result<InvocationRest, Stop>
+    ensures { Gives (λ i. written.invocation_rest i.names (map argument_tree i.arguments) (map part_tree i.parts)) (read Part.InvocationRest tokens.old) result tokens.new }
 {
-    let (names, behind) = dotted_names(alloc, Row::new(alloc), tokens)?;
-    let (_, open) = expect_mark(behind, MarkKind::OpenRound)?;
-    let (arguments, rest) = invocation_arguments(alloc, open)?;
-    let (parts, end) = invocation_end(alloc, rest)?;
-    let found = InvocationRest {
+    let names = dotted_names(alloc, Row::new(alloc), tokens)?;
+    tokens.expect(Mark(MarkKind::OpenRound))?;
+    let arguments = invocation_arguments(alloc, tokens)?;
+    let parts = invocation_end(alloc, tokens)?;
+    Ok(InvocationRest {
         names,
         arguments,
         parts,
-    };
-    Ok((found, end))
+    })
 }

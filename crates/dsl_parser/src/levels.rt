@@ -1,19 +1,21 @@
-//! The rows of operators.
+//! The rows of operators, by their level.
 
 ghost use Rattle.std.specs.Prelude.{◌≡◌, [], ◌∷◌, List, true, false, IfSome, IfNone};
-ghost use Rattle.dsl_tree.specs.Codes.{code, has, mark_code, word_code};
-ghost use Rattle.dsl_tree.specs.Forest.{nil, sub};
-ghost use Rattle.dsl_tree.specs.Reading.{starts, Stops};
-ghost use Rattle.dsl_tree.specs.Language.{Ended};
 ghost use Rattle.dsl_tree.specs.declared.expr.Further.{Further};
-ghost use Rattle.dsl_tree.specs.Written.{operator_kind, sign_kind};
+ghost use Rattle.dsl_tree.specs.declared.token.TokenKind.{TokenKind};
+ghost use Rattle.dsl_tree.specs.Codes.{code, has, mark_code};
+ghost use Rattle.dsl_tree.specs.Forest.{nil, sub};
 ghost use Rattle.dsl_tree.specs.Grammar.{Part};
 ghost use Rattle.dsl_tree.specs.Lookahead.{first};
-ghost use Rattle.dsl_parser.specs.Readers.{IsRead};
+ghost use Rattle.dsl_tree.specs.Reading.{starts};
+ghost use Rattle.dsl_tree.specs.Written.{operator_kind, sign_kind};
+ghost use Rattle.dsl_parser.specs.Cursor.{at};
+ghost use Rattle.dsl_parser.specs.Descent.{Tries};
 ghost use Rattle.dsl_parser.specs.Levels.{at_level, operators, row_level, item_level, tail_of};
 
-use crate::tokens::{is_mark, is_word};
-use dsl_tree::{Expr, Further, MarkKind, Operator, RelationSign, Token, TokenKind, WordKind};
+use crate::signs::Sign::{Mark, Word};
+use crate::tokens::Cursor;
+use dsl_tree::{Expr, Further, MarkKind, Operator, RelationSign, TokenKind, WordKind};
 use osc_base::{Boxed, Place, Row};
 
 /// A row of operators: `or`, `and`, `+` and `-`, or `*` and `/`.
@@ -25,42 +27,42 @@ pub enum RowLevel {
     ProductRow,
 }
 
-fn operator_of(kind: &TokenKind, row: RowLevel) -> Option<Operator>
-    ensures some { IfSome result (λ o. kind.now ≡ operator_kind o) }
-    ensures fits { IfSome result (λ o. has (operators row) (code kind.now) ≡ true) }
-    ensures none { IfNone result (has (operators row) (code kind.now) ≡ false) }
+/// The place and the operator of the first token, if it is an operator of the row.
+#[tactic(auto, using(crate::proofs::Lengths::take_within))]
+pub fn take_operator(tokens: &mut Cursor<'_>, row: RowLevel) -> Option<(Place, Operator)>
+    ensures { Tries (λ x. at (operator_kind x.1) x.0) (operators row) tokens.old result tokens.new }
 {
     match row {
-        RowLevel::OrRow if is_word(kind, WordKind::OrWord) => Some(Operator::Or),
-        RowLevel::AndRow if is_word(kind, WordKind::AndWord) => Some(Operator::And),
-        RowLevel::SumRow if is_mark(kind, MarkKind::Plus) => Some(Operator::Plus),
-        RowLevel::SumRow if is_mark(kind, MarkKind::Dash) => Some(Operator::Dash),
-        RowLevel::ProductRow if is_mark(kind, MarkKind::Star) => Some(Operator::Star),
-        RowLevel::ProductRow if is_mark(kind, MarkKind::Slash) => Some(Operator::Slash),
-        _ => None,
+        RowLevel::OrRow => Some((tokens.take(Word(WordKind::OrWord))?, Operator::Or)),
+        RowLevel::AndRow => Some((tokens.take(Word(WordKind::AndWord))?, Operator::And)),
+        RowLevel::SumRow => {
+            if let Some(place) = tokens.take(Mark(MarkKind::Plus)) {
+                return Some((place, Operator::Plus));
+            }
+            Some((tokens.take(Mark(MarkKind::Dash))?, Operator::Dash))
+        }
+        RowLevel::ProductRow => {
+            if let Some(place) = tokens.take(Mark(MarkKind::Star)) {
+                return Some((place, Operator::Star));
+            }
+            Some((tokens.take(Mark(MarkKind::Slash))?, Operator::Slash))
+        }
     }
 }
 
-/// The first token, if it is an operator of the row.
-pub fn take_operator(tokens: &[Token], row: RowLevel) -> Option<(Place, Operator, &[Token])>
-    requires { Ended tokens.now }
-    ensures some { IfSome result (λ x. IsRead x.0 (operator_kind x.1) tokens.now x.2.now) }
-    ensures fits { IfSome result (λ x. has (operators row) (code (operator_kind x.1)) ≡ true) }
-    ensures none { IfNone result (Stops (operators row) tokens.now) }
-{
-    let (first, rest) = tokens.split_first()?;
-    let operator = operator_of(&first.kind, row)?;
-    Some((first.place, operator, rest))
-}
-
 /// Whether the first token is an operator of the row.
-pub fn starts_operator(tokens: &[Token], row: RowLevel) -> bool
-    requires { Ended tokens.now }
+pub fn begins_operator(tokens: &Cursor<'_>, row: RowLevel) -> bool
     ensures { result ≡ starts (operators row) tokens.now }
 {
-    match tokens {
-        [first, ..] => operator_of(&first.kind, row).is_some(),
-        [] => false,
+    match row {
+        RowLevel::OrRow => tokens.begins(Word(WordKind::OrWord)),
+        RowLevel::AndRow => tokens.begins(Word(WordKind::AndWord)),
+        RowLevel::SumRow => {
+            tokens.begins(Mark(MarkKind::Plus)) || tokens.begins(Mark(MarkKind::Dash))
+        }
+        RowLevel::ProductRow => {
+            tokens.begins(Mark(MarkKind::Star)) || tokens.begins(Mark(MarkKind::Slash))
+        }
     }
 }
 
@@ -81,24 +83,25 @@ fn sign_of_mark(mark: MarkKind) -> Option<RelationSign>
 
 fn sign_of(kind: &TokenKind) -> Option<RelationSign>
     ensures some { IfSome result (λ s. kind.now ≡ sign_kind s) }
+    ensures fits { IfSome result (λ s. has (first Part.RelationTail) (code kind.now) ≡ true) }
     ensures none { IfNone result (has (first Part.RelationTail) (code kind.now) ≡ false) }
 {
     match kind {
         TokenKind::Mark(mark) => sign_of_mark(*mark),
-        _ if is_word(kind, WordKind::InWord) => Some(RelationSign::Within),
+        TokenKind::Word(WordKind::InWord) => Some(RelationSign::Within),
         _ => None,
     }
 }
 
-/// The first token, if it is the sign of a relation.
-pub fn take_sign(tokens: &[Token]) -> Option<(Place, RelationSign, &[Token])>
-    requires { Ended tokens.now }
-    ensures some { IfSome result (λ x. IsRead x.0 (sign_kind x.1) tokens.now x.2.now) }
-    ensures none { IfNone result (Stops (first Part.RelationTail) tokens.now) }
+/// The place and the sign of the first token, if it is the sign of a relation.
+#[tactic(auto, unfolding(crate::specs::Descent::take))]
+pub fn take_sign(tokens: &mut Cursor<'_>) -> Option<(Place, RelationSign)>
+    ensures { Tries (λ x. at (sign_kind x.1) x.0) (first Part.RelationTail) tokens.old result tokens.new }
 {
-    let (first, rest) = tokens.split_first()?;
+    let (first, _) = tokens.split();
     let sign = sign_of(&first.kind)?;
-    Some((first.place, sign, rest))
+    let token = tokens.pass();
+    Some((token.place, sign))
 }
 
 /// A row of its first item and one or more items after it.

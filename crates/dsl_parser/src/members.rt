@@ -1,51 +1,24 @@
 //! Members of types, and their blocks.
 
-ghost use Rattle.std.specs.Prelude.{◌≡◌, ◌<◌, ◌≤◌, length, map, IfOk, IfErr};
+ghost use Rattle.std.specs.Prelude.{◌≡◌, ◌<◌, length, map, IfOk};
 ghost use Rattle.dsl_tree.specs.Grammar.{Part};
 ghost use Rattle.dsl_tree.specs.Views.{field_tree, member_tree};
 ghost use Rattle.dsl_tree.specs.WrittenFile as written;
-ghost use Rattle.dsl_tree.specs.Reading.{Parsed, Built, PartFault, RowFault};
-ghost use Rattle.dsl_tree.specs.Language.{Ended};
-ghost use Rattle.dsl_tree.specs.declared.parts.Ident.{Ident};
-ghost use Rattle.dsl_tree.specs.declared.compounds.Member.{Member};
-ghost use Rattle.osc_base.specs.Stops.{OnStop};
-ghost use Rattle.dsl_parser.specs.Rests.{field_rule, field_rest, written_field_rest, do_rule, members_block, written_members};
-ghost use Rattle.dsl_parser.specs.Rows.{Continued};
+ghost use Rattle.dsl_parser.specs.Descent.{read, in_row, Gives};
+ghost use Rattle.dsl_parser.specs.Members.{field_rule, field_rest, written_field_rest, do_rule};
+ghost use Rattle.dsl_parser.specs.Rows.{IsNext};
 
-use crate::enums::enum_items;
-use crate::layout_tokens::{expect_dedent, expect_indent, expect_newline};
-use crate::names::expect_name;
+use crate::names::names_from;
 use crate::phases::phase;
-use crate::rows::row_of;
+use crate::rows::{Item, Repeated, block};
 use crate::rules::{initial_value, rule, rules_of_field};
-use crate::starts::{begins_member, begins_rule, begins_word};
+use crate::signs::Sign::{self, Mark, Word};
+use crate::starts::{begins_member, begins_rule};
 use crate::stop::Stop;
-use crate::tokens::{expect_mark, expect_word, take_mark, take_word};
-use dsl_tree::{Expr, FieldDecl, Ident, MarkKind, Member, RuleDecl, Token, WordKind};
+use crate::tokens::Cursor;
+use dsl_tree::{Expr, FieldDecl, Ident, MarkKind, Member, RuleDecl, WordKind};
 use osc_base::{Place, Row};
 use std::alloc::Global;
-
-/// Appends further names, each after a comma, to `names`.
-fn names_tail(
-    alloc: Global,
-    names: Row<Ident>,
-    tokens: &[Token],
-) -> Result<(Row<Ident>, &[Token]), Stop>
-    requires { Ended tokens.now }
-    ensures ok { IfOk result (λ x. Continued Ident Part.NamesTail written.names_tail names x.0 tokens.now x.1.now) }
-    ensures ended { IfOk result (λ x. Ended x.1.now) }
-    ensures shorter { IfOk result (λ x. length x.1.now ≤ length tokens.now) }
-    ensures fault { IfErr result (λ e. OnStop e (PartFault Part.NamesTail tokens.now)) }
-{
-    let mut names = names;
-    let mut rest = tokens;
-    while let Some((_, next)) = take_mark(rest, MarkKind::Comma) {
-        let (item, after) = expect_name(alloc, next)?;
-        names.push(item)?;
-        rest = after;
-    }
-    Ok((names, rest))
-}
 
 /// The type of a field.
 #[derive(Drop)]
@@ -54,25 +27,18 @@ struct FieldType {
     of: Ident,
 }
 
-fn field_type(alloc: Global, tokens: &[Token]) -> Result<(FieldType, &[Token]), Stop>
-    requires { Ended tokens.now }
-    ensures ok { IfOk result (λ x. Parsed Part.FieldType (written.field_type x.0.list x.0.of) tokens.now x.1.now) }
-    ensures ended { IfOk result (λ x. Ended x.1.now) }
-    ensures shorter { IfOk result (λ x. length x.1.now < length tokens.now) }
-    ensures fault { IfErr result (λ e. OnStop e (PartFault Part.FieldType tokens.now)) }
+#[tactic(auto, using(crate::proofs::Steps::step_field_type))]
+fn field_type(alloc: Global, tokens: &mut Cursor<'_>) -> Result<FieldType, Stop>
+    ensures { Gives (λ t. written.field_type t.list t.of) (read Part.FieldType tokens.old) result tokens.new }
 {
-    match take_word(tokens, WordKind::ListWord) {
-        Some((place, behind)) => {
-            let (_, name) = expect_word(behind, WordKind::OfWord)?;
-            let (of, rest) = expect_name(alloc, name)?;
-            let list = Some(place);
-            Ok((FieldType { list, of }, rest))
-        }
-        None => {
-            let (of, rest) = expect_name(alloc, tokens)?;
-            Ok((FieldType { list: None, of }, rest))
-        }
+    if tokens.begins_name() {
+        let of = tokens.expect_name(alloc)?;
+        return Ok(FieldType { list: None, of });
     }
+    let list = Some(tokens.expect(Word(WordKind::ListWord))?);
+    tokens.expect(Word(WordKind::OfWord))?;
+    let of = tokens.expect_name(alloc)?;
+    Ok(FieldType { list, of })
 }
 
 /// A field after its names.
@@ -83,138 +49,97 @@ struct FieldRest {
     rules: Row<RuleDecl>,
 }
 
-fn field_behind_names(alloc: Global, tokens: &[Token]) -> Result<(FieldRest, &[Token]), Stop>
-    requires { Ended tokens.now }
-    ensures ok { IfOk result (λ x. Built field_rest (written_field_rest x.0) tokens.now x.1.now) }
-    ensures ended { IfOk result (λ x. Ended x.1.now) }
-    ensures shorter { IfOk result (λ x. length x.1.now < length tokens.now) }
-    ensures fault { IfErr result (λ e. OnStop e (RowFault field_rest tokens.now)) }
+fn field_behind_names(alloc: Global, tokens: &mut Cursor<'_>) -> Result<FieldRest, Stop>
+    ensures { Gives written_field_rest (in_row read field_rest tokens.old) result tokens.new }
 {
-    let (_, colon) = expect_mark(tokens, MarkKind::Colon)?;
-    let (of, behind) = field_type(alloc, colon)?;
-    let (initial, rest) = initial_value(alloc, behind)?;
-    let (rules, end) = rules_of_field(alloc, rest)?;
-    Ok((FieldRest { of, initial, rules }, end))
+    tokens.expect(Mark(MarkKind::Colon))?;
+    let of = field_type(alloc, tokens)?;
+    let initial = initial_value(alloc, tokens)?;
+    let rules = rules_of_field(alloc, tokens)?;
+    Ok(FieldRest { of, initial, rules })
 }
 
-fn field(alloc: Global, tokens: &[Token]) -> Result<(FieldDecl, &[Token]), Stop>
-    requires { Ended tokens.now }
-    ensures ok { IfOk result (λ x. Built field_rule (written.field x.0.names (field_tree x.0)) tokens.now x.1.now) }
-    ensures ended { IfOk result (λ x. Ended x.1.now) }
-    ensures shorter { IfOk result (λ x. length x.1.now < length tokens.now) }
-    ensures fault { IfErr result (λ e. OnStop e (RowFault field_rule tokens.now)) }
+fn field(alloc: Global, tokens: &mut Cursor<'_>) -> Result<FieldDecl, Stop>
+    ensures { Gives (λ f. written.field f.names (field_tree f)) (in_row read field_rule tokens.old) result tokens.new }
 {
-    let (first, behind) = expect_name(alloc, tokens)?;
-    let (names, rest) = names_tail(alloc, row_of(alloc, first)?, behind)?;
-    let (field, end) = field_behind_names(alloc, rest)?;
+    let first = tokens.expect_name(alloc)?;
+    let names = names_from(alloc, first, tokens)?;
+    let field = field_behind_names(alloc, tokens)?;
     let FieldRest { of, initial, rules } = field;
     let FieldType { list, of } = of;
-    let field = FieldDecl {
+    Ok(FieldDecl {
         names,
         list,
         of,
         initial,
         rules,
-    };
-    Ok((field, end))
+    })
 }
 
-fn do_member(alloc: Global, tokens: &[Token]) -> Result<(Member, &[Token]), Stop>
-    requires { Ended tokens.now }
-    ensures ok { IfOk result (λ x. Built do_rule (written.member (member_tree x.0)) tokens.now x.1.now) }
-    ensures ended { IfOk result (λ x. Ended x.1.now) }
-    ensures shorter { IfOk result (λ x. length x.1.now < length tokens.now) }
-    ensures fault { IfErr result (λ e. OnStop e (RowFault do_rule tokens.now)) }
+fn do_member(alloc: Global, tokens: &mut Cursor<'_>) -> Result<Member, Stop>
+    ensures { Gives (λ m. written.member (member_tree m)) (in_row read do_rule tokens.old) result tokens.new }
 {
-    let (place, behind) = expect_word(tokens, WordKind::DoWord)?;
-    let (phase, end) = phase(alloc, behind)?;
-    Ok((Member::Do { place, phase }, end))
+    let place = tokens.expect(Word(WordKind::DoWord))?;
+    let phase = phase(alloc, tokens)?;
+    Ok(Member::Do { place, phase })
 }
 
-fn member(alloc: Global, tokens: &[Token]) -> Result<(Member, &[Token]), Stop>
-    requires { Ended tokens.now }
-    ensures ok { IfOk result (λ x. Parsed Part.Member (written.member (member_tree x.0)) tokens.now x.1.now) }
-    ensures ended { IfOk result (λ x. Ended x.1.now) }
-    ensures shorter { IfOk result (λ x. length x.1.now < length tokens.now) }
-    ensures fault { IfErr result (λ e. OnStop e (PartFault Part.Member tokens.now)) }
+#[tactic(auto, using(crate::proofs::Steps::step_member))]
+fn member(alloc: Global, tokens: &mut Cursor<'_>) -> Result<Member, Stop>
+    ensures { Gives (λ m. written.member (member_tree m)) (read Part.Member tokens.old) result tokens.new }
 {
+    if tokens.begins_name() {
+        return Ok(Member::Field(field(alloc, tokens)?));
+    }
     if begins_rule(tokens) {
-        let (found, end) = rule(alloc, tokens)?;
-        return Ok((Member::Rule(found), end));
+        return Ok(Member::Rule(rule(alloc, tokens)?));
     }
-    if begins_word(tokens, WordKind::DoWord) {
-        let (member, end) = do_member(alloc, tokens)?;
-        return Ok((member, end));
-    }
-    let (field, end) = field(alloc, tokens)?;
-    Ok((Member::Field(field), end))
+    do_member(alloc, tokens)
 }
 
-/// Appends further members to `members`.
-fn members_tail(
-    alloc: Global,
-    members: Row<Member>,
-    tokens: &[Token],
-) -> Result<(Row<Member>, &[Token]), Stop>
-    requires { Ended tokens.now }
-    ensures ok { IfOk result (λ x. Continued Member Part.MembersTail (λ ms. written.members_tail (map member_tree ms)) members x.0 tokens.now x.1.now) }
-    ensures ended { IfOk result (λ x. Ended x.1.now) }
-    ensures shorter { IfOk result (λ x. length x.1.now ≤ length tokens.now) }
-    ensures fault { IfErr result (λ e. OnStop e (PartFault Part.MembersTail tokens.now)) }
-{
-    let mut members = members;
-    let mut rest = tokens;
-    'reading: while begins_member(rest) {
-        let (item, after) = member(alloc, rest)?;
-        members.push(item)?;
-        rest = after;
+impl Repeated for Member {
+    ghost tail = { Part.MembersTail };
+
+    ghost rest = { λ ms. written.members_tail (map member_tree ms) };
+
+    #[tactic(auto, using(crate::proofs::Steps::step_members_tail, crate::proofs::Lengths::lengths))]
+    fn next(alloc: Global, tokens: &mut Cursor<'_>) -> Result<Option<Member>, Stop> {
+        if !begins_member(tokens) {
+            return Ok(None);
+        }
+        Ok(Some(member(alloc, tokens)?))
     }
-    Ok((members, rest))
 }
 
-fn members_in_block(alloc: Global, tokens: &[Token]) -> Result<(Row<Member>, &[Token]), Stop>
-    requires { Ended tokens.now }
-    ensures ok { IfOk result (λ x. Built members_block (written_members (map member_tree x.0)) tokens.now x.1.now) }
-    ensures ended { IfOk result (λ x. Ended x.1.now) }
-    ensures shorter { IfOk result (λ x. length x.1.now < length tokens.now) }
-    ensures fault { IfErr result (λ e. OnStop e (RowFault members_block tokens.now)) }
-{
-    let (first, behind) = member(alloc, tokens)?;
-    let (members, rest) = members_tail(alloc, row_of(alloc, first)?, behind)?;
-    let (_, end) = expect_dedent(rest)?;
-    Ok((members, end))
+impl Item for Member {
+    ghost part = { Part.Member };
+
+    ghost item = { λ m. written.member (member_tree m) };
+
+    fn item(alloc: Global, tokens: &mut Cursor<'_>) -> Result<Member, Stop> {
+        member(alloc, tokens)
+    }
 }
 
 /// A block of members, one or more, after its colon.
-pub fn block(alloc: Global, tokens: &[Token]) -> Result<(Row<Member>, &[Token]), Stop>
-    requires { Ended tokens.now }
-    ensures ok { IfOk result (λ x. Parsed Part.Block (written.block (map member_tree x.0)) tokens.now x.1.now) }
-    ensures ended { IfOk result (λ x. Ended x.1.now) }
-    ensures shorter { IfOk result (λ x. length x.1.now < length tokens.now) }
-    ensures fault { IfErr result (λ e. OnStop e (PartFault Part.Block tokens.now)) }
+#[tactic(auto, using(crate::proofs::Steps::step_block, crate::proofs::Blocks::members_block))]
+pub fn members(alloc: Global, tokens: &mut Cursor<'_>) -> Result<Row<Member>, Stop>
+    ensures gives { Gives (λ ms. written.block (map member_tree ms)) (read Part.Block tokens.old) result tokens.new }
+    ensures some { IfOk result (λ ms. 0 < length ms) }
 {
-    let (_, line) = expect_newline(tokens)?;
-    let (_, inside) = expect_indent(line)?;
-    let (members, end) = members_in_block(alloc, inside)?;
-    Ok((members, end))
+    let members = block(alloc, tokens)?;
+    Ok(members)
 }
 
 /// The line end, or a colon and a block of members.
-pub fn body(alloc: Global, tokens: &[Token]) -> Result<(Row<Member>, &[Token]), Stop>
-    requires { Ended tokens.now }
-    ensures ok { IfOk result (λ x. Parsed Part.Body (written.body (map member_tree x.0)) tokens.now x.1.now) }
-    ensures ended { IfOk result (λ x. Ended x.1.now) }
-    ensures shorter { IfOk result (λ x. length x.1.now < length tokens.now) }
-    ensures fault { IfErr result (λ e. OnStop e (PartFault Part.Body tokens.now)) }
+#[tactic(auto, using(crate::proofs::Steps::step_body, crate::proofs::Blocks::members_body))]
+pub fn body(alloc: Global, tokens: &mut Cursor<'_>) -> Result<Row<Member>, Stop>
+    ensures { Gives (λ ms. written.body (map member_tree ms)) (read Part.Body tokens.old) result tokens.new }
 {
-    match take_mark(tokens, MarkKind::Colon) {
-        Some((_, behind)) => {
-            let (members, end) = block(alloc, behind)?;
-            Ok((members, end))
-        }
-        None => {
-            let (_, end) = expect_newline(tokens)?;
-            Ok((Row::new(alloc), end))
-        }
+    if tokens.take(Sign::Newline).is_some() {
+        return Ok(Row::new(alloc));
     }
+    tokens.expect(Mark(MarkKind::Colon))?;
+    let members = members(alloc, tokens)?;
+    Ok(members)
 }

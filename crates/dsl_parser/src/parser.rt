@@ -9,6 +9,7 @@ ghost use Rattle.dsl_parser.specs.Answers.{HasViableFront, HasDeadToken};
 
 use crate::files::file;
 use crate::stop::{ParseStop, Stop};
+use crate::tokens::Cursor;
 use dsl_tree::{File, Token, TokenKind, Tokens};
 use osc_base::{Fault, FaultCode};
 use std::alloc::Global;
@@ -28,7 +29,7 @@ pub fn parse(alloc: Global, tokens: &Tokens) -> Result<File, ParseStop>
     ensures none { IfErr result (λ e. OnStop e (λ fault. (t : FileTree) → Spelled t tokens.now → ⊥)) }
 {
     let tokens = tokens.as_slice();
-    match file(alloc, tokens) {
+    match file(alloc, &mut Cursor::new(tokens)) {
         Ok(file) => Ok(file),
         Err(Stop::At(left)) => Err(ParseStop::At(fault_at(tokens, left))),
         Err(Stop::Memory) => Err(ParseStop::Memory),

@@ -1,29 +1,26 @@
 //! Phases of a behaviour. They nest in the blocks of compositions.
 
-ghost use Rattle.std.specs.Prelude.{◌≡◌, ◌<◌, ◌≤◌, length, map, true, IfOk, IfErr};
-ghost use Rattle.dsl_tree.specs.Codes.{has, word_code};
+ghost use Rattle.std.specs.Prelude.{◌≡◌, ◌≢◌, [], ◌∷◌, map, Err, IfOk, IfErr};
+ghost use Rattle.osc_base.specs.declared.stop.Stop.TheVariants.{Memory};
 ghost use Rattle.dsl_tree.specs.Grammar.{Part};
 ghost use Rattle.dsl_tree.specs.PhaseTree.{PhaseTree, row_of};
+ghost use Rattle.dsl_tree.specs.Reading.{starts};
 ghost use Rattle.dsl_tree.specs.Views.{phase_tree, expr_tree, argument_tree, part_tree};
 ghost use Rattle.dsl_tree.specs.WrittenPhases as written;
-ghost use Rattle.dsl_tree.specs.Reading.{Parsed, Built, NotTaken, PartFault, RowFault};
-ghost use Rattle.dsl_tree.specs.Language.{Ended};
-ghost use Rattle.dsl_tree.specs.declared.token.TokenKind.{TokenKind};
-ghost use Rattle.osc_base.specs.Stops.{OnStop};
-ghost use Rattle.dsl_parser.specs.Readers.{IsRead};
-ghost use Rattle.dsl_parser.specs.PhaseStarts.{wait_rest, written_wait_rest, composition_codes, composition_rule, composition_block, phases_block, headed, Front, CorePhase, behind_label, behind_name, Started};
+ghost use Rattle.dsl_parser.specs.Descent.{take, read, in_row, Gives};
+ghost use Rattle.dsl_parser.specs.Phases.{wait_rest, written_wait_rest, composition_codes, composition_token, composition_block, phases_block, core_of, behind_label, behind_name, invoke_codes, invoke_token, label_rest, name_rest, phases_rest, IsStarted, IsHeaded, IsOpened};
+ghost use Rattle.dsl_parser.specs.Rows.{IsRow};
 
 use crate::expressions::expr;
 use crate::invocations::{InvocationRest, composition_arguments, invocation_rest};
-use crate::layout_tokens::{expect_dedent, expect_indent, expect_newline};
-use crate::names::expect_name;
 use crate::rows::row_of as one_row;
-use crate::starts::{begins_composition, begins_phase, begins_word};
+use crate::signs::Sign::{self, Mark, Word};
+use crate::starts::{begins_composition, begins_phase};
 use crate::stop::Stop;
-use crate::tokens::{expect_mark, expect_word, take_mark, take_word};
-use crate::units::bracket_and_line_end;
+use crate::tokens::Cursor;
+use crate::units::closed;
 use dsl_tree::{
-    Argument, CompKind, CompNode, Expr, Ident, InvokeHead, InvokeNode, MarkKind, Phase, Token,
+    Argument, CompKind, CompNode, Expr, Ident, InvokeHead, InvokeNode, MarkKind, Phase, TokenKind,
     WaitNode, WordKind,
 };
 use osc_base::{Place, Row};
@@ -54,131 +51,130 @@ fn invoke(label: Option<Ident>, head: InvokeHead, rest: InvocationRest) -> Phase
     })
 }
 
-fn elapsed(alloc: Global, tokens: &[Token]) -> Result<(Expr, &[Token]), Stop>
-    requires { Ended tokens.now }
-    ensures ok { IfOk result (λ x. Built wait_rest (written_wait_rest (expr_tree x.0)) tokens.now x.1.now) }
-    ensures ended { IfOk result (λ x. Ended x.1.now) }
-    ensures shorter { IfOk result (λ x. length x.1.now < length tokens.now) }
-    ensures fault { IfErr result (λ e. OnStop e (RowFault wait_rest tokens.now)) }
+fn elapsed(alloc: Global, tokens: &mut Cursor<'_>) -> Result<Expr, Stop>
+    ensures { Gives (λ e. written_wait_rest (expr_tree e)) (in_row read wait_rest tokens.old) result tokens.new }
 {
-    let (_, word) = expect_word(tokens, WordKind::ElapsedWord)?;
-    let (_, open) = expect_mark(word, MarkKind::OpenRound)?;
-    let (elapsed, rest) = expr(alloc, open)?;
-    let end = bracket_and_line_end(rest)?;
-    Ok((elapsed, end))
+    tokens.expect(Word(WordKind::ElapsedWord))?;
+    tokens.expect(Mark(MarkKind::OpenRound))?;
+    let elapsed = expr(alloc, tokens)?;
+    closed(tokens)?;
+    Ok(elapsed)
 }
 
-fn wait(alloc: Global, label: Option<Ident>, tokens: &[Token]) -> Result<(Phase, &[Token]), Stop>
-    requires { Ended tokens.now }
-    ensures ok { IfOk result (λ x. CorePhase Part.Wait label (phase_tree x.0) tokens.now x.1.now) }
-    ensures ended { IfOk result (λ x. Ended x.1.now) }
-    ensures shorter { IfOk result (λ x. length x.1.now < length tokens.now) }
-    ensures fault { IfErr result (λ e. OnStop e (PartFault Part.Wait tokens.now)) }
+/// A wait, as the place of its word and the time.
+#[tactic(auto, using(crate::proofs::Steps::step_wait))]
+fn wait(alloc: Global, tokens: &mut Cursor<'_>) -> Result<(Place, Expr), Stop>
+    ensures { Gives (λ w. core_of (written.wait w.0 (expr_tree w.1))) (read Part.Wait tokens.old) result tokens.new }
 {
-    let (place, behind) = expect_word(tokens, WordKind::WaitWord)?;
-    let (elapsed, end) = elapsed(alloc, behind)?;
-    Ok((
-        Phase::Wait(WaitNode {
-            label,
-            place,
-            elapsed,
-        }),
-        end,
-    ))
+    let place = tokens.expect(Word(WordKind::WaitWord))?;
+    let elapsed = elapsed(alloc, tokens)?;
+    Ok((place, elapsed))
 }
 
+fn waiting(label: Option<Ident>, place: Place, elapsed: Expr) -> Phase
+    ensures { phase_tree result ≡ PhaseTree.Wait label place (expr_tree elapsed) }
+{
+    Phase::Wait(WaitNode {
+        label,
+        place,
+        elapsed,
+    })
+}
+
+/// Whether the first token is a name or `actor`.
+fn begins_head(tokens: &Cursor<'_>) -> bool
+    ensures { result ≡ starts invoke_codes tokens.now }
+{
+    tokens.begins_name() || tokens.begins(Word(WordKind::ActorWord))
+}
+
+/// The head of an invocation behind a label.
+#[tactic(auto, unfolding(crate::specs::Descent::take))]
+fn invoke_head(alloc: Global, tokens: &mut Cursor<'_>) -> Result<InvokeHead, Stop>
+    ensures { Gives invoke_token (take invoke_codes tokens.old) result tokens.new }
+{
+    let (first, _) = tokens.split();
+    match &first.kind {
+        TokenKind::Name(_) => Ok(InvokeHead::Name(tokens.expect_name(alloc)?)),
+        TokenKind::Word(WordKind::ActorWord) => {
+            Ok(InvokeHead::Actor(tokens.expect(Word(WordKind::ActorWord))?))
+        }
+        _ => Err(tokens.miss()),
+    }
+}
+
+#[tactic(auto, using(crate::proofs::Steps::step_labelled_phase, crate::proofs::Lengths::lengths))]
 fn start_behind_label(
     alloc: Global,
     label: Ident,
-    tokens: &[Token],
-) -> Result<(PhaseStart, &[Token]), Stop>
-    requires { Ended tokens.now }
-    ensures ok { IfOk result (λ x. Started Part.LabelledPhase (behind_label label) x.0 tokens.now x.1.now) }
-    ensures ended { IfOk result (λ x. Ended x.1.now) }
-    ensures shorter { IfOk result (λ x. length x.1.now ≤ length tokens.now) }
-    ensures fault { IfErr result (λ e. OnStop e (PartFault Part.LabelledPhase tokens.now)) }
+    tokens: &mut Cursor<'_>,
+) -> Result<PhaseStart, Stop>
+    ensures { IsStarted Part.LabelledPhase (behind_label label) label_rest tokens.old result tokens.new }
 {
+    if begins_head(tokens) {
+        let head = invoke_head(alloc, tokens)?;
+        let rest = invocation_rest(alloc, tokens)?;
+        return Ok(PhaseStart::Whole(invoke(Some(label), head, rest)));
+    }
     if begins_composition(tokens) {
-        return Ok((PhaseStart::Composition(Some(label)), tokens));
+        return Ok(PhaseStart::Composition(Some(label)));
     }
-    if begins_word(tokens, WordKind::WaitWord) {
-        let (wait, end) = wait(alloc, Some(label), tokens)?;
-        return Ok((PhaseStart::Whole(wait), end));
-    }
-    if let Some((place, behind)) = take_word(tokens, WordKind::ActorWord) {
-        let (rest, end) = invocation_rest(alloc, behind)?;
-        let phase = invoke(Some(label), InvokeHead::Actor(place), rest);
-        return Ok((PhaseStart::Whole(phase), end));
-    }
-    let (name, behind) = expect_name(alloc, tokens)?;
-    let (rest, end) = invocation_rest(alloc, behind)?;
-    let phase = invoke(Some(label), InvokeHead::Name(name), rest);
-    Ok((PhaseStart::Whole(phase), end))
+    let (place, elapsed) = wait(alloc, tokens)?;
+    Ok(PhaseStart::Whole(waiting(Some(label), place, elapsed)))
 }
 
+#[tactic(auto, using(crate::proofs::Steps::step_phase_after_name, crate::proofs::Lengths::lengths))]
 fn start_behind_name(
     alloc: Global,
     name: Ident,
-    tokens: &[Token],
-) -> Result<(PhaseStart, &[Token]), Stop>
-    requires { Ended tokens.now }
-    ensures ok { IfOk result (λ x. Started Part.PhaseAfterName (behind_name name) x.0 tokens.now x.1.now) }
-    ensures ended { IfOk result (λ x. Ended x.1.now) }
-    ensures shorter { IfOk result (λ x. length x.1.now ≤ length tokens.now) }
-    ensures fault { IfErr result (λ e. OnStop e (PartFault Part.PhaseAfterName tokens.now)) }
+    tokens: &mut Cursor<'_>,
+) -> Result<PhaseStart, Stop>
+    ensures { IsStarted Part.PhaseAfterName (behind_name name) name_rest tokens.old result tokens.new }
 {
-    match take_mark(tokens, MarkKind::Colon) {
-        Some((_, behind)) => {
-            let (start, end) = start_behind_label(alloc, name, behind)?;
-            Ok((start, end))
-        }
-        None => {
-            let (rest, end) = invocation_rest(alloc, tokens)?;
-            let phase = invoke(None, InvokeHead::Name(name), rest);
-            Ok((PhaseStart::Whole(phase), end))
-        }
+    if tokens.take(Mark(MarkKind::Colon)).is_some() {
+        return start_behind_label(alloc, name, tokens);
     }
+    let rest = invocation_rest(alloc, tokens)?;
+    Ok(PhaseStart::Whole(invoke(None, InvokeHead::Name(name), rest)))
 }
 
-fn start(alloc: Global, tokens: &[Token]) -> Result<(PhaseStart, &[Token]), Stop>
-    requires { Ended tokens.now }
-    ensures ok { IfOk result (λ x. Started Part.Phase (λ f. f) x.0 tokens.now x.1.now) }
-    ensures ended { IfOk result (λ x. Ended x.1.now) }
-    ensures shorter { IfOk result (λ x. length x.1.now ≤ length tokens.now) }
-    ensures fault { IfErr result (λ e. OnStop e (PartFault Part.Phase tokens.now)) }
+#[tactic(auto, using(crate::proofs::Steps::step_phase, crate::proofs::Lengths::lengths))]
+fn start(alloc: Global, tokens: &mut Cursor<'_>) -> Result<PhaseStart, Stop>
+    ensures { IsStarted Part.Phase (λ f. f) (λ f. f) tokens.old result tokens.new }
 {
+    if tokens.begins_name() {
+        let name = tokens.expect_name(alloc)?;
+        return start_behind_name(alloc, name, tokens);
+    }
     if begins_composition(tokens) {
-        return Ok((PhaseStart::Composition(None), tokens));
+        return Ok(PhaseStart::Composition(None));
     }
-    if begins_word(tokens, WordKind::WaitWord) {
-        let (wait, end) = wait(alloc, None, tokens)?;
-        return Ok((PhaseStart::Whole(wait), end));
+    if let Some(place) = tokens.take(Word(WordKind::ActorWord)) {
+        let rest = invocation_rest(alloc, tokens)?;
+        return Ok(PhaseStart::Whole(invoke(None, InvokeHead::Actor(place), rest)));
     }
-    if let Some((place, behind)) = take_word(tokens, WordKind::ActorWord) {
-        let (rest, end) = invocation_rest(alloc, behind)?;
-        let phase = invoke(None, InvokeHead::Actor(place), rest);
-        return Ok((PhaseStart::Whole(phase), end));
-    }
-    let (name, behind) = expect_name(alloc, tokens)?;
-    let (start, end) = start_behind_name(alloc, name, behind)?;
-    Ok((start, end))
+    let (place, elapsed) = wait(alloc, tokens)?;
+    Ok(PhaseStart::Whole(waiting(None, place, elapsed)))
 }
 
-fn composition_word(tokens: &[Token]) -> Result<(Place, CompKind, &[Token]), Stop>
-    requires { Ended tokens.now }
-    ensures ok { IfOk result (λ x. IsRead x.0 (TokenKind.Word (written.comp_word x.1)) tokens.now x.2.now) }
-    ensures fits { IfOk result (λ x. has composition_codes (word_code (written.comp_word x.1)) ≡ true) }
-    ensures err { IfErr result (λ e. OnStop e (NotTaken composition_codes tokens.now)) }
+/// The place and the kind of the word that begins a composition.
+#[tactic(auto, unfolding(crate::specs::Descent::take))]
+fn composition_word(tokens: &mut Cursor<'_>) -> Result<(Place, CompKind), Stop>
+    ensures { Gives (λ w. composition_token w.0 w.1) (take composition_codes tokens.old) result tokens.new }
 {
-    if let Some((place, rest)) = take_word(tokens, WordKind::SerialWord) {
-        return Ok((place, CompKind::Serial, rest));
-    }
-    if let Some((place, rest)) = take_word(tokens, WordKind::ParallelWord) {
-        return Ok((place, CompKind::Parallel, rest));
-    }
-    match take_word(tokens, WordKind::OneOfWord) {
-        Some((place, rest)) => Ok((place, CompKind::OneOf, rest)),
-        None => Err(Stop::At(tokens.len())),
+    let (first, _) = tokens.split();
+    match &first.kind {
+        TokenKind::Word(WordKind::SerialWord) => {
+            Ok((tokens.expect(Word(WordKind::SerialWord))?, CompKind::Serial))
+        }
+        TokenKind::Word(WordKind::ParallelWord) => Ok((
+            tokens.expect(Word(WordKind::ParallelWord))?,
+            CompKind::Parallel,
+        )),
+        TokenKind::Word(WordKind::OneOfWord) => {
+            Ok((tokens.expect(Word(WordKind::OneOfWord))?, CompKind::OneOf))
+        }
+        _ => Err(tokens.miss()),
     }
 }
 
@@ -190,34 +186,27 @@ struct CompositionHead {
     arguments: Row<Argument>,
 }
 
-fn composition_head(alloc: Global, tokens: &[Token]) -> Result<(CompositionHead, &[Token]), Stop>
-    requires { Ended tokens.now }
-    ensures ok { IfOk result (λ x. Front composition_rule composition_block (headed x.0) tokens.now x.1.now) }
-    ensures ended { IfOk result (λ x. Ended x.1.now) }
-    ensures shorter { IfOk result (λ x. length x.1.now < length tokens.now) }
-    ensures fault { IfErr result (λ e. OnStop e (RowFault composition_rule tokens.now)) }
+#[tactic(auto, using(crate::proofs::Steps::step_composition, crate::proofs::Lengths::lengths))]
+fn composition_head(alloc: Global, tokens: &mut Cursor<'_>) -> Result<CompositionHead, Stop>
+    ensures { IsHeaded tokens.old result tokens.new }
 {
-    let (place, kind, behind) = composition_word(tokens)?;
-    let (arguments, rest) = composition_arguments(alloc, behind)?;
-    let (_, inner) = expect_mark(rest, MarkKind::Colon)?;
-    let head = CompositionHead {
+    let (place, kind) = composition_word(tokens)?;
+    let arguments = composition_arguments(alloc, tokens)?;
+    tokens.expect(Mark(MarkKind::Colon))?;
+    Ok(CompositionHead {
         place,
         kind,
         arguments,
-    };
-    Ok((head, inner))
+    })
 }
 
-fn opened(tokens: &[Token]) -> Result<&[Token], Stop>
-    requires { Ended tokens.now }
-    ensures ok { IfOk result (λ rest. Front composition_block phases_block written.opened tokens.now rest.now) }
-    ensures ended { IfOk result (λ rest. Ended rest.now) }
-    ensures shorter { IfOk result (λ rest. length rest.now < length tokens.now) }
-    ensures fault { IfErr result (λ e. OnStop e (RowFault composition_block tokens.now)) }
+#[tactic(auto, using(crate::proofs::Lengths::lengths))]
+fn opened(tokens: &mut Cursor<'_>) -> Result<(), Stop>
+    ensures { IsOpened tokens.old result tokens.new }
 {
-    let (_, line) = expect_newline(tokens)?;
-    let (_, inside) = expect_indent(line)?;
-    Ok(inside)
+    tokens.expect(Sign::Newline)?;
+    tokens.expect(Sign::Indent)?;
+    Ok(())
 }
 
 fn composed(label: Option<Ident>, head: CompositionHead, members: Row<Phase>) -> Phase
@@ -239,40 +228,43 @@ fn composed(label: Option<Ident>, head: CompositionHead, members: Row<Phase>) ->
 
 /// A phase.
 #[cycle(phase_readers)]
-pub fn phase(alloc: Global, tokens: &[Token]) -> Result<(Phase, &[Token]), Stop>
-    requires { Ended tokens.now }
-    ensures ok { IfOk result (λ x. Parsed Part.Phase (written.phase (phase_tree x.0)) tokens.now x.1.now) }
-    ensures ended { IfOk result (λ x. Ended x.1.now) }
-    ensures shorter { IfOk result (λ x. length x.1.now < length tokens.now) }
-    ensures fault { IfErr result (λ e. OnStop e (PartFault Part.Phase tokens.now)) }
+#[tactic(auto, using(crate::proofs::Lengths::lengths))]
+pub fn phase(alloc: Global, tokens: &mut Cursor<'_>) -> Result<Phase, Stop>
+    ensures { Gives (λ p. written.phase (phase_tree p)) (read Part.Phase tokens.old) result tokens.new }
 {
-    let (start, behind) = start(alloc, tokens)?;
-    let label = match start {
-        PhaseStart::Whole(phase) => return Ok((phase, behind)),
+    let label = match start(alloc, tokens)? {
+        PhaseStart::Whole(phase) => return Ok(phase),
         PhaseStart::Composition(label) => label,
     };
-    let (head, inner) = composition_head(alloc, behind)?;
-    let inside = opened(inner)?;
-    let (members, end) = phases_in_block(alloc, inside)?;
-    Ok((composed(label, head, members), end))
+    let head = composition_head(alloc, tokens)?;
+    opened(tokens)?;
+    let members = phases_in_block(alloc, tokens)?;
+    Ok(composed(label, head, members))
 }
 
+/// The phases of a block and its end.
 #[cycle(phase_readers)]
-fn phases_in_block(alloc: Global, tokens: &[Token]) -> Result<(Row<Phase>, &[Token]), Stop>
-    requires { Ended tokens.now }
-    ensures ok { IfOk result (λ x. Built phases_block (written.block_phases (row_of (map phase_tree x.0))) tokens.now x.1.now) }
-    ensures ended { IfOk result (λ x. Ended x.1.now) }
-    ensures shorter { IfOk result (λ x. length x.1.now < length tokens.now) }
-    ensures fault { IfErr result (λ e. OnStop e (RowFault phases_block tokens.now)) }
+#[tactic(auto, using(crate::proofs::Lengths::lengths))]
+fn phases_in_block(alloc: Global, tokens: &mut Cursor<'_>) -> Result<Row<Phase>, Stop>
+    ensures { Gives (λ ps. written.block_phases (row_of (map phase_tree ps))) (in_row read phases_block tokens.old) result tokens.new }
 {
-    let (first, behind) = phase(alloc, tokens)?;
+    let first = phase(alloc, tokens)?;
+    let phases = phases_from(alloc, first, tokens)?;
+    tokens.expect(Sign::Dedent)?;
+    Ok(phases)
+}
+
+/// The phases of a block from this one on.
+#[cycle(phase_readers)]
+#[tactic(auto, using(crate::proofs::Lengths::lengths))]
+fn phases_from(alloc: Global, first: Phase, tokens: &mut Cursor<'_>) -> Result<Row<Phase>, Stop>
+    ensures ok { IfOk result (λ phases. IsRow Part.PhasesTail phases_rest (first ∷ []) phases tokens.old tokens.new) }
+    ensures err { IfErr result (λ e. e ≢ Memory → read Part.PhasesTail tokens.old ≡ Err e) }
+{
     let mut phases = one_row(alloc, first)?;
-    let mut rest = behind;
-    'reading: while begins_phase(rest) {
-        let (item, after) = phase(alloc, rest)?;
+    'phases: while begins_phase(tokens) {
+        let item = phase(alloc, tokens)?;
         phases.push(item)?;
-        rest = after;
     }
-    let (_, end) = expect_dedent(rest)?;
-    Ok((phases, end))
+    Ok(phases)
 }

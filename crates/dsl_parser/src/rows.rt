@@ -1,9 +1,41 @@
-//! Rows under construction.
+//! Rows of items.
 
-ghost use Rattle.std.specs.Prelude.{◌≡◌, [], ◌∷◌, IfOk};
+ghost use Rattle.std.specs.Prelude.{◌≡◌, ◌≢◌, ◌<◌, [], ◌∷◌, List, length, drop, Err, IfOk, IfErr};
+ghost use Rattle.osc_base.specs.declared.stop.Stop.TheVariants.{Memory};
+ghost use Rattle.dsl_tree.specs.Grammar.{Part, Of, newline, indent, dedent};
+ghost use Rattle.dsl_tree.specs.Forest.{Forest};
+ghost use Rattle.dsl_parser.specs.Descent.{read, in_row, Gives};
+ghost use Rattle.dsl_parser.specs.Rows.{IsNext, IsRow, in_block};
 
+use crate::signs::Sign;
+use crate::stop::Stop;
+use crate::tokens::Cursor;
 use osc_base::Row;
 use std::alloc::{AllocError, Global};
+
+/// What stands in rows.
+pub trait Repeated: Drop {
+    /// What is left of a row after an item.
+    ghost tail: { Part };
+
+    /// What that is written as.
+    ghost rest: { List Self → Forest };
+
+    /// Another item with what stands before it, if the tokens go on with the row.
+    fn next(alloc: Global, tokens: &mut Cursor<'_>) -> Result<Option<Self>, Stop>
+        ensures { IsNext tail rest tokens.old result tokens.new };
+}
+
+/// What stands in blocks.
+pub trait Item: Repeated {
+    ghost part: { Part };
+
+    /// What the part is written as.
+    ghost item: { Self → Forest };
+
+    fn item(alloc: Global, tokens: &mut Cursor<'_>) -> Result<Self, Stop>
+        ensures { Gives item (read part tokens.old) result tokens.new };
+}
 
 /// The row with this item alone.
 pub fn row_of<T: Drop>(alloc: Global, item: T) -> Result<Row<T>, AllocError>
@@ -11,5 +43,53 @@ pub fn row_of<T: Drop>(alloc: Global, item: T) -> Result<Row<T>, AllocError>
 {
     let mut row = Row::new(alloc);
     row.push(item)?;
+    Ok(row)
+}
+
+/// The row with the items after those that it begins with.
+pub fn with_rest<T: Repeated>(
+    alloc: Global,
+    begun: Row<T>,
+    tokens: &mut Cursor<'_>,
+) -> Result<Row<T>, Stop>
+    ensures ok { IfOk result (λ row. IsRow T.tail T.rest begun row tokens.old tokens.new) }
+    ensures err { IfErr result (λ e. e ≢ Memory → read T.tail tokens.old ≡ Err e) }
+{
+    let mut row = begun;
+    'items: while let Some(item) = T::next(alloc, tokens)? {
+        row.push(item)?;
+    }
+    Ok(row)
+}
+
+/// All items that are left of a row.
+pub fn rest_of_row<T: Repeated>(alloc: Global, tokens: &mut Cursor<'_>) -> Result<Row<T>, Stop>
+    ensures { Gives T.rest (read T.tail tokens.old) result tokens.new }
+{
+    with_rest(alloc, Row::new(alloc), tokens)
+}
+
+/// The row with this item and those after it.
+pub fn row_from<T: Repeated>(
+    alloc: Global,
+    first: T,
+    tokens: &mut Cursor<'_>,
+) -> Result<Row<T>, Stop>
+    ensures first { IfOk result (λ row. row ≡ first ∷ drop 1 row) }
+    ensures rest { Gives (λ row. T.rest (drop 1 row)) (read T.tail tokens.old) result tokens.new }
+{
+    with_rest(alloc, row_of(alloc, first)?, tokens)
+}
+
+/// A block: the line end and the indentation, one item or more, and the end of the block.
+pub fn block<T: Item>(alloc: Global, tokens: &mut Cursor<'_>) -> Result<Row<T>, Stop>
+    ensures gives { Gives (in_block T.item T.rest) (in_row read (newline ∷ indent ∷ Of T.part ∷ Of T.tail ∷ dedent ∷ []) tokens.old) result tokens.new }
+    ensures some { IfOk result (λ row. 0 < length row) }
+{
+    tokens.expect(Sign::Newline)?;
+    tokens.expect(Sign::Indent)?;
+    let first = T::item(alloc, tokens)?;
+    let row = row_from(alloc, first, tokens)?;
+    tokens.expect(Sign::Dedent)?;
     Ok(row)
 }

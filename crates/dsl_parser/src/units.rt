@@ -1,41 +1,30 @@
 //! Declarations of physical types and units.
 
-ghost use Rattle.std.specs.Prelude.{◌≡◌, ◌<◌, ◌≤◌, [], ◌∷◌, length, IfOk, IfErr, IfSome, IfNone};
-ghost use Rattle.dsl_tree.specs.Codes.{factor_name, offset_name};
-ghost use Rattle.dsl_tree.specs.Grammar.{Part, Of, exponent};
+ghost use Rattle.std.specs.Prelude.{◌≡◌, ◌≢◌, Ok, Err, IfOk, IfErr};
+ghost use Rattle.osc_base.specs.declared.stop.Stop.TheVariants.{Memory};
+ghost use Rattle.dsl_tree.specs.Grammar.{Part};
 ghost use Rattle.dsl_tree.specs.Forest.{nil, sub};
 ghost use Rattle.dsl_tree.specs.Written.{digits};
 ghost use Rattle.dsl_tree.specs.WrittenFile as written;
-ghost use Rattle.dsl_tree.specs.Reading.{Stops, Parsed, Built, PartFault, RowFault};
-ghost use Rattle.dsl_tree.specs.Language.{Ended};
-ghost use Rattle.dsl_tree.specs.declared.units.BasePart.{BasePart};
-ghost use Rattle.osc_base.specs.Stops.{OnStop};
-ghost use Rattle.dsl_parser.specs.Rests.{optional_dash, closing, type_rule, type_si, type_bases, unit_rule, unit_of, unit_si, unit_bases, factor_rest, offset_rest};
+ghost use Rattle.dsl_parser.specs.Descent.{read, in_row, Gives};
 ghost use Rattle.dsl_parser.specs.Rests as rest;
-ghost use Rattle.dsl_parser.specs.Rows.{Continued};
+ghost use Rattle.dsl_parser.specs.Rests.{optional_dash};
+ghost use Rattle.dsl_parser.specs.Rows.{IsNext};
+ghost use Rattle.dsl_parser.specs.UnitRows.{IsUnitNext, IsUnitMore, IsUnitRow};
 
-use crate::layout_tokens::expect_newline;
-use crate::literals::{expect_exponent, expect_number};
-use crate::names::{KnownName, expect_base_name, expect_known_name, expect_name, take_known_name};
-use crate::rows::row_of;
+use crate::rows::{Repeated, row_from, row_of};
+use crate::signs::Sign::{self, Mark, Word};
 use crate::stop::Stop;
-use crate::tokens::{expect_mark, expect_word, take_mark};
-use dsl_tree::{
-    BasePart, Digits, Ident, MarkKind, PhysicalDecl, Signed, Token, UnitDecl, WordKind,
-};
+use crate::tokens::Cursor;
+use dsl_tree::{BasePart, Digits, Ident, MarkKind, PhysicalDecl, Signed, UnitDecl, WordKind};
 use osc_base::{Place, Row};
 use std::alloc::Global;
 
-fn dash(tokens: &[Token]) -> (Option<Place>, &[Token])
-    requires { Ended tokens.now }
-    ensures ok { Parsed Part.OptionalDash (optional_dash result.0) tokens.now result.1.now }
-    ensures ended { Ended result.1.now }
-    ensures shorter { length result.1.now ≤ length tokens.now }
+#[tactic(auto, using(crate::proofs::Steps::step_optional_dash))]
+fn dash(tokens: &mut Cursor<'_>) -> Option<Place>
+    ensures { read Part.OptionalDash tokens.old ≡ Ok (optional_dash result, tokens.new) }
 {
-    match take_mark(tokens, MarkKind::Dash) {
-        Some((place, rest)) => (Some(place), rest),
-        None => (None, tokens),
-    }
+    tokens.take(Mark(MarkKind::Dash))
 }
 
 fn with_dash(dash: Option<Place>, number: Digits) -> Signed
@@ -55,116 +44,75 @@ fn with_dash(dash: Option<Place>, number: Digits) -> Signed
     }
 }
 
-fn signed(tokens: &[Token]) -> Result<(Signed, &[Token]), Stop>
-    requires { Ended tokens.now }
-    ensures ok { IfOk result (λ x. Parsed Part.Signed (written.signed x.0) tokens.now x.1.now) }
-    ensures ended { IfOk result (λ x. Ended x.1.now) }
-    ensures shorter { IfOk result (λ x. length x.1.now < length tokens.now) }
-    ensures fault { IfErr result (λ e. OnStop e (PartFault Part.Signed tokens.now)) }
+#[tactic(auto, using(crate::proofs::Steps::step_signed))]
+fn signed(tokens: &mut Cursor<'_>) -> Result<Signed, Stop>
+    ensures { Gives written.signed (read Part.Signed tokens.old) result tokens.new }
 {
-    let (dash, rest) = dash(tokens);
-    let (number, rest) = expect_number(rest)?;
-    Ok((with_dash(dash, number), rest))
+    let dash = dash(tokens);
+    let number = tokens.expect_number()?;
+    Ok(with_dash(dash, number))
 }
 
-fn signed_exponent(tokens: &[Token]) -> Result<(Signed, &[Token]), Stop>
-    requires { Ended tokens.now }
-    ensures ok { IfOk result (λ x. Built (Of Part.OptionalDash ∷ exponent ∷ []) (written.signed x.0) tokens.now x.1.now) }
-    ensures ended { IfOk result (λ x. Ended x.1.now) }
-    ensures shorter { IfOk result (λ x. length x.1.now < length tokens.now) }
-    ensures fault { IfErr result (λ e. OnStop e (RowFault (Of Part.OptionalDash ∷ exponent ∷ []) tokens.now)) }
+#[tactic(auto, using(crate::proofs::Steps::step_base))]
+fn base(alloc: Global, tokens: &mut Cursor<'_>) -> Result<BasePart, Stop>
+    ensures { Gives written.base (read Part.Base tokens.old) result tokens.new }
 {
-    let (dash, rest) = dash(tokens);
-    let (number, rest) = expect_exponent(rest)?;
-    Ok((with_dash(dash, number), rest))
-}
-
-fn base(alloc: Global, tokens: &[Token]) -> Result<(BasePart, &[Token]), Stop>
-    requires { Ended tokens.now }
-    ensures ok { IfOk result (λ x. Parsed Part.Base (written.base x.0) tokens.now x.1.now) }
-    ensures ended { IfOk result (λ x. Ended x.1.now) }
-    ensures shorter { IfOk result (λ x. length x.1.now < length tokens.now) }
-    ensures fault { IfErr result (λ e. OnStop e (PartFault Part.Base tokens.now)) }
-{
-    let (name, rest) = expect_base_name(alloc, tokens)?;
-    let (_, rest) = expect_mark(rest, MarkKind::Colon)?;
-    let (exponent, rest) = signed_exponent(rest)?;
-    Ok((BasePart { name, exponent }, rest))
+    let name = tokens.expect_base_name(alloc)?;
+    tokens.expect(Mark(MarkKind::Colon))?;
+    let dash = dash(tokens);
+    let exponent = with_dash(dash, tokens.expect_exponent()?);
+    Ok(BasePart { name, exponent })
 }
 
 /// The closing bracket and the line end.
-pub fn bracket_and_line_end(tokens: &[Token]) -> Result<&[Token], Stop>
-    requires { Ended tokens.now }
-    ensures ok { IfOk result (λ rest. Built closing written.bases_end tokens.now rest.now) }
-    ensures ended { IfOk result (λ rest. Ended rest.now) }
-    ensures shorter { IfOk result (λ rest. length rest.now < length tokens.now) }
-    ensures fault { IfErr result (λ e. OnStop e (RowFault closing tokens.now)) }
+pub fn closed(tokens: &mut Cursor<'_>) -> Result<(), Stop>
+    ensures { Gives (λ closed. written.bases_end) (in_row read rest.closing tokens.old) result tokens.new }
 {
-    let (_, rest) = expect_mark(tokens, MarkKind::CloseRound)?;
-    let (_, end) = expect_newline(rest)?;
-    Ok(end)
+    tokens.expect(Mark(MarkKind::CloseRound))?;
+    tokens.expect(Sign::Newline)?;
+    Ok(())
 }
 
-/// Appends further bases, each after a comma, to `bases`.
-fn bases_tail(
-    alloc: Global,
-    bases: Row<BasePart>,
-    tokens: &[Token],
-) -> Result<(Row<BasePart>, &[Token]), Stop>
-    requires { Ended tokens.now }
-    ensures ok { IfOk result (λ x. Continued BasePart Part.BasesTail written.bases_tail bases x.0 tokens.now x.1.now) }
-    ensures ended { IfOk result (λ x. Ended x.1.now) }
-    ensures shorter { IfOk result (λ x. length x.1.now ≤ length tokens.now) }
-    ensures fault { IfErr result (λ e. OnStop e (PartFault Part.BasesTail tokens.now)) }
-{
-    let mut bases = bases;
-    let mut rest = tokens;
-    while let Some((_, next)) = take_mark(rest, MarkKind::Comma) {
-        let (item, after) = base(alloc, next)?;
-        bases.push(item)?;
-        rest = after;
+impl Repeated for BasePart {
+    ghost tail = { Part.BasesTail };
+
+    ghost rest = { written.bases_tail };
+
+    #[tactic(auto, using(crate::proofs::Steps::step_bases_tail, crate::proofs::Lengths::lengths))]
+    fn next(alloc: Global, tokens: &mut Cursor<'_>) -> Result<Option<BasePart>, Stop> {
+        if tokens.take(Mark(MarkKind::Comma)).is_none() {
+            return Ok(None);
+        }
+        Ok(Some(base(alloc, tokens)?))
     }
-    Ok((bases, rest))
 }
 
-fn bases_of_type(alloc: Global, tokens: &[Token]) -> Result<(Row<BasePart>, &[Token]), Stop>
-    requires { Ended tokens.now }
-    ensures ok { IfOk result (λ x. Built type_bases (written.type_bases x.0) tokens.now x.1.now) }
-    ensures ended { IfOk result (λ x. Ended x.1.now) }
-    ensures shorter { IfOk result (λ x. length x.1.now < length tokens.now) }
-    ensures fault { IfErr result (λ e. OnStop e (RowFault type_bases tokens.now)) }
+fn bases_of_type(alloc: Global, tokens: &mut Cursor<'_>) -> Result<Row<BasePart>, Stop>
+    ensures { Gives written.type_bases (in_row read rest.type_bases tokens.old) result tokens.new }
 {
-    let (first, behind) = base(alloc, tokens)?;
-    let (bases, rest) = bases_tail(alloc, row_of(alloc, first)?, behind)?;
-    let end = bracket_and_line_end(rest)?;
-    Ok((bases, end))
+    let first = base(alloc, tokens)?;
+    let bases = row_from(alloc, first, tokens)?;
+    closed(tokens)?;
+    Ok(bases)
 }
 
-fn si_of_type(alloc: Global, tokens: &[Token]) -> Result<(Row<BasePart>, &[Token]), Stop>
-    requires { Ended tokens.now }
-    ensures ok { IfOk result (λ x. Built type_si (rest.written_type_si x.0) tokens.now x.1.now) }
-    ensures ended { IfOk result (λ x. Ended x.1.now) }
-    ensures shorter { IfOk result (λ x. length x.1.now < length tokens.now) }
-    ensures fault { IfErr result (λ e. OnStop e (RowFault type_si tokens.now)) }
+fn si_of_type(alloc: Global, tokens: &mut Cursor<'_>) -> Result<Row<BasePart>, Stop>
+    ensures { Gives rest.written_type_si (in_row read rest.type_si tokens.old) result tokens.new }
 {
-    let (_, is) = expect_word(tokens, WordKind::IsWord)?;
-    let (_, si) = expect_known_name(is, KnownName::Si)?;
-    let (_, open) = expect_mark(si, MarkKind::OpenRound)?;
-    bases_of_type(alloc, open)
+    tokens.expect(Word(WordKind::IsWord))?;
+    tokens.expect(Sign::Si)?;
+    tokens.expect(Mark(MarkKind::OpenRound))?;
+    bases_of_type(alloc, tokens)
 }
 
 /// `type NAME is SI(BASES)` and the line end.
-pub fn type_declaration(alloc: Global, tokens: &[Token]) -> Result<(PhysicalDecl, &[Token]), Stop>
-    requires { Ended tokens.now }
-    ensures ok { IfOk result (λ x. Built type_rule (written.type_declaration x.0) tokens.now x.1.now) }
-    ensures ended { IfOk result (λ x. Ended x.1.now) }
-    ensures shorter { IfOk result (λ x. length x.1.now < length tokens.now) }
-    ensures fault { IfErr result (λ e. OnStop e (RowFault type_rule tokens.now)) }
+pub fn type_declaration(alloc: Global, tokens: &mut Cursor<'_>) -> Result<PhysicalDecl, Stop>
+    ensures { Gives written.type_declaration (in_row read rest.type_rule tokens.old) result tokens.new }
 {
-    let (place, rest) = expect_word(tokens, WordKind::TypeWord)?;
-    let (name, behind) = expect_name(alloc, rest)?;
-    let (bases, end) = si_of_type(alloc, behind)?;
-    Ok((PhysicalDecl { place, name, bases }, end))
+    let place = tokens.expect(Word(WordKind::TypeWord))?;
+    let name = tokens.expect_name(alloc)?;
+    let bases = si_of_type(alloc, tokens)?;
+    Ok(PhysicalDecl { place, name, bases })
 }
 
 /// What stands after the bases of a unit.
@@ -174,174 +122,151 @@ struct UnitEnd {
     offset: Option<Signed>,
 }
 
-fn offset_behind(tokens: &[Token]) -> Result<(Signed, &[Token]), Stop>
-    requires { Ended tokens.now }
-    ensures ok { IfOk result (λ x. Built offset_rest (rest.written_offset_rest x.0) tokens.now x.1.now) }
-    ensures ended { IfOk result (λ x. Ended x.1.now) }
-    ensures shorter { IfOk result (λ x. length x.1.now < length tokens.now) }
-    ensures fault { IfErr result (λ e. OnStop e (RowFault offset_rest tokens.now)) }
+fn offset_rest(tokens: &mut Cursor<'_>) -> Result<Signed, Stop>
+    ensures { Gives rest.written_offset_rest (in_row read rest.offset_rest tokens.old) result tokens.new }
 {
-    let (_, colon) = expect_mark(tokens, MarkKind::Colon)?;
-    let (offset, rest) = signed(colon)?;
-    let end = bracket_and_line_end(rest)?;
-    Ok((offset, end))
+    tokens.expect(Mark(MarkKind::Colon))?;
+    let offset = signed(tokens)?;
+    closed(tokens)?;
+    Ok(offset)
 }
 
-fn factor_tail(tokens: &[Token]) -> Result<(Option<Signed>, &[Token]), Stop>
-    requires { Ended tokens.now }
-    ensures ok { IfOk result (λ x. Parsed Part.FactorTail (written.factor_tail x.0) tokens.now x.1.now) }
-    ensures ended { IfOk result (λ x. Ended x.1.now) }
-    ensures shorter { IfOk result (λ x. length x.1.now < length tokens.now) }
-    ensures fault { IfErr result (λ e. OnStop e (PartFault Part.FactorTail tokens.now)) }
+#[tactic(auto, using(crate::proofs::Steps::step_factor_tail))]
+fn factor_tail(tokens: &mut Cursor<'_>) -> Result<Option<Signed>, Stop>
+    ensures { Gives written.factor_tail (read Part.FactorTail tokens.old) result tokens.new }
 {
-    match take_mark(tokens, MarkKind::Comma) {
-        Some((_, rest)) => {
-            let (_, name) = expect_known_name(rest, KnownName::Offset)?;
-            let (offset, end) = offset_behind(name)?;
-            Ok((Some(offset), end))
-        }
-        None => {
-            let end = bracket_and_line_end(tokens)?;
-            Ok((None, end))
-        }
+    if tokens.begins(Mark(MarkKind::CloseRound)) {
+        closed(tokens)?;
+        return Ok(None);
     }
+    tokens.expect(Mark(MarkKind::Comma))?;
+    tokens.expect(Sign::Offset)?;
+    Ok(Some(offset_rest(tokens)?))
 }
 
-fn factor_behind(tokens: &[Token]) -> Result<(UnitEnd, &[Token]), Stop>
-    requires { Ended tokens.now }
-    ensures ok { IfOk result (λ x. Built factor_rest (rest.written_factor_rest x.0) tokens.now x.1.now) }
-    ensures ended { IfOk result (λ x. Ended x.1.now) }
-    ensures shorter { IfOk result (λ x. length x.1.now < length tokens.now) }
-    ensures fault { IfErr result (λ e. OnStop e (RowFault factor_rest tokens.now)) }
+fn factor_rest(tokens: &mut Cursor<'_>) -> Result<UnitEnd, Stop>
+    ensures { Gives rest.written_factor_rest (in_row read rest.factor_rest tokens.old) result tokens.new }
 {
-    let (_, colon) = expect_mark(tokens, MarkKind::Colon)?;
-    let (factor, rest) = signed(colon)?;
-    let (offset, end) = factor_tail(rest)?;
-    let factor = Some(factor);
-    Ok((UnitEnd { factor, offset }, end))
+    tokens.expect(Mark(MarkKind::Colon))?;
+    let factor = Some(signed(tokens)?);
+    let offset = factor_tail(tokens)?;
+    Ok(UnitEnd { factor, offset })
 }
 
-/// The factor or the offset after a comma, if one of them stands there.
-fn end_of_unit(tokens: &[Token]) -> Result<Option<(UnitEnd, &[Token])>, Stop>
-    requires { Ended tokens.now }
-    ensures some { IfOk result (λ o. IfSome o (λ x. Parsed Part.UnitMore (rest.unit_more x.0.factor x.0.offset) tokens.now x.1.now)) }
-    ensures none { IfOk result (λ o. IfNone o (Stops (factor_name ∷ offset_name ∷ []) tokens.now)) }
-    ensures ended { IfOk result (λ o. IfSome o (λ x. Ended x.1.now)) }
-    ensures shorter { IfOk result (λ o. IfSome o (λ x. length x.1.now < length tokens.now)) }
-    ensures fault { IfErr result (λ e. OnStop e (PartFault Part.UnitMore tokens.now)) }
-{
-    if let Some((_, behind)) = take_known_name(tokens, KnownName::Factor) {
-        let (found, end) = factor_behind(behind)?;
-        return Ok(Some((found, end)));
-    }
-    match take_known_name(tokens, KnownName::Offset) {
-        Some((_, behind)) => {
-            let (offset, end) = offset_behind(behind)?;
-            let found = UnitEnd {
-                factor: None,
-                offset: Some(offset),
-            };
-            Ok(Some((found, end)))
-        }
-        None => Ok(None),
-    }
+/// What stands after a base of a unit: another base, or the end of the declaration.
+#[derive(Drop)]
+enum UnitNext {
+    Base(BasePart),
+    End(UnitEnd),
 }
 
-/// Appends further bases, each after a comma, to `bases`, and reads on to the line end.
-fn unit_tail(
-    alloc: Global,
-    bases: Row<BasePart>,
-    tokens: &[Token],
-) -> Result<(Row<BasePart>, UnitEnd, &[Token]), Stop>
-    requires { Ended tokens.now }
-    ensures ok { IfOk result (λ x. Continued BasePart Part.UnitTail (λ more. written.unit_tail more (written.unit_end x.1.factor x.1.offset)) bases x.0 tokens.now x.2.now) }
-    ensures ended { IfOk result (λ x. Ended x.2.now) }
-    ensures shorter { IfOk result (λ x. length x.2.now < length tokens.now) }
-    ensures fault { IfErr result (λ e. OnStop e (PartFault Part.UnitTail tokens.now)) }
+/// What stands after a comma.
+#[tactic(auto, using(crate::proofs::Steps::step_unit_more, crate::proofs::Lengths::lengths))]
+fn unit_more(alloc: Global, tokens: &mut Cursor<'_>) -> Result<UnitNext, Stop>
+    ensures { IsUnitMore tokens.old result tokens.new }
 {
-    let mut bases = bases;
-    let mut rest = tokens;
-    while let Some((_, next)) = take_mark(rest, MarkKind::Comma) {
-        if let Some((found, end)) = end_of_unit(next)? {
-            return Ok((bases, found, end));
-        }
-        let (item, after) = base(alloc, next)?;
-        bases.push(item)?;
-        rest = after;
+    if tokens.begins_base_name() {
+        return Ok(UnitNext::Base(base(alloc, tokens)?));
     }
-    let end = bracket_and_line_end(rest)?;
-    let found = UnitEnd {
+    if tokens.take(Sign::Factor).is_some() {
+        return Ok(UnitNext::End(factor_rest(tokens)?));
+    }
+    tokens.expect(Sign::Offset)?;
+    let offset = Some(offset_rest(tokens)?);
+    Ok(UnitNext::End(UnitEnd {
         factor: None,
-        offset: None,
-    };
-    Ok((bases, found, end))
+        offset,
+    }))
 }
 
-/// The declaration of a unit, but for its names.
+#[tactic(auto, using(crate::proofs::Steps::step_unit_tail, crate::proofs::Lengths::lengths))]
+fn unit_next(alloc: Global, tokens: &mut Cursor<'_>) -> Result<UnitNext, Stop>
+    ensures { IsUnitNext tokens.old result tokens.new }
+{
+    if tokens.begins(Mark(MarkKind::CloseRound)) {
+        closed(tokens)?;
+        return Ok(UnitNext::End(UnitEnd {
+            factor: None,
+            offset: None,
+        }));
+    }
+    tokens.expect(Mark(MarkKind::Comma))?;
+    match unit_more(alloc, tokens)? {
+        UnitNext::Base(base) => Ok(UnitNext::Base(base)),
+        UnitNext::End(end) => Ok(UnitNext::End(end)),
+    }
+}
+
+/// The bases of a unit, and what stands after them.
 #[derive(Drop)]
 struct UnitBases {
     bases: Row<BasePart>,
     end: UnitEnd,
 }
 
-fn bases_of_unit(alloc: Global, tokens: &[Token]) -> Result<(UnitBases, &[Token]), Stop>
-    requires { Ended tokens.now }
-    ensures ok { IfOk result (λ x. Built unit_bases (written.unit_bases x.0.bases (written.unit_end x.0.end.factor x.0.end.offset)) tokens.now x.1.now) }
-    ensures ended { IfOk result (λ x. Ended x.1.now) }
-    ensures shorter { IfOk result (λ x. length x.1.now < length tokens.now) }
-    ensures fault { IfErr result (λ e. OnStop e (RowFault unit_bases tokens.now)) }
+/// The bases of a unit from this one on, and what stands after them.
+fn unit_rest(alloc: Global, first: BasePart, tokens: &mut Cursor<'_>) -> Result<UnitBases, Stop>
+    ensures ok { IfOk result (λ unit. IsUnitRow first unit tokens.old tokens.new) }
+    ensures err { IfErr result (λ e. e ≢ Memory → read Part.UnitTail tokens.old ≡ Err e) }
 {
-    let (first, behind) = base(alloc, tokens)?;
-    let (bases, end, rest) = unit_tail(alloc, row_of(alloc, first)?, behind)?;
-    Ok((UnitBases { bases, end }, rest))
+    let mut bases = row_of(alloc, first)?;
+    'bases: loop {
+        let next = unit_next(alloc, tokens)?;
+        match next {
+            UnitNext::Base(base) => bases.push(base)?,
+            UnitNext::End(end) => return Ok(UnitBases { bases, end }),
+        }
+    }
 }
 
-fn si_of_unit(alloc: Global, tokens: &[Token]) -> Result<(UnitBases, &[Token]), Stop>
-    requires { Ended tokens.now }
-    ensures ok { IfOk result (λ x. Built unit_si (rest.written_unit_si x.0) tokens.now x.1.now) }
-    ensures ended { IfOk result (λ x. Ended x.1.now) }
-    ensures shorter { IfOk result (λ x. length x.1.now < length tokens.now) }
-    ensures fault { IfErr result (λ e. OnStop e (RowFault unit_si tokens.now)) }
+fn bases_of_unit(alloc: Global, tokens: &mut Cursor<'_>) -> Result<UnitBases, Stop>
+    ensures { Gives rest.written_unit_bases (in_row read rest.unit_bases tokens.old) result tokens.new }
 {
-    let (_, is) = expect_word(tokens, WordKind::IsWord)?;
-    let (_, si) = expect_known_name(is, KnownName::Si)?;
-    let (_, open) = expect_mark(si, MarkKind::OpenRound)?;
-    bases_of_unit(alloc, open)
+    let first = base(alloc, tokens)?;
+    let unit = unit_rest(alloc, first, tokens)?;
+    Ok(unit)
 }
 
-fn unit_of(alloc: Global, tokens: &[Token]) -> Result<(Ident, UnitBases, &[Token]), Stop>
-    requires { Ended tokens.now }
-    ensures ok { IfOk result (λ x. Built unit_of (rest.written_unit_of x.0 x.1) tokens.now x.2.now) }
-    ensures ended { IfOk result (λ x. Ended x.2.now) }
-    ensures shorter { IfOk result (λ x. length x.2.now < length tokens.now) }
-    ensures fault { IfErr result (λ e. OnStop e (RowFault unit_of tokens.now)) }
+fn si_of_unit(alloc: Global, tokens: &mut Cursor<'_>) -> Result<UnitBases, Stop>
+    ensures { Gives rest.written_unit_si (in_row read rest.unit_si tokens.old) result tokens.new }
 {
-    let (_, behind) = expect_word(tokens, WordKind::OfWord)?;
-    let (name, rest) = expect_name(alloc, behind)?;
-    let (unit, end) = si_of_unit(alloc, rest)?;
-    Ok((name, unit, end))
+    tokens.expect(Word(WordKind::IsWord))?;
+    tokens.expect(Sign::Si)?;
+    tokens.expect(Mark(MarkKind::OpenRound))?;
+    bases_of_unit(alloc, tokens)
+}
+
+/// A unit after its own name.
+#[derive(Drop)]
+struct UnitName {
+    of: Ident,
+    unit: UnitBases,
+}
+
+fn unit_of(alloc: Global, tokens: &mut Cursor<'_>) -> Result<UnitName, Stop>
+    ensures { Gives rest.written_unit_of (in_row read rest.unit_of tokens.old) result tokens.new }
+{
+    tokens.expect(Word(WordKind::OfWord))?;
+    let of = tokens.expect_name(alloc)?;
+    let unit = si_of_unit(alloc, tokens)?;
+    Ok(UnitName { of, unit })
 }
 
 /// `unit NAME of OF is SI(BASES, factor: F, offset: O)` and the line end.
-pub fn unit_declaration(alloc: Global, tokens: &[Token]) -> Result<(UnitDecl, &[Token]), Stop>
-    requires { Ended tokens.now }
-    ensures ok { IfOk result (λ x. Built unit_rule (written.unit_declaration x.0) tokens.now x.1.now) }
-    ensures ended { IfOk result (λ x. Ended x.1.now) }
-    ensures shorter { IfOk result (λ x. length x.1.now < length tokens.now) }
-    ensures fault { IfErr result (λ e. OnStop e (RowFault unit_rule tokens.now)) }
+pub fn unit_declaration(alloc: Global, tokens: &mut Cursor<'_>) -> Result<UnitDecl, Stop>
+    ensures { Gives written.unit_declaration (in_row read rest.unit_rule tokens.old) result tokens.new }
 {
-    let (place, rest) = expect_word(tokens, WordKind::UnitWord)?;
-    let (name, behind) = expect_name(alloc, rest)?;
-    let (of, unit, end) = unit_of(alloc, behind)?;
-    let UnitBases { bases, end: found } = unit;
-    let UnitEnd { factor, offset } = found;
-    let unit = UnitDecl {
+    let place = tokens.expect(Word(WordKind::UnitWord))?;
+    let name = tokens.expect_name(alloc)?;
+    let UnitName { of, unit } = unit_of(alloc, tokens)?;
+    let UnitBases { bases, end } = unit;
+    let UnitEnd { factor, offset } = end;
+    Ok(UnitDecl {
         place,
         name,
         of,
         bases,
         factor,
         offset,
-    };
-    Ok((unit, end))
+    })
 }

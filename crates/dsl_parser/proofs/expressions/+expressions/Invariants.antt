@@ -1,12 +1,8 @@
-use Rattle.dsl_parser.proofs.Listings.{IsListed}
-use Rattle.dsl_parser.proofs.Ranks.{rank}
-use Rattle.dsl_parser.specs.Levels.{item_level, suffixes_of, tail_of, tail_part}
+use Rattle.std.proofs.Common.{◌*◌, ◌+◌, ◌≤◌, [], ◌∷◌, length}
 use Rattle.dsl_tree.specs.Grammar.{Part}
-use Rattle.dsl_tree.specs.Language.{Ended}
-use Rattle.dsl_tree.specs.Reading.{Along}
-use Rattle.dsl_tree.specs.declared.expr.Further.{Further}
-use Rattle.dsl_tree.specs.declared.expr.Suffix.{Suffix}
-use Rattle.std.proofs.Common.{length, ◌*◌, ◌+◌, ◌≤◌}
+use Rattle.dsl_parser.specs.Levels.{item_level, items_of, suffixes_of, tail_of, tail_part}
+use Rattle.dsl_parser.proofs.Loops.{Along}
+use Rattle.dsl_parser.proofs.Ranks.{rank}
 use Rattle.dsl_parser.proofs.expressions.+expressions.Given as goal
 
 -- Each reader calls only others of a lower rank before it has read a token.
@@ -60,25 +56,19 @@ abbrev pub decreases-listed : goal.decreases-listed
 decreases-listed l = 24 * length l.tokens.now + 1
 
 abbrev pub invariant-tail-items : goal.invariant-tail-items
-invariant-tail-items l =
-    Along Further (tail_part l.level) (tail_of (item_level l.level)) l.fn.tokens l.items l.rest
-    × Ended l.rest × (length l.rest ≤ length l.fn.tokens)
+invariant-tail-items l = Along (tail_part l.level) (tail_of (item_level l.level)) [] l.items l.fn.tokens l.tokens × (length l.tokens ≤ length l.fn.tokens)
 
 abbrev pub decreases-tail-items : goal.decreases-tail-items
-decreases-tail-items l = length l.rest
+decreases-tail-items l = length l.tokens
 
 abbrev pub invariant-suffixes-suffixes : goal.invariant-suffixes-suffixes
-invariant-suffixes-suffixes l =
-    Along Suffix Part.SuffixesTail suffixes_of l.fn.tokens l.suffixes l.rest
-    × Ended l.rest × (length l.rest ≤ length l.fn.tokens)
+invariant-suffixes-suffixes l = Along Part.SuffixesTail suffixes_of [] l.suffixes l.fn.tokens l.tokens × (length l.tokens ≤ length l.fn.tokens)
 
 abbrev pub decreases-suffixes-suffixes : goal.decreases-suffixes-suffixes
-decreases-suffixes-suffixes l = length l.rest
+decreases-suffixes-suffixes l = length l.tokens
 
 abbrev pub invariant-listed-items : goal.invariant-listed-items
-invariant-listed-items l =
-    IsListed l.fn.first l.fn.tokens l.items l.rest
-    × Ended l.rest × (length l.rest ≤ length l.fn.tokens)
+invariant-listed-items l = Along Part.ListedTail items_of (l.fn.first ∷ []) l.items l.fn.tokens l.tokens × (length l.tokens ≤ length l.fn.tokens)
 
 abbrev pub decreases-listed-items : goal.decreases-listed-items
-decreases-listed-items l = length l.rest
+decreases-listed-items l = length l.tokens

@@ -1,15 +1,19 @@
-use Rattle.std.proofs.Common.{arith, inl, inr, refl}
+use Rattle.std.proofs.Common.{◌≡◌, ◌≢◌, Err}
+use Rattle.osc_base.specs.declared.stop.Stop.TheVariants.{Memory}
 use Rattle.dsl_tree.specs.Grammar.{Part}
-use Rattle.dsl_parser.proofs.Loops.{loop_end, loop_step, loop_stop, more_names}
-use Rattle.dsl_parser.proofs.Stopping.{later_bare, raise, stop_read, stop_seen}
+use Rattle.dsl_parser.specs.Descent.{read}
+use Rattle.dsl_parser.proofs.Loops.{start, step, finish, stop, raise}
 use Rattle.dsl_parser.proofs.imports.dotted_names.Goals as goal
 
-pub returns-in_err-item-clause-fault : goal.returns-in_err-item-clause-fault
-returns-in_err-item-clause-fault c = raise _ _ _ c.from_residual.ensures (loop_stop _ _ _ _ _ _ _ _ c.loop-next.invariant (stop_read Part.DottedNames _ _ _ _ _ _ (inr (inl refl)) refl c.in-Some.ensures.some refl (later_bare _ _ _ _ _ _ _ c.in-Some.ensures.some refl (stop_seen _ _ _ _ refl c.in_err-item.ensures.err))))
+pub names-init : goal.names-init
+names-init c = start _ _ _ _
 
-pub loop-next-preserved : goal.loop-next-preserved
-loop-next-preserved c =
-    loop_step _ _ _ _ _ _ _ _ _ _ c.loop-next.invariant (more_names _ _ _ _ _ _ _ _ _ _ _ _ (inr (inl refl)) refl refl (λ xs. refl) c.in-Some.ensures.some refl c.in_ok-item.ensures.ok) c.in_ok-push.ensures.ok c.in_ok-item.ensures.ok.ended (omega (arith, c.in-Some.ensures.some.shorter, c.in_ok-item.ensures.ok.shorter))
+pub names-preserved : goal.names-preserved
+names-preserved c = step _ _ _ _ _ _ _ _ _ c.names.invariant (rw c.in-Some.is at c.in_ok-name.ensures) c.in_ok-push.ensures.ok
+
+pub returns-in_err-name-clause-err : goal.returns-in_err-name-clause-err
+returns-in_err-name-clause-err c =
+    raise _ _ (λ e. e ≢ Memory → read Part.DottedNames c.args.tokens.now ≡ Err e) c.from_residual.ensures (stop _ _ _ _ _ _ _ c.names.invariant c.in_err-name.ensures)
 
 pub returns-clause-ok : goal.returns-clause-ok
-returns-clause-ok c = loop_end _ _ _ _ _ _ _ c.loop-next.invariant (inl refl) refl c.in_default.ensures.none
+returns-clause-ok c = finish _ _ _ _ _ _ _ c.names.invariant (rw c.in_default.is at c.in_ok-name.ensures)

@@ -1,12 +1,11 @@
 use Rattle.std.proofs.Common.{length}
 use Rattle.dsl_tree.specs.Grammar.{Part}
 use Rattle.dsl_tree.specs.WrittenPhases.{dotted_names}
-use Rattle.dsl_tree.specs.declared.parts.Ident.{Ident}
-use Rattle.dsl_parser.proofs.Loops.{Continuing}
+use Rattle.dsl_parser.proofs.Loops.{Along}
 use Rattle.dsl_parser.proofs.imports.dotted_names.Given as goal
 
-abbrev pub invariant-loop-next : goal.invariant-loop-next
-invariant-loop-next l = Continuing Ident Part.DottedNames dotted_names l.initial.names l.names l.initial.rest l.rest
+abbrev pub invariant-names : goal.invariant-names
+invariant-names l = Along Part.DottedNames dotted_names l.fn.begun l.names l.fn.tokens l.tokens
 
-abbrev pub decreases-loop-next : goal.decreases-loop-next
-decreases-loop-next l = length l.rest
+abbrev pub decreases-names : goal.decreases-names
+decreases-names l = length l.tokens

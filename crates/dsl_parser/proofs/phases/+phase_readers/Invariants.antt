@@ -1,21 +1,20 @@
-use Rattle.std.proofs.Common.{◌+◌, ◌*◌, length, map}
-use Rattle.dsl_tree.specs.declared.phases.Phase.{Phase}
+use Rattle.std.proofs.Common.{◌*◌, ◌+◌, ◌≤◌, [], ◌∷◌, length}
 use Rattle.dsl_tree.specs.Grammar.{Part}
-use Rattle.dsl_tree.specs.PhaseTree.{row_of}
-use Rattle.dsl_tree.specs.Views.{phase_tree}
-use Rattle.dsl_tree.specs.WrittenPhases.{phases_tail}
-use Rattle.dsl_parser.proofs.Loops.{Continuing}
+use Rattle.dsl_parser.specs.Phases.{phases_rest}
+use Rattle.dsl_parser.proofs.Loops.{Along}
 use Rattle.dsl_parser.proofs.phases.+phase_readers.Given as goal
 
--- a block has one phase at least, which may begin where the block does
 abbrev pub decreases-phase : goal.decreases-phase
-decreases-phase l = 2 * length l.tokens.now
+decreases-phase l = 2 * length l.tokens.now + 0
 
 abbrev pub decreases-phases_in_block : goal.decreases-phases_in_block
 decreases-phases_in_block l = 2 * length l.tokens.now + 1
 
-abbrev pub invariant-phases_in_block-reading : goal.invariant-phases_in_block-reading
-invariant-phases_in_block-reading l = Continuing Phase Part.PhasesTail (λ ps. phases_tail (row_of (map phase_tree ps))) l.initial.phases l.phases l.initial.rest l.rest
+abbrev pub decreases-phases_from : goal.decreases-phases_from
+decreases-phases_from l = 2 * length l.tokens.now + 1
 
-abbrev pub decreases-phases_in_block-reading : goal.decreases-phases_in_block-reading
-decreases-phases_in_block-reading l = length l.rest
+abbrev pub invariant-phases_from-phases : goal.invariant-phases_from-phases
+invariant-phases_from-phases l = Along Part.PhasesTail phases_rest (l.fn.first ∷ []) l.phases l.fn.tokens l.tokens × (length l.tokens ≤ length l.fn.tokens)
+
+abbrev pub decreases-phases_from-phases : goal.decreases-phases_from-phases
+decreases-phases_from-phases l = length l.tokens

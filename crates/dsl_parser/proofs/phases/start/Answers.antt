@@ -1,32 +1,8 @@
-use Rattle.std.proofs.Common.{[], inl, inr, refl, sym, ◌++◌, ◌∙◌, ◌∷◌}
-use Rattle.dsl_tree.specs.Codes.{word_code}
-use Rattle.dsl_tree.specs.Grammar.{Part}
-use Rattle.dsl_tree.specs.Lookahead.{first}
-use Rattle.dsl_tree.specs.declared.token.WordKind.{WordKind}
-use Rattle.dsl_parser.proofs.PhaseForms.{plain_actor, plain_opens, plain_waits, started}
-use Rattle.dsl_parser.proofs.Stopping.{later_name, later_seen, raise, stop_part, stop_read, stop_rest, stop_rule, stop_seen, stops_both}
+use Rattle.std.proofs.Common.{sym, ◌∙◌}
+use Rattle.dsl_parser.proofs.StartForms.{wait_started}
 use Rattle.dsl_parser.proofs.phases.start.Goals as goal
 
-pub returns-in_err-wait-clause-fault : goal.returns-in_err-wait-clause-fault
-returns-in_err-wait-clause-fault c = raise _ _ _ c.from_residual.ensures (stop_rule Part.Phase _ _ _ (inr (inr (inr (inl refl)))) refl (sym c.begins_word.ensures ∙ c.if-begins_word.true) (stop_part _ _ _ _ refl c.in_err-wait.ensures.fault))
-
-pub returns-in_err-rest-clause-fault : goal.returns-in_err-rest-clause-fault
-returns-in_err-rest-clause-fault c = raise _ _ _ c.from_residual-in_err-rest.ensures (stop_read Part.Phase _ _ _ _ _ _ (inr (inr (inl refl))) refl c.in-Some.ensures.some refl (later_seen _ _ _ _ _ _ _ c.in-Some.ensures.some refl (stop_part _ _ _ _ refl c.in_err-rest.ensures.fault)))
-
-pub returns-in_err-name-clause-fault : goal.returns-in_err-name-clause-fault
-returns-in_err-name-clause-fault c = raise _ _ _ c.from_residual-in_err-name.ensures (stop_rest Part.Phase _ ((first Part.Composition ++ word_code WordKind.WaitWord ∷ []) ++ word_code WordKind.ActorWord ∷ []) _ _ (inl refl) refl refl refl refl (stops_both (first Part.Composition ++ word_code WordKind.WaitWord ∷ []) (word_code WordKind.ActorWord ∷ []) c.args.tokens.now (stops_both (first Part.Composition) (word_code WordKind.WaitWord ∷ []) c.args.tokens.now (sym c.begins_composition.ensures ∙ c.if-begins_composition.false) (sym c.begins_word.ensures ∙ c.if-begins_word.false)) c.in_default.ensures.none) (stop_seen _ _ _ _ refl c.in_err-name.ensures.err))
-
-pub returns-in_err-start-clause-fault : goal.returns-in_err-start-clause-fault
-returns-in_err-start-clause-fault c = raise _ _ _ c.from_residual-in_err-start.ensures (stop_rest Part.Phase _ ((first Part.Composition ++ word_code WordKind.WaitWord ∷ []) ++ word_code WordKind.ActorWord ∷ []) _ _ (inl refl) refl refl refl refl (stops_both (first Part.Composition ++ word_code WordKind.WaitWord ∷ []) (word_code WordKind.ActorWord ∷ []) c.args.tokens.now (stops_both (first Part.Composition) (word_code WordKind.WaitWord ∷ []) c.args.tokens.now (sym c.begins_composition.ensures ∙ c.if-begins_composition.false) (sym c.begins_word.ensures ∙ c.if-begins_word.false)) c.in_default.ensures.none) (later_name _ _ _ _ _ _ c.in_ok-name.ensures.ok (stop_part _ _ _ _ refl c.in_err-start.ensures.fault)))
-
-pub returns-then-begins_composition-clause-ok : goal.returns-then-begins_composition-clause-ok
-returns-then-begins_composition-clause-ok c = plain_opens _ (sym c.begins_composition.ensures ∙ c.if-begins_composition.true)
-
-pub returns-then-begins_word-clause-ok : goal.returns-then-begins_word-clause-ok
-returns-then-begins_word-clause-ok c = plain_waits _ _ _ c.in_ok-wait.ensures.ok c.in_ok-wait.ensures.shorter
-
-pub returns-in-Some-clause-ok : goal.returns-in-Some-clause-ok
-returns-in-Some-clause-ok c = plain_actor _ _ _ _ _ _ _ _ c.in-Some.ensures.some c.in_ok-rest.ensures.ok c.invoke-phase.ensures c.in_ok-rest.ensures.shorter
-
-pub returns-clause-ok : goal.returns-clause-ok
-returns-clause-ok c = started _ _ _ _ _ c.in_ok-name.ensures.ok c.in_ok-start.ensures.ok
+pub returns : goal.returns
+returns c =
+    wait_started _ _ _ _ _ _ (sym c.begins_name.ensures ∙ c.if-begins_name.false) (sym c.begins_composition.ensures ∙ c.if-begins_composition.false) c.in_default.ensures.0 c.in_default.ensures.1
+    c.in_ok-place.ensures c.waiting.ensures

@@ -1,0 +1,62 @@
+-- A part that may be left out, and a row of parts: a token that begins one of them begins it.
+use Rattle.std.proofs.Common.{◌≡◌, ℕ, List, [], ◌∷◌, Bool, true, false, cond, sym, ◌∙◌, ap, ap₂, Ok, Err}
+use Rattle.osc_base.specs.declared.stop.Stop.{Stop}
+use Rattle.dsl_tree.specs.declared.token.Token.{Token}
+use Rattle.dsl_tree.specs.Grammar.{Part, Symbol, Of, rules}
+use Rattle.dsl_tree.specs.Forest.{Forest, nil, sub}
+use Rattle.dsl_tree.specs.Lookahead.{first, empty}
+use Rattle.dsl_tree.specs.Reading.{starts, Starts, Stops}
+use Rattle.dsl_parser.specs.Descent.{Outcome, onto, and_then, only_part, in_row, by_rules, optional, begins_label, plain_argument, named_argument, is_arguments, read}
+use Rattle.dsl_parser.specs.Rows.{Grows}
+use Rattle.dsl_parser.proofs.Lengths.{read_shorter}
+use Rattle.dsl_parser.proofs.ReadSteps.{read_step}
+
+-- A part that may be left out
+
+abbrev left_out : List Token → Outcome
+left_out ts = Ok (nil, ts)
+
+optional_step : (p : Part) (ts : List Token) → is_arguments p ≡ false → empty p ≡ true → read p ts ≡ cond (starts (first p) ts) (in_row read (optional (rules p)) ts) (left_out ts)
+optional_step p ts other blank =
+    read_step p ts
+    ∙ ap₂ (λ (a b : Bool). cond a (cond (begins_label ts) (in_row read named_argument ts) (in_row read plain_argument ts))
+    (cond b (cond (starts (first p) ts) (in_row read (optional (rules p)) ts) (left_out ts)) (by_rules read (rules p) ts))) other blank
+
+pub optional_none : (p : Part) (ts : List Token) → is_arguments p ≡ false → empty p ≡ true → Stops (first p) ts → read p ts ≡ Ok (nil, ts)
+optional_none p ts other blank stop = optional_step p ts other blank ∙ ap (λ (b : Bool). cond b (in_row read (optional (rules p)) ts) (left_out ts)) stop
+
+pub optional_some : (p : Part) (ts : List Token) → is_arguments p ≡ false → empty p ≡ true → Starts (first p) ts → read p ts ≡ in_row read (optional (rules p)) ts
+optional_some p ts other blank start = optional_step p ts other blank ∙ ap (λ (b : Bool). cond b (in_row read (optional (rules p)) ts) (left_out ts)) start
+
+-- A part and another one after it
+
+abbrev pub pair : Part → Part → List Token → Outcome
+pair p q ts = and_then (read p ts) (λ part m. onto (sub part) (onto only_part (read q m)))
+
+pub pair_read : (p q : Part) (f g : Forest) (ts m z : List Token) → read p ts ≡ Ok (f, m) → read q m ≡ Ok (g, z) → pair p q ts ≡ Ok (sub f (sub g nil), z)
+pair_read p q f g ts m z one two = ap (λ (o : Outcome). and_then o (λ part m. onto (sub part) (onto only_part (read q m)))) one ∙ ap (λ (o : Outcome). onto (sub f) (onto only_part o)) two
+
+pub pair_first : (p q : Part) (ts : List Token) (e : Stop ℕ) → read p ts ≡ Err e → pair p q ts ≡ Err e
+pair_first p q ts e one = ap (λ (o : Outcome). and_then o (λ part m. onto (sub part) (onto only_part (read q m)))) one
+
+pub pair_second : (p q : Part) (f : Forest) (ts m : List Token) (e : Stop ℕ) → read p ts ≡ Ok (f, m) → read q m ≡ Err e → pair p q ts ≡ Err e
+pair_second p q f ts m e one two = ap (λ (o : Outcome). and_then o (λ part m. onto (sub part) (onto only_part (read q m)))) one ∙ ap (λ (o : Outcome). onto (sub f) (onto only_part o)) two
+
+-- A row of parts
+
+row_begins : (p q : Part) (ts : List Token) → is_arguments p ≡ false → empty p ≡ true → optional (rules p) ≡ Of q ∷ Of p ∷ [] → Starts (first p) ts → read p ts ≡ pair q p ts
+row_begins p q ts other blank two start = optional_some p ts other blank start ∙ ap (λ (r : List Symbol). in_row read r ts) two
+
+abbrev read_so : List Token → Forest → Outcome
+read_so z f = Ok (f, z)
+
+pub part_grows : {X : Type 0} (p q : Part) (rest : List X → Forest) (item : X) (f : Forest) (ts m : List Token) → is_arguments p ≡ false → empty p ≡ true → optional (rules p) ≡ Of q ∷ Of p ∷ [] → empty q ≡ false
+    → ((others : List X) → rest (item ∷ others) ≡ sub f (sub (rest others) nil)) → Starts (first p) ts → read q ts ≡ Ok (f, m) → Grows p rest ts item m
+part_grows p q rest item f ts m other blank two full form start h = (
+  read_shorter q ts f m full h,
+  λ others end next. row_begins p q ts other blank two start ∙ (pair_read q p f (rest others) ts m end h next ∙ ap (read_so end) (sym (form others))),
+  λ e next. row_begins p q ts other blank two start ∙ pair_second q p f ts m e h next,
+)
+
+pub part_stops : (p q : Part) (ts : List Token) (e : Stop ℕ) → is_arguments p ≡ false → empty p ≡ true → optional (rules p) ≡ Of q ∷ Of p ∷ [] → Starts (first p) ts → read q ts ≡ Err e → read p ts ≡ Err e
+part_stops p q ts e other blank two start h = row_begins p q ts other blank two start ∙ pair_first q p ts e h
