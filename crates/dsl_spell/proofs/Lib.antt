@@ -1,6 +1,2 @@
-mod Rows
-mod WrittenTokens
-mod ExprTokens
-mod PhaseTokens
-mod FileTokens
-mod Spellings
+pub mod Places
+pub mod Spellings

@@ -1,1 +1,1 @@
-pub mod TreeTokens
+pub mod Writing

@@ -1,48 +1,16 @@
-ghost use Rattle.std.specs.Prelude.{◌≡◌, ◌++◌, map, OnOk};
-ghost use Rattle.dsl_tree.specs.Written.{operator_kind, sign_kind, truth_word};
-ghost use Rattle.dsl_spell.specs.TreeTokens.{one, mark, word, ident, digits, joined, comma_joined, expr_tokens, suffix_tokens, further_tokens};
+ghost use Rattle.std.specs.Prelude.{◌≡◌, map, OnOk};
+ghost use Rattle.dsl_tree.specs.ExprTree.{row_of};
+ghost use Rattle.dsl_tree.specs.Forest.{nil};
+ghost use Rattle.dsl_tree.specs.Written.{operator_kind, sign_kind, truth_word, written, listed, mark as bare_mark, ident};
+ghost use Rattle.dsl_tree.specs.Views.{expr_tree, suffix_tree, further_tree};
+ghost use Rattle.dsl_spell.specs.Writing.{put, wrote, Writes, Fills, Joins, Steps, suffix_tail};
 
+use crate::writer::{Writer, bare, digits, mark, name, push, word};
 use dsl_tree::{
-    Digits, Expr, Further, Ident, MarkKind, Operator, RelationSign, Suffix, Token, TokenKind,
-    Tokens, WordKind,
+    Digits, Expr, Further, Ident, MarkKind, Operator, RelationSign, Suffix, TokenKind, WordKind,
 };
 use osc_base::{Place, Text};
-use std::alloc::{AllocError, Global};
-
-pub(crate) fn push(tokens: &mut Tokens, place: Place, kind: TokenKind) -> Result<(), AllocError>
-    ensures { OnOk result (tokens.new ≡ tokens.old ++ one place kind) }
-{
-    tokens.push(Token { place, kind })
-}
-
-pub(crate) fn push_mark(tokens: &mut Tokens, place: Place, kind: MarkKind) -> Result<(), AllocError>
-    ensures { OnOk result (tokens.new ≡ tokens.old ++ mark place kind) }
-{
-    push(tokens, place, TokenKind::Mark(kind))
-}
-
-pub(crate) fn push_word(tokens: &mut Tokens, place: Place, kind: WordKind) -> Result<(), AllocError>
-    ensures { OnOk result (tokens.new ≡ tokens.old ++ word place kind) }
-{
-    push(tokens, place, TokenKind::Word(kind))
-}
-
-pub(crate) fn push_ident(alloc: Global, tokens: &mut Tokens, name: &Ident) -> Result<(), AllocError>
-    ensures { OnOk result (tokens.new ≡ tokens.old ++ ident name.now) }
-{
-    let text = Text::copy(alloc, name.text.as_str())?;
-    push(tokens, name.place, TokenKind::Name(text))
-}
-
-pub(crate) fn push_digits(tokens: &mut Tokens, number: &Digits) -> Result<(), AllocError>
-    ensures { OnOk result (tokens.new ≡ tokens.old ++ digits number.now) }
-{
-    let kind = TokenKind::Number {
-        digits: number.digits,
-        places: number.places,
-    };
-    push(tokens, number.place, kind)
-}
+use std::alloc::AllocError;
 
 fn kind_of_operator(operator: Operator) -> TokenKind
     ensures { result ≡ operator_kind operator }
@@ -71,297 +39,176 @@ fn kind_of_sign(sign: RelationSign) -> TokenKind
     }
 }
 
-fn push_physical(
-    alloc: Global,
-    tokens: &mut Tokens,
-    number: &Digits,
-    unit: &Text,
-) -> Result<(), AllocError>
-    ensures { OnOk result (tokens.new ≡ tokens.old ++ one number.now.place (TokenKind.Physical number.now.digits number.now.places unit.now)) }
+fn physical(w: &mut Writer, number: &Digits, unit: &Text) -> Result<(), AllocError>
+    ensures { OnOk result (w.new ≡ put w.old number.now.place (TokenKind.Physical number.now.digits number.now.places unit.now)) }
 {
     let kind = TokenKind::Physical {
         digits: number.digits,
         places: number.places,
-        unit: Text::copy(alloc, unit.as_str())?,
+        unit: Text::copy(w.alloc, unit.as_str())?,
     };
-    push(tokens, number.place, kind)
+    push(w, number.place, kind)
 }
 
-fn push_chars(
-    alloc: Global,
-    tokens: &mut Tokens,
-    place: Place,
-    text: &Text,
-) -> Result<(), AllocError>
-    ensures { OnOk result (tokens.new ≡ tokens.old ++ one place (TokenKind.Chars text.now)) }
+pub(crate) fn chars(w: &mut Writer, place: Place, text: &Text) -> Result<(), AllocError>
+    ensures { OnOk result (w.new ≡ put w.old place (TokenKind.Chars text.now)) }
 {
-    let text = Text::copy(alloc, text.as_str())?;
-    push(tokens, place, TokenKind::Chars(text))
+    let text = Text::copy(w.alloc, text.as_str())?;
+    push(w, place, TokenKind::Chars(text))
 }
 
-fn push_truth(tokens: &mut Tokens, place: Place, value: bool) -> Result<(), AllocError>
-    ensures { OnOk result (tokens.new ≡ tokens.old ++ word place (truth_word value)) }
+pub(crate) fn truth(w: &mut Writer, place: Place, value: bool) -> Result<(), AllocError>
+    ensures { OnOk result (w.new ≡ put w.old place (TokenKind.Word (truth_word value))) }
 {
-    let word = if value {
-        WordKind::TrueWord
+    if value {
+        word(w, place, WordKind::TrueWord)
     } else {
-        WordKind::FalseWord
-    };
-    push_word(tokens, place, word)
+        word(w, place, WordKind::FalseWord)
+    }
 }
 
-fn push_enum_name(
-    alloc: Global,
-    tokens: &mut Tokens,
-    at: Place,
-    of: &Ident,
-    member: &Ident,
-) -> Result<(), AllocError>
-    ensures { OnOk result (tokens.new ≡ tokens.old ++ ident of.now ++ mark at MarkKind.Bang ++ ident member.now) }
+pub(crate) fn enum_name(w: &mut Writer, of: &Ident, member: &Ident) -> Result<(), AllocError>
+    ensures { OnOk result (w.new ≡ wrote w.old (ident of.now (bare_mark MarkKind.Bang (ident member.now nil)))) }
 {
-    push_ident(alloc, tokens, of)?;
-    push_mark(tokens, at, MarkKind::Bang)?;
-    push_ident(alloc, tokens, member)
+    name(w, of)?;
+    bare(w, MarkKind::Bang)?;
+    name(w, member)
+}
+
+/// An expression.
+#[cycle(spelling)]
+pub(crate) fn push_expr(w: &mut Writer, tree: &Expr) -> Result<(), AllocError>
+    ensures { OnOk result (Fills w.old (expr_tree tree.now) w.new) }
+{
+    push_node(w, tree)
 }
 
 #[cycle(spelling)]
-pub(crate) fn push_expr(
-    alloc: Global,
-    tokens: &mut Tokens,
-    at: Place,
-    expr: &Expr,
-) -> Result<(), AllocError>
-    ensures { OnOk result (tokens.new ≡ tokens.old ++ expr_tokens at expr.now) }
+fn push_node(w: &mut Writer, tree: &Expr) -> Result<(), AllocError>
+    ensures { OnOk result (Writes w.old (written (expr_tree tree.now)) w.new) }
 {
-    match expr {
+    match tree {
         Expr::Implies { place, left, right } => {
-            push_expr(alloc, tokens, at, left.get())?;
-            push_mark(tokens, *place, MarkKind::Arrow)?;
-            push_expr(alloc, tokens, at, right.get())
+            push_expr(w, left.get())?;
+            mark(w, *place, MarkKind::Arrow)?;
+            push_expr(w, right.get())
         }
         Expr::Or { first, rest }
         | Expr::And { first, rest }
         | Expr::Sum { first, rest }
         | Expr::Product { first, rest } => {
-            push_expr(alloc, tokens, at, first.get())?;
-            push_further(alloc, tokens, at, rest.as_slice())
+            push_expr(w, first.get())?;
+            push_further(w, rest.as_slice())
         }
-        Expr::Not { place, part } => push_not(alloc, tokens, at, *place, part.get()),
+        Expr::Not { place, part } => {
+            word(w, *place, WordKind::NotWord)?;
+            push_expr(w, part.get())
+        }
         Expr::Relation {
             place,
             sign,
             left,
             right,
         } => {
-            push_expr(alloc, tokens, at, left.get())?;
-            push(tokens, *place, kind_of_sign(*sign))?;
-            push_expr(alloc, tokens, at, right.get())
+            push_expr(w, left.get())?;
+            push(w, *place, kind_of_sign(*sign))?;
+            push_expr(w, right.get())
         }
-        Expr::Minus { place, part } => push_negated(alloc, tokens, at, *place, part.get()),
+        Expr::Minus { place, part } => {
+            mark(w, *place, MarkKind::Dash)?;
+            push_expr(w, part.get())
+        }
         Expr::Dot { head, suffixes } | Expr::Index { head, suffixes } => {
-            push_expr(alloc, tokens, at, head.get())?;
-            push_suffixes(alloc, tokens, at, suffixes.as_slice())
+            push_expr(w, head.get())?;
+            push_suffixes(w, suffixes.as_slice())
         }
-        Expr::Number(number) => push_digits(tokens, number),
-        Expr::Physical { number, unit } => push_physical(alloc, tokens, number, unit),
-        Expr::Chars { place, text } => push_chars(alloc, tokens, *place, text),
-        Expr::Truth { place, value } => push_truth(tokens, *place, *value),
-        Expr::It(place) => push_word(tokens, *place, WordKind::ItWord),
-        Expr::Actor(place) => push_word(tokens, *place, WordKind::ActorWord),
-        Expr::Name(name) => push_ident(alloc, tokens, name),
-        Expr::EnumName { of, member } => push_enum_name(alloc, tokens, at, of, member),
-        Expr::Group { place, inner } => push_group(alloc, tokens, at, *place, inner.get()),
+        Expr::Number(number) => digits(w, number),
+        Expr::Physical { number, unit } => physical(w, number, unit),
+        Expr::Chars { place, text } => chars(w, *place, text),
+        Expr::Truth { place, value } => truth(w, *place, *value),
+        Expr::It(place) => word(w, *place, WordKind::ItWord),
+        Expr::Actor(place) => word(w, *place, WordKind::ActorWord),
+        Expr::Name(text) => name(w, text),
+        Expr::EnumName { of, member } => enum_name(w, of, member),
+        Expr::Group { place, inner } => {
+            mark(w, *place, MarkKind::OpenRound)?;
+            push_expr(w, inner.get())?;
+            bare(w, MarkKind::CloseRound)
+        }
         Expr::Span { place, low, high } => {
-            push_low(alloc, tokens, at, *place, low.get())?;
-            push_high(alloc, tokens, at, high.get(), MarkKind::CloseSquare)
+            mark(w, *place, MarkKind::OpenSquare)?;
+            push_expr(w, low.get())?;
+            bare(w, MarkKind::TwoDots)?;
+            push_expr(w, high.get())?;
+            bare(w, MarkKind::CloseSquare)
         }
         Expr::Listed { place, items } => {
-            push_listed(alloc, tokens, at, *place, items.as_slice())
+            mark(w, *place, MarkKind::OpenSquare)?;
+            push_items(w, items.as_slice())
         }
         Expr::RangeCall { place, low, high } => {
-            push_range_low(alloc, tokens, at, *place, low.get())?;
-            push_high(alloc, tokens, at, high.get(), MarkKind::CloseRound)
+            word(w, *place, WordKind::RangeWord)?;
+            bare(w, MarkKind::OpenRound)?;
+            push_expr(w, low.get())?;
+            bare(w, MarkKind::Comma)?;
+            push_expr(w, high.get())?;
+            bare(w, MarkKind::CloseRound)
         }
     }
 }
 
 #[cycle(spelling)]
-fn push_not(
-    alloc: Global,
-    tokens: &mut Tokens,
-    at: Place,
-    place: Place,
-    part: &Expr,
-) -> Result<(), AllocError>
-    ensures { OnOk result (tokens.new ≡ tokens.old ++ word place WordKind.NotWord ++ expr_tokens at part.now) }
-{
-    push_word(tokens, place, WordKind::NotWord)?;
-    push_expr(alloc, tokens, at, part)
-}
-
-#[cycle(spelling)]
-fn push_negated(
-    alloc: Global,
-    tokens: &mut Tokens,
-    at: Place,
-    place: Place,
-    part: &Expr,
-) -> Result<(), AllocError>
-    ensures { OnOk result (tokens.new ≡ tokens.old ++ mark place MarkKind.Dash ++ expr_tokens at part.now) }
-{
-    push_mark(tokens, place, MarkKind::Dash)?;
-    push_expr(alloc, tokens, at, part)
-}
-
-#[cycle(spelling)]
-fn push_group(
-    alloc: Global,
-    tokens: &mut Tokens,
-    at: Place,
-    place: Place,
-    inner: &Expr,
-) -> Result<(), AllocError>
-    ensures { OnOk result (tokens.new ≡ tokens.old ++ mark place MarkKind.OpenRound ++ expr_tokens at inner.now ++ mark at MarkKind.CloseRound) }
-{
-    push_mark(tokens, place, MarkKind::OpenRound)?;
-    push_expr(alloc, tokens, at, inner)?;
-    push_mark(tokens, at, MarkKind::CloseRound)
-}
-
-// `[LOW ..`
-#[cycle(spelling)]
-fn push_low(
-    alloc: Global,
-    tokens: &mut Tokens,
-    at: Place,
-    place: Place,
-    low: &Expr,
-) -> Result<(), AllocError>
-    ensures { OnOk result (tokens.new ≡ tokens.old ++ mark place MarkKind.OpenSquare ++ expr_tokens at low.now ++ mark at MarkKind.TwoDots) }
-{
-    push_mark(tokens, place, MarkKind::OpenSquare)?;
-    push_expr(alloc, tokens, at, low)?;
-    push_mark(tokens, at, MarkKind::TwoDots)
-}
-
-// `range(LOW,`
-#[cycle(spelling)]
-fn push_range_low(
-    alloc: Global,
-    tokens: &mut Tokens,
-    at: Place,
-    place: Place,
-    low: &Expr,
-) -> Result<(), AllocError>
-    ensures { OnOk result (tokens.new ≡ tokens.old ++ word place WordKind.RangeWord ++ mark at MarkKind.OpenRound ++ expr_tokens at low.now ++ mark at MarkKind.Comma) }
-{
-    push_word(tokens, place, WordKind::RangeWord)?;
-    push_mark(tokens, at, MarkKind::OpenRound)?;
-    push_expr(alloc, tokens, at, low)?;
-    push_mark(tokens, at, MarkKind::Comma)
-}
-
-// the other end of a range, and the bracket
-#[cycle(spelling)]
-fn push_high(
-    alloc: Global,
-    tokens: &mut Tokens,
-    at: Place,
-    high: &Expr,
-    bracket: MarkKind,
-) -> Result<(), AllocError>
-    ensures { OnOk result (tokens.new ≡ tokens.old ++ expr_tokens at high.now ++ mark at bracket) }
-{
-    push_expr(alloc, tokens, at, high)?;
-    push_mark(tokens, at, bracket)
-}
-
-#[cycle(spelling)]
-fn push_listed(
-    alloc: Global,
-    tokens: &mut Tokens,
-    at: Place,
-    place: Place,
-    items: &[Expr],
-) -> Result<(), AllocError>
-    ensures { OnOk result (tokens.new ≡ tokens.old ++ mark place MarkKind.OpenSquare ++ comma_joined at (map (expr_tokens at) items.now) ++ mark at MarkKind.CloseSquare) }
-{
-    push_mark(tokens, place, MarkKind::OpenSquare)?;
-    push_items(alloc, tokens, at, items)?;
-    push_mark(tokens, at, MarkKind::CloseSquare)
-}
-
-#[cycle(spelling)]
-fn push_further(
-    alloc: Global,
-    tokens: &mut Tokens,
-    at: Place,
-    rest: &[Further],
-) -> Result<(), AllocError>
-    ensures { OnOk result (tokens.new ≡ tokens.old ++ joined (map (further_tokens at) rest.now)) }
+fn push_further(w: &mut Writer, rest: &[Further]) -> Result<(), AllocError>
+    ensures { OnOk result (Joins w.old (map further_tree rest.now) w.new) }
 {
     'parts: for next in rest {
-        push(tokens, next.place, kind_of_operator(next.operator))?;
-        push_expr(alloc, tokens, at, &next.part)?;
+        push(w, next.place, kind_of_operator(next.operator))?;
+        push_expr(w, &next.part)?;
     }
     Ok(())
 }
 
 #[cycle(spelling)]
-pub(crate) fn push_suffixes(
-    alloc: Global,
-    tokens: &mut Tokens,
-    at: Place,
-    suffixes: &[Suffix],
-) -> Result<(), AllocError>
-    ensures { OnOk result (tokens.new ≡ tokens.old ++ joined (map (suffix_tokens at) suffixes.now)) }
+pub(crate) fn push_suffixes(w: &mut Writer, suffixes: &[Suffix]) -> Result<(), AllocError>
+    ensures { OnOk result (Writes w.old (suffix_tail (map suffix_tree suffixes.now)) w.new) }
 {
     'suffixes: for suffix in suffixes {
-        push_suffix(alloc, tokens, at, suffix)?;
+        push_suffix(w, suffix)?;
     }
     Ok(())
 }
 
 #[cycle(spelling)]
-fn push_suffix(
-    alloc: Global,
-    tokens: &mut Tokens,
-    at: Place,
-    suffix: &Suffix,
-) -> Result<(), AllocError>
-    ensures { OnOk result (tokens.new ≡ tokens.old ++ suffix_tokens at suffix.now) }
+fn push_suffix(w: &mut Writer, suffix: &Suffix) -> Result<(), AllocError>
+    ensures { OnOk result (Steps suffix_tail (suffix_tree suffix.now) w.old w.new) }
 {
     match suffix {
-        Suffix::Dot(name) => {
-            push_mark(tokens, at, MarkKind::Dot)?;
-            push_ident(alloc, tokens, name)
+        Suffix::Dot(text) => {
+            bare(w, MarkKind::Dot)?;
+            name(w, text)
         }
         Suffix::Index { place, index } => {
-            push_mark(tokens, *place, MarkKind::OpenSquare)?;
-            push_expr(alloc, tokens, at, index)?;
-            push_mark(tokens, at, MarkKind::CloseSquare)
+            mark(w, *place, MarkKind::OpenSquare)?;
+            push_expr(w, index)?;
+            bare(w, MarkKind::CloseSquare)
         }
     }
 }
 
+// the items of a list, and its last bracket
 #[cycle(spelling)]
-fn push_items(
-    alloc: Global,
-    tokens: &mut Tokens,
-    at: Place,
-    items: &[Expr],
-) -> Result<(), AllocError>
-    ensures { OnOk result (tokens.new ≡ tokens.old ++ comma_joined at (map (expr_tokens at) items.now)) }
+fn push_items(w: &mut Writer, items: &[Expr]) -> Result<(), AllocError>
+    ensures { OnOk result (Writes w.old (listed (row_of (map expr_tree items.now))) w.new) }
 {
-    match items {
-        [] => Ok(()),
-        [first, others @ ..] => {
-            push_expr(alloc, tokens, at, first)?;
+    match items.split_first() {
+        None => Ok(()),
+        Some((first, others)) => {
+            push_expr(w, first)?;
             'others: for item in others {
-                push_mark(tokens, at, MarkKind::Comma)?;
-                push_expr(alloc, tokens, at, item)?;
+                bare(w, MarkKind::Comma)?;
+                push_expr(w, item)?;
             }
-            Ok(())
+            bare(w, MarkKind::CloseSquare)
         }
     }
 }

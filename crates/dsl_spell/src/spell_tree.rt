@@ -1,10 +1,11 @@
-ghost use Rattle.std.specs.Prelude.{◌≡◌, IfOk};
+ghost use Rattle.std.specs.Prelude.{IfOk, OnOk};
 ghost use Rattle.dsl_tree.specs.Views.{file_tree};
-ghost use Rattle.dsl_spell.specs.TreeTokens.{file_tokens};
+ghost use Rattle.dsl_tree.specs.WrittenFile.{file as file_forest};
 ghost use Rattle.dsl_tree.specs.Language.{FollowsGrammar, Spelled};
+ghost use Rattle.dsl_spell.specs.Writing.{Writes};
 
-use crate::spell_expr::push;
-use crate::spell_file::{push_declarations, push_imports};
+use crate::rows::push_rest;
+use crate::writer::{Writer, push};
 use dsl_tree::{File, TokenKind, Tokens};
 use osc_base::Row;
 use std::alloc::{AllocError, Global};
@@ -17,17 +18,21 @@ pub fn spell(alloc: Global, file: &File) -> Result<Tokens, AllocError>
     requires { FollowsGrammar (file_tree file.now) }
     ensures { IfOk result (λ tokens. Spelled (file_tree file.now) tokens) }
 {
-    all_tokens(alloc, file)
+    let mut w = Writer {
+        alloc,
+        at: file.end,
+        tokens: Row::new(alloc),
+    };
+    push_file(&mut w, file)?;
+    Ok(w.tokens)
 }
 
-fn all_tokens(alloc: Global, file: &File) -> Result<Tokens, AllocError>
-    ensures { IfOk result (λ tokens. tokens ≡ file_tokens file.now) }
+fn push_file(w: &mut Writer, tree: &File) -> Result<(), AllocError>
+    ensures { OnOk result (Writes w.old (file_forest (file_tree tree.now)) w.new) }
 {
-    let mut tokens = Row::new(alloc);
-    push_imports(alloc, &mut tokens, file.end, file.imports.as_slice())?;
-    push_declarations(alloc, &mut tokens, file.end, file.decls.as_slice())?;
-    push(&mut tokens, file.end, TokenKind::End)?;
-    Ok(tokens)
+    push_rest(w, tree.imports.as_slice())?;
+    push_rest(w, tree.decls.as_slice())?;
+    push(w, tree.end, TokenKind::End)
 }
 
 #[cfg(test)]
