@@ -42,6 +42,13 @@ impl<'a> ProgramFields<'a> {
         Ok(ProgramFields { lists, rows })
     }
 
+    /// The members of each type.
+    pub fn lists(&self) -> &'a MemberLists<'a>
+        ensures { result.now ≡ self.now.lists.now }
+    {
+        self.lists
+    }
+
     /// The fields of a type.
     pub fn of(&self, of: TypeId) -> FieldsOf<'_, 'a>
         ensures { fields_in result ≡ fields_among (slice_index_or (lists_in self.now) of []) }
@@ -96,8 +103,19 @@ impl<'a> ProgramFields<'a> {
         self.do_at(self.span(of))
     }
 
+    /// The `do` of each type.
+    pub fn all_dos(&self, alloc: Global) -> Result<Vec<Option<TypeDo<'a>>>, AllocError>
+        ensures { IfOk result (λ all. map (option_map seen_do) all.items ≡ map first_do_in (lists_in self.now)) }
+    {
+        let mut all = Vec::new(alloc);
+        for span in self.lists.spans() {
+            all.push(self.do_at(*span))?;
+        }
+        Ok(all)
+    }
+
     /// The `do` among the members that stand there.
-    fn do_at(&self, span: Span) -> Option<TypeDo<'a>>
+    pub fn do_at(&self, span: Span) -> Option<TypeDo<'a>>
         ensures { option_map seen_do result ≡ first_do_in (list_at (rows_in self.now) span) }
     {
         match self.do_place(span) {
