@@ -167,38 +167,23 @@ fn it_of(types: &Types, field: &FieldDecl) -> Result<Option<It>, AllocError>
     }
 }
 
-/// Faults of the initial value and of the `with:` of a field. The scope becomes that of its `with:`.
-fn with_both(
-    alloc: Global,
-    types: &Types,
-    scope: &mut Scope<'_>,
-    first: Option<Fault>,
-    field: &FieldDecl,
-) -> Result<Option<Fault>, AllocError>
-    ensures faults { IfOk result (λ f. f ≡ first_from first (field_in types.now.table (seen_scope scope.old) (field_tree field.now))) }
-    ensures holder { IfOk result (λ f. scope.new.holder ≡ scope.old.holder) }
-    ensures labels { IfOk result (λ f. scope.new.labels ≡ scope.old.labels) }
-    ensures way { IfOk result (λ f. scope.new.way ≡ scope.old.way) }
-{
-    let valued = with_initial_value(alloc, types, scope, first, field)?;
-    let it = it_of(types, field)?;
-    scope.it = it;
-    with_rules(alloc, types, scope, valued, field.rules.as_slice())
-}
-
-/// Faults of a field. The scope is that of its initial value, and is left as it was.
+/// Faults of a field: of its initial value and of its `with:`. The scope is that of its initial value.
 pub(crate) fn with_field(
     alloc: Global,
     types: &Types,
-    scope: &mut Scope<'_>,
+    scope: &Scope<'_>,
     first: Option<Fault>,
     field: &FieldDecl,
 ) -> Result<Option<Fault>, AllocError>
-    ensures faults { IfOk result (λ f. f ≡ first_from first (field_in types.now.table (seen_scope scope.old) (field_tree field.now))) }
-    ensures scope { IfOk result (λ f. scope.new ≡ scope.old) }
+    ensures { IfOk result (λ f. f ≡ first_from first (field_in types.now.table (seen_scope scope.now) (field_tree field.now))) }
 {
-    let it = scope.it;
-    let found = with_both(alloc, types, scope, first, field)?;
-    scope.it = it;
-    Ok(found)
+    let valued = with_initial_value(alloc, types, scope, first, field)?;
+    let it = it_of(types, field)?;
+    let own = Scope {
+        holder: scope.holder,
+        it,
+        labels: scope.labels,
+        way: scope.way,
+    };
+    with_rules(alloc, types, &own, valued, field.rules.as_slice())
 }

@@ -23,25 +23,30 @@ use program_calls::{PlacedPhase, invoked, phases_in, scope_at};
 use std::alloc::{AllocError, Global};
 use type_model::{TypeId, Types};
 
-/// Faults of an invocation. The scope is that of its arguments, and becomes that of its `with:`.
+/// Faults of an invocation. The scope is that of its arguments.
 fn with_invocation<'a>(
     alloc: Global,
     types: &Types,
     texts: &ProgramTexts<'a>,
-    scope: &mut Scope<'_>,
+    scope: &Scope<'_>,
     first: Option<Fault>,
     invocation: &'a InvokeNode,
 ) -> Result<Option<Fault>, AllocError>
-    ensures { IfOk result (λ f. (ts : TypesOf) → Tells ts types.now texts.now → f ≡ first_from first (phase_in ts (seen_scope scope.old) (phase_tree (PhaseOf.Invoke invocation.entry.now)))) }
+    ensures { IfOk result (λ f. (ts : TypesOf) → Tells ts types.now texts.now → f ≡ first_from first (phase_in ts (seen_scope scope.now) (phase_tree (PhaseOf.Invoke invocation.entry.now)))) }
 {
     let of = invoked(alloc, types, scope.holder, invocation)?;
     let names = invocation.names.as_slice();
     let called = with_callee(alloc, types, scope, first, &invocation.head, names)?;
     let arguments = invocation.arguments.as_slice();
     let given = with_call(alloc, types, texts, scope, called, &of, arguments)?;
-    scope.it = Some(it_made(&of));
+    let own = Scope {
+        holder: scope.holder,
+        it: Some(it_made(&of)),
+        labels: scope.labels,
+        way: scope.way,
+    };
     let parts = invocation.parts.as_slice();
-    with_parts(alloc, types, texts.library, scope, given, &of, parts)
+    with_parts(alloc, types, texts.library, &own, given, &of, parts)
 }
 
 /// Faults of a phase, without the phases in it.
@@ -49,11 +54,11 @@ fn with_phase<'a>(
     alloc: Global,
     types: &Types,
     texts: &ProgramTexts<'a>,
-    scope: &mut Scope<'_>,
+    scope: &Scope<'_>,
     first: Option<Fault>,
     phase: &'a Phase,
 ) -> Result<Option<Fault>, AllocError>
-    ensures { IfOk result (λ f. (ts : TypesOf) → Tells ts types.now texts.now → f ≡ first_from first (phase_in ts (seen_scope scope.old) (phase_tree phase.entry.now))) }
+    ensures { IfOk result (λ f. (ts : TypesOf) → Tells ts types.now texts.now → f ≡ first_from first (phase_in ts (seen_scope scope.now) (phase_tree phase.entry.now))) }
 {
     match phase {
         Phase::Comp(comp) => {
@@ -80,8 +85,8 @@ fn with_placed<'a>(
     ensures { IfOk result (λ f. (ts : TypesOf) → Tells ts types.now texts.now → seen_labels labels.now ≡ do_labels ts holder → f ≡ first_from first (phase_rows ts holder (map seen_turn placed.now.place.way) (phase_tree placed.now.phase.now))) }
 {
     let way = placed.place.way.as_slice();
-    let mut scope = scope_at(holder, None, labels, way);
-    with_phase(alloc, types, texts, &mut scope, first, placed.phase)
+    let scope = scope_at(holder, None, labels, way);
+    with_phase(alloc, types, texts, &scope, first, placed.phase)
 }
 
 /// Faults of the phases of a `do` in the text of a type.

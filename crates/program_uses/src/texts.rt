@@ -25,19 +25,18 @@ use std::alloc::{AllocError, Global};
 use type_heads::WrittenMember;
 use type_model::{TypeId, Types};
 
-/// Faults of a member in the text of a type. The scope is that of the text, and is left as it was.
+/// Faults of a member in the text of a type. The scope is that of the text.
 fn with_member<'a>(
     alloc: Global,
     types: &Types,
     texts: &ProgramTexts<'a>,
     labels: &LabelTable,
     of: TypeId,
-    scope: &mut Scope<'_>,
+    scope: &Scope<'_>,
     first: Option<Fault>,
     member: &'a Member,
 ) -> Result<Option<Fault>, AllocError>
-    ensures faults { IfOk result (λ f. (ts : TypesOf) → Tells ts types.now texts.now → seen_labels labels.now ≡ do_labels ts of → seen_scope scope.old ≡ scope_in ts of None [] → f ≡ first_from first (member_use_rows ts of (member_tree member.entry.now))) }
-    ensures scope { IfOk result (λ f. scope.new ≡ scope.old) }
+    ensures { IfOk result (λ f. (ts : TypesOf) → Tells ts types.now texts.now → seen_labels labels.now ≡ do_labels ts of → seen_scope scope.now ≡ scope_in ts of None [] → f ≡ first_from first (member_use_rows ts of (member_tree member.entry.now))) }
 {
     match member {
         Member::Field(field) => with_field(alloc, types, scope, first, field),
@@ -58,11 +57,11 @@ fn with_members<'a>(
 ) -> Result<Option<Fault>, AllocError>
     ensures { IfOk result (λ f. (ts : TypesOf) → Tells ts types.now texts.now → seen_labels labels.now ≡ do_labels ts of → f ≡ first_from first (flat_map (written_rows ts of) (map seen_written members.now))) }
 {
-    let mut scope = scope_at(of, None, labels, &[]);
+    let scope = scope_at(of, None, labels, &[]);
     let mut fault = first;
     for written in members {
         let member = written.member;
-        fault = with_member(alloc, types, texts, labels, of, &mut scope, fault, member)?;
+        fault = with_member(alloc, types, texts, labels, of, &scope, fault, member)?;
     }
     Ok(fault)
 }

@@ -1,4 +1,4 @@
--- Arguments, one by one, in scopes that differ in `it` alone.
+-- Arguments, one by one.
 use Rattle.std.proofs.Common.{◌≡◌, ◌∙◌, refl, ap, ℕ, ◌+◌, ◌<◌, cond, List, [], ◌∷◌, ◌++◌, Option, Some, None, Result, Ok, Err, IfOk, drop, flat_map, get_or, is_some, length, map, option_and_then, option_map, option_to_list}
 use Rattle.std.specs.Result.{OnOk}
 use Rattle.std.proofs.lemmas.List.{map-append}
@@ -10,37 +10,26 @@ use Rattle.dsl_tree.specs.PhaseTree.{ArgumentTree, PartTree}
 use Rattle.dsl_tree.specs.Views.{argument_tree, part_tree}
 use Rattle.type_heads.specs.Table.{Table}
 use Rattle.type_heads.specs.Types.{Field}
-use Rattle.expr_nodes.specs.Scope.{It, Scope}
+use Rattle.expr_nodes.specs.Scope.{It}
 use Rattle.osc_base.specs.declared.fault.Place.{Place}
 use Rattle.osc_base.specs.declared.path.Path.{Path}
 use Rattle.expr_nodes.specs.Typed.{Typed, moved}
 use Rattle.expr_nodes.specs.Typing.{first, typed}
 use Rattle.composition.specs.Givens.{read_at}
 use Rattle.composition.specs.Scenes.{Occurrence}
-use Rattle.scene_places.specs.declared.places.Places.{Places}
 use Rattle.text_constraints.specs.Kept.{Holder}
-use Rattle.text_constraints.specs.OwnTexts.{without_it}
-use Rattle.text_constraints.specs.Sites.{Site, at_home, site_of}
+use Rattle.text_constraints.specs.Sites.{Site, at_home}
 use Rattle.text_constraints.proofs.ListSteps.{numbered_more, on_ok, put_two}
 use Rattle.work_constraints.specs.CallTexts.{argument_kept, arguments_kept, invocation_kept, one_read, parameter_kept, part_kept, required_kept, with_it}
 
-module _ (table : Table) (places : Places) (h : Holder) (of : ℕ) (x y : Scope) (same : without_it x ≡ without_it y) where
-  -- an argument
-  pub argument_apart : (fields : List Field) (n : ℕ) (a : ArgumentTree) → argument_kept table (site_of places x) h of fields n a ≡ argument_kept table (site_of places y) h of fields n a
-  argument_apart fields n a = ap (λ sc. argument_kept table (site_of places sc) h of fields n a) same
-
-  -- a `with:`
-  pub parts_apart : (it : Option It) (parts : List PartTree) → flat_map (part_kept table (with_it (site_of places x) it) h) parts ≡ flat_map (part_kept table (with_it (site_of places y) it) h) parts
-  parts_apart it parts = ap (λ sc. flat_map (part_kept table (with_it (site_of places sc) it) h) parts) same
-
-  -- an argument further
-  pub arguments_more : (fields : List Field) (items : List Argument) (i : ℕ) (a : Argument) (old new all : List Occurrence) → i < length items → a ≡ get_or items i a
-      → new ≡ old ++ argument_kept table (site_of places x) h of fields i (argument_tree a)
-      → old ++ arguments_kept table (site_of places y) h of fields i (map argument_tree (drop i items)) ≡ all
-      → new ++ arguments_kept table (site_of places y) h of fields (i + 1) (map argument_tree (drop (i + 1) items)) ≡ all
-  arguments_more fields items i a old new all lt at is before =
-      numbered_more (λ n bs. arguments_kept table (site_of places y) h of fields n bs) (λ n b. argument_kept table (site_of places y) h of fields n b) argument_tree (λ n b bs. refl)
-      items i a old new all lt at (is ∙ ap (λ os. old ++ os) (argument_apart fields i (argument_tree a))) before
+-- an argument further
+pub arguments_more : (table : Table) (s : Site) (h : Holder) (of : ℕ) (fields : List Field) (items : List Argument) (i : ℕ) (a : Argument) (old new all : List Occurrence) → i < length items → a ≡ get_or items i a
+    → new ≡ old ++ argument_kept table s h of fields i (argument_tree a)
+    → old ++ arguments_kept table s h of fields i (map argument_tree (drop i items)) ≡ all
+    → new ++ arguments_kept table s h of fields (i + 1) (map argument_tree (drop (i + 1) items)) ≡ all
+arguments_more table s h of fields items i a old new all lt at is before =
+    numbered_more (λ n bs. arguments_kept table s h of fields n bs) (λ n b. argument_kept table s h of fields n b) argument_tree (λ n b bs. refl)
+    items i a old new all lt at is before
 
 -- the parts of a `with:`, by the list that holds them
 pub parts_same : {E : Type 0} (table : Table) (s : Site) (h : Holder) (of : ℕ) (mid new : List Occurrence) (held parts : List InvokePart) → held ≡ parts → (r : Result Unit E)
@@ -51,14 +40,13 @@ parts_same table s h of mid new held parts same r told =
     (λ is. is ∙ ap (λ ps. mid ++ flat_map (part_kept table (with_it s (Some (It.Of of None))) h) (map part_tree ps)) same) r told
 
 -- arguments, and a `with:` after them
-pub invocation_of : {E : Type 0} (table : Table) (places : Places) (h : Holder) (of : ℕ) (x y : Scope) (same : without_it x ≡ without_it y) (fields : List Field) (arguments : List ArgumentTree) (parts : List PartTree)
-    (old mid new : List Occurrence) (r : Result Unit E) → mid ≡ old ++ arguments_kept table (site_of places y) h of fields 0 arguments
-    → OnOk r (new ≡ mid ++ flat_map (part_kept table (with_it (site_of places x) (Some (It.Of of None))) h) parts)
-    → OnOk r (new ≡ old ++ invocation_kept table (site_of places y) h of fields arguments parts)
-invocation_of table places h of x y same fields arguments parts old mid new r given more =
-    on_ok (new ≡ mid ++ flat_map (part_kept table (with_it (site_of places x) (Some (It.Of of None))) h) parts) (new ≡ old ++ invocation_kept table (site_of places y) h of fields arguments parts)
-    (λ is. put_two old mid new (arguments_kept table (site_of places y) h of fields 0 arguments) (flat_map (part_kept table (with_it (site_of places y) (Some (It.Of of None))) h) parts) given
-    (is ∙ ap (λ os. mid ++ os) (parts_apart table places h of x y same (Some (It.Of of None)) parts))) r more
+pub invocation_of : {E : Type 0} (table : Table) (s : Site) (h : Holder) (of : ℕ) (fields : List Field) (arguments : List ArgumentTree) (parts : List PartTree)
+    (old mid new : List Occurrence) (r : Result Unit E) → mid ≡ old ++ arguments_kept table s h of fields 0 arguments
+    → OnOk r (new ≡ mid ++ flat_map (part_kept table (with_it s (Some (It.Of of None))) h) parts)
+    → OnOk r (new ≡ old ++ invocation_kept table s h of fields arguments parts)
+invocation_of table s h of fields arguments parts old mid new r given more =
+    on_ok (new ≡ mid ++ flat_map (part_kept table (with_it s (Some (It.Of of None))) h) parts) (new ≡ old ++ invocation_kept table s h of fields arguments parts)
+    (λ is. put_two old mid new (arguments_kept table s h of fields 0 arguments) (flat_map (part_kept table (with_it s (Some (It.Of of None))) h) parts) given is) r more
 
 -- an expression that is one read
 pub none_read : (o : Option Typed) → None ≡ option_and_then read_at o → None ≡ one_read o

@@ -9,7 +9,6 @@ ghost use Rattle.program_texts.specs.SeenFields.{has_name, seen_field};
 ghost use Rattle.work_constraints.specs.CallTexts.{argument_field, argument_kept, arguments_kept, for_duration, invocation_kept, part_kept, with_it};
 ghost use Rattle.work_constraints.specs.CallTexts as CallTexts;
 ghost use Rattle.text_constraints.specs.Kept.{seen_owner};
-ghost use Rattle.text_constraints.specs.OwnTexts.{without_it};
 ghost use Rattle.text_constraints.specs.Sites.{seen_site, site_of};
 
 use crate::required::{push_duration, push_parameter};
@@ -58,64 +57,71 @@ fn field_of<'f, 'p>(
     }
 }
 
-/// Puts what an argument for the duration gives at the end. In the scope, `it` becomes nothing.
+/// Puts what an argument for the duration gives at the end. In its scope, `it` is nothing.
 fn push_stated(
     alloc: Global,
     types: &Types,
     places: &Places<'_>,
     owner: &Owner<'_, '_>,
-    scope: &mut Scope<'_>,
+    scope: &Scope<'_>,
     into: &mut Vec<Occurrence>,
     value: &Expr,
 ) -> Result<(), AllocError>
-    ensures scope { without_it (seen_scope scope.new) ≡ without_it (seen_scope scope.old) }
-    ensures kept { OnOk result (map seen_occurrence into.new.items ≡ map seen_occurrence into.old.items ++ CallTexts.duration_kept types.now.table (with_it (site_of places.now (seen_scope scope.old)) None) (seen_owner owner.now) (expr_tree value.now) ∷ []) }
+    ensures { OnOk result (map seen_occurrence into.new.items ≡ map seen_occurrence into.old.items ++ CallTexts.duration_kept types.now.table (with_it (site_of places.now (seen_scope scope.now)) None) (seen_owner owner.now) (expr_tree value.now) ∷ []) }
 {
-    scope.it = None;
+    let own = Scope {
+        holder: scope.holder,
+        it: None,
+        labels: scope.labels,
+        way: scope.way,
+    };
     let text = TextSite {
         places: *places,
-        scope: &*scope,
+        scope: &own,
     };
     push_duration(alloc, types, &text, owner, into, value)
 }
 
-/// Puts what an argument for a field of the invoked type gives at the end. In the scope, `it` becomes the invoked object.
+/// Puts what an argument for a field of the invoked type gives at the end. In its scope, `it` is the invoked object.
 fn push_given(
     alloc: Global,
     types: &Types,
     places: &Places<'_>,
     owner: &Owner<'_, '_>,
-    scope: &mut Scope<'_>,
+    scope: &Scope<'_>,
     of: TypeId,
     into: &mut Vec<Occurrence>,
     name: &Ident,
     value: &Expr,
 ) -> Result<(), AllocError>
-    ensures scope { without_it (seen_scope scope.new) ≡ without_it (seen_scope scope.old) }
-    ensures kept { OnOk result (map seen_occurrence into.new.items ≡ map seen_occurrence into.old.items ++ CallTexts.parameter_kept types.now.table (with_it (site_of places.now (seen_scope scope.old)) (Some (Scopes.It.Of of None))) (seen_owner owner.now) (expr_tree value.now) name.now) }
+    ensures { OnOk result (map seen_occurrence into.new.items ≡ map seen_occurrence into.old.items ++ CallTexts.parameter_kept types.now.table (with_it (site_of places.now (seen_scope scope.now)) (Some (Scopes.It.Of of None))) (seen_owner owner.now) (expr_tree value.now) name.now) }
 {
-    scope.it = Some(It::Of(FieldType { of, length: None }));
+    let own = Scope {
+        holder: scope.holder,
+        it: Some(It::Of(FieldType { of, length: None })),
+        labels: scope.labels,
+        way: scope.way,
+    };
     let text = TextSite {
         places: *places,
-        scope: &*scope,
+        scope: &own,
     };
     push_parameter(alloc, types, &text, owner, into, name, value)
 }
 
-/// Puts what an argument that is not for the duration gives at the end. In the scope, `it` may become the invoked object.
+/// Puts what an argument that is not for the duration gives at the end.
 fn push_fielded(
     alloc: Global,
     types: &Types,
     places: &Places<'_>,
     owner: &Owner<'_, '_>,
-    scope: &mut Scope<'_>,
+    scope: &Scope<'_>,
     of: TypeId,
     into: &mut Vec<Occurrence>,
     field: Option<&TypeField<'_>>,
     value: &Expr,
 ) -> Result<(), AllocError>
-    ensures scope { without_it (seen_scope scope.new) ≡ without_it (seen_scope scope.old) }
-    ensures kept { OnOk result (map seen_occurrence into.new.items ≡ map seen_occurrence into.old.items ++ flat_map (CallTexts.field_argument types.now.table (site_of places.now (seen_scope scope.old)) (seen_owner owner.now) of (expr_tree value.now)) (option_to_list (option_map seen_field (option_copied field.entry)))) }
+    ensures { OnOk result (map seen_occurrence into.new.items ≡ map seen_occurrence into.old.items ++ flat_map (CallTexts.field_argument types.now.table (site_of places.now (seen_scope scope.now)) (seen_owner owner.now) of (expr_tree value.now)) (option_to_list (option_map seen_field (option_copied field.entry)))) }
 {
     match field {
         Some(field) => push_given(
@@ -125,21 +131,20 @@ fn push_fielded(
     }
 }
 
-/// Puts what the argument at a place of an invocation of a type gives at the end. The scope changes in `it` alone.
+/// Puts what the argument at a place of an invocation of a type gives at the end.
 fn push_argument(
     alloc: Global,
     types: &Types,
     places: &Places<'_>,
     owner: &Owner<'_, '_>,
-    scope: &mut Scope<'_>,
+    scope: &Scope<'_>,
     of: TypeId,
     fields: &[TypeField<'_>],
     into: &mut Vec<Occurrence>,
     place: usize,
     argument: &Argument,
 ) -> Result<(), AllocError>
-    ensures scope { without_it (seen_scope scope.new) ≡ without_it (seen_scope scope.old) }
-    ensures kept { OnOk result (map seen_occurrence into.new.items ≡ map seen_occurrence into.old.items ++ argument_kept types.now.table (site_of places.now (seen_scope scope.old)) (seen_owner owner.now) of (map seen_field fields.now) place (argument_tree argument.now)) }
+    ensures { OnOk result (map seen_occurrence into.new.items ≡ map seen_occurrence into.old.items ++ argument_kept types.now.table (site_of places.now (seen_scope scope.now)) (seen_owner owner.now) of (map seen_field fields.now) place (argument_tree argument.now)) }
 {
     if is_for_duration(&argument.name) {
         return push_stated(alloc, types, places, owner, scope, into, &argument.value);
@@ -158,20 +163,19 @@ fn push_argument(
     )
 }
 
-/// Puts what the arguments of an invocation of a type give at the end. The scope changes in `it` alone.
+/// Puts what the arguments of an invocation of a type give at the end.
 fn push_arguments(
     alloc: Global,
     types: &Types,
     places: &Places<'_>,
     owner: &Owner<'_, '_>,
-    scope: &mut Scope<'_>,
+    scope: &Scope<'_>,
     of: TypeId,
     fields: &[TypeField<'_>],
     into: &mut Vec<Occurrence>,
     arguments: &[Argument],
 ) -> Result<(), AllocError>
-    ensures scope { without_it (seen_scope scope.new) ≡ without_it (seen_scope scope.old) }
-    ensures kept { OnOk result (map seen_occurrence into.new.items ≡ map seen_occurrence into.old.items ++ arguments_kept types.now.table (site_of places.now (seen_scope scope.old)) (seen_owner owner.now) of (map seen_field fields.now) 0 (map argument_tree arguments.now)) }
+    ensures { OnOk result (map seen_occurrence into.new.items ≡ map seen_occurrence into.old.items ++ arguments_kept types.now.table (site_of places.now (seen_scope scope.now)) (seen_owner owner.now) of (map seen_field fields.now) 0 (map argument_tree arguments.now)) }
 {
     for (place, argument) in arguments.iter().enumerate() {
         push_argument(
@@ -221,35 +225,39 @@ fn push_with(
     types: &Types,
     places: &Places<'_>,
     owner: &Owner<'_, '_>,
-    scope: &mut Scope<'_>,
+    scope: &Scope<'_>,
     of: TypeId,
     into: &mut Vec<Occurrence>,
     parts: &[InvokePart],
 ) -> Result<(), AllocError>
-    ensures { OnOk result (map seen_occurrence into.new.items ≡ map seen_occurrence into.old.items ++ flat_map (part_kept types.now.table (with_it (site_of places.now (seen_scope scope.old)) (Some (Scopes.It.Of of None))) (seen_owner owner.now)) (map part_tree parts.now)) }
+    ensures { OnOk result (map seen_occurrence into.new.items ≡ map seen_occurrence into.old.items ++ flat_map (part_kept types.now.table (with_it (site_of places.now (seen_scope scope.now)) (Some (Scopes.It.Of of None))) (seen_owner owner.now)) (map part_tree parts.now)) }
 {
-    scope.it = Some(It::Of(FieldType { of, length: None }));
+    let own = Scope {
+        holder: scope.holder,
+        it: Some(It::Of(FieldType { of, length: None })),
+        labels: scope.labels,
+        way: scope.way,
+    };
     let text = TextSite {
         places: *places,
-        scope: &*scope,
+        scope: &own,
     };
     push_parts(alloc, types, &text, owner, into, parts)
 }
 
-/// Puts what an invocation of a type with such fields gives at the end: its arguments, and its `with:`. The scope changes in
-/// `it`.
+/// Puts what an invocation of a type with such fields gives at the end: its arguments, and its `with:`.
 pub(crate) fn push_invocation(
     alloc: Global,
     types: &Types,
     places: &Places<'_>,
     owner: &Owner<'_, '_>,
-    scope: &mut Scope<'_>,
+    scope: &Scope<'_>,
     of: TypeId,
     fields: &[TypeField<'_>],
     into: &mut Vec<Occurrence>,
     node: &InvokeNode,
 ) -> Result<(), AllocError>
-    ensures { OnOk result (map seen_occurrence into.new.items ≡ map seen_occurrence into.old.items ++ invocation_kept types.now.table (site_of places.now (seen_scope scope.old)) (seen_owner owner.now) of (map seen_field fields.now) (map argument_tree node.now.arguments) (map part_tree node.now.parts)) }
+    ensures { OnOk result (map seen_occurrence into.new.items ≡ map seen_occurrence into.old.items ++ invocation_kept types.now.table (site_of places.now (seen_scope scope.now)) (seen_owner owner.now) of (map seen_field fields.now) (map argument_tree node.now.arguments) (map part_tree node.now.parts)) }
 {
     let arguments = node.arguments.as_slice();
     push_arguments(

@@ -48,12 +48,12 @@ fn owner_of(call: &Call) -> Owner<'_, '_>
 }
 
 /// Puts a stated duration of a phase at the end.
-fn push_stated(
+fn push_stated<'x>(
     alloc: Global,
-    texts: &ProgramTexts<'_>,
+    texts: &'x ProgramTexts<'_>,
     scene: &Scene,
     into: &mut Vec<Occurrence>,
-    call: &Call,
+    call: &'x Call,
     value: &Expr,
 ) -> Result<(), AllocError>
     ensures { OnOk result (map seen_occurrence into.new.items ≡ map seen_occurrence into.old.items ++ occurrence_of (seen_scene scene.now).bindings (given_duration (types_in texts.now) (seen_call call.now) (expr_tree value.now)) ∷ []) }
@@ -103,7 +103,7 @@ fn push_invoke(
     ensures { OnOk result (map seen_occurrence into.new.items ≡ map seen_occurrence into.old.items ++ invoke_kept (types_in texts.now) (seen_scene scene.now).bindings (seen_call call.now) of (map argument_tree node.now.arguments) (map part_tree node.now.parts)) }
 {
     let labels = texts.labels(alloc, call.holder)?;
-    let mut scope = call_scope(labels.table(), call);
+    let scope = call_scope(labels.table(), call);
     let fields = texts.fields(alloc, of)?;
     let places = Places {
         object: &call.object,
@@ -116,7 +116,7 @@ fn push_invoke(
         texts.types(),
         &places,
         &owner,
-        &mut scope,
+        &scope,
         of,
         fields.as_slice(),
         into,

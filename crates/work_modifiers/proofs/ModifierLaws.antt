@@ -16,10 +16,8 @@ use Rattle.composition.specs.Givens.{Here, from_root, typed_here}
 use Rattle.composition.specs.Homes.{home}
 use Rattle.composition.specs.ModifierLines.{ModifierForm, modifier_form}
 use Rattle.composition.specs.Scenes.{Binding, ModifierSpot}
-use Rattle.composition.specs.SeenScenes.{seen_scene}
 use Rattle.scene_expansion.specs.Walks.{modifier_at}
-use Rattle.scene_places.specs.Placed.{place_in}
-use Rattle.scene_places.specs.declared.places.Places.{Places}
+use Rattle.scene_places.specs.Placed.{home_under as placed_under}
 use Rattle.scene_texts.specs.Moving.{path_under}
 use Rattle.scene_texts.proofs.MovedTwice.{from_root_is, moved_home}
 use Rattle.work_modifiers.specs.Modifiers.{actor_home, high_at, home_under, low_at, modifier_there, part_there, parts_there}
@@ -139,13 +137,12 @@ module _ (bindings : List Binding) (ts : Types) (call : Calling) (sc : Scope) wh
       ∙ sym (map-append (modifier_at bindings) (part_modifier ts call here p) (flat_map (part_modifier ts call here) parts))
 
 -- those of an invocation, given where the paths of its text lead
-invocation_is : (places : Places) (ts : Types) (table : Table) (call : Calling) (it : Option It) (sc : Scope) (parts own : List PartTree)
-    → places.object.now ≡ call.object → places.it.now ≡ call.path → table ≡ ts.table → sc ≡ (here_in ts call it).scope → parts ≡ own
-    → parts_there (place_in places) (actor_home (seen_scene places.scene.now).bindings call) table sc call parts
-    ≡ map (modifier_at (seen_scene places.scene.now).bindings) (flat_map (part_modifier ts call (here_in ts call it)) own)
-unfolding place_in
-invocation_is places ts table call it sc parts own one two three four five =
-    let bindings : List Binding = (seen_scene places.scene.now).bindings in
+invocation_is : (bindings : List Binding) (object path : Path) (ts : Types) (table : Table) (call : Calling) (it : Option It) (sc : Scope) (parts own : List PartTree)
+    → object ≡ call.object → path ≡ call.path → table ≡ ts.table → sc ≡ (here_in ts call it).scope → parts ≡ own
+    → parts_there (placed_under bindings object path) (actor_home bindings call) table sc call parts
+    ≡ map (modifier_at bindings) (flat_map (part_modifier ts call (here_in ts call it)) own)
+unfolding placed_under
+invocation_is bindings object path ts table call it sc parts own one two three four five =
     (λ i. parts_there (λ (p : Path). home bindings (path_under (one i) (two i) p)) (actor_home bindings call) (three i) (four i) call (five i))
     ∙ parts_are bindings ts call (here_in ts call it).scope own
 
@@ -156,12 +153,12 @@ on_ok P Q more (Ok x) h = more h
 on_ok P Q more (Err e) h = tt
 
 -- those of an invocation, put at the end
-pub invocation_put : {X E : Type 0} (places : Places) (ts : Types) (table : Table) (call : Calling) (it : Option It) (sc : Scope) (parts own : List PartTree) (old new : List ModifierSpot) (r : Result X E)
-    → OnOk r (new ≡ old ++ parts_there (place_in places) (actor_home (seen_scene places.scene.now).bindings call) table sc call parts)
-    → places.object.now ≡ call.object → places.it.now ≡ call.path → table ≡ ts.table → sc ≡ (here_in ts call it).scope → parts ≡ own
-    → OnOk r (new ≡ old ++ map (modifier_at (seen_scene places.scene.now).bindings) (flat_map (part_modifier ts call (here_in ts call it)) own))
-invocation_put places ts table call it sc parts own old new r put one two three four five =
+pub invocation_put : {X E : Type 0} (bindings : List Binding) (object path : Path) (ts : Types) (table : Table) (call : Calling) (it : Option It) (sc : Scope) (parts own : List PartTree) (old new : List ModifierSpot)
+    (r : Result X E) → OnOk r (new ≡ old ++ parts_there (placed_under bindings object path) (actor_home bindings call) table sc call parts)
+    → object ≡ call.object → path ≡ call.path → table ≡ ts.table → sc ≡ (here_in ts call it).scope → parts ≡ own
+    → OnOk r (new ≡ old ++ map (modifier_at bindings) (flat_map (part_modifier ts call (here_in ts call it)) own))
+invocation_put bindings object path ts table call it sc parts own old new r put one two three four five =
     on_ok
-    (new ≡ old ++ parts_there (place_in places) (actor_home (seen_scene places.scene.now).bindings call) table sc call parts)
-    (new ≡ old ++ map (modifier_at (seen_scene places.scene.now).bindings) (flat_map (part_modifier ts call (here_in ts call it)) own))
-    (λ h. h ∙ ap (λ ms. old ++ ms) (invocation_is places ts table call it sc parts own one two three four five)) r put
+    (new ≡ old ++ parts_there (placed_under bindings object path) (actor_home bindings call) table sc call parts)
+    (new ≡ old ++ map (modifier_at bindings) (flat_map (part_modifier ts call (here_in ts call it)) own))
+    (λ h. h ∙ ap (λ ms. old ++ ms) (invocation_is bindings object path ts table call it sc parts own one two three four five)) r put

@@ -72,12 +72,12 @@ fn push_parts(
 }
 
 /// Puts the modifiers of an invocation of a type at the end.
-fn push_invocation(
+fn push_invocation<'x>(
     alloc: Global,
-    texts: &ProgramTexts<'_>,
+    texts: &'x ProgramTexts<'_>,
     scene: &Scene,
     modifiers: &mut Vec<ModifierSpot>,
-    call: &Call,
+    call: &'x Call,
     node: &InvokeNode,
     of: TypeId,
 ) -> Result<(), AllocError>

@@ -1,4 +1,4 @@
-use Rattle.std.proofs.Common.{◌∙◌, ◌++◌, map}
+use Rattle.std.proofs.Common.{◌++◌, map}
 use Rattle.composition.specs.SeenParts.{seen_occurrence}
 use Rattle.dsl_tree.specs.Views.{argument_tree}
 use Rattle.program_texts.specs.SeenFields.{seen_field}
@@ -14,10 +14,8 @@ loop-place-preserved c =
     let h = seen_owner c.args.owner.now in
     let table = c.args.types.now.table in
     let fields = map seen_field c.args.fields.now in
-    let first = seen_scope c.args.scope.now in (
-      c.push_argument.ensures.scope ∙ c.loop-place.invariant.0,
-      arguments_more table c.args.places.now h c.args.of (seen_scope c.loop-place.scope) first c.loop-place.invariant.0 fields c.args.arguments.now c.loop-place.place c.index-arguments-place.result
-          (map seen_occurrence c.loop-place.into.items) (map seen_occurrence c.push_argument.new.into.items)
-          (map seen_occurrence c.args.into.now.items ++ arguments_kept table (site_of c.args.places.now first) h c.args.of fields 0 (map argument_tree c.args.arguments.now))
-          c.loop-place-test.true c.index-arguments-place.is c.in_ok-push_argument.ensures.kept c.loop-place.invariant.1,
-    )
+    let site = site_of c.args.places.now (seen_scope c.args.scope.now) in
+    arguments_more table site h c.args.of fields c.args.arguments.now c.loop-place.place c.index-arguments-place.result
+    (map seen_occurrence c.loop-place.into.items) (map seen_occurrence c.push_argument.new.into.items)
+    (map seen_occurrence c.args.into.now.items ++ arguments_kept table site h c.args.of fields 0 (map argument_tree c.args.arguments.now))
+    c.loop-place-test.true c.index-arguments-place.is c.in_ok-push_argument.ensures c.loop-place.invariant

@@ -17,10 +17,9 @@ returns c =
     let mid = map seen_occurrence c.push_arguments.new.into.items in
     let new = map seen_occurrence c.push_with.new.into.items in
     let fields = map seen_field c.args.fields.now in
-    let first = seen_scope c.args.scope.now in
-    let later = seen_scope c.push_arguments.new.scope in
+    let site = site_of c.args.places.now (seen_scope c.args.scope.now) in
     let arguments = map argument_tree c.args.node.now.arguments in
     let parts = map part_tree c.args.node.now.parts in
-    invocation_of table c.args.places.now h c.args.of later first c.push_arguments.ensures.scope fields arguments parts old mid new c.push_with.result
-    (c.in_ok-push_arguments.ensures.kept ∙ ap (λ given. old ++ arguments_kept table (site_of c.args.places.now first) h c.args.of fields 0 (map argument_tree given)) c.as_slice-arguments.ensures)
-    (parts_same table (site_of c.args.places.now later) h c.args.of mid new c.as_slice.result.now c.args.node.now.parts c.as_slice.ensures c.push_with.result c.push_with.ensures)
+    invocation_of table site h c.args.of fields arguments parts old mid new c.push_with.result
+    (c.in_ok-push_arguments.ensures ∙ ap (λ given. old ++ arguments_kept table site h c.args.of fields 0 (map argument_tree given)) c.as_slice-arguments.ensures)
+    (parts_same table site h c.args.of mid new c.as_slice.result.now c.args.node.now.parts c.as_slice.ensures c.push_with.result c.push_with.ensures)

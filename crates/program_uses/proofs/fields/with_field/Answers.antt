@@ -6,10 +6,10 @@ use Rattle.expr_nodes.specs.SeenNames.{seen_it, seen_scope}
 use Rattle.composition.specs.Uses.{rule_rows}
 use Rattle.program_uses.specs.FieldRows.{field_in, field_it, initial_in}
 use Rattle.program_uses.proofs.RowSteps.{if_ok, two}
-use Rattle.program_uses.proofs.fields.with_both.Goals as goal
+use Rattle.program_uses.proofs.fields.with_field.Goals as goal
 
-pub returns-clause-faults : goal.returns-clause-faults
-returns-clause-faults c =
+pub returns : goal.returns
+returns c =
     let table = c.args.types.now.table in
     let sc = seen_scope c.args.scope.now in
     let ft = field_tree c.args.field.now in
