@@ -1,5 +1,5 @@
 -- The `do` of each type, by its number.
-use Rattle.std.proofs.Common.{◌≡◌, ◌∙◌, sym, ap, List, [], None, map, option_map, slice_index_or}
+use Rattle.std.proofs.Common.{◌≡◌, ◌∙◌, sym, ap, [], None, map, option_map, slice_index_or}
 use Rattle.type_heads.specs.Bodied.{seen_body}
 use Rattle.type_heads.specs.Types.{Types}
 use Rattle.program_fields.specs.SeenFields.{first_do_in, seen_do}

@@ -1,9 +1,8 @@
 //! The faults of the arguments of an invocation.
 
-ghost use Rattle.std.specs.Prelude.{◌≡◌, ◌||◌, [], None, Some, bytes_eq, cond, find, is_some, map, not, option_map, IfOk};
+ghost use Rattle.std.specs.Prelude.{◌≡◌, ◌||◌, [], None, Some, cond, is_some, map, not, IfOk};
 ghost use Rattle.osc_base.specs.FaultRows.{first_from};
 ghost use Rattle.dsl_tree.specs.Views.{argument_tree, expr_tree, field_tree};
-ghost use Rattle.type_heads.specs.Types.{Field};
 ghost use Rattle.expr_nodes.specs.Fits.{duration_fit_rows};
 ghost use Rattle.expr_nodes.specs.Parts.{of_one};
 ghost use Rattle.expr_nodes.specs.Seen.{seen_part};

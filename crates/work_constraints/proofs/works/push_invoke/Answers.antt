@@ -1,4 +1,4 @@
-use Rattle.std.proofs.Common.{◌∙◌, ap, map}
+use Rattle.std.proofs.Common.{◌∙◌, map}
 use Rattle.composition.specs.SeenParts.{seen_occurrence}
 use Rattle.composition.specs.SeenScenes.{seen_scene}
 use Rattle.dsl_tree.specs.Views.{argument_tree, part_tree}
