@@ -10,10 +10,8 @@
 import re
 import sys
 
-sys.dont_write_bytecode = True
-
-import grammar_lists  # noqa: E402
-from grammar_lists import CRATES, SPECS  # noqa: E402
+import grammar_lists
+from grammar_lists import CRATES, SPECS
 
 PAGE = CRATES.parent / "docs/LANGUAGE.md"
 KINDS = (CRATES / "dsl_lexer/specs/Kinds.antt", CRATES / "dsl_lexer/specs/Shapes.antt")
