@@ -12,7 +12,7 @@ use Rattle.expr_nodes.specs.Names.{is_duration}
 use Rattle.expr_nodes.specs.Scope.{It, Scope}
 use Rattle.expr_nodes.specs.Typed.{Typed}
 use Rattle.expr_nodes.specs.Typing.{first, typed}
-use Rattle.program_texts.specs.SeenFields.{has_name}
+use Rattle.program_fields.specs.SeenFields.{has_name}
 use Rattle.work_counts.specs.Amounts.{Amount, no_amount, plus}
 use Rattle.work_counts.specs.TextAmounts.{value_amount}
 

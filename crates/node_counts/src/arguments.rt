@@ -1,8 +1,9 @@
 //! The constraints of the arguments of an invocation.
 
-ghost use Rattle.std.specs.Prelude.{◌≡◌, find, map, option_copied, option_map, IfOk};
+ghost use Rattle.std.specs.Prelude.{◌≡◌, map, option_map, IfOk};
 ghost use Rattle.dsl_tree.specs.Views.{argument_tree, expr_tree};
-ghost use Rattle.program_texts.specs.SeenFields.{has_name, seen_field};
+ghost use Rattle.program_fields.specs.SeenFields.{seen_field};
+ghost use Rattle.program_fields.specs.Tables.{fields_in};
 ghost use Rattle.program_texts.specs.SeenTexts.{types_in};
 ghost use Rattle.type_heads.specs.Members.{fields as fields_of};
 ghost use Rattle.work_counts.specs.Amounts.{kept};
@@ -15,7 +16,8 @@ use expr_nodes::steps::pointed;
 use expr_nodes::{It, Scope, Typed};
 use osc_base::{Boxed, Place};
 use program_calls::first_place;
-use program_texts::{ProgramTexts, TypeField};
+use program_fields::{FieldsOf, TypeField};
+use program_texts::ProgramTexts;
 use std::alloc::{AllocError, Global};
 use type_model::{FieldType, TypeId, Types};
 use work_counts::{Tally, value_tally};
@@ -56,10 +58,10 @@ fn field_tally(
     alloc: Global,
     texts: &ProgramTexts<'_>,
     of: TypeId,
-    field: Option<&TypeField<'_>>,
+    field: Option<TypeField<'_>>,
     value: &Expr,
 ) -> Result<Tally, AllocError>
-    ensures { IfOk result (λ t. t ≡ kept (field_amount (types_in texts.now).table of (expr_tree value.now) (option_map seen_field (option_copied field.entry)))) }
+    ensures { IfOk result (λ t. t ≡ kept (field_amount (types_in texts.now).table of (expr_tree value.now) (option_map seen_field field.entry))) }
 {
     let Some(field) = field else {
         return Ok(Tally::none());
@@ -71,33 +73,21 @@ fn field_tally(
     }
 }
 
-/// The field of that name.
-fn named_field<'f, 'p>(fields: &'f [TypeField<'p>], name: &str) -> Option<&'f TypeField<'p>>
-    ensures { option_map seen_field (option_copied result) ≡ find (has_name name.now) (map seen_field fields.entry.now) }
-{
-    for field in fields {
-        if field.name.text.as_str() == name {
-            return Some(field);
-        }
-    }
-    None
-}
-
 /// An argument with a name.
 fn named_tally(
     alloc: Global,
     texts: &ProgramTexts<'_>,
     of: TypeId,
-    fields: &[TypeField<'_>],
+    fields: &FieldsOf<'_, '_>,
     name: &str,
     value: &Expr,
 ) -> Result<Tally, AllocError>
-    ensures { IfOk result (λ t. t ≡ kept (named_amount (types_in texts.now).table of (map seen_field fields.now) name.now (expr_tree value.now))) }
+    ensures { IfOk result (λ t. t ≡ kept (named_amount (types_in texts.now).table of (fields_in fields.now) name.now (expr_tree value.now))) }
 {
     if name == "duration" {
         return Ok(value_tally(value));
     }
-    field_tally(alloc, texts, of, named_field(fields, name), value)
+    field_tally(alloc, texts, of, fields.named(name), value)
 }
 
 /// The argument at a place.
@@ -105,16 +95,16 @@ fn argument_tally(
     alloc: Global,
     texts: &ProgramTexts<'_>,
     of: TypeId,
-    fields: &[TypeField<'_>],
+    fields: &FieldsOf<'_, '_>,
     place: usize,
     argument: &Argument,
 ) -> Result<Tally, AllocError>
-    ensures { IfOk result (λ t. t ≡ kept (argument_amount (types_in texts.now).table of (map seen_field fields.now) place (argument_tree argument.now))) }
+    ensures { IfOk result (λ t. t ≡ kept (argument_amount (types_in texts.now).table of (fields_in fields.now) place (argument_tree argument.now))) }
 {
     let value = &argument.value;
     match &argument.name {
         Some(name) => named_tally(alloc, texts, of, fields, name.text.as_str(), value),
-        None => field_tally(alloc, texts, of, fields.get(place), value),
+        None => field_tally(alloc, texts, of, fields.at(place), value),
     }
 }
 
@@ -123,10 +113,10 @@ fn given_tally(
     alloc: Global,
     texts: &ProgramTexts<'_>,
     of: TypeId,
-    fields: &[TypeField<'_>],
+    fields: &FieldsOf<'_, '_>,
     arguments: &[Argument],
 ) -> Result<Tally, AllocError>
-    ensures { IfOk result (λ t. t ≡ kept (arguments_amount (types_in texts.now).table of (map seen_field fields.now) 0 (map argument_tree arguments.now))) }
+    ensures { IfOk result (λ t. t ≡ kept (arguments_amount (types_in texts.now).table of (fields_in fields.now) 0 (map argument_tree arguments.now))) }
 {
     let mut all = Tally::none();
     for (place, argument) in arguments.iter().enumerate() {
@@ -145,8 +135,8 @@ pub(crate) fn arguments_tally(
 ) -> Result<Tally, AllocError>
     ensures { IfOk result (λ t. t ≡ kept (arguments_amount (types_in texts.now).table of (fields_of (types_in texts.now) of) 0 (map argument_tree arguments.now))) }
 {
-    let fields = texts.fields(alloc, of)?;
-    given_tally(alloc, texts, of, fields.as_slice(), arguments)
+    let fields = texts.fields_of(of);
+    given_tally(alloc, texts, of, &fields, arguments)
 }
 
 /// Whether an argument is `duration:`.

@@ -14,7 +14,7 @@ use Rattle.expr_nodes.specs.Names.{is_duration}
 use Rattle.expr_nodes.specs.Scope.{Scope}
 use Rattle.expr_nodes.specs.Typed.{Typed}
 use Rattle.expr_nodes.specs.Typing.{typed}
-use Rattle.program_texts.specs.SeenFields.{has_name}
+use Rattle.program_fields.specs.SeenFields.{has_name}
 use Rattle.scene_texts.specs.Moving.{path_under}
 
 -- the field to which an argument goes

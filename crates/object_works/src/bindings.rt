@@ -15,7 +15,8 @@ ghost use Rattle.program_calls.specs.SeenLabels.{do_labels, seen_labels};
 ghost use Rattle.type_heads.specs.Types.{Types};
 ghost use Rattle.scene_expansion.specs.SeenWorks.{seen_call};
 ghost use Rattle.scene_texts.specs.Moving.{seen_bound};
-ghost use Rattle.program_texts.specs.SeenFields.{seen_field};
+ghost use Rattle.program_fields.specs.SeenFields.{seen_field};
+ghost use Rattle.program_fields.specs.Tables.{fields_in};
 ghost use Rattle.program_texts.specs.SeenTexts.{types_in};
 ghost use Rattle.object_works.specs.Arguments.{actor_bound, arguments_bound, assigned_field, binding_at, bindings_to};
 ghost use Rattle.object_works.specs.Arguments as arguments_of;
@@ -26,7 +27,8 @@ use expr_eval::checked;
 use expr_nodes::{It, LabelTable, Scope, Typed};
 use osc_base::{Boxed, Path, Row};
 use program_calls::{Callee, actor_checked, callee_of, scope_at};
-use program_texts::{ProgramTexts, TypeField};
+use program_fields::{FieldsOf, TypeField};
+use program_texts::ProgramTexts;
 use scene_expansion::Call;
 use scene_texts::{Bound, Moves, then_name};
 use std::alloc::{AllocError, Global};
@@ -130,32 +132,27 @@ fn push_bound(
 }
 
 /// The field to which the argument at a place goes.
-fn field_of<'f, 'p>(
-    fields: &'f [TypeField<'p>],
+fn field_of<'p>(
+    fields: &FieldsOf<'_, 'p>,
     place: usize,
     name: &Option<Ident>,
-) -> Option<&'f TypeField<'p>>
-    ensures { option_map seen_field (option_copied result) ≡ assigned_field (map seen_field fields.entry.now) place name.now }
+) -> Option<TypeField<'p>>
+    ensures { option_map seen_field result ≡ assigned_field (fields_in fields.now) place name.now }
 {
     match name {
-        None => fields.get(place),
+        None => fields.at(place),
         Some(name) => named_field(fields, name.text.as_str()),
     }
 }
 
 /// The field of that name; `duration` is none.
-fn named_field<'f, 'p>(fields: &'f [TypeField<'p>], name: &str) -> Option<&'f TypeField<'p>>
-    ensures { option_map seen_field (option_copied result) ≡ arguments_of.named_field (map seen_field fields.entry.now) name.now }
+fn named_field<'p>(fields: &FieldsOf<'_, 'p>, name: &str) -> Option<TypeField<'p>>
+    ensures { option_map seen_field result ≡ arguments_of.named_field (fields_in fields.now) name.now }
 {
     if name == "duration" {
         return None;
     }
-    for field in fields {
-        if field.name.text.as_str() == name {
-            return Some(field);
-        }
-    }
-    None
+    fields.named(name)
 }
 
 /// Puts the binding that an argument makes at the end, if it makes one.
@@ -190,14 +187,14 @@ fn push_arguments(
     call: &Call,
     homes: &[Bound],
     scope: &Scope<'_>,
-    fields: &[TypeField<'_>],
+    fields: &FieldsOf<'_, '_>,
     arguments: &[Argument],
 ) -> Result<(), AllocError>
-    ensures { OnOk result (map seen_binding into.new ≡ map seen_binding into.old ++ arguments_bound (types_in texts.now).table (seen_scope scope.now) (map seen_bound homes.now) (seen_call call.now) (map seen_field fields.now) 0 (map argument_tree arguments.now)) }
+    ensures { OnOk result (map seen_binding into.new ≡ map seen_binding into.old ++ arguments_bound (types_in texts.now).table (seen_scope scope.now) (map seen_bound homes.now) (seen_call call.now) (fields_in fields.now) 0 (map argument_tree arguments.now)) }
 {
     for (place, argument) in arguments.iter().enumerate() {
         if let Some(field) = field_of(fields, place, &argument.name) {
-            push_argument(alloc, texts, into, call, homes, scope, field, argument)?;
+            push_argument(alloc, texts, into, call, homes, scope, &field, argument)?;
         }
     }
     Ok(())
@@ -242,7 +239,7 @@ fn push_all_given(
 {
     let labels = texts.labels(alloc, call.holder)?;
     let scope = call_scope(labels.table(), call, of);
-    let fields = texts.fields(alloc, of)?;
+    let fields = texts.fields_of(of);
     let homes = bounds_of(alloc, call.bindings.as_slice())?;
     push_arguments(
         alloc,
@@ -251,7 +248,7 @@ fn push_all_given(
         call,
         homes.as_slice(),
         &scope,
-        fields.as_slice(),
+        &fields,
         arguments,
     )
 }

@@ -9,7 +9,7 @@ ghost use Rattle.expansion_laws.specs.Works.{bindings_made as bindings_of, do_wo
 ghost use Rattle.program_calls.specs.PlacedPhases.{seen_phase, seen_turn};
 ghost use Rattle.type_heads.specs.Members.{the_do};
 ghost use Rattle.scene_expansion.specs.SeenWorks.{seen_call, seen_work};
-ghost use Rattle.program_texts.specs.SeenFields.{seen_do};
+ghost use Rattle.program_fields.specs.SeenFields.{seen_do};
 ghost use Rattle.program_texts.specs.SeenTexts.{types_in};
 ghost use Rattle.object_works.specs.Phases.{choice_of, invocation_works, phase_here_works};
 
@@ -21,7 +21,8 @@ use dsl_tree::{InvokeNode, Phase};
 use expr_nodes::Turn;
 use osc_base::{Path, Row};
 use program_calls::{PlacedPhase, invoked, phases_in};
-use program_texts::{ProgramTexts, TypeDo};
+use program_fields::TypeDo;
+use program_texts::ProgramTexts;
 use scene_expansion::{Call, Work};
 use scene_texts::from_object;
 use std::alloc::{AllocError, Global};

@@ -9,7 +9,7 @@ ghost use Rattle.expansion_laws.specs.Works.{field_works, value_works};
 ghost use Rattle.expansion_laws.specs.Works as works;
 ghost use Rattle.type_heads.specs.Members.{fields};
 ghost use Rattle.scene_expansion.specs.SeenWorks.{seen_work};
-ghost use Rattle.program_texts.specs.SeenFields.{seen_field};
+ghost use Rattle.program_fields.specs.SeenFields.{seen_field};
 ghost use Rattle.program_texts.specs.SeenTexts.{types_in};
 ghost use Rattle.object_works.specs.Held.{held_objects, held_values, held_works};
 
@@ -18,7 +18,8 @@ use crate::within::Within;
 use composition::{Guard, ValueRange};
 use dsl_tree::FieldDecl;
 use osc_base::{Path, Row};
-use program_texts::{ProgramTexts, TypeField, list_length, range_of};
+use program_fields::TypeField;
+use program_texts::{ProgramTexts, list_length, range_of};
 use scene_expansion::Work;
 use scene_texts::{then_index, then_name};
 use std::alloc::{AllocError, Global};

@@ -3,14 +3,13 @@ use Rattle.std.proofs.Common.{◌≡◌, ◌∙◌, refl, sym, ap, ℕ, zero, su
 use Rattle.std.specs.Prelude.{slice_get, IfSome}
 use Rattle.std.specs.Slice.{IsItemAt}
 use Rattle.std.proofs.lemmas.Option.{slice_get-get_or}
-use Rattle.type_heads.specs.Members.{members}
 use Rattle.type_heads.specs.Table.{Table}
 use Rattle.type_heads.specs.Types.{Do, Member, Types}
 use Rattle.composition.specs.Calls.{phases_in}
 use Rattle.expr_nodes.specs.declared.labels.LabelTable.{LabelTable}
 use Rattle.program_calls.specs.SeenLabels.{LabelHere, do_labels, labels_here, seen_labels}
 use Rattle.program_texts.specs.OwnLabels.{labels_from, own_labels}
-use Rattle.program_texts.specs.SeenFields.{first_do_in}
+use Rattle.program_fields.specs.SeenFields.{first_do_in}
 
 -- what is at a place of a list that is made of a list
 got : {X Y : Type 0} (f : X → Y) (xs : List X) (t : ℕ) → slice_get (map f xs) t ≡ option_map f (slice_get xs t)

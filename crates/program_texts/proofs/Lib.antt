@@ -2,5 +2,4 @@ pub mod TypeRows
 pub mod ConditionSteps
 pub mod AskedOnce
 pub mod ExprKinds
-pub mod NamedFields
-mod HeldLabels
+pub mod HeldLabels

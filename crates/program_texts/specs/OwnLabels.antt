@@ -4,7 +4,7 @@ use Rattle.type_heads.specs.Table.{Table}
 use Rattle.type_heads.specs.Types.{Do, Member}
 use Rattle.composition.specs.Calls.{phases_in}
 use Rattle.program_calls.specs.SeenLabels.{LabelHere, labels_here, seen_labels}
-use Rattle.program_texts.specs.SeenFields.{first_do_in}
+use Rattle.program_fields.specs.SeenFields.{first_do_in}
 use Rattle.program_texts.specs.declared.labels.TypeLabels.{TypeLabels}
 
 -- the labels of a `do` of type t that stands in its own text

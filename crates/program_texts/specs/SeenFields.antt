@@ -1,38 +1,12 @@
--- What the program's own fields, members and bodies of types are seen as.
-use Rattle.std.specs.Prelude.{ℕ, Bool, bytes_eq, List, Option, true, filter_map, find, map}
-use Rattle.dsl_tree.specs.declared.parts.Ident.{Ident}
-use Rattle.dsl_tree.specs.FileTree.{FieldTree}
-use Rattle.dsl_tree.specs.Views.{field_tree, phase_tree}
+-- What the program's own bodies and fields of types are seen as.
+use Rattle.std.specs.Prelude.{ℕ, List, Option, map}
 use Rattle.type_heads.specs.Bodied.{seen_body}
-use Rattle.type_heads.specs.Members.{do_declared}
 use Rattle.type_heads.specs.Table.{Table}
-use Rattle.type_heads.specs.Types.{Do, Field, Member, Types}
+use Rattle.type_heads.specs.Types.{Types}
 use Rattle.type_heads.specs.declared.body.Body.{Body}
-use Rattle.type_members.specs.Listed.{lists_of}
-use Rattle.type_members.specs.declared.member_lists.MemberLists.{MemberLists}
-use Rattle.program_texts.specs.declared.texts.TypeDo.{TypeDo}
-use Rattle.program_texts.specs.declared.texts.TypeField.{TypeField}
+use Rattle.program_fields.specs.Tables.{lists_in}
+use Rattle.program_fields.specs.declared.tables.ProgramFields.{ProgramFields}
 
--- a field
-abbrev pub seen_field : TypeField → Field
-seen_field f = record { name = f.name.now; tree = field_tree f.decl.now; holder = f.holder; under = f.under.now }
-
--- a `do`
-abbrev pub seen_do : TypeDo → Do
-seen_do d = record { holder = d.holder; place = d.place; phase = phase_tree d.phase.now; under = d.under.now }
-
--- a field for each of the names
-abbrev pub fields_named : FieldTree → ℕ → List ℕ → List Ident → List Field
-fields_named f holder under names = map (λ i. record { name = i; tree = f; holder = holder; under = under }) names
-
--- a field of that name
-abbrev pub has_name : List ℕ → Field → Bool
-has_name name f = bytes_eq f.name.text name
-
--- the first `do` among members
-abbrev pub first_do_in : List Member → Option Do
-first_do_in members = find (λ d. true) (filter_map (λ m. do_declared m m.written.member) members)
-
--- the types with these bodies, members and table
-abbrev pub types_of_parts : List Body → Option ℕ → MemberLists → Table → Types
-types_of_parts bodies library lists table = record { bodies = map seen_body bodies; library = library; members = lists_of lists; table = table }
+-- the types with these bodies, fields and table
+abbrev pub types_of_parts : List Body → Option ℕ → ProgramFields → Table → Types
+types_of_parts bodies library fields table = record { bodies = map seen_body bodies; library = library; members = lists_in fields; table = table }

@@ -10,7 +10,7 @@ use Rattle.program_texts.specs.SeenFields.{types_of_parts}
 
 -- the types of the texts
 abbrev pub types_in : ProgramTexts → Types
-types_in t = types_of_parts t.bodies.now t.library t.lists.now t.types.now.table
+types_in t = types_of_parts t.bodies.now t.library t.fields t.types.now.table
 
 -- the types with these members and that table
 abbrev pub types_with : ProgramMembers → Table → Types

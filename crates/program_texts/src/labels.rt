@@ -1,17 +1,16 @@
 //! The labels of the `do` of each type.
 
 ghost use Rattle.std.specs.Prelude.{◌≡◌, ◌+◌, Some, map, option_map, IfOk};
-ghost use Rattle.type_members.specs.Listed.{lists_of, seen_listed};
 ghost use Rattle.program_calls.specs.SeenLabels.{seen_labels};
 ghost use Rattle.program_texts.specs.OwnLabels.{labels_from, own_labels as labels_own, seen_type_labels};
-ghost use Rattle.program_texts.specs.SeenFields.{first_do_in, seen_do};
+ghost use Rattle.program_fields.specs.SeenFields.{seen_do};
+ghost use Rattle.program_fields.specs.Tables.{lists_in};
 
-use crate::gathered::first_do;
-use crate::texts::TypeDo;
 use expr_nodes::LabelTable;
 use program_calls::do_labels;
+use program_fields::{ProgramFields, TypeDo};
 use std::alloc::{AllocError, Global};
-use type_model::{ListedMember, MemberLists, TypeId, Types};
+use type_model::{TypeId, Types};
 
 /// The labels of the `do` of a type: those that the texts of types have, or those that were made of a `do` which the
 /// type inherits.
@@ -50,16 +49,16 @@ fn labels_if_own(
     }
 }
 
-/// The labels of the `do` among the members of a type, if it stands in the type's own text.
-fn labels_among<'a>(
+/// The labels of a `do` of a type, if there is one and it stands in the type's own text.
+fn labels_of(
     alloc: Global,
     types: &Types,
     of: u32,
-    members: &'a [ListedMember<'a>],
+    found: Option<TypeDo<'_>>,
 ) -> Result<Option<LabelTable>, AllocError>
-    ensures { IfOk result (λ table. option_map seen_labels table ≡ labels_own types.now.table of (first_do_in (map seen_listed members.entry.now))) }
+    ensures { IfOk result (λ table. option_map seen_labels table ≡ labels_own types.now.table of (option_map seen_do found.entry)) }
 {
-    match first_do(members) {
+    match found {
         Some(found) => labels_if_own(alloc, types, of, &found),
         None => Ok(None),
     }
@@ -72,18 +71,19 @@ fn next_type(number: u32) -> Result<u32, AllocError>
     number.checked_add(1).ok_or(AllocError)
 }
 
-/// The labels of the `do` of each type that has one in its own text, given the members of each type.
-pub(crate) fn own_labels<'a>(
+/// The labels of the `do` of each type that has one in its own text.
+pub(crate) fn own_labels(
     alloc: Global,
     types: &Types,
-    lists: &'a MemberLists<'a>,
+    fields: &ProgramFields<'_>,
 ) -> Result<Vec<Option<LabelTable>>, AllocError>
-    ensures { IfOk result (λ tables. map (option_map seen_labels) tables.items ≡ labels_from types.now.table 0 (lists_of lists.entry.now)) }
+    ensures { IfOk result (λ tables. map (option_map seen_labels) tables.items ≡ labels_from types.now.table 0 (lists_in fields.now)) }
 {
     let mut tables = Vec::new(alloc);
     let mut number: u32 = 0;
-    for span in lists.spans() {
-        tables.push(labels_among(alloc, types, number, lists.at(span))?)?;
+    for span in fields.lists().spans() {
+        let found = fields.do_at(*span);
+        tables.push(labels_of(alloc, types, number, found)?)?;
         number = next_type(number)?;
     }
     Ok(tables)

@@ -5,11 +5,10 @@
 mod asked;
 mod conditions;
 mod field_parts;
-mod gathered;
 mod labels;
 mod queries;
 mod texts;
 
 pub use field_parts::{list_items, list_length, range_of};
 pub use labels::TypeLabels;
-pub use texts::{ProgramTexts, TypeDo, TypeField};
+pub use texts::ProgramTexts;

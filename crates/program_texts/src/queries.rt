@@ -1,10 +1,10 @@
 //! What is asked of the types of a program.
 
-ghost use Rattle.std.specs.Prelude.{◌≡◌, find, map, option_copied, option_map, IfOk, IfSome};
+ghost use Rattle.std.specs.Prelude.{◌≡◌, map, option_copied, option_map, IfOk, IfSome};
 ghost use Rattle.composition.specs.SceneFaults.{named_scenario};
 ghost use Rattle.composition.specs.Expanded as expanded;
 ghost use Rattle.dsl_tree.specs.Views.{field_tree};
-ghost use Rattle.type_heads.specs.Members.{body, declared_type, fields_among, fields_declared};
+ghost use Rattle.type_heads.specs.Members.{body, declared_type};
 ghost use Rattle.type_heads.specs.Members as told;
 ghost use Rattle.type_heads.specs.Told.{told as all_told};
 ghost use Rattle.type_heads.specs.Table.{form};
@@ -13,16 +13,17 @@ ghost use Rattle.type_members.specs.Listed.{seen_listed};
 ghost use Rattle.program_calls.specs.SeenLabels.{do_labels as do_labels_of, seen_labels};
 ghost use Rattle.program_texts.specs.OwnLabels.{seen_type_labels};
 ghost use Rattle.program_texts.specs.Ranges.{object_kind};
-ghost use Rattle.program_texts.specs.SeenFields.{fields_named, has_name, seen_do, seen_field};
+ghost use Rattle.program_fields.specs.SeenFields.{seen_do, seen_field};
+ghost use Rattle.program_fields.specs.Tables.{fields_in};
 ghost use Rattle.program_texts.specs.SeenTexts.{types_in, types_with};
 
-use crate::gathered::{fields_of, first_do};
 use crate::labels::{TypeLabels, own_labels};
-use crate::texts::{ProgramTexts, TypeDo, TypeField};
-use dsl_tree::{FieldDecl, HeirCondition, Member};
+use crate::texts::ProgramTexts;
+use dsl_tree::{FieldDecl, HeirCondition};
 use expr_nodes::LabelTable;
 use osc_base::{Place, Row};
 use program_calls::{do_labels, no_labels};
+use program_fields::{FieldsOf, ProgramFields, TypeDo, TypeField, fields_of};
 use program_members::ProgramMembers;
 use std::alloc::{AllocError, Global};
 use type_members::heir_condition;
@@ -46,13 +47,13 @@ impl<'a> ProgramTexts<'a> {
         requires built { types.now ≡ all_told (types_with members.now types.now.table) }
         ensures { IfOk result (λ texts. types_in texts ≡ types_with members.entry.now types.entry.now.table) }
     {
-        let lists = &members.lists;
-        let labels = own_labels(alloc, types, lists)?;
+        let fields = ProgramFields::build(alloc, &members.lists)?;
+        let labels = own_labels(alloc, types, &fields)?;
         Ok(ProgramTexts {
             types,
             library: members.library,
             bodies: members.bodies.as_slice(),
-            lists,
+            fields,
             labels,
         })
     }
@@ -71,11 +72,18 @@ impl<'a> ProgramTexts<'a> {
         fields_of(alloc, self.members(of))
     }
 
+    /// The fields of a type, found by name and by number.
+    pub fn fields_of(&self, of: TypeId) -> FieldsOf<'_, 'a>
+        ensures { fields_in result ≡ told.fields (types_in self.now) of }
+    {
+        self.fields.of(of)
+    }
+
     /// The `do` of a type, its own or an inherited one.
     pub fn the_do(&self, of: TypeId) -> Option<TypeDo<'a>>
         ensures { option_map seen_do result ≡ told.the_do (types_in self.now) of }
     {
-        first_do(self.members(of))
+        self.fields.the_do(of)
     }
 
     /// The labels of the `do` of a type, its own or an inherited one.
@@ -115,7 +123,7 @@ impl<'a> ProgramTexts<'a> {
     pub fn members(&self, of: TypeId) -> &'a [ListedMember<'a>]
         ensures { map seen_listed result.now ≡ told.members (types_in self.now) of }
     {
-        self.lists.of(of)
+        self.fields.lists().of(of)
     }
 
     /// The place of the name of a type.
@@ -139,7 +147,7 @@ impl<'a> ProgramTexts<'a> {
     pub fn field(&self, of: TypeId, name: &str) -> Option<TypeField<'a>>
         ensures { option_map seen_field result ≡ told.field (types_in self.now) of name.now }
     {
-        named_among(self.members(of), name)
+        self.fields.of(of).named(name)
     }
 
     /// The type of a field, or of the elements of a list.
@@ -191,51 +199,4 @@ fn is_object_kind(kind: TypeKind) -> bool
         | TypeKind::Action
         | TypeKind::Scenario => false,
     }
-}
-
-/// The first field of that name that a member declares.
-fn named_in<'a>(listed: &'a ListedMember<'a>, name: &str) -> Option<TypeField<'a>>
-    ensures { option_map seen_field result ≡ find (has_name name.now) (fields_declared (seen_listed listed.entry.now) (seen_listed listed.entry.now).written.member) }
-{
-    match listed.written.member {
-        Member::Field(decl) => {
-            let under = listed.under.as_slice();
-            named_of(decl, listed.holder.0, under, name)
-        }
-        Member::Rule(_) | Member::Do { .. } => None,
-    }
-}
-
-/// The field of that name of a declaration.
-fn named_of<'a>(
-    decl: &'a FieldDecl,
-    holder: u32,
-    under: &'a [TypeId],
-    name: &str,
-) -> Option<TypeField<'a>>
-    ensures { option_map seen_field result ≡ find (has_name name.now) (fields_named (field_tree decl.entry.now) holder under.entry.now decl.entry.now.names) }
-{
-    for own in decl.names.as_slice() {
-        if own.text.as_str() == name {
-            return Some(TypeField {
-                name: own,
-                decl,
-                holder,
-                under,
-            });
-        }
-    }
-    None
-}
-
-/// The first field of that name that members declare.
-fn named_among<'a>(members: &'a [ListedMember<'a>], name: &str) -> Option<TypeField<'a>>
-    ensures { option_map seen_field result ≡ find (has_name name.now) (fields_among (map seen_listed members.entry.now)) }
-{
-    for listed in members {
-        if let Some(found) = named_in(listed, name) {
-            return Some(found);
-        }
-    }
-    None
 }

@@ -9,8 +9,8 @@ use Rattle.type_heads.specs.Types.{Do, Types}
 use Rattle.composition.specs.Calls.{PhaseHere, callee, phases_in}
 use Rattle.composition.specs.Uses.{invocations, invoked_by}
 use Rattle.program_uses.specs.InvokedTypes.{invoked_at, invoked_do, invoked_in}
-use Rattle.program_uses.specs.SeenTexts.{seen_do}
-use Rattle.program_uses.specs.declared.program_texts.TypeDo.{TypeDo}
+use Rattle.program_fields.specs.SeenFields.{seen_do}
+use Rattle.program_fields.specs.declared.fields.TypeDo.{TypeDo}
 use Rattle.program_uses.proofs.UseLaws.{called_law}
 
 one_same : (ts : Types) (d : Do) (p : PhaseTree) → invoked_by ts d p ≡ option_to_list (invoked_at ts.table d.holder p)

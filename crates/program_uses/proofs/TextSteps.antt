@@ -21,8 +21,9 @@ use Rattle.composition.specs.Calls.{PhaseHere, phases_in, scope_at}
 use Rattle.composition.specs.Uses.{invocation_row, invocations, member_use_rows, rule_rows, text_rows}
 use Rattle.program_calls.specs.SeenLabels.{LabelHere, do_labels, labels_here}
 use Rattle.program_uses.specs.FieldRows.{field_in}
-use Rattle.program_uses.specs.SeenTexts.{bare_body, seen_do, written_rows}
-use Rattle.program_uses.specs.declared.program_texts.TypeDo.{TypeDo}
+use Rattle.program_uses.specs.SeenTexts.{bare_body, written_rows}
+use Rattle.program_fields.specs.SeenFields.{seen_do}
+use Rattle.program_fields.specs.declared.fields.TypeDo.{TypeDo}
 use Rattle.program_uses.proofs.InvokedSteps.{index_map, returns_same}
 
 -- the body of a type

@@ -17,7 +17,7 @@ use Rattle.expr_nodes.specs.Typing.{typed, expr_rows, first}
 use Rattle.composition.specs.Calls.{Assigned}
 use Rattle.composition.specs.Uses.{assigned_rows, given_rows, name_assigned, with_kind}
 use Rattle.program_uses.specs.declared.arguments.Assigned.{Assigned as OwnAssigned}
-use Rattle.program_uses.specs.SeenTexts.{seen_field}
+use Rattle.program_fields.specs.SeenFields.{seen_field}
 use Rattle.program_uses.specs.TableTypes.{of_table}
 
 -- where an argument goes

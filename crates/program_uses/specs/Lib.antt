@@ -8,4 +8,3 @@ pub mod CompositionRows
 pub mod ModifierRows
 pub mod PhaseRows
 pub mod InvokedTypes
-pub mod GatheredLists

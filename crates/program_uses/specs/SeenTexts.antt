@@ -1,25 +1,15 @@
--- What the program's own fields and texts of types are seen as.
+-- What the program's own texts of types are seen as.
 use Rattle.std.specs.Prelude.{◌≡◌, ℕ, List, [], None, map, option_map, slice_index_or}
 use Rattle.osc_base.specs.FaultRows.{FaultRow}
-use Rattle.dsl_tree.specs.Views.{field_tree, phase_tree}
 use Rattle.type_heads.specs.Bodied.{seen_body}
 use Rattle.type_heads.specs.Members.{nowhere, the_do}
 use Rattle.type_heads.specs.Told.{Told}
-use Rattle.type_heads.specs.Types.{Do, Field, Types, Written}
+use Rattle.type_heads.specs.Types.{Types, Written}
 use Rattle.type_heads.specs.declared.body.Body.{Body}
-use Rattle.type_members.specs.Listed.{lists_of}
+use Rattle.program_fields.specs.SeenFields.{seen_do}
+use Rattle.program_fields.specs.Tables.{lists_in}
 use Rattle.composition.specs.Uses.{member_use_rows}
-use Rattle.program_uses.specs.declared.program_texts.TypeDo.{TypeDo}
-use Rattle.program_uses.specs.declared.program_texts.TypeField.{TypeField}
 use Rattle.program_uses.specs.declared.program_texts.ProgramTexts.{ProgramTexts}
-
--- a field
-abbrev pub seen_field : TypeField → Field
-seen_field f = record { name = f.name.now; tree = field_tree f.decl.now; holder = f.holder; under = f.under.now }
-
--- a `do`
-abbrev pub seen_do : TypeDo → Do
-seen_do d = record { holder = d.holder; place = d.place; phase = phase_tree d.phase.now; under = d.under.now }
 
 -- the body of a type without text
 abbrev pub bare_body : Body
@@ -32,7 +22,7 @@ written_rows ts t w = member_use_rows ts t w.member
 -- the members, the `do` and the body of each type of the program
 pub record HasTextsOf (ts : Types) (p : ProgramTexts) : Type 0 where
   pub library : p.library ≡ ts.library
-  pub members_told : lists_of p.lists.now ≡ ts.members
+  pub members_told : lists_in p.fields ≡ ts.members
   pub do_told : (t : ℕ) → option_map seen_do (slice_index_or p.dos.items t None) ≡ the_do ts t
   pub bodies_told : map seen_body p.bodies.now ≡ ts.bodies
 

@@ -1,9 +1,8 @@
 //! The faults of the arguments of an invocation.
 
-ghost use Rattle.std.specs.Prelude.{◌≡◌, ◌||◌, [], None, Some, bytes_eq, cond, find, is_some, map, not, option_map, IfOk};
+ghost use Rattle.std.specs.Prelude.{◌≡◌, ◌||◌, [], None, Some, cond, is_some, map, not, IfOk};
 ghost use Rattle.osc_base.specs.FaultRows.{first_from};
 ghost use Rattle.dsl_tree.specs.Views.{argument_tree, expr_tree, field_tree};
-ghost use Rattle.type_heads.specs.Types.{Field};
 ghost use Rattle.expr_nodes.specs.Fits.{duration_fit_rows};
 ghost use Rattle.expr_nodes.specs.Parts.{of_one};
 ghost use Rattle.expr_nodes.specs.Seen.{seen_part};
@@ -12,11 +11,11 @@ ghost use Rattle.expr_nodes.specs.Typing.{first as first_in, typed};
 ghost use Rattle.composition.specs.Calls.{Assigned as AssignedTo};
 ghost use Rattle.composition.specs.Uses.{argument_place as place_of_argument, given_rows, is_object_of, object_rows};
 ghost use Rattle.program_uses.specs.ArgumentRows.{Continues, arguments_in, assigned_in, field_value_rows, seen_assigned, value_rows};
-ghost use Rattle.program_uses.specs.SeenTexts.{seen_field};
+ghost use Rattle.program_fields.specs.SeenFields.{seen_field};
+ghost use Rattle.program_fields.specs.Tables.{fields_in};
 ghost use Rattle.program_uses.specs.TableTypes.{of_table};
 
 use crate::held::{held_in, holds_object};
-use crate::program_texts::TypeField;
 use crate::rules::with_expr;
 use dsl_tree::{Argument, Expr, FieldDecl, Ident};
 use expr_eval::checked;
@@ -24,6 +23,7 @@ use expr_nodes::{Scope, Typed};
 use name_scope::with_fault;
 use osc_base::{Boxed, Fault, FaultCode, Place};
 use program_calls::{begins_with_label, first_place, is_kind_of, is_path};
+use program_fields::{FieldsOf, TypeField};
 use std::alloc::{AllocError, Global};
 use type_faults::TextSet;
 use type_model::{TypeId, Types};
@@ -39,39 +39,27 @@ pub(crate) enum Assigned<'a> {
     Given(TypeField<'a>),
 }
 
-/// The field of that name.
-fn field_named<'a>(fields: &[TypeField<'a>], name: &str) -> Option<TypeField<'a>>
-    ensures { option_map seen_field result ≡ find (λ (f : Field). bytes_eq f.name.text name.now) (map seen_field fields.now) }
-{
-    for field in fields {
-        if field.name.text.as_str() == name {
-            return Some(*field);
-        }
-    }
-    None
-}
-
 /// Where an argument with a name goes.
-fn assigned_by_name<'a>(fields: &[TypeField<'a>], name: &'a Ident) -> Assigned<'a>
-    ensures { seen_assigned result ≡ assigned_in (map seen_field fields.now) 0 (Some name.entry.now) }
+fn assigned_by_name<'a>(fields: &FieldsOf<'_, 'a>, name: &'a Ident) -> Assigned<'a>
+    ensures { seen_assigned result ≡ assigned_in (fields_in fields.now) 0 (Some name.entry.now) }
 {
     if name.text.as_str() == "duration" {
         return Assigned::Duration;
     }
-    match field_named(fields, name.text.as_str()) {
+    match fields.named(name.text.as_str()) {
         Some(field) => Assigned::Given(field),
         None => Assigned::Unknown(name),
     }
 }
 
 /// Where the argument of that number goes.
-fn assignment<'a>(fields: &[TypeField<'a>], number: usize, name: &'a Option<Ident>) -> Assigned<'a>
-    ensures { seen_assigned result ≡ assigned_in (map seen_field fields.now) number name.entry.now }
+fn assignment<'a>(fields: &FieldsOf<'_, 'a>, number: usize, name: &'a Option<Ident>) -> Assigned<'a>
+    ensures { seen_assigned result ≡ assigned_in (fields_in fields.now) number name.entry.now }
 {
     match name {
         Some(name) => assigned_by_name(fields, name),
-        None => match fields.get(number) {
-            Some(field) => Assigned::Given(*field),
+        None => match fields.at(number) {
+            Some(field) => Assigned::Given(field),
             None => Assigned::Surplus,
         },
     }
@@ -274,10 +262,10 @@ pub(crate) fn with_arguments<'a>(
     types: &Types,
     scope: &Scope<'_>,
     first: Option<Fault>,
-    fields: &[TypeField<'a>],
+    fields: &FieldsOf<'_, 'a>,
     arguments: &'a [Argument],
 ) -> Result<Option<Fault>, AllocError>
-    ensures { IfOk result (λ f. f ≡ first_from first (arguments_in types.now.table (seen_scope scope.now) (map seen_field fields.now) [] 0 (map argument_tree arguments.entry.now))) }
+    ensures { IfOk result (λ f. f ≡ first_from first (arguments_in types.now.table (seen_scope scope.now) (fields_in fields.now) [] 0 (map argument_tree arguments.entry.now))) }
 {
     let mut met = TextSet::new(alloc);
     let mut fault = first;

@@ -7,7 +7,7 @@ ghost use Rattle.dsl_tree.specs.PhaseTree.{ArgumentTree};
 ghost use Rattle.dsl_tree.specs.Views.{argument_tree, part_tree};
 ghost use Rattle.type_heads.specs.Members.{fields_among};
 ghost use Rattle.type_heads.specs.Types.{Types as TypesOf};
-ghost use Rattle.type_members.specs.Listed.{lists_of};
+ghost use Rattle.program_fields.specs.Tables.{lists_in};
 ghost use Rattle.expr_nodes.specs.Parts.{of_one};
 ghost use Rattle.expr_nodes.specs.Seen.{seen_part};
 ghost use Rattle.expr_nodes.specs.SeenNames.{seen_it, seen_scope};
@@ -20,7 +20,6 @@ ghost use Rattle.program_uses.specs.SeenTexts.{Tells};
 ghost use Rattle.program_uses.specs.TableTypes.{of_table};
 
 use crate::arguments::with_arguments;
-use crate::gathered::fields_of;
 use crate::modifiers::with_modifier;
 use crate::program_texts::ProgramTexts;
 use crate::rules::{with_expr, with_known, with_rule};
@@ -144,10 +143,10 @@ fn with_resolved<'a>(
     of: TypeId,
     arguments: &'a [Argument],
 ) -> Result<Option<Fault>, AllocError>
-    ensures { IfOk result (λ f. f ≡ first_from first (arguments_in types.now.table (seen_scope scope.now) (fields_among (slice_index_or (lists_of texts.now.lists.now) of [])) [] 0 (map argument_tree arguments.entry.now))) }
+    ensures { IfOk result (λ f. f ≡ first_from first (arguments_in types.now.table (seen_scope scope.now) (fields_among (slice_index_or (lists_in texts.now.fields) of [])) [] 0 (map argument_tree arguments.entry.now))) }
 {
-    let fields = fields_of(alloc, texts.lists.of(of))?;
-    with_arguments(alloc, types, scope, first, fields.as_slice(), arguments)
+    let fields = texts.fields.of(of);
+    with_arguments(alloc, types, scope, first, &fields, arguments)
 }
 
 /// Faults of the arguments of an invocation.

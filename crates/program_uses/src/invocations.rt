@@ -11,13 +11,15 @@ ghost use Rattle.type_faults.specs.Ranking.{IsShown};
 ghost use Rattle.composition.specs.Uses.{invocation_row, invocations};
 ghost use Rattle.program_calls.specs.PlacedPhases.{seen_phase};
 ghost use Rattle.program_uses.specs.InvokedTypes.{AreInvoked, invoked_at, invoked_in, invoked_do, row_of};
-ghost use Rattle.program_uses.specs.SeenTexts.{Tells, seen_do};
+ghost use Rattle.program_fields.specs.SeenFields.{seen_do};
+ghost use Rattle.program_uses.specs.SeenTexts.{Tells};
 
-use crate::program_texts::{ProgramTexts, TypeDo};
+use crate::program_texts::ProgramTexts;
 use dsl_tree::Phase;
 use name_scope::with_fault;
 use osc_base::{Fault, FaultCode, Row};
 use program_calls::{PlacedPhase, invoked, phases_in};
+use program_fields::TypeDo;
 use std::alloc::{AllocError, Global};
 use type_faults::{Ranking, Steps};
 use type_model::{TypeId, TypeKind, Types};

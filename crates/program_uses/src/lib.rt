@@ -6,7 +6,6 @@ mod calls;
 mod compositions;
 mod expr_parts;
 mod fields;
-mod gathered;
 mod held;
 mod invocations;
 mod modifiers;

@@ -3,10 +3,9 @@
 ghost use Rattle.std.specs.Prelude.{◌≡◌, None, slice_index_or};
 ghost use Rattle.program_uses.specs.SeenTexts.{bare_body};
 
-use dsl_tree::{FieldDecl, Ident, Phase};
 use osc_base::Place;
+use program_fields::{ProgramFields, TypeDo};
 use type_heads::{Body, WrittenMember};
-use type_members::MemberLists;
 use type_model::TypeId;
 
 /// The place of what no file declares.
@@ -17,31 +16,11 @@ const NOWHERE: Place = Place {
     token: 0,
 };
 
-/// A field of a type: its name, its declaration, the number of the type in whose text that stands, and the conditional subtypes that
-/// it is under, outermost first.
-#[derive(Clone, Copy)]
-pub(crate) struct TypeField<'a> {
-    pub name: &'a Ident,
-    pub decl: &'a FieldDecl,
-    pub holder: u32,
-    pub under: &'a [TypeId],
-}
-
-/// The `do` of a scenario: the number of the type in whose text it stands, its place, its phase, and the conditional subtypes that it is
-/// under, outermost first.
-#[derive(Clone, Copy)]
-pub(crate) struct TypeDo<'a> {
-    pub holder: u32,
-    pub place: Place,
-    pub phase: &'a Phase,
-    pub under: &'a [TypeId],
-}
-
-/// The members, the `do` and the body of each type.
+/// The fields, the `do` and the body of each type.
 #[derive(Drop)]
 pub(crate) struct ProgramTexts<'a> {
     pub library: Option<u32>,
-    pub lists: &'a MemberLists<'a>,
+    pub fields: ProgramFields<'a>,
     pub dos: Vec<Option<TypeDo<'a>>>,
     pub bodies: &'a [Body<'a>],
 }

@@ -8,17 +8,17 @@ ghost use Rattle.type_members.specs.Listed.{lists_of};
 ghost use Rattle.composition.specs.Uses.{use_rows};
 ghost use Rattle.program_uses.specs.SeenTexts.{HasTextsOf, Tells};
 
-use crate::gathered::all_dos;
 use crate::invocations::with_invocations;
 use crate::program_texts::ProgramTexts;
 use crate::texts::with_texts;
 use osc_base::Fault;
+use program_fields::ProgramFields;
 use std::alloc::{AllocError, Global};
 use type_heads::Body;
 use type_members::MemberLists;
 use type_model::Types;
 
-/// The members, the `do` and the body of each type.
+/// The fields, the `do` and the body of each type.
 fn texts_of<'a>(
     alloc: Global,
     library: Option<u32>,
@@ -27,10 +27,11 @@ fn texts_of<'a>(
 ) -> Result<ProgramTexts<'a>, AllocError>
     ensures { IfOk result (λ t. (ts : TypesOf) → library ≡ ts.library → map seen_body bodies.entry.now ≡ ts.bodies → lists_of lists.entry.now ≡ ts.members → HasTextsOf ts t) }
 {
-    let dos = all_dos(alloc, lists)?;
+    let fields = ProgramFields::build(alloc, lists)?;
+    let dos = fields.all_dos(alloc)?;
     Ok(ProgramTexts {
         library,
-        lists,
+        fields,
         dos,
         bodies,
     })

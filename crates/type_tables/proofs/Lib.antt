@@ -2,4 +2,4 @@ mod Ascending
 mod MemberFields
 mod FieldSpans
 mod ListLengths
-mod Firsts
+pub mod Firsts

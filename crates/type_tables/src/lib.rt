@@ -15,6 +15,7 @@ pub use conditions::all_conditions;
 pub use field_lists::FieldLists;
 pub use field_table::FieldTable;
 pub use fields::field_named;
+pub use first_places::{FirstPlaces, HasName, found_before};
 pub use numbers::all_numbers;
 pub use text_table::TextTable;
 pub use unit_table::UnitTable;

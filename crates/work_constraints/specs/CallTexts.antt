@@ -19,7 +19,7 @@ use Rattle.composition.specs.Expansion.{Calling}
 use Rattle.composition.specs.Givens.{read_at, required}
 use Rattle.composition.specs.Homes.{home}
 use Rattle.composition.specs.Scenes.{Binding, Occurrence}
-use Rattle.program_texts.specs.SeenFields.{has_name}
+use Rattle.program_fields.specs.SeenFields.{has_name}
 use Rattle.text_constraints.specs.Kept.{Holder, constraint, rule_kept}
 use Rattle.text_constraints.specs.Sites.{Site, at_home, typed_home}
 

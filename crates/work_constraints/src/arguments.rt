@@ -1,11 +1,12 @@
 //! The constraints of an invocation: of its arguments and of its `with:`.
 
-ghost use Rattle.std.specs.Prelude.{◌≡◌, ◌++◌, ◌∷◌, [], None, Some, find, flat_map, map, option_copied, option_map, option_to_list, IfOk, OnOk};
+ghost use Rattle.std.specs.Prelude.{◌≡◌, ◌++◌, ◌∷◌, [], None, Some, flat_map, map, option_map, option_to_list, IfOk, OnOk};
 ghost use Rattle.composition.specs.SeenParts.{seen_occurrence};
 ghost use Rattle.dsl_tree.specs.Views.{argument_tree, expr_tree, part_tree};
 ghost use Rattle.expr_nodes.specs.Scope as Scopes;
 ghost use Rattle.expr_nodes.specs.SeenNames.{seen_scope};
-ghost use Rattle.program_texts.specs.SeenFields.{has_name, seen_field};
+ghost use Rattle.program_fields.specs.SeenFields.{seen_field};
+ghost use Rattle.program_fields.specs.Tables.{fields_in};
 ghost use Rattle.work_constraints.specs.CallTexts.{argument_field, argument_kept, arguments_kept, for_duration, invocation_kept, part_kept, with_it};
 ghost use Rattle.work_constraints.specs.CallTexts as CallTexts;
 ghost use Rattle.text_constraints.specs.Kept.{seen_owner};
@@ -15,7 +16,7 @@ use crate::required::{push_duration, push_parameter};
 use composition::Occurrence;
 use dsl_tree::{Argument, Expr, Ident, InvokeNode, InvokePart};
 use expr_nodes::{It, Scope};
-use program_texts::TypeField;
+use program_fields::{FieldsOf, TypeField};
 use scene_places::Places;
 use std::alloc::{AllocError, Global};
 use text_constraints::{Owner, TextSite, push_rule};
@@ -31,29 +32,17 @@ fn is_for_duration(name: &Option<Ident>) -> bool
     }
 }
 
-/// The field of that name.
-fn named_field<'f, 'p>(fields: &'f [TypeField<'p>], name: &str) -> Option<&'f TypeField<'p>>
-    ensures { option_map seen_field (option_copied result) ≡ find (has_name name.now) (map seen_field fields.entry.now) }
-{
-    for field in fields {
-        if field.name.text.as_str() == name {
-            return Some(field);
-        }
-    }
-    None
-}
-
 /// The field to which the argument at a place goes, unless it is for the duration.
-fn field_of<'f, 'p>(
-    fields: &'f [TypeField<'p>],
+fn field_of<'p>(
+    fields: &FieldsOf<'_, 'p>,
     place: usize,
     name: &Option<Ident>,
-) -> Option<&'f TypeField<'p>>
-    ensures { option_map seen_field (option_copied result) ≡ argument_field (map seen_field fields.entry.now) place name.now }
+) -> Option<TypeField<'p>>
+    ensures { option_map seen_field result ≡ argument_field (fields_in fields.now) place name.now }
 {
     match name {
-        None => fields.get(place),
-        Some(name) => named_field(fields, name.text.as_str()),
+        None => fields.at(place),
+        Some(name) => fields.named(name.text.as_str()),
     }
 }
 
@@ -118,10 +107,10 @@ fn push_fielded(
     scope: &Scope<'_>,
     of: TypeId,
     into: &mut Vec<Occurrence>,
-    field: Option<&TypeField<'_>>,
+    field: Option<TypeField<'_>>,
     value: &Expr,
 ) -> Result<(), AllocError>
-    ensures { OnOk result (map seen_occurrence into.new.items ≡ map seen_occurrence into.old.items ++ flat_map (CallTexts.field_argument types.now.table (site_of places.now (seen_scope scope.now)) (seen_owner owner.now) of (expr_tree value.now)) (option_to_list (option_map seen_field (option_copied field.entry)))) }
+    ensures { OnOk result (map seen_occurrence into.new.items ≡ map seen_occurrence into.old.items ++ flat_map (CallTexts.field_argument types.now.table (site_of places.now (seen_scope scope.now)) (seen_owner owner.now) of (expr_tree value.now)) (option_to_list (option_map seen_field field.entry))) }
 {
     match field {
         Some(field) => push_given(
@@ -139,12 +128,12 @@ fn push_argument(
     owner: &Owner<'_, '_>,
     scope: &Scope<'_>,
     of: TypeId,
-    fields: &[TypeField<'_>],
+    fields: &FieldsOf<'_, '_>,
     into: &mut Vec<Occurrence>,
     place: usize,
     argument: &Argument,
 ) -> Result<(), AllocError>
-    ensures { OnOk result (map seen_occurrence into.new.items ≡ map seen_occurrence into.old.items ++ argument_kept types.now.table (site_of places.now (seen_scope scope.now)) (seen_owner owner.now) of (map seen_field fields.now) place (argument_tree argument.now)) }
+    ensures { OnOk result (map seen_occurrence into.new.items ≡ map seen_occurrence into.old.items ++ argument_kept types.now.table (site_of places.now (seen_scope scope.now)) (seen_owner owner.now) of (fields_in fields.now) place (argument_tree argument.now)) }
 {
     if is_for_duration(&argument.name) {
         return push_stated(alloc, types, places, owner, scope, into, &argument.value);
@@ -171,11 +160,11 @@ fn push_arguments(
     owner: &Owner<'_, '_>,
     scope: &Scope<'_>,
     of: TypeId,
-    fields: &[TypeField<'_>],
+    fields: &FieldsOf<'_, '_>,
     into: &mut Vec<Occurrence>,
     arguments: &[Argument],
 ) -> Result<(), AllocError>
-    ensures { OnOk result (map seen_occurrence into.new.items ≡ map seen_occurrence into.old.items ++ arguments_kept types.now.table (site_of places.now (seen_scope scope.now)) (seen_owner owner.now) of (map seen_field fields.now) 0 (map argument_tree arguments.now)) }
+    ensures { OnOk result (map seen_occurrence into.new.items ≡ map seen_occurrence into.old.items ++ arguments_kept types.now.table (site_of places.now (seen_scope scope.now)) (seen_owner owner.now) of (fields_in fields.now) 0 (map argument_tree arguments.now)) }
 {
     for (place, argument) in arguments.iter().enumerate() {
         push_argument(
@@ -253,11 +242,11 @@ pub(crate) fn push_invocation(
     owner: &Owner<'_, '_>,
     scope: &Scope<'_>,
     of: TypeId,
-    fields: &[TypeField<'_>],
+    fields: &FieldsOf<'_, '_>,
     into: &mut Vec<Occurrence>,
     node: &InvokeNode,
 ) -> Result<(), AllocError>
-    ensures { OnOk result (map seen_occurrence into.new.items ≡ map seen_occurrence into.old.items ++ invocation_kept types.now.table (site_of places.now (seen_scope scope.now)) (seen_owner owner.now) of (map seen_field fields.now) (map argument_tree node.now.arguments) (map part_tree node.now.parts)) }
+    ensures { OnOk result (map seen_occurrence into.new.items ≡ map seen_occurrence into.old.items ++ invocation_kept types.now.table (site_of places.now (seen_scope scope.now)) (seen_owner owner.now) of (fields_in fields.now) (map argument_tree node.now.arguments) (map part_tree node.now.parts)) }
 {
     let arguments = node.arguments.as_slice();
     push_arguments(

@@ -104,7 +104,7 @@ fn push_invoke(
 {
     let labels = texts.labels(alloc, call.holder)?;
     let scope = call_scope(labels.table(), call);
-    let fields = texts.fields(alloc, of)?;
+    let fields = texts.fields_of(of);
     let places = Places {
         object: &call.object,
         it: &call.path,
@@ -118,7 +118,7 @@ fn push_invoke(
         &owner,
         &scope,
         of,
-        fields.as_slice(),
+        &fields,
         into,
         node,
     )

@@ -1,6 +1,6 @@
 use Rattle.std.proofs.Common.{drop, map}
 use Rattle.dsl_tree.specs.Views.{argument_tree}
-use Rattle.program_texts.specs.SeenFields.{seen_field}
+use Rattle.program_fields.specs.Tables.{fields_in}
 use Rattle.program_texts.specs.SeenTexts.{types_in}
 use Rattle.work_counts.specs.Amounts.{kept}
 use Rattle.work_counts.proofs.Sums.{Counted}
@@ -9,5 +9,5 @@ use Rattle.node_counts.proofs.arguments.given_tally.Given as goal
 
 abbrev pub invariant-loop-place : goal.invariant-loop-place
 invariant-loop-place l = Counted l.all
-    (kept (arguments_amount (types_in l.texts).table l.of (map seen_field l.fields) l.place (map argument_tree (drop l.place l.arguments))))
-    (kept (arguments_amount (types_in l.texts).table l.of (map seen_field l.fields) 0 (map argument_tree l.arguments)))
+    (kept (arguments_amount (types_in l.texts).table l.of (fields_in l.fields) l.place (map argument_tree (drop l.place l.arguments))))
+    (kept (arguments_amount (types_in l.texts).table l.of (fields_in l.fields) 0 (map argument_tree l.arguments)))

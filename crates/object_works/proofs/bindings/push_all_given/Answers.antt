@@ -4,7 +4,7 @@ use Rattle.composition.specs.SeenParts.{seen_binding}
 use Rattle.dsl_tree.specs.Views.{argument_tree}
 use Rattle.expr_nodes.specs.Scope.{It}
 use Rattle.expr_nodes.specs.SeenNames.{seen_scope}
-use Rattle.program_texts.specs.SeenFields.{seen_field}
+use Rattle.program_fields.specs.Tables.{fields_in}
 use Rattle.program_texts.specs.SeenTexts.{types_in}
 use Rattle.scene_expansion.specs.SeenWorks.{seen_call}
 use Rattle.scene_texts.specs.Moving.{seen_bound}
@@ -18,9 +18,9 @@ returns c =
     let ts = types_in c.args.texts.now in
     let call = seen_call c.args.call.now in
     on_ok
-    (map seen_binding c.push_arguments.new.into ≡ map seen_binding c.args.into.now ++ arguments_bound ts.table (seen_scope c.call_scope-scope.result) (map seen_bound c.as_slice-2.result.now) call (map seen_field c.as_slice-3.result.now) 0 (map argument_tree c.args.arguments.now))
+    (map seen_binding c.push_arguments.new.into ≡ map seen_binding c.args.into.now ++ arguments_bound ts.table (seen_scope c.call_scope-scope.result) (map seen_bound c.as_slice-2.result.now) call (fields_in c.fields_of-fields.result) 0 (map argument_tree c.args.arguments.now))
     (map seen_binding c.push_arguments.new.into ≡ map seen_binding c.args.into.now ++ of_arguments ts c.args.of (argument_binding ts call (here_in ts call (Some (It.Of c.args.of None)))) 0 (map argument_tree c.args.arguments.now))
     (λ h. h ∙ ap (λ bs. map seen_binding c.args.into.now ++ bs)
-    (given_is ts call c.args.of (seen_scope c.call_scope-scope.result) (map seen_bound c.as_slice-2.result.now) (map seen_field c.as_slice-3.result.now) (map argument_tree c.args.arguments.now)
-    (c.call_scope-scope.ensures (types_in c.args.texts.now) (c.table.ensures ∙ c.in_ok-labels.ensures)) (ap (map seen_bound) c.as_slice-2.ensures ∙ c.in_ok-homes.ensures ∙ ap (map seen_binding) c.as_slice.ensures) (ap (map seen_field) c.as_slice-3.ensures ∙ c.in_ok-fields.ensures)))
+    (given_is ts call c.args.of (seen_scope c.call_scope-scope.result) (map seen_bound c.as_slice-2.result.now) (fields_in c.fields_of-fields.result) (map argument_tree c.args.arguments.now)
+    (c.call_scope-scope.ensures (types_in c.args.texts.now) (c.table.ensures ∙ c.in_ok-labels.ensures)) (ap (map seen_bound) c.as_slice-2.ensures ∙ c.in_ok-homes.ensures ∙ ap (map seen_binding) c.as_slice.ensures) c.fields_of-fields.ensures))
     c.push_arguments.result c.push_arguments.ensures

@@ -2,7 +2,7 @@ use Rattle.std.proofs.Common.{◌≡◌, ◌++◌, drop, map}
 use Rattle.composition.specs.SeenParts.{seen_binding}
 use Rattle.dsl_tree.specs.Views.{argument_tree}
 use Rattle.expr_nodes.specs.SeenNames.{seen_scope}
-use Rattle.program_texts.specs.SeenFields.{seen_field}
+use Rattle.program_fields.specs.Tables.{fields_in}
 use Rattle.program_texts.specs.SeenTexts.{types_in}
 use Rattle.scene_expansion.specs.SeenWorks.{seen_call}
 use Rattle.scene_texts.specs.Moving.{seen_bound}
@@ -11,5 +11,5 @@ use Rattle.object_works.proofs.bindings.push_arguments.Given as goal
 
 abbrev pub invariant-loop-place : goal.invariant-loop-place
 invariant-loop-place l =
-    map seen_binding l.into ++ arguments_bound (types_in l.texts).table (seen_scope l.scope) (map seen_bound l.homes) (seen_call l.call) (map seen_field l.fields) l.place (map argument_tree (drop l.place l.arguments))
-    ≡ map seen_binding l.fn.into ++ arguments_bound (types_in l.texts).table (seen_scope l.scope) (map seen_bound l.homes) (seen_call l.call) (map seen_field l.fields) 0 (map argument_tree l.arguments)
+    map seen_binding l.into ++ arguments_bound (types_in l.texts).table (seen_scope l.scope) (map seen_bound l.homes) (seen_call l.call) (fields_in l.fields) l.place (map argument_tree (drop l.place l.arguments))
+    ≡ map seen_binding l.fn.into ++ arguments_bound (types_in l.texts).table (seen_scope l.scope) (map seen_bound l.homes) (seen_call l.call) (fields_in l.fields) 0 (map argument_tree l.arguments)

@@ -5,7 +5,7 @@ use Rattle.dsl_tree.specs.Views.{argument_tree}
 use Rattle.expr_nodes.specs.SeenNames.{seen_scope}
 use Rattle.composition.specs.Calls.{Assigned}
 use Rattle.program_uses.specs.ArgumentRows.{Continues, field_value_rows}
-use Rattle.program_uses.specs.SeenTexts.{seen_field}
+use Rattle.program_fields.specs.SeenFields.{seen_field}
 use Rattle.program_uses.proofs.ArgumentSteps.{given}
 use Rattle.program_uses.proofs.RowSteps.{if_ok}
 use Rattle.program_uses.proofs.arguments.with_field.Goals as goal

@@ -3,7 +3,7 @@ use Rattle.osc_base.specs.FaultRows.{first_from}
 use Rattle.dsl_tree.specs.Views.{argument_tree}
 use Rattle.type_heads.specs.Members.{fields_among}
 use Rattle.type_heads.specs.Types.{Types}
-use Rattle.type_members.specs.Listed.{lists_of}
+use Rattle.program_fields.specs.Tables.{lists_in}
 use Rattle.expr_nodes.specs.SeenNames.{seen_scope}
 use Rattle.composition.specs.Uses.{call_rows}
 use Rattle.program_uses.specs.ArgumentRows.{arguments_in}
@@ -17,7 +17,7 @@ returns-in-Some c =
     let table = c.args.types.now.table in
     let sc = seen_scope c.args.scope.now in
     let args = map argument_tree c.args.arguments.now in
-    let fs = fields_among (slice_index_or (lists_of c.args.texts.now.lists.now) c.in-Some.of []) in
+    let fs = fields_among (slice_index_or (lists_in c.args.texts.now.fields) c.in-Some.of []) in
     if_ok (λ f. f ≡ first_from c.args.first (arguments_in table sc fs [] 0 args))
     (λ f. (ts : Types) → Tells ts c.args.types.now c.args.texts.now → f ≡ first_from c.args.first (call_rows ts sc c.args.of.now args))
     (λ f is ts told. is ∙ given_law ts table sc c.args.first c.in-Some.of fs args told.table (ap (λ ms. fields_among (slice_index_or ms c.in-Some.of [])) told.texts.members_told)

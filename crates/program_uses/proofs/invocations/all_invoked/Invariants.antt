@@ -1,6 +1,6 @@
 use Rattle.std.proofs.Common.{◌≡◌, ◌++◌, drop, map, option_map}
 use Rattle.program_uses.specs.InvokedTypes.{invoked_do}
-use Rattle.program_uses.specs.SeenTexts.{seen_do}
+use Rattle.program_fields.specs.SeenFields.{seen_do}
 use Rattle.program_uses.proofs.invocations.all_invoked.Given as goal
 
 abbrev pub invariant-loop-found : goal.invariant-loop-found

@@ -4,7 +4,8 @@ use Rattle.type_heads.specs.Table.{all_types}
 use Rattle.type_heads.specs.Types.{Types}
 use Rattle.composition.specs.Uses.{invocation_row}
 use Rattle.program_uses.specs.InvokedTypes.{AreInvoked, invoked_do}
-use Rattle.program_uses.specs.SeenTexts.{Tells, seen_do}
+use Rattle.program_uses.specs.SeenTexts.{Tells}
+use Rattle.program_fields.specs.SeenFields.{seen_do}
 use Rattle.program_uses.proofs.InvokedSteps.{are_invoked}
 use Rattle.program_uses.proofs.RowSteps.{if_ok}
 use Rattle.program_uses.proofs.invocations.with_invocations.Goals as goal

@@ -1,7 +1,7 @@
 use Rattle.std.proofs.Common.{◌++◌, map}
 use Rattle.composition.specs.SeenParts.{seen_occurrence}
 use Rattle.dsl_tree.specs.Views.{argument_tree}
-use Rattle.program_texts.specs.SeenFields.{seen_field}
+use Rattle.program_fields.specs.Tables.{fields_in}
 use Rattle.expr_nodes.specs.SeenNames.{seen_scope}
 use Rattle.text_constraints.specs.Kept.{seen_owner}
 use Rattle.text_constraints.specs.Sites.{site_of}
@@ -13,7 +13,7 @@ pub loop-place-preserved : goal.loop-place-preserved
 loop-place-preserved c =
     let h = seen_owner c.args.owner.now in
     let table = c.args.types.now.table in
-    let fields = map seen_field c.args.fields.now in
+    let fields = fields_in c.args.fields.now in
     let site = site_of c.args.places.now (seen_scope c.args.scope.now) in
     arguments_more table site h c.args.of fields c.args.arguments.now c.loop-place.place c.index-arguments-place.result
     (map seen_occurrence c.loop-place.into.items) (map seen_occurrence c.push_argument.new.into.items)

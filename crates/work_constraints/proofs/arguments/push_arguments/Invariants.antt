@@ -2,7 +2,7 @@ use Rattle.std.proofs.Common.{◌≡◌, ◌++◌, drop, map}
 use Rattle.composition.specs.SeenParts.{seen_occurrence}
 use Rattle.dsl_tree.specs.Views.{argument_tree}
 use Rattle.expr_nodes.specs.SeenNames.{seen_scope}
-use Rattle.program_texts.specs.SeenFields.{seen_field}
+use Rattle.program_fields.specs.Tables.{fields_in}
 use Rattle.text_constraints.specs.Kept.{seen_owner}
 use Rattle.text_constraints.specs.Sites.{site_of}
 use Rattle.work_constraints.specs.CallTexts.{arguments_kept}
@@ -10,5 +10,5 @@ use Rattle.work_constraints.proofs.arguments.push_arguments.Given as goal
 
 abbrev pub invariant-loop-place : goal.invariant-loop-place
 invariant-loop-place l =
-    map seen_occurrence l.into.items ++ arguments_kept l.types.table (site_of l.places (seen_scope l.scope)) (seen_owner l.owner) l.of (map seen_field l.fields) l.place (map argument_tree (drop l.place l.arguments))
-    ≡ map seen_occurrence l.fn.into.items ++ arguments_kept l.types.table (site_of l.places (seen_scope l.scope)) (seen_owner l.owner) l.of (map seen_field l.fields) 0 (map argument_tree l.arguments)
+    map seen_occurrence l.into.items ++ arguments_kept l.types.table (site_of l.places (seen_scope l.scope)) (seen_owner l.owner) l.of (fields_in l.fields) l.place (map argument_tree (drop l.place l.arguments))
+    ≡ map seen_occurrence l.fn.into.items ++ arguments_kept l.types.table (site_of l.places (seen_scope l.scope)) (seen_owner l.owner) l.of (fields_in l.fields) 0 (map argument_tree l.arguments)

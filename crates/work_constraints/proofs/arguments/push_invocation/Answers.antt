@@ -1,7 +1,7 @@
 use Rattle.std.proofs.Common.{◌∙◌, ◌++◌, ap, map}
 use Rattle.composition.specs.SeenParts.{seen_occurrence}
 use Rattle.dsl_tree.specs.Views.{argument_tree, part_tree}
-use Rattle.program_texts.specs.SeenFields.{seen_field}
+use Rattle.program_fields.specs.Tables.{fields_in}
 use Rattle.expr_nodes.specs.SeenNames.{seen_scope}
 use Rattle.text_constraints.specs.Kept.{seen_owner}
 use Rattle.text_constraints.specs.Sites.{site_of}
@@ -16,7 +16,7 @@ returns c =
     let old = map seen_occurrence c.args.into.now.items in
     let mid = map seen_occurrence c.push_arguments.new.into.items in
     let new = map seen_occurrence c.push_with.new.into.items in
-    let fields = map seen_field c.args.fields.now in
+    let fields = fields_in c.args.fields.now in
     let site = site_of c.args.places.now (seen_scope c.args.scope.now) in
     let arguments = map argument_tree c.args.node.now.arguments in
     let parts = map part_tree c.args.node.now.parts in

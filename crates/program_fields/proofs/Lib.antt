@@ -1,0 +1,4 @@
+mod Agreeing
+mod Placed
+mod RowSteps
+mod SpotSteps

@@ -1,0 +1,120 @@
+//! The fields that members declare, and the `do` that a member is.
+
+ghost use Rattle.std.specs.Prelude.{◌≡◌, ◌++◌, map, option_map, IfOk, OnOk};
+ghost use Rattle.dsl_tree.specs.Views.{field_tree};
+ghost use Rattle.name_scope.specs.Declaring.{first_place};
+ghost use Rattle.type_heads.specs.Members.{do_declared, fields_among, fields_declared};
+ghost use Rattle.type_members.specs.Listed.{seen_listed};
+ghost use Rattle.program_fields.specs.Parts.{field_with, is_do as is_a_do};
+ghost use Rattle.program_fields.specs.SeenFields.{fields_named, seen_do, seen_field};
+
+use crate::fields::{TypeDo, TypeField};
+use dsl_tree::{FieldDecl, Ident, Member};
+use osc_base::Row;
+use std::alloc::{AllocError, Global};
+use type_heads::TypeId;
+use type_members::ListedMember;
+
+/// Puts a field for each name of a declaration at the end.
+fn push_names<'a>(
+    into: &mut Vec<TypeField<'a>>,
+    decl: &'a FieldDecl,
+    holder: u32,
+    under: &'a [TypeId],
+) -> Result<(), AllocError>
+    ensures { OnOk result (map seen_field into.new.items ≡ map seen_field into.old.items ++ fields_named (field_tree decl.entry.now) holder under.entry.now decl.entry.now.names) }
+{
+    for name in decl.names.as_slice() {
+        into.push(TypeField {
+            name,
+            decl,
+            holder,
+            under,
+        })?;
+    }
+    Ok(())
+}
+
+/// Puts the fields that a member declares at the end.
+fn push_fields<'a>(
+    into: &mut Vec<TypeField<'a>>,
+    listed: &'a ListedMember<'a>,
+) -> Result<(), AllocError>
+    ensures { OnOk result (map seen_field into.new.items ≡ map seen_field into.old.items ++ fields_declared (seen_listed listed.entry.now) (seen_listed listed.entry.now).written.member) }
+{
+    match listed.written.member {
+        Member::Field(decl) => {
+            let under = listed.under.as_slice();
+            push_names(into, decl, listed.holder.0, under)
+        }
+        Member::Rule(_) | Member::Do { .. } => Ok(()),
+    }
+}
+
+/// The fields that members declare, name by name.
+pub fn fields_of<'a>(
+    alloc: Global,
+    members: &'a [ListedMember<'a>],
+) -> Result<Row<TypeField<'a>>, AllocError>
+    ensures { IfOk result (λ fields. map seen_field fields ≡ fields_among (map seen_listed members.entry.now)) }
+{
+    let mut fields = Vec::new(alloc);
+    for listed in members {
+        push_fields(&mut fields, listed)?;
+    }
+    Ok(Row::of(fields))
+}
+
+/// The field of that name, if the member declares fields.
+pub(crate) fn field_of<'a>(listed: &'a ListedMember<'a>, name: &'a Ident) -> Option<TypeField<'a>>
+    ensures { option_map seen_field result ≡ field_with name.entry.now (seen_listed listed.entry.now) (seen_listed listed.entry.now).written.member }
+{
+    match listed.written.member {
+        Member::Field(decl) => Some(TypeField {
+            name,
+            decl,
+            holder: listed.holder.0,
+            under: listed.under.as_slice(),
+        }),
+        Member::Rule(_) | Member::Do { .. } => None,
+    }
+}
+
+/// The `do` that a member is.
+pub(crate) fn do_of<'a>(listed: &'a ListedMember<'a>) -> Option<TypeDo<'a>>
+    ensures { option_map seen_do result ≡ do_declared (seen_listed listed.entry.now) (seen_listed listed.entry.now).written.member }
+{
+    match listed.written.member {
+        Member::Do { place, phase } => Some(TypeDo {
+            holder: listed.holder.0,
+            place: *place,
+            phase,
+            under: listed.under.as_slice(),
+        }),
+        Member::Field(_) | Member::Rule(_) => None,
+    }
+}
+
+/// Whether a member is a `do`.
+fn is_do(listed: &ListedMember<'_>) -> bool
+    ensures { result ≡ is_a_do (seen_listed listed.now) }
+{
+    match listed.written.member {
+        Member::Do { .. } => true,
+        Member::Field(_) | Member::Rule(_) => false,
+    }
+}
+
+/// The place of the first `do` among members, counted from 0.
+pub(crate) fn do_place(members: &[ListedMember<'_>]) -> Option<usize>
+    ensures { result ≡ first_place is_a_do 0 (map seen_listed members.now) }
+{
+    let mut place: usize = 0;
+    for listed in members {
+        if is_do(listed) {
+            return Some(place);
+        }
+        place += 1;
+    }
+    None
+}

@@ -1,0 +1,15 @@
+//! The fields and the `do` of each type, found by name and by number.
+#![tactic(auto)]
+
+mod field_row;
+mod field_rows;
+mod fields;
+mod gathered;
+mod spots;
+mod tables;
+mod views;
+
+pub use fields::{TypeDo, TypeField};
+pub use gathered::fields_of;
+pub use tables::ProgramFields;
+pub use views::FieldsOf;
