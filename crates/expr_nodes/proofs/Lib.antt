@@ -14,4 +14,3 @@ pub mod SlotValues
 pub mod StepFaults
 pub mod NoReads
 mod LabelPlaces
-mod StepRows
