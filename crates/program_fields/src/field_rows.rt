@@ -10,7 +10,7 @@ use crate::gathered::do_place;
 use crate::spots::ended_spots;
 use std::alloc::{AllocError, Global};
 use type_members::{ListedMember, MemberRow};
-use type_tables::FirstPlaces;
+use type_tables::{FirstPlaces, IndexRoom};
 
 /// The fields among members, found by their names.
 fn field_row<'a>(
@@ -30,30 +30,6 @@ fn field_row<'a>(
     })
 }
 
-/// So many members of rows that begin with an heir are indexed at most. Their lists may grow with the square of the source.
-const MOST_INDEXED: usize = 250_000;
-
-/// Whether the first member of a row stands in the text of the first type of the row, so that this inherits nothing.
-fn begins_anew(row: &MemberRow<'_>) -> bool {
-    match (row.ends.first(), row.members.first()) {
-        (Some(end), Some(member)) => member.holder == end.of,
-        _ => true,
-    }
-}
-
-/// Whether places are kept for the fields of a row, with room for so many members of rows that begin with an heir.
-fn is_indexed(row: &MemberRow<'_>, room: &mut usize) -> bool {
-    if begins_anew(row) {
-        return true;
-    }
-    let count = row.members.len();
-    if count > *room {
-        return false;
-    }
-    *room -= count;
-    true
-}
-
 /// The fields of each row of members.
 pub(crate) fn field_rows<'a>(
     alloc: Global,
@@ -62,9 +38,9 @@ pub(crate) fn field_rows<'a>(
     ensures { IfOk result (λ all. map row_facts all.items ≡ map facts_of (map seen_row rows.now)) }
 {
     let mut all = Vec::new(alloc);
-    let mut room = MOST_INDEXED;
+    let mut room = IndexRoom::new();
     for row in rows {
-        let is_indexed = is_indexed(row, &mut room);
+        let is_indexed = room.takes(row);
         all.push(field_row(alloc, row.members.as_slice(), is_indexed)?)?;
     }
     Ok(all)

@@ -8,6 +8,7 @@ ghost use Rattle.type_tables.specs.FieldEnds.{all_ends};
 
 use crate::FieldTable;
 use crate::fields::push_member;
+use crate::index_room::IndexRoom;
 use std::alloc::{AllocError, Global};
 use type_heads::{FieldEntry, Heads};
 use type_members::{ListedMember, MemberRow};
@@ -100,30 +101,6 @@ impl FieldRow {
     }
 }
 
-/// So many members of rows that begin with an heir are indexed at most. Their lists may grow with the square of the source.
-const MOST_INDEXED: usize = 250_000;
-
-/// Whether the first type of a row inherits from nothing.
-fn begins_anew(heads: &Heads, row: &MemberRow<'_>) -> bool {
-    match row.ends.first() {
-        Some(end) => heads.base(end.of).is_none(),
-        None => true,
-    }
-}
-
-/// Whether places are kept for the fields of a row, with room for so many members of rows that begin with an heir.
-fn is_indexed(heads: &Heads, row: &MemberRow<'_>, room: &mut usize) -> bool {
-    if begins_anew(heads, row) {
-        return true;
-    }
-    let count = row.members.len();
-    if count > *room {
-        return false;
-    }
-    *room -= count;
-    true
-}
-
 /// The fields of each row of members.
 pub fn field_rows(
     alloc: Global,
@@ -134,9 +111,9 @@ pub fn field_rows(
     ensures ends { IfOk result (λ all. map (λ r. r.ends.items) all.items ≡ map (all_ends heads.now) (map seen_row rows.now)) }
 {
     let mut all = Vec::new(alloc);
-    let mut room = MOST_INDEXED;
+    let mut room = IndexRoom::new();
     for row in rows {
-        let is_indexed = is_indexed(heads, row, &mut room);
+        let is_indexed = room.takes(row);
         all.push(field_row(alloc, heads, row.members.as_slice(), is_indexed)?)?;
     }
     Ok(all)
