@@ -10,7 +10,7 @@ use Rattle.dsl_tree.specs.declared.parts.Ident.{Ident}
 use Rattle.dsl_tree.specs.declared.phases.CompKind.{CompKind}
 use Rattle.dsl_tree.specs.ExprTree.{ExprTree}
 use Rattle.dsl_tree.specs.PhaseTree as Tree
-use Rattle.dsl_tree.specs.PhaseTree.{ArgumentTree, ModifierTree, PartTree, PhaseTree, Comp, Invoke, Wait, PhaseRow}
+use Rattle.dsl_tree.specs.PhaseTree.{ArgumentTree, ModifierTree, PhaseTree, Comp, Invoke, Wait, PhaseRow}
 use Rattle.dsl_tree.specs.FileTree.{MemberTree}
 use Rattle.type_heads.specs.Texts.{argument_exprs, part_exprs, phase_exprs, row_exprs, member_exprs}
 use Rattle.type_heads.specs.Types.{Program, Types, Member, Do}

@@ -31,7 +31,7 @@ use Rattle.expr_nodes.specs.Parts.{any_holds}
 use Rattle.expr_nodes.specs.Scope.{Scope}
 use Rattle.expr_nodes.specs.Sizes.{info_at, unit_size, field_size}
 use Rattle.expr_nodes.specs.Typed as Nodes
-use Rattle.expr_nodes.specs.Typed.{Typed, Read, Whole, kind, moved, place_of, begun_at}
+use Rattle.expr_nodes.specs.Typed.{Typed, Read, Whole}
 use Rattle.expr_nodes.specs.Typing.{typed, first}
 use Rattle.composition.specs.Givens.{FieldHere, field_here, value_tree, given_condition}
 use Rattle.composition.specs.Tokens.{value_tokens}

@@ -17,7 +17,7 @@ use Rattle.type_heads.specs.Types.{Types, Do}
 use Rattle.type_heads.specs.Members.{the_do}
 use Rattle.expr_nodes.specs.Kinds.{ValueKind, is_number, are_alike, object_type}
 use Rattle.expr_nodes.specs.Typed as Nodes
-use Rattle.expr_nodes.specs.Typed.{Typed, Info, Whole, kind, moved}
+use Rattle.expr_nodes.specs.Typed.{Typed, Whole, kind, moved}
 use Rattle.expr_nodes.specs.Scope.{It}
 use Rattle.expr_nodes.specs.Sizes.{unit_size}
 use Rattle.expr_nodes.specs.Parts.{any_holds, of_one, is_scalar}

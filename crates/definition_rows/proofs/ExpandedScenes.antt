@@ -4,13 +4,13 @@ use Rattle.std.specs.List.{list_all}
 use Rattle.osc_base.specs.LowestTerms.{gcd, lcm}
 use Rattle.type_heads.specs.DeclaredTypes.{types_of}
 use Rattle.composition.specs.declared.spot.ValueSpot.{ValueSpot}
-use Rattle.composition.specs.Scenes.{Scene, Spot, Occurrence, ModifierSpot, source, values, phases}
+use Rattle.composition.specs.Scenes.{Scene, Spot, source, values}
 use Rattle.composition.specs.Expanded.{scene}
 use Rattle.field_flatten.specs.Seen.{has_values}
 use Rattle.field_flatten.specs.Exactness.{IsExpanded, IsLimited, expressions, is_value_source, is_ordered_range, is_narrow_range}
 use Rattle.definition_rows.proofs.Makers.{within, of_top}
 use Rattle.definition_rows.proofs.Sources.{cargo_truck, removed_before}
-use Rattle.definition_rows.proofs.VehicleSources.{other_name, not_chosen, robot}
+use Rattle.definition_rows.proofs.VehicleSources.{not_chosen, robot}
 use Rattle.definition_rows.proofs.CutInSource.{cut_in}
 use Rattle.definition_rows.proofs.Scenes.{not_chosen_is_scene}
 

@@ -1,5 +1,5 @@
 -- Programs at the limit of what a scale or a reach may be, 2 to the power 120. A field holds up to 1000000000.
-use Rattle.std.specs.Prelude.{◌≡◌, refl, ℕ, ◌+◌, List, [], ◌∷◌, Option, Some, None, codes}
+use Rattle.std.specs.Prelude.{◌≡◌, refl, ℕ, ◌+◌, List, [], ◌∷◌, Some, None, codes}
 use Rattle.osc_base.specs.declared.fault.FaultCode.{FaultCode}
 use Rattle.osc_base.specs.LowestTerms.{gcd, lcm}
 use Rattle.dsl_tree.specs.declared.expr.Operator.{Operator}

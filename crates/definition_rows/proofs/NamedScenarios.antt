@@ -1,5 +1,5 @@
 -- Faults of the named scenario, each code once.
-use Rattle.std.specs.Prelude.{◌≡◌, refl, ℕ, ◌+◌, List, [], ◌∷◌, Option, Some, None, codes, map}
+use Rattle.std.specs.Prelude.{◌≡◌, refl, ℕ, ◌+◌, [], ◌∷◌, Option, Some, None, codes, map}
 use Rattle.std.specs.List.{range_with_len}
 use Rattle.osc_base.specs.declared.fault.Fault.{Fault}
 use Rattle.osc_base.specs.declared.fault.FaultCode.{FaultCode}

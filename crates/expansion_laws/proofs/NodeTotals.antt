@@ -1,12 +1,12 @@
 -- A scenario is too large if the counts of its parts pass a limit.
-use Rattle.std.proofs.Common.{◌≡◌, ℕ, ◌+◌, ◌*◌, Bool, List, [], ◌∷◌, ◌++◌, ◌∙◌, length, map, flat_map, refl, ap, ap₂, sym, arith}
+use Rattle.std.proofs.Common.{◌≡◌, ℕ, ◌+◌, ◌*◌, List, [], ◌∷◌, ◌++◌, ◌∙◌, length, map, flat_map, refl, ap, ap₂, sym, arith}
 use Rattle.type_heads.specs.Types.{Types}
 use Rattle.composition.specs.declared.setting.Setting.{Setting}
 use Rattle.composition.specs.Expansion.{GivenModifier, Expansion, Expansions, Object, Value, Phase, End, Part, expansion}
 use Rattle.composition.specs.SceneFaults.{is_too_large}
 use Rattle.expansion_laws.specs.Nodes.{Node, nodes_of, nodes_in, closed_of, closed_in, object_node, phase_node}
 use Rattle.expansion_laws.specs.Counts.{total, spot_objects, spot_slots, spot_rules, samples_of, given_rules, given_tokens, modifier_tokens, is_past}
-use Rattle.expansion_laws.specs.Laid.{spots_laid, givens_laid, modifiers_laid, rules_laid, tokens_laid, is_past_laid}
+use Rattle.expansion_laws.specs.Laid.{spots_laid, givens_laid, modifiers_laid, rules_laid, tokens_laid}
 use Rattle.expansion_laws.specs.NodeCounts.{node_objects, node_slots, node_rules, node_tokens, pass_limits}
 use Rattle.expansion_laws.proofs.LaidScenes.{laid_past}
 

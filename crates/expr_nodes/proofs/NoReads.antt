@@ -9,7 +9,7 @@ use Rattle.expr_nodes.specs.declared.node.Earlier.{Earlier}
 use Rattle.expr_nodes.specs.declared.node.Typed.{Typed}
 use Rattle.expr_nodes.specs.declared.node.Typed.TheViews
 use Rattle.expr_nodes.specs.Typed as Nodes
-use Rattle.expr_nodes.specs.Typed.{Item, reads}
+use Rattle.expr_nodes.specs.Typed.{reads}
 use Rattle.expr_nodes.specs.Operators.{is_constant}
 use Rattle.expr_nodes.specs.Seen.{Reached, seen, seen_info, reached, joined, grouped}
 use Rattle.expr_nodes.specs.NoReads.{constant_part}

@@ -12,7 +12,7 @@ use Rattle.expr_nodes.specs.declared.node.Earlier.{Earlier}
 use Rattle.expr_nodes.specs.declared.node.Typed.{Typed}
 use Rattle.expr_nodes.specs.declared.node.Typed.TheViews
 use Rattle.expr_nodes.specs.Typed as Nodes
-use Rattle.expr_nodes.specs.Typed.{row_of, items_of, scale}
+use Rattle.expr_nodes.specs.Typed.{row_of, scale}
 use Rattle.expr_nodes.specs.Sizes.{Size, size, is_wide, unit_size, joined as joined_size}
 use Rattle.expr_nodes.specs.Parts.{parts_of}
 use Rattle.expr_nodes.specs.Seen.{Reached, seen, seen_info, seen_size, reached, joined, grouped}

@@ -17,7 +17,7 @@ use Rattle.composition.specs.Arrangement.{Times, same_span, follow, is_least, is
 use Rattle.composition.specs.Invariants.{same_guards}
 use Rattle.field_flatten.specs.Shapes.{Layout, phase_start, phase_end}
 use Rattle.field_flatten.specs.Rules.{follow_rules, least_rules, greatest_rules, same_rules, overlap_rules, starts, ends, cover_rules, span_rule, chosen_rules, kind_rules, root_do_rules}
-use Rattle.field_flatten.proofs.Tests.{left_of, right_of, both, two_ways, under_one, path_self, In, in_map, all_at, all_append, all_map, any_map, map_same, any_from}
+use Rattle.field_flatten.proofs.Tests.{left_of, right_of, two_ways, under_one, In, all_append, all_map, any_map, map_same}
 use Rattle.field_flatten.proofs.Tests as T
 use Rattle.field_flatten.proofs.JoinedRows.{any_holds, under_holds}
 use Rattle.field_flatten.proofs.Presence.{guard_is}

@@ -3,7 +3,7 @@ use Rattle.std.proofs.Common.{◌≡◌, ℕ, zero, suc, ◌*◌, ◌/◌, ◌�
 use Rattle.std.specs.Prelude.{pos, negsuc, nat_lt, unwrap_or, option_to_list, flat_map}
 use Rattle.std.specs.Option.{option_map_or}
 use Rattle.std.specs.List.{list_any}
-use Rattle.std.proofs.Math.Nat.{mul_assoc, mul-le-mul_left, mul-le-mul_right, div-le_self, le-mul_of_pos_right}
+use Rattle.std.proofs.Math.Nat.{mul_assoc, mul-le-mul_right, le-mul_of_pos_right}
 use Rattle.std.proofs.lemmas.Int.{ints}
 use Rattle.osc_base.specs.declared.path.Path.{Path}
 use Rattle.osc_base.specs.declared.modifier.Kind.{Kind}
@@ -30,7 +30,7 @@ use Rattle.field_flatten.specs.Seen.{has_values}
 use Rattle.field_flatten.specs.Exactness.{IsExpanded, IsLimited, are_small_guards, farthest, quantity_reach, end_reach, is_narrow_range, expressions}
 use Rattle.field_flatten.proofs.Tests.{left_of, right_of, path_is, In, in_left, in_right, in_flat_map, all_at, any_at}
 use Rattle.field_flatten.proofs.Multiples.{common, share_of}
-use Rattle.field_flatten.proofs.Fitting.{Fits, RuleFits, AllRules, weaker, whole_fits, sum_fits, times_fits, equal_fits, at_most_fits, below_fits, both_fits, under_fits}
+use Rattle.field_flatten.proofs.Fitting.{Fits, RuleFits, AllRules, whole_fits, sum_fits, times_fits, equal_fits, at_most_fits, below_fits, both_fits, under_fits}
 use Rattle.field_flatten.proofs.PhaseReach.{appended, single}
 use Rattle.field_flatten.proofs.ShapeReach.{reaches}
 use Rattle.field_flatten.proofs.ItemReach.{ends, slot, at, start_fits, end_fits, setting_parts, reading, read_fits, read_one}

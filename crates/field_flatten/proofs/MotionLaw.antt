@@ -22,7 +22,7 @@ use Rattle.field_flatten.specs.Shapes.{Layout}
 use Rattle.field_flatten.specs.Points.{is_held, stands, sample_named, end_named}
 use Rattle.field_flatten.specs.Rules.{end_term, presence_rules, sample_slots, value_term, one_more, step_rules, motion_parts, motion_rule}
 use Rattle.field_flatten.specs.Exactness.{IsExpanded}
-use Rattle.field_flatten.proofs.Tests.{left_of, right_of, both, two_ways, under_one, path_self, In, all_at, all_append, all_map, any_from}
+use Rattle.field_flatten.proofs.Tests.{left_of, right_of, two_ways, under_one, path_self, In, all_at, all_append, all_map, any_from}
 use Rattle.field_flatten.proofs.Tests as T
 use Rattle.field_flatten.proofs.JoinedRows.{all_holds, under_holds, times_worth}
 use Rattle.field_flatten.proofs.NamedRun.{sample_there}

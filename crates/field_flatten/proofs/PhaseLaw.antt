@@ -24,7 +24,7 @@ use Rattle.field_flatten.specs.Shapes.{Layout, phase_start, phase_end}
 use Rattle.field_flatten.specs.Points.{is_held, stands}
 use Rattle.field_flatten.specs.Rules.{presence_rules, kind_rules, root_do_rules, arranged_rule}
 use Rattle.field_flatten.specs.Exactness.{IsExpanded}
-use Rattle.field_flatten.proofs.Tests.{left_of, right_of, both, two_ways, under_one, path_self, In, all_at, all_append, all_map, any_from}
+use Rattle.field_flatten.proofs.Tests.{left_of, right_of, under_one, path_self, In, all_at, all_append, all_map, any_from}
 use Rattle.field_flatten.proofs.Tests as T
 use Rattle.field_flatten.proofs.JoinedRows.{all_holds, under_holds}
 use Rattle.field_flatten.proofs.NamedRun.{span_there, choice_there}

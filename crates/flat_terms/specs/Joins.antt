@@ -1,5 +1,5 @@
 -- How the parts of a row are joined.
-use Rattle.std.specs.Prelude.{List, pos}
+use Rattle.std.specs.Prelude.{pos}
 use Rattle.box_eval.specs.FlatRules.{FlatTerm, FlatRule, Whole, Sum, Times, Always, Both, Either, Not}
 use Rattle.flat_terms.specs.declared.rows.TermRow.{TermRow}
 use Rattle.flat_terms.specs.declared.rows.RuleRow.{RuleRow}

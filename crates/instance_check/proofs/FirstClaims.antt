@@ -3,7 +3,6 @@ use Rattle.std.proofs.Common.{◌≡◌, ◌∙◌, refl, sym, ap, ap₂, true�
 use Rattle.std.specs.Prelude.{find, filter, flat_map, option_map, nat_eq, length}
 use Rattle.std.specs.Option.{option_or, option_map_or}
 use Rattle.std.specs.List.{list_all}
-use Rattle.osc_base.specs.declared.fault.Place.{Place}
 use Rattle.osc_base.specs.declared.mark.Strength.{Strength}
 use Rattle.osc_base.specs.declared.path.Path.{Path}
 use Rattle.osc_base.specs.Paths.{same_path}
@@ -23,12 +22,12 @@ use Rattle.composition.specs.declared.spot.ChoiceSpot.{ChoiceSpot}
 use Rattle.composition.specs.There.{is_there, is_asked}
 use Rattle.composition.specs.Slots.{ticks_of}
 use Rattle.composition.specs.Claims.{Claim, claim, claim_at, listed, those_there, listed_claims, end_claim, bounds_claims, choice_in_range, value_in_range, span_in_range, sample_in_range, item_claim, item_claims}
-use Rattle.composition.specs.Items.{Item, OfHard, OfDefault, OfTyped, OfPhase, OfModifier, OfMotion, item_holds, is_hard, hard_holds, default_holds, arranged_holds, modifier_holds, motion_holds, is_satisfied, is_overridden, occurrence_item, occurrence_items, typed_item, items}
+use Rattle.composition.specs.Items.{Item, OfTyped, OfPhase, OfModifier, OfMotion, item_holds, is_hard, hard_holds, default_holds, arranged_holds, modifier_holds, motion_holds, is_satisfied, is_overridden, occurrence_item, occurrence_items, typed_item, items}
 use Rattle.run_check.specs.declared.wrong.Wrong.{Wrong}
 use Rattle.run_check.specs.Answers.{wrong_of, first_wrong}
 use Rattle.instance_check.specs.FirstWrong.{first_of, wrong_at, first_path_unlisted, first_path_out, hard_wrong, default_wrong, phase_wrong, modifier_wrong, motion_wrong}
 use Rattle.run_constraints.specs.FirstConstraints.{is_hard_one, is_untrue, first_hard, first_default}
-use Rattle.run_clauses.specs.Listing.{first_path, later, begins_at, left_after, first_unlisted}
+use Rattle.run_clauses.specs.Listing.{first_path, later, begins_at, first_unlisted}
 
 -- ---- lists of claims
 

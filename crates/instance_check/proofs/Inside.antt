@@ -1,5 +1,5 @@
 -- A run of which the lists, the end and the bounds don't fail.
-use Rattle.std.proofs.Common.{◌≡◌, ◌∙◌, refl, sym, ap, Bool, true, false, ◌&&◌, List, [], ◌∷◌, Option, Some, None, Result, Ok, Err}
+use Rattle.std.proofs.Common.{◌≡◌, ◌∙◌, refl, sym, ap, Bool, true, false, ◌&&◌, [], ◌∷◌, Option, Some, None, Result, Ok, Err}
 use Rattle.std.specs.Prelude.{IfOk, not, find, option_map}
 use Rattle.composition.specs.declared.clause.Clause.{Clause}
 use Rattle.composition.specs.declared.spot.PhaseSpot.{PhaseSpot}
@@ -11,7 +11,7 @@ use Rattle.composition.specs.Claims.{Claim, claim, end_claim, bounds_claims}
 use Rattle.composition.specs.Items.{arranged_holds}
 use Rattle.run_check.specs.declared.wrong.Wrong.{Wrong}
 use Rattle.run_check.specs.Answers.{first_wrong, wrong_of}
-use Rattle.instance_check.specs.FirstWrong.{first_of, listed_wrong, end_wrong, bounds_wrong, inner_wrong, phase_wrong}
+use Rattle.instance_check.specs.FirstWrong.{listed_wrong, end_wrong, bounds_wrong, inner_wrong, phase_wrong}
 use Rattle.instance_check.proofs.FirstClaims.{all_hold, bounds_wrongs, outer_wrongs, all_wrongs}
 
 first_none : (a b : Option Wrong) → None ≡ option_or a b → a ≡ None

@@ -1,5 +1,5 @@
 -- What is wrong with a run, clause by clause.
-use Rattle.std.specs.Prelude.{ℕ, ◌+◌, Bool, false, cond, not, List, [], ◌∷◌, Option, Some, find, length, nat_eq, option_map}
+use Rattle.std.specs.Prelude.{◌+◌, false, cond, not, List, [], ◌∷◌, Option, find, length, nat_eq, option_map}
 use Rattle.std.specs.Option.{option_or}
 use Rattle.std.specs.List.{list_all}
 use Rattle.osc_base.specs.declared.path.Path.{Path}

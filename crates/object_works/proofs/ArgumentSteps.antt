@@ -1,5 +1,5 @@
 -- The bindings of arguments, one by one.
-use Rattle.std.proofs.Common.{◌≡◌, ◌∙◌, refl, sym, ap, ap₂, ℕ, ◌+◌, ◌<◌, Bool, true, false, cond, List, [], ◌∷◌, ◌++◌, Option, Some, None, length, map, find, flat_map, option_and_then, option_map, option_to_list, append-nil, append_assoc, slice_get}
+use Rattle.std.proofs.Common.{◌≡◌, ◌∙◌, refl, sym, ap, ap₂, ℕ, ◌+◌, Bool, true, false, cond, List, [], ◌∷◌, ◌++◌, Option, Some, None, map, find, flat_map, option_and_then, option_map, option_to_list, append-nil, slice_get}
 use Rattle.std.specs.Prelude.{bytes_eq, codes}
 use Rattle.std.specs.Option.{option_map_or}
 use Rattle.osc_base.specs.declared.path.Path.{Path}
@@ -7,12 +7,11 @@ use Rattle.osc_base.specs.Paths.{then_name}
 use Rattle.dsl_tree.specs.declared.parts.Ident.{Ident}
 use Rattle.dsl_tree.specs.ExprTree.{ExprTree}
 use Rattle.dsl_tree.specs.PhaseTree.{ArgumentTree}
-use Rattle.type_heads.specs.Table.{Table}
 use Rattle.type_heads.specs.Types.{Field, Types}
 use Rattle.type_heads.specs.Members.{fields}
 use Rattle.composition.specs.Calls.{Assigned, Callee, assigned, without_labels}
 use Rattle.composition.specs.Expansion.{Calling, actor_binding, argument_binding, binding, here_in, object_at, of_arguments}
-use Rattle.composition.specs.Givens.{Here, from_root, steps_from, typed_here}
+use Rattle.composition.specs.Givens.{Here, from_root, steps_from}
 use Rattle.composition.specs.Homes.{home}
 use Rattle.composition.specs.Scenes.{Binding}
 use Rattle.expr_nodes.specs.Names.{is_duration}
@@ -23,7 +22,7 @@ use Rattle.expr_nodes.specs.Typing.{typed}
 use Rattle.osc_base.specs.declared.path.Step.{Step}
 use Rattle.osc_base.specs.Paths.{path_of}
 use Rattle.scene_texts.specs.Moving.{path_under, steps_under}
-use Rattle.object_works.specs.Arguments.{argument_bound, arguments_bound, actor_bound, assigned_field, binding_at, bindings_to, field_given, named_field}
+use Rattle.object_works.specs.Arguments.{arguments_bound, actor_bound, assigned_field, binding_at, bindings_to, field_given}
 
 steps_are : (here : Here) (steps : List Step) → steps_from here steps ≡ steps_under here.object here.it steps
 steps_are here [] = refl

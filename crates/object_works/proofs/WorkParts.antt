@@ -27,7 +27,7 @@ use Rattle.composition.specs.Calls.{Callee, callee, called, invoked}
 use Rattle.program_calls.specs.SeenCallees.{called_in}
 use Rattle.expansion_laws.specs.Works as Works
 use Rattle.expansion_laws.specs.Works.{Work, Comp, Wait, actor_works, bindings_made, field_works, object_works, parts_of, phase_works, root_works, root_works_within, value_works}
-use Rattle.object_works.specs.Held.{held_objects, held_values, held_works}
+use Rattle.object_works.specs.Held.{held_works}
 use Rattle.object_works.specs.Phases.{invocation_works}
 
 -- as many phases as there are

@@ -1,5 +1,5 @@
 -- What a field of a type holds.
-use Rattle.std.specs.Prelude.{ℕ, ◌&&◌, not, List, [], ◌++◌, ◌∷◌, Option, cond, flat_map, option_to_list}
+use Rattle.std.specs.Prelude.{ℕ, ◌&&◌, not, List, [], ◌++◌, ◌∷◌, cond, flat_map, option_to_list}
 use Rattle.osc_base.specs.declared.path.Path.{Path}
 use Rattle.dsl_tree.specs.FileTree.{FieldTree}
 use Rattle.type_heads.specs.Table.{form, is_object}

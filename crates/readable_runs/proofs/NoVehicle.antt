@@ -1,12 +1,11 @@
 -- The named scenario is no vehicle.
-use Rattle.std.proofs.Common.{◌≡◌, ◌∙◌, refl, sym, ap, subst, inl, inr, ℕ, zero, suc, ◌+◌, Bool, true, false, ◌&&◌, List, [], ◌∷◌, ◌++◌, map, length, Option, Some, None, true≢false}
+use Rattle.std.proofs.Common.{◌≡◌, ◌∙◌, refl, sym, ap, subst, inl, inr, ℕ, suc, ◌+◌, Bool, true, false, ◌&&◌, List, [], ◌∷◌, ◌++◌, map, Option, Some, None, true≢false}
 use Rattle.std.specs.Prelude.{codes, filter_map, is_some, nat_eq, option_and_then, slice_index_or}
 use Rattle.std.specs.Option.{option_map_or}
 use Rattle.outside_io.specs.declared.shelf.NamedBytes.{NamedBytes}
 use Rattle.dsl_tree.specs.declared.compounds.CompoundKind.{CompoundKind}
 use Rattle.dsl_tree.specs.FileTree.{DeclarationTree, FileTree}
-use Rattle.name_scope.specs.Declaring.{first_place}
-use Rattle.name_scope.specs.FileNumbers.{AddedFile, is_library, numbered_names}
+use Rattle.name_scope.specs.FileNumbers.{AddedFile}
 use Rattle.program_load.specs.Loading.{IsLoaded}
 use Rattle.type_heads.specs.Form.{Form}
 use Rattle.type_heads.specs.Table.{TypeHead, bases, form, head, int_head, is_actor, is_behaviour, is_kind_of, is_scenario, named, owner}

@@ -1,5 +1,5 @@
 -- The scenes of loaded programs have paths and texts that can be read back, and so have the runs that a search reaches.
-use Rattle.std.proofs.Common.{◌≡◌, ◌∙◌, refl, sym, ap, ℕ, suc, ◌+◌, ◌≤◌, ◌<◌, ◌^◌, List, [], ◌∷◌, ◌++◌, map, length, Option, Some, None, true, false, arith, length-append}
+use Rattle.std.proofs.Common.{◌≡◌, refl, sym, ap, ℕ, suc, ◌+◌, ◌≤◌, ◌<◌, ◌^◌, List, [], ◌∷◌, ◌++◌, map, length, Option, Some, None, true, false, arith, length-append}
 use Rattle.std.specs.Prelude.{flat_map}
 use Rattle.std.proofs.lemmas.Bool.{ltb-true}
 use Rattle.osc_base.specs.declared.path.Path.{Path}
@@ -27,9 +27,7 @@ use Rattle.checkable_scenes.proofs.ProgramFacts.{program_acyclic, program_inheri
 use Rattle.checkable_scenes.proofs.ReadFacts.{program_alike}
 use Rattle.loaded_programs.proofs.LoadedPrograms.{loads_are_loaded_programs}
 use Rattle.source_scenes.specs.FoundScenes.{IsKnown}
-use Rattle.source_scenes.specs.SoundScenes.{IsSoundScene}
 use Rattle.source_scenes.proofs.SoundNamed.{sound_scene}
-use Rattle.scene_search.specs.Findings.{IsReachedRun}
 use Rattle.readable_runs.specs.ReadableRuns.{CanBeRead, ReachedRunsCanBeRead}
 use Rattle.readable_runs.proofs.NoVehicle.{no_vehicle}
 use Rattle.readable_runs.proofs.ProgramTexts.{all_taken_named, program_fields, program_texts, scene_texts}

@@ -1,5 +1,5 @@
 -- The names of a source are letters, digits and `_`, and its strings are UTF-8.
-use Rattle.std.proofs.Common.{◌≡◌, ◌∙◌, refl, sym, ap, ℕ, ◌+◌, ◌≤◌, Bool, true, false, cond, ◌&&◌, ◌||◌, not, Option, Some, None, List, [], ◌∷◌, ◌++◌, map, length, IsUtf8, arith}
+use Rattle.std.proofs.Common.{◌≡◌, ◌∙◌, refl, ap, ℕ, ◌+◌, ◌≤◌, Bool, true, false, cond, ◌&&◌, ◌||◌, not, Option, Some, None, List, [], ◌∷◌, ◌++◌, map, length, IsUtf8, arith}
 use Rattle.std.specs.Prelude.{nat_le, nat_lt, filter, ◌==◌, codes, take, drop}
 use Rattle.std.specs.Str.{bytes_eq}
 use Rattle.std.specs.Option.{option_map}
@@ -11,12 +11,12 @@ use Rattle.std.proofs.lemmas.Str.{is_utf8-from_IsUtf8}
 use Rattle.osc_base.specs.PathTexts.{begins_name, continues_name, is_name}
 use Rattle.dsl_tree.specs.declared.token.Token.{Token}
 use Rattle.dsl_tree.specs.declared.token.TokenKind.{TokenKind}
-use Rattle.dsl_tree.specs.declared.token.TokenKind.TheVariants.{Newline, Indent, Dedent, End, Mark}
+use Rattle.dsl_tree.specs.declared.token.TokenKind.TheVariants.{Indent, Dedent, End, Mark}
 use Rattle.dsl_tree.specs.declared.token.MarkKind.{MarkKind}
 use Rattle.dsl_tree.specs.declared.token.WordKind.{WordKind}
 use Rattle.dsl_tree.specs.declared.token.ExcludedWord.{ExcludedWord}
 use Rattle.dsl_lexer.specs.declared.shape.Shape.{Shape}
-use Rattle.dsl_lexer.specs.Bytes.{is_digit, is_hexadecimal_digit, is_name_byte, is_name_start, place_at}
+use Rattle.dsl_lexer.specs.Bytes.{is_digit, is_hexadecimal_digit, is_name_byte, is_name_start}
 use Rattle.dsl_lexer.specs.Shapes.{IsName, IsShape, entry, marks}
 use Rattle.dsl_lexer.specs.Kinds.{kind_of, first_kind, reserved_words, left_out_words, number_kind, decimal_kind, hexadecimal_kind, fraction, unit_name, is_word, string_chars}
 use Rattle.dsl_lexer.specs.Pieces.{Piece, reach, Cut}

@@ -1,22 +1,19 @@
 -- The text of a run whose paths have texts and whose numbers are small is UTF-8, if the texts that its fields hold are.
-use Rattle.std.proofs.Common.{◌≡◌, refl, ℕ, ℤ, pos, negsuc, ◌^◌, ◌<◌, Bool, true, false, ◌&&◌, List, [], ◌∷◌, ◌++◌, map, codes, IsUtf8, arith, if◌then◌else◌}
-use Rattle.std.specs.Prelude.{nat_lt, flat_map, ⊤, unsigned_abs}
+use Rattle.std.proofs.Common.{◌≡◌, refl, ℕ, ℤ, pos, negsuc, ◌^◌, ◌<◌, Bool, true, false, ◌&&◌, List, [], ◌∷◌, ◌++◌, map, codes, IsUtf8, arith}
+use Rattle.std.specs.Prelude.{nat_lt, flat_map, ⊤}
 use Rattle.std.specs.Fmt.{decimal}
 use Rattle.std.specs.List.{list_all}
 use Rattle.std.specs.Str.{is_utf8}
 use Rattle.std.proofs.lemmas.Bool.{and_parts, ltb-true}
 use Rattle.std.proofs.lemmas.Bool.Decides.{nat_tests}
 use Rattle.std.proofs.lemmas.Fmt.{IsAscii-decimal, IsAscii-signed}
-use Rattle.std.proofs.lemmas.Int.{ints}
 use Rattle.std.proofs.lemmas.Str.{IsUtf8-append, IsUtf8-from_ascii, IsUtf8-from_is_utf8, IsUtf8-nil}
 use Rattle.json.proofs.Printed.Utf8.{IsUtf8-are_ascii, IsUtf8-boolean, IsUtf8-quoted, are_ascii}
 use Rattle.serde_json.specs.Data.{Data, null, boolean, number, string, array, object, Items, no_items, item, Members, no_members, member}
-use Rattle.serde_json.specs.Find.{of_integer}
 use Rattle.serde_json.specs.View.{items_of}
 use Rattle.serde_json.specs.Written.{number_text, comma_if, compact_text, items_text, members_text}
-use Rattle.osc_base.specs.Path.{first_step_text, later_step_text, path_text}
-use Rattle.osc_base.specs.PathTexts.{are_steps, before_member, begins_name, continues_name, is_digit, is_name, is_step, is_written}
-use Rattle.osc_base.specs.declared.path.Path.{Path}
+use Rattle.osc_base.specs.Path.{later_step_text, path_text}
+use Rattle.osc_base.specs.PathTexts.{are_steps, before_member, begins_name, continues_name, is_name, is_step, is_written}
 use Rattle.osc_base.specs.declared.path.Step.{Step}
 use Rattle.osc_base.specs.declared.path.Step.TheVariants.{Name, Index, Member}
 use Rattle.osc_base.specs.declared.sample.Sample.{Sample}
@@ -27,7 +24,7 @@ use Rattle.composition.specs.declared.run.Value.{Value}
 use Rattle.composition.specs.declared.run.Run.{Run}
 use Rattle.composition.specs.declared.run.Held.{Held}
 use Rattle.composition.specs.declared.run.Held.TheVariants.{Number, Chars}
-use Rattle.run_check.specs.RunText.{count_data, integer_data, path_data, choice_data, span_data, sample_data, trace_data, held_data, value_data, run_data, run_text}
+use Rattle.run_check.specs.RunText.{integer_data, choice_data, span_data, sample_data, trace_data, held_data, value_data, run_data, run_text}
 use Rattle.run_tests.specs.WrittenRuns.{is_u32, is_i64, has_text, is_written_choice, is_written_span, is_written_sample, is_written_trace, is_written_held, is_written_value, is_written_run}
 use Rattle.field_flatten.proofs.Tests.{left_of, right_of}
 

@@ -1,15 +1,15 @@
 -- Comparisons with the ends of a modifier's range pass no limit.
-use Rattle.std.proofs.Common.{◌≡◌, ◌∙◌, refl, sym, ap, ap₂, subst, true≢false, arith, ℕ, zero, suc, ◌*◌, ◌/◌, ◌<◌, ◌≤◌, Bool, true, false, ◌&&◌, ◌||◌, not, List, [], ◌∷◌, Option, Some, None, unsigned_abs}
+use Rattle.std.proofs.Common.{◌≡◌, ◌∙◌, refl, sym, ap, ap₂, subst, arith, ℕ, zero, suc, ◌*◌, ◌/◌, ◌<◌, ◌≤◌, Bool, true, ◌&&◌, not, List, [], ◌∷◌, Option, Some, None, unsigned_abs}
 use Rattle.std.proofs.Math.Nat.{mul_assoc, mul_comm, mul_left_comm, mul-div_cancel_left, mul-div_cancel', mul-le-mul_right, dvd-mul_right, le-mul_of_pos_right}
 use Rattle.std.proofs.lemmas.Nat.Gcd.{le_of_dvd}
 use Rattle.std.proofs.lemmas.Int.{unsigned_abs-mul, ints}
 use Rattle.std.specs.Int.{◌∣◌}
-use Rattle.std.specs.Prelude.{ℤ, pos, ◌*ℤ◌, ◌-ℤ◌, ◌≤ℤ◌, int_le, nat_lt, nat_le, unwrap_or, slice_get}
+use Rattle.std.specs.Prelude.{ℤ, pos, ◌*ℤ◌, ◌-ℤ◌, ◌≤ℤ◌, int_le, nat_lt, nat_le, unwrap_or}
 use Rattle.std.specs.List.{list_all}
 use Rattle.osc_base.specs.declared.path.Path.{Path}
 use Rattle.osc_base.specs.declared.modifier.Kind.{Kind}
 use Rattle.osc_base.specs.declared.sample.Sample.{Sample}
-use Rattle.osc_base.specs.Number.{Number, IsLeastCommonMultiple, IsWithin}
+use Rattle.osc_base.specs.Number.{Number, IsWithin}
 use Rattle.osc_base.specs.Comparisons.{greatest_part}
 use Rattle.osc_base.specs.LowestTerms.{lcm}
 use Rattle.osc_base.specs.Modifiers.{metres, metres_a_second, lanes}

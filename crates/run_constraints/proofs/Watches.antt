@@ -1,5 +1,5 @@
 -- What is watched of a modifier.
-use Rattle.std.proofs.Common.{◌≡◌, ◌∙◌, refl, sym, ap, ap₂, true≢false, arith, ℕ, Bool, true, false, ◌&&◌, ◌||◌, not, List, [], ◌∷◌, Option}
+use Rattle.std.proofs.Common.{◌≡◌, ◌∙◌, refl, sym, ap, ap₂, arith, ℕ, Bool, true, false, ◌&&◌, ◌||◌, not, List, [], ◌∷◌, Option}
 use Rattle.std.proofs.lemmas.Int.{ints, by_lt_z}
 use Rattle.std.specs.Prelude.{ℤ, pos, ◌*ℤ◌, ◌≤ℤ◌, int_le, unwrap_or, slice_get, option_and_then}
 use Rattle.std.specs.List.{list_all}
@@ -9,7 +9,7 @@ use Rattle.osc_base.specs.declared.sample.Sample.{Sample}
 use Rattle.osc_base.specs.Number.{Number}
 use Rattle.osc_base.specs.Comparisons.{is_at_most, is_between}
 use Rattle.osc_base.specs.Fraction.{value}
-use Rattle.osc_base.specs.Modifiers.{holds_of, is_moment, metres, metres_a_second, lanes}
+use Rattle.osc_base.specs.Modifiers.{holds_of, is_moment}
 use Rattle.osc_base.proofs.Integers.{swap_last, le_times, le_cancel}
 use Rattle.composition.specs.TimedRuns.{TimedRun, samples_in}
 use Rattle.composition.specs.Scenes.{Scene, ModifierSpot}

@@ -4,7 +4,7 @@ use Rattle.std.specs.Option.{option_map_or}
 use Rattle.osc_base.specs.declared.mark.Strength.{Strength}
 use Rattle.keep_rules.specs.Overriding.{overriders, is_default}
 use Rattle.composition.specs.TimedRuns.{TimedRun}
-use Rattle.composition.specs.Scenes.{Scene, Occurrence, ModifierSpot, marks}
+use Rattle.composition.specs.Scenes.{Scene, Occurrence, marks}
 use Rattle.composition.specs.There.{is_asked}
 use Rattle.composition.specs.Items.{is_satisfied, is_overridden}
 use Rattle.composition.specs.Invariants.{is_expression}

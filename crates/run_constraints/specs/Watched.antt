@@ -1,5 +1,5 @@
 -- Whether modifiers hold at ticks, of samples in a row.
-use Rattle.std.specs.Prelude.{◌≡◌, ℕ, ℤ, pos, ◌*◌, ◌<◌, ◌≤◌, ◌≤ℤ◌, ◌||◌, Bool, not, List, Option, unsigned_abs}
+use Rattle.std.specs.Prelude.{◌≡◌, ℕ, ℤ, pos, ◌*◌, ◌<◌, ◌≤◌, ◌≤ℤ◌, ◌||◌, Bool, not, Option, unsigned_abs}
 use Rattle.osc_base.specs.Number.{Number, IsSame}
 use Rattle.osc_base.specs.Fraction.{value}
 use Rattle.osc_base.specs.Comparisons.{greatest_part}

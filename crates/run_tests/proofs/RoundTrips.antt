@@ -1,6 +1,6 @@
 -- The data of a run whose paths have texts is that run, and so is its text.
-use Rattle.std.proofs.Common.{◌≡◌, ◌∙◌, refl, sym, ap, ap₂, ℕ, ℤ, pos, negsuc, ◌+◌, ◌^◌, Bool, true, false, cond, ◌&&◌, List, [], ◌∷◌, Option, Some, None, map, codes}
-use Rattle.std.specs.Prelude.{nat_lt, if◌then◌else◌, option_and_then, option_map}
+use Rattle.std.proofs.Common.{◌≡◌, ◌∙◌, refl, ap, ap₂, ℕ, ℤ, pos, negsuc, ◌+◌, Bool, true, cond, ◌&&◌, List, [], ◌∷◌, Some, None, map, codes}
+use Rattle.std.specs.Prelude.{if◌then◌else◌, option_map}
 use Rattle.std.specs.Fmt.{decimal}
 use Rattle.std.specs.List.{list_all}
 use Rattle.serde_json.specs.Data.{Data}
@@ -18,8 +18,8 @@ use Rattle.composition.specs.declared.run.Value.{Value}
 use Rattle.composition.specs.declared.run.Run.{Run}
 use Rattle.composition.specs.declared.run.Held.{Held}
 use Rattle.composition.specs.declared.run.Held.TheVariants.{Number, Chars}
-use Rattle.run_check.specs.RunText.{choice_data, span_data, sample_data, trace_data, held_data, value_data, run_data, run_text, integer_data}
-use Rattle.run_texts.specs.RunShape.{Shaped, Fits, shaped_then, inside, fits, all_from, within_u32, held_of, path_in, count_in, integer_in, held_in, choice_in, span_in, sample_in, trace_in, value_in, run_from, without}
+use Rattle.run_check.specs.RunText.{choice_data, span_data, sample_data, trace_data, held_data, value_data, run_data, run_text}
+use Rattle.run_texts.specs.RunShape.{Shaped, Fits, shaped_then, inside, fits, all_from, within_u32, held_of, held_in, choice_in, span_in, sample_in, trace_in, value_in, run_from}
 use Rattle.run_texts.specs.PathForms.{path_from}
 use Rattle.run_texts.proofs.PathForms.{path_given}
 use Rattle.run_tests.specs.WrittenRuns.{is_u32, is_i64, has_text, is_written_choice, is_written_span, is_written_sample, is_written_trace, is_written_held, is_written_value, is_written_run}

@@ -1,5 +1,5 @@
 -- The keys of an object, by their texts.
-use Rattle.std.proofs.Common.{◌≡◌, refl, ap, List, [], ◌∷◌, Option, Some, Bool, true, false, cond, not, String, string_bytes}
+use Rattle.std.proofs.Common.{◌≡◌, refl, ap, List, [], ◌∷◌, Some, Bool, true, false, cond, not, String, string_bytes}
 use Rattle.std.specs.Prelude.{find, option_map}
 use Rattle.std.specs.Map.{keys_of}
 use Rattle.std.specs.declared.alloc.Global.{Global}

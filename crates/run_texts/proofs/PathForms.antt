@@ -1,5 +1,5 @@
 -- The path that a text gives is the one that has the text.
-use Rattle.std.proofs.Common.{◌≡◌, ◌≢◌, ◌++◌, ◌&&◌, ◌^◌, ◌<◌, ◌≤◌, ℕ, zero, suc, Bool, true, false, cond, refl, sym, ap, ap₂, ◌∙◌, subst, true≢false, arith, List, [], ◌∷◌, length, take, drop, get_or, eqb-true, eq-eqb, ltb-true, Option, Some, None, Result, Ok, Err}
+use Rattle.std.proofs.Common.{◌≡◌, ◌≢◌, ◌&&◌, ◌^◌, ◌<◌, ◌≤◌, ℕ, zero, suc, Bool, true, false, cond, refl, sym, ap, ◌∙◌, subst, true≢false, arith, List, [], ◌∷◌, length, take, drop, get_or, eqb-true, eq-eqb, ltb-true, Option, Some, None, Result, Ok, Err}
 use Rattle.std.specs.Prelude.{nat_lt, nat_eq, decimal, flat_map, IfOk, IfSome, option_map, option_and_then, bytes_eq}
 use Rattle.std.specs.List.{prefix_len}
 use Rattle.std.specs.Str.Parse.{digits_value}
@@ -10,8 +10,8 @@ use Rattle.osc_base.specs.declared.path.Step.{Step}
 use Rattle.osc_base.specs.declared.path.Step.TheVariants.{Name, Index, Member}
 use Rattle.osc_base.specs.Path.{later_step_text}
 use Rattle.osc_base.specs.Paths.{path_of}
-use Rattle.osc_base.specs.PathTexts.{is_digit, continues_name, is_name, is_step, are_steps, before_member, ends_step, number_step, IsNumber, IsNoNumber, HasText, BeginsWith, BeginsWithNone, Spells, Continues}
-use Rattle.osc_base.proofs.PathReading.{numerals, name_begins, name_missing, number_begins, number_missing, bracket_missing, step_shorter, one_step, spelled_after, spells_more, path_continues, path_found, no_first}
+use Rattle.osc_base.specs.PathTexts.{is_digit, continues_name, is_name, is_step, are_steps, before_member, ends_step, number_step, IsNumber, IsNoNumber, HasText, BeginsWith, BeginsWithNone, Spells}
+use Rattle.osc_base.proofs.PathReading.{numerals, name_begins, name_missing, number_begins, number_missing, bracket_missing, step_shorter, spelled_after, spells_more, path_continues, path_found, no_first}
 use Rattle.run_texts.specs.PathForms.{number_in, name_front, number_end, number_front, front, steps_in, path_from}
 
 -- ---- steps

@@ -1,5 +1,5 @@
 -- The path that has a text, worked out from the text.
-use Rattle.std.specs.Prelude.{ℕ, zero, suc, ◌^◌, ◌&&◌, Bool, true, false, cond, List, [], ◌∷◌, Option, Some, None, option_map, option_and_then, take, drop, length, nat_eq, nat_lt, bytes_eq}
+use Rattle.std.specs.Prelude.{ℕ, zero, suc, ◌^◌, ◌&&◌, Bool, cond, List, [], ◌∷◌, Option, Some, None, option_map, option_and_then, take, drop, length, nat_eq, nat_lt, bytes_eq}
 use Rattle.std.specs.List.{prefix_len}
 use Rattle.std.specs.Fmt.{decimal}
 use Rattle.std.specs.Str.Parse.{digits_value}

@@ -1,6 +1,6 @@
 -- The courses of vehicles.
 use Rattle.std.proofs.Common.{◌≡◌, ◌∙◌, refl, sym, ap, arith, ℕ, suc, ◌+◌, ◌-◌, ◌<◌, ◌≤◌, List, [], ◌∷◌, ◌&&◌, ◌||◌, Bool, true, false, cond, not, Option, Some, None, Result, Ok, Err}
-use Rattle.std.specs.Prelude.{ℤ, pos, slice_get, unwrap_or, option_and_then, IfOk}
+use Rattle.std.specs.Prelude.{pos, slice_get, unwrap_or, option_and_then, IfOk}
 use Rattle.std.specs.List.{list_all, range_with_len}
 use Rattle.osc_base.specs.declared.path.Path.{Path}
 use Rattle.osc_base.specs.declared.sample.Sample.{Sample}

@@ -1,5 +1,5 @@
 -- What is within the limits of a scene.
-use Rattle.std.proofs.Common.{◌≡◌, ◌∙◌, refl, sym, ap, ap₂, subst, arith, true≢false, ℕ, ◌+◌, ◌*◌, ◌-◌, ◌<◌, ◌≤◌, List, [], ◌∷◌, ◌++◌, ◌&&◌, ◌||◌, Bool, true, false, cond, not, Option, Some, None, map, length, unsigned_abs}
+use Rattle.std.proofs.Common.{◌≡◌, ◌∙◌, refl, sym, ap, subst, arith, true≢false, ℕ, ◌+◌, ◌*◌, ◌-◌, ◌<◌, ◌≤◌, List, [], ◌∷◌, ◌++◌, ◌&&◌, ◌||◌, Bool, true, false, cond, not, Option, Some, None, map, length, unsigned_abs}
 use Rattle.std.proofs.Math.Nat.{mul_comm, mul-le-mul_right, mul-le-mul_left}
 use Rattle.std.specs.Prelude.{ℤ, pos, ◌*ℤ◌, ◌-ℤ◌, int_le, ◌≤ℤ◌, nat_eq, nat_le, nat_lt, find, is_some, option_map, option_and_then, position, bytes_eq, neg_ℤ}
 use Rattle.std.proofs.lemmas.Int.{unsigned_abs-mul, ints}
@@ -11,7 +11,7 @@ use Rattle.osc_base.specs.declared.sample.Sample.{Sample}
 use Rattle.osc_base.specs.Comparisons.{same_number}
 use Rattle.osc_base.specs.Paths.{same_path}
 use Rattle.expr_nodes.specs.Sizes.{Size, field_reach, duration_reach, duration_scale, duration_size, field_size, is_wide}
-use Rattle.expr_nodes.specs.Sound.{has_size, is_sound, each_read, each_read_of}
+use Rattle.expr_nodes.specs.Sound.{has_size, each_read, each_read_of}
 use Rattle.expr_nodes.specs.Typed.{Typed, Info, Constant, Read, Whole, Listed, Span, Minus, Not, Sum, Times, And, Or, Implies, Relation, Within, TypedRow, End, Item}
 use Rattle.composition.specs.declared.clause.Clause.{Clause}
 use Rattle.composition.specs.declared.setting.Setting.{Setting}
@@ -24,10 +24,10 @@ use Rattle.composition.specs.declared.spot.ValueRange.{ValueRange}
 use Rattle.composition.specs.declared.spot.ValueSpot.{ValueSpot}
 use Rattle.composition.specs.TimedRuns.{TimedRun, span_in, held_in, samples_in}
 use Rattle.composition.specs.Scenes.{Scene, Source, OfRun, OfPhase, OfValue, source, values}
-use Rattle.composition.specs.Claims.{Claim, claim, end_claim, bounds_claims, ends_with_root_do, choice_in_range, value_in_range, span_in_range, sample_in_range}
+use Rattle.composition.specs.Claims.{Claim, claim, ends_with_root_do, choice_in_range, value_in_range, span_in_range, sample_in_range}
 use Rattle.composition.specs.Ranges.{in_range, lies_between}
 use Rattle.composition.specs.Numbers.{number_at, number_from, number_of, text_number, thousandths}
-use Rattle.composition.specs.Invariants.{IsScene, is_setting, is_from_to, is_small, is_range, is_read, is_expression, value_at}
+use Rattle.composition.specs.Invariants.{is_from_to, is_small, is_range, is_read, value_at}
 use Rattle.run_values.specs.Frames.{IsWithin}
 
 -- ---- conjunctions

@@ -1,5 +1,5 @@
 -- The scene of the named scenario, or its fault, by the works that are laid out.
-use Rattle.std.proofs.Common.{◌≡◌, ℕ, Bool, true, false, List, ◌∙◌, Option, Some, None, ap, sym}
+use Rattle.std.proofs.Common.{◌≡◌, ℕ, Bool, List, ◌∙◌, Option, Some, ap, sym}
 use Rattle.std.specs.Prelude.{option_map}
 use Rattle.type_heads.specs.Types.{Types}
 use Rattle.composition.specs.declared.setting.Setting.{Setting}

@@ -1,5 +1,5 @@
 -- Whether a scene has what is read.
-use Rattle.std.specs.Prelude.{Bool, ◌&&◌}
+use Rattle.std.specs.Prelude.{Bool}
 use Rattle.std.specs.List.{list_all}
 use Rattle.osc_base.specs.declared.path.Path.{Path}
 use Rattle.expr_nodes.specs.Typed.{Typed, TypedRow, reads, reads_of}

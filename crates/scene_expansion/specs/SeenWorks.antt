@@ -1,5 +1,5 @@
 -- What the program's own works stand for in the definitions.
-use Rattle.std.specs.Prelude.{List, length, map}
+use Rattle.std.specs.Prelude.{length, map}
 use Rattle.dsl_tree.specs.Views.{argument_tree, expr_tree, part_tree}
 use Rattle.composition.specs.Expansion.{Calling}
 use Rattle.composition.specs.SeenParts.{seen_binding}

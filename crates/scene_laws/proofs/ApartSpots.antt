@@ -1,40 +1,35 @@
 -- No two spots of one sort have one path.
-use Rattle.std.proofs.Common.{◌≡◌, ℕ, zero, suc, ◌+◌, refl, sym, ap, ◌∙◌, subst, ◌⊎◌, inl, inr, List, [], ◌∷◌, ◌++◌, Bool, true, false, ◌&&◌, ◌||◌, not, cond, Option, Some, None, map, length, arith, true≢false}
-use Rattle.std.specs.Prelude.{⊤, filter, flat_map, filter_map, option_to_list, is_some, bytes_eq, codes}
+use Rattle.std.proofs.Common.{◌≡◌, ℕ, zero, suc, ◌+◌, refl, sym, ap, ◌∙◌, subst, ◌⊎◌, inl, inr, List, [], ◌∷◌, ◌++◌, Bool, true, false, ◌&&◌, ◌||◌, not, cond, Option, Some, None, map, length, true≢false}
+use Rattle.std.specs.Prelude.{filter, flat_map, filter_map, option_to_list, is_some, bytes_eq, codes}
 use Rattle.std.specs.List.{range_with_len, cons_option}
 use Rattle.std.proofs.lemmas.Slice.Eq.{bytes_eq-Decides}
 use Rattle.osc_base.specs.declared.path.Path.{Path}
 use Rattle.osc_base.specs.declared.path.Step.{Step}
 use Rattle.osc_base.specs.declared.path.Step.TheVariants.{Name, Index, Member}
-use Rattle.osc_base.specs.Paths.{path_of, root, then_name, then_index, then_member, then_do}
+use Rattle.osc_base.specs.Paths.{path_of, root, then_name, then_index}
 use Rattle.dsl_tree.specs.declared.parts.Ident.{Ident}
 use Rattle.dsl_tree.specs.declared.phases.InvokeHead.{InvokeHead}
-use Rattle.dsl_tree.specs.PhaseTree.{ArgumentTree, PartTree, PhaseTree, Comp, Invoke, Wait, PhaseRow, phases_of}
+use Rattle.dsl_tree.specs.PhaseTree.{ArgumentTree, PartTree, PhaseTree, Comp, Invoke, Wait}
 use Rattle.type_heads.specs.Form.{Form}
 use Rattle.type_heads.specs.Table.{form, owner, is_object}
 use Rattle.type_heads.specs.Types.{Types, Field, Do}
 use Rattle.type_heads.specs.Members.{fields, field_type, list_length, the_do}
 use Rattle.composition.specs.declared.guard.Guard.{Guard}
-use Rattle.composition.specs.declared.setting.Setting.{Setting}
 use Rattle.composition.specs.declared.spot.ValueRange.{ValueRange}
-use Rattle.composition.specs.declared.spot.ChoiceSpot.{ChoiceSpot}
-use Rattle.composition.specs.declared.spot.ValueSpot.{ValueSpot}
-use Rattle.composition.specs.declared.spot.PhaseSpot.{PhaseSpot}
 use Rattle.composition.specs.Calls.{PhaseHere, phases_in, invoked}
-use Rattle.composition.specs.Scenes.{Content, Spot, Binding, is_one_of, choice_spot, value_spot, phase_spot, vehicle_spot, choices, values, phases, vehicles}
+use Rattle.composition.specs.Scenes.{Content, Spot, Binding, values, phases}
 use Rattle.composition.specs.Ranges.{range_of}
 use Rattle.composition.specs.Homes.{is_bound}
 use Rattle.composition.specs.Givens.{guards_under, own_givens}
-use Rattle.composition.specs.Expansion.{Expansion, Expansions, Object, Value, Phase, End, Part, in_row, Maker, value_parts, field_parts, Calling, from_object, calling, invocation, phase_part, do_parts, expand_within, own_actor, expansion}
-use Rattle.composition.specs.Expanded.{is_vehicle, spot, spots_of, spots_in, scene}
-use Rattle.field_flatten.proofs.Tests.{left_of, right_of, two_ways, In, in_either, map_in, flat_map_in}
+use Rattle.composition.specs.Expansion.{Expansion, Object, Value, Phase, End, Part, in_row, Maker, value_parts, field_parts, Calling, calling, invocation, phase_part, do_parts, expand_within, own_actor, expansion}
+use Rattle.composition.specs.Expanded.{is_vehicle, spot, spots_of, spots_in}
+use Rattle.field_flatten.proofs.Tests.{In, in_either, map_in, flat_map_in}
 use Rattle.scene_laws.specs.Premises.{is_free}
 use Rattle.scene_laws.proofs.FaultRows.{no_left, no_right, not_from}
-use Rattle.scene_laws.proofs.Picked.{of_option, filter_map_in}
 use Rattle.scene_laws.proofs.EachSpot.{spots_in_row, invoked_kind, invoked_members, call_bindings}
 use Rattle.scene_laws.proofs.FieldNames.{Pairs, NamesDiffer}
 use Rattle.scene_laws.proofs.PhasePaths.{PathsDiffer, do_within, do_apart}
-use Rattle.scene_laws.proofs.Steps.{joined_again, tail_same, cancelled, nothing_after, pairs_append, pairs_flat, pairs_map, range_apart, Below, NamedBelow, name_below, below_more, below_one, below_not, AreMembers, NoMember, runs_same}
+use Rattle.scene_laws.proofs.Steps.{joined_again, tail_same, cancelled, pairs_append, pairs_flat, pairs_map, range_apart, Below, NamedBelow, name_below, below_more, below_one, below_not, NoMember, runs_same}
 
 -- two spots are both objects, both values or both phases
 abbrev pub same_sort : Content → Content → Bool

@@ -1,5 +1,5 @@
 -- The members of a phase are phases, under the conditions that its kind says.
-use Rattle.std.proofs.Common.{◌≡◌, ℕ, zero, suc, ◌+◌, ◌≤◌, ◌<◌, refl, sym, ap, ◌∙◌, subst, ◌⊎◌, inl, inr, List, [], ◌∷◌, ◌++◌, Bool, true, false, ◌&&◌, ◌||◌, not, cond, Option, Some, None, map, length, arith, true≢false}
+use Rattle.std.proofs.Common.{◌≡◌, ℕ, zero, suc, ◌+◌, ◌≤◌, ◌<◌, refl, sym, ap, ◌∙◌, subst, inl, inr, List, [], ◌∷◌, ◌++◌, Bool, true, false, cond, Option, Some, None, map, length, arith, true≢false}
 use Rattle.std.specs.Prelude.{filter_map, option_to_list, is_some, bytes_eq, codes, nat_eq}
 use Rattle.std.specs.List.{list_all, range_with_len}
 use Rattle.osc_base.specs.declared.fault.Place.{Place}
@@ -13,7 +13,7 @@ use Rattle.dsl_tree.specs.declared.phases.InvokeHead.{InvokeHead}
 use Rattle.dsl_tree.specs.ExprTree.{ExprTree}
 use Rattle.dsl_tree.specs.PhaseTree as Tree
 use Rattle.dsl_tree.specs.PhaseTree.{ArgumentTree, PartTree, PhaseTree, Comp, Invoke, Wait, PhaseRow, phases_of}
-use Rattle.type_heads.specs.Table.{form, owner, is_object, is_behaviour}
+use Rattle.type_heads.specs.Table.{owner}
 use Rattle.type_heads.specs.Types.{Types, Field, Do}
 use Rattle.type_heads.specs.Members.{fields, the_do}
 use Rattle.composition.specs.declared.guard.Guard.{Guard}
@@ -24,19 +24,19 @@ use Rattle.composition.specs.declared.spot.ValueRange.{ValueRange}
 use Rattle.composition.specs.Calls.{Turn, turns, PhaseHere, phases_at, phases_among, phases_in, invoked}
 use Rattle.composition.specs.Scenes.{Content, Spot, Scene, Binding, phase_spot, phases, has_phase, guards}
 use Rattle.composition.specs.There.{same_guard}
-use Rattle.composition.specs.Expansion.{Expansion, Maker, Calling, from_object, calling, argument_named, overlap_kind, composition_kind, invocation, phase_part, expand_within, own_actor, expansion}
-use Rattle.composition.specs.Expanded.{spot, spots_of, spots_in, scene}
+use Rattle.composition.specs.Expansion.{Expansion, Maker, Calling, from_object, calling, argument_named, overlap_kind, composition_kind, invocation, phase_part, expand_within, expansion}
+use Rattle.composition.specs.Expanded.{spot, spots_of, scene}
 use Rattle.composition.specs.Invariants.{same_guards, is_member, are_choices, are_members}
-use Rattle.field_flatten.proofs.Tests.{left_of, both, In, in_left, in_right, in_either, in_map, map_in, all_from, any_from, path_self, number_self}
+use Rattle.field_flatten.proofs.Tests.{both, In, in_left, in_right, in_either, in_map, map_in, all_from, any_from, path_self, number_self}
 use Rattle.field_flatten.proofs.Presence.{same_number_self}
 use Rattle.scene_laws.specs.Premises.{is_free}
-use Rattle.scene_laws.proofs.Picked.{of_option, filter_map_in}
+use Rattle.scene_laws.proofs.Picked.{filter_map_in}
 use Rattle.scene_laws.proofs.EachSpot.{invoked_kind, invoked_members, call_bindings, each_spot}
 use Rattle.scene_laws.proofs.FieldNames.{Pairs, NamesDiffer}
 use Rattle.scene_laws.proofs.Steps.{joined_again}
 use Rattle.scene_laws.proofs.DistinctPaths.{spot_guards}
 use Rattle.scene_laws.proofs.WholeRun.{filter_in}
-use Rattle.scene_laws.proofs.PlacedObjects.{IsAcyclic, Placed, placed_from, first_fuel, phase_in, field_placed, call_placed}
+use Rattle.scene_laws.proofs.PlacedObjects.{IsAcyclic, Placed, phase_in, field_placed, call_placed}
 
 -- ---- phases among phases
 

@@ -1,28 +1,28 @@
 -- No spot stands where a duration is read.
-use Rattle.std.proofs.Common.{◌≡◌, ℕ, zero, suc, ◌+◌, refl, sym, ap, ◌∙◌, subst, ◌⊎◌, inl, inr, List, [], ◌∷◌, ◌++◌, Bool, true, false, ◌&&◌, ◌||◌, not, cond, Option, Some, None, map, length, arith, true≢false}
-use Rattle.std.specs.Prelude.{⊤, bytes_eq, codes, is_some}
+use Rattle.std.proofs.Common.{◌≡◌, ℕ, ◌+◌, refl, sym, ap, ◌∙◌, subst, ◌⊎◌, inl, inr, List, [], ◌∷◌, ◌++◌, Bool, true, false, ◌||◌, not, Option, Some, None, map, length, true≢false}
+use Rattle.std.specs.Prelude.{⊤, bytes_eq, codes}
 use Rattle.std.specs.Option.{option_map_or}
-use Rattle.std.specs.List.{list_all, list_any, range_with_len}
+use Rattle.std.specs.List.{list_all, range_with_len}
 use Rattle.std.proofs.lemmas.Slice.Eq.{bytes_eq-Decides}
 use Rattle.osc_base.specs.declared.path.Path.{Path}
 use Rattle.osc_base.specs.declared.path.Step.{Step}
 use Rattle.osc_base.specs.declared.path.Step.TheVariants.{Name, Index, Member}
-use Rattle.osc_base.specs.Paths.{path_of, root, same_path, then_name, then_index, then_do, timed_part}
-use Rattle.type_heads.specs.Table.{form, owner, is_object, is_behaviour}
+use Rattle.osc_base.specs.Paths.{path_of, root, same_path, then_name, then_index, timed_part}
+use Rattle.type_heads.specs.Table.{form, is_behaviour}
 use Rattle.type_heads.specs.Types.{Types, Field, Do}
-use Rattle.type_heads.specs.Members.{fields, list_length, the_do}
+use Rattle.type_heads.specs.Members.{fields, list_length}
 use Rattle.composition.specs.declared.guard.Guard.{Guard}
 use Rattle.composition.specs.declared.setting.Setting.{Setting}
 use Rattle.composition.specs.declared.spot.PhaseSpot.{PhaseSpot}
 use Rattle.composition.specs.Calls.{PhaseHere, phases_in, callee, invoked}
-use Rattle.composition.specs.Scenes.{Content, Spot, Scene, Source, OfRun, OfPhase, OfValue, Binding, phase_spot, phases, has_phase, source, source_timed}
+use Rattle.composition.specs.Scenes.{Spot, OfValue, Binding, phase_spot, phases, has_phase, source, source_timed}
 use Rattle.composition.specs.Expansion.{calling, expansion}
 use Rattle.composition.specs.Expanded.{scene, spot, spots_of}
 use Rattle.field_flatten.specs.Exactness.{is_value_source}
-use Rattle.field_flatten.proofs.Tests.{left_of, right_of, two_ways, In, map_in, any_at, all_from, path_is}
+use Rattle.field_flatten.proofs.Tests.{two_ways, In, map_in, any_at, all_from, path_is}
 use Rattle.scene_laws.specs.Premises.{is_free}
-use Rattle.scene_laws.proofs.FaultRows.{no_left, no_right, not_from}
-use Rattle.scene_laws.proofs.Picked.{of_option, filter_map_in}
+use Rattle.scene_laws.proofs.FaultRows.{no_right, not_from}
+use Rattle.scene_laws.proofs.Picked.{filter_map_in}
 use Rattle.scene_laws.proofs.EachSpot.{each_spot, value_paths}
 use Rattle.scene_laws.proofs.OwnedHeads.{AreOwned, invoked_behaviour}
 use Rattle.scene_laws.proofs.PhasePaths.{do_within}

@@ -1,15 +1,15 @@
 -- Each object of an expansion has steps left for what it holds, since no type holds or invokes itself.
 use Rattle.std.proofs.Common.{◌≡◌, ℕ, zero, suc, ◌+◌, ◌≤◌, ◌<◌, refl, sym, ap, ◌∙◌, subst, ◌⊎◌, inl, inr, List, [], ◌∷◌, ◌++◌, Bool, true, false, ◌&&◌, ◌||◌, not, cond, Option, Some, None, map, length, arith, true≢false}
-use Rattle.std.specs.Prelude.{⊤, filter, flat_map, filter_map, option_to_list, is_some, codes}
+use Rattle.std.specs.Prelude.{filter, flat_map, filter_map, option_to_list}
 use Rattle.std.specs.List.{range_with_len, cons_option}
 use Rattle.osc_base.specs.declared.path.Path.{Path}
-use Rattle.osc_base.specs.Paths.{root, then_name, then_index}
+use Rattle.osc_base.specs.Paths.{then_name, then_index}
 use Rattle.dsl_tree.specs.declared.parts.Ident.{Ident}
 use Rattle.dsl_tree.specs.declared.phases.InvokeHead.{InvokeHead}
 use Rattle.dsl_tree.specs.declared.compounds.CompoundKind.{CompoundKind}
-use Rattle.dsl_tree.specs.PhaseTree.{ArgumentTree, PartTree, PhaseTree, Comp, Invoke, Wait}
+use Rattle.dsl_tree.specs.PhaseTree.{ArgumentTree, PartTree, Comp, Invoke}
 use Rattle.type_heads.specs.Form.{Form}
-use Rattle.type_heads.specs.Table.{form, owner, is_object, is_actor, is_scenario, is_behaviour, has_members}
+use Rattle.type_heads.specs.Table.{form, is_object, is_scenario, is_behaviour, has_members}
 use Rattle.type_heads.specs.Types.{Types, Field, Do}
 use Rattle.type_heads.specs.Members.{fields, field_type, list_length, the_do}
 use Rattle.type_heads.specs.Cycles.{returns}
@@ -22,12 +22,12 @@ use Rattle.composition.specs.Scenes.{Content, Spot, Binding}
 use Rattle.composition.specs.Ranges.{range_of}
 use Rattle.composition.specs.Homes.{is_bound}
 use Rattle.composition.specs.Givens.{guards_under}
-use Rattle.composition.specs.Expansion.{Expansion, Value, in_row, Maker, value_parts, field_parts, calling, invocation, phase_part, do_parts, expand_within, own_actor, expansion}
+use Rattle.composition.specs.Expansion.{Expansion, Value, in_row, Maker, value_parts, field_parts, calling, invocation, phase_part, do_parts, expand_within, expansion}
 use Rattle.composition.specs.Expanded.{spot, spots_of, spots_in}
 use Rattle.field_flatten.proofs.Tests.{left_of, In, in_left, in_right, in_map, map_in, in_flat_map, filter_in}
-use Rattle.scene_laws.proofs.EachSpot.{value_paths, call_bindings, each_spot}
+use Rattle.scene_laws.proofs.EachSpot.{value_paths, call_bindings}
 use Rattle.scene_laws.proofs.FieldNames.{Pairs}
-use Rattle.scene_laws.proofs.OwnedHeads.{AreOwned, HaveActors, invoked_behaviour}
+use Rattle.scene_laws.proofs.OwnedHeads.{AreOwned, invoked_behaviour}
 use Rattle.scene_laws.proofs.Acyclic.{Differ, few_below, Reach, reach_more, no_return}
 use Rattle.scene_laws.proofs.HeldTypes.{AreBased, AreMembersOf, named_below, called_below, field_held, held_below, invocations_below, call_invoked}
 

@@ -1,28 +1,24 @@
 -- The `do` of the named scenario is there in every run, and without it there are no phases.
-use Rattle.std.proofs.Common.{◌≡◌, ℕ, zero, suc, ◌+◌, refl, sym, ap, ◌∙◌, subst, ◌⊎◌, inl, inr, List, [], ◌∷◌, ◌++◌, Bool, true, false, ◌&&◌, ◌||◌, not, cond, Option, Some, None, map, length, arith, true≢false}
-use Rattle.std.specs.Prelude.{flat_map, filter_map, option_to_list, is_some, nat_eq, codes}
-use Rattle.std.specs.List.{list_any, cons_option}
+use Rattle.std.proofs.Common.{◌≡◌, ℕ, zero, suc, ◌+◌, refl, sym, ap, ◌∙◌, subst, ◌⊎◌, inl, inr, List, [], ◌∷◌, ◌++◌, Bool, true, false, ◌||◌, cond, Option, Some, None, map, length}
+use Rattle.std.specs.Prelude.{flat_map, filter_map, option_to_list, is_some, nat_eq}
+use Rattle.std.specs.List.{cons_option}
 use Rattle.osc_base.specs.declared.path.Path.{Path}
-use Rattle.osc_base.specs.Paths.{root, same_path, then_name, then_do}
-use Rattle.dsl_tree.specs.declared.parts.Ident.{Ident}
-use Rattle.dsl_tree.specs.declared.phases.InvokeHead.{InvokeHead}
-use Rattle.dsl_tree.specs.PhaseTree.{ArgumentTree, PartTree, PhaseTree, Comp, Invoke, Wait, PhaseRow}
-use Rattle.type_heads.specs.Table.{form, owner, is_scenario}
+use Rattle.osc_base.specs.Paths.{root, same_path, then_do}
+use Rattle.dsl_tree.specs.PhaseTree.{PhaseTree, Comp, Invoke, Wait}
+use Rattle.type_heads.specs.Table.{form, is_scenario}
 use Rattle.type_heads.specs.Types.{Types, Field, Do}
 use Rattle.type_heads.specs.Members.{fields, the_do}
-use Rattle.composition.specs.declared.guard.Guard.{Guard}
 use Rattle.composition.specs.declared.setting.Setting.{Setting}
 use Rattle.composition.specs.declared.spot.PhaseKind.{PhaseKind}
 use Rattle.composition.specs.declared.spot.PhaseSpot.{PhaseSpot}
 use Rattle.composition.specs.Calls.{PhaseHere, phases_in, invoked}
-use Rattle.composition.specs.Scenes.{Content, Spot, Binding, phase_spot, phases, has_phase, has_root_do, root_do, guards}
-use Rattle.composition.specs.Givens.{own_givens}
-use Rattle.composition.specs.Expansion.{Expansion, in_row, Maker, field_parts, calling, invocation, phase_part, do_parts, expand_within, own_actor, expansion}
+use Rattle.composition.specs.Scenes.{Content, Spot, phase_spot, phases, has_root_do, root_do, guards}
+use Rattle.composition.specs.Expansion.{in_row, Maker, field_parts, calling, invocation, phase_part, do_parts, expand_within, own_actor, expansion}
 use Rattle.composition.specs.Expanded.{is_vehicle, spot, spots_of, spots_in, scene}
 use Rattle.composition.specs.Invariants.{has_whole}
-use Rattle.field_flatten.proofs.Tests.{both, two_ways, In, in_left, in_right, in_either, in_map, in_flat_map, flat_map_in, any_from, path_self}
+use Rattle.field_flatten.proofs.Tests.{both, In, in_left, in_right, in_either, flat_map_in, any_from, path_self}
 use Rattle.scene_laws.specs.Premises.{is_free}
-use Rattle.scene_laws.proofs.EachSpot.{spots_in_row, invoked_kind, invoked_members}
+use Rattle.scene_laws.proofs.EachSpot.{invoked_kind, invoked_members}
 use Rattle.scene_laws.proofs.FieldNames.{Pairs, NamesDiffer}
 use Rattle.scene_laws.proofs.OwnedHeads.{HaveActors}
 use Rattle.scene_laws.proofs.DistinctPaths.{spot_guards}

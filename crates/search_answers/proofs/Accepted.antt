@@ -1,8 +1,8 @@
 -- What is written of a search is accepted.
-use Rattle.std.proofs.Common.{◌≡◌, sym, subst, ℕ, ◌≤◌, ◌<◌, List, None, length, arith}
+use Rattle.std.proofs.Common.{◌≡◌, sym, subst, ℕ, ◌≤◌, ◌<◌, None, length, arith}
 use Rattle.box_eval.specs.declared.flat.Flat.{Flat}
 use Rattle.box_eval.specs.declared.record.Record.{Record}
-use Rattle.box_eval.specs.Record.{Tree, cuts_of, IsAcceptedAs}
+use Rattle.box_eval.specs.Record.{Tree, IsAcceptedAs}
 use Rattle.box_eval.proofs.Ways.{ends_open}
 use Rattle.record_text.specs.Lines.{AllShort}
 use Rattle.record_text.specs.Source.{limit}

@@ -1,7 +1,6 @@
 -- The elements of a list field that is `it`, by a sample of them.
-use Rattle.std.proofs.Common.{◌≡◌, ◌∙◌, refl, sym, ap, ap₂, ℕ, zero, suc, ◌+◌, ◌<◌, arith, Bool, true, false, List, [], ◌∷◌, ◌++◌, Option, Some, None, is_none, length, option_and_then, option_map, slice_get}
+use Rattle.std.proofs.Common.{◌≡◌, ◌∙◌, refl, ap, ℕ, zero, suc, ◌+◌, ◌<◌, arith, true, false, List, [], ◌∷◌, Option, Some, None, is_none, option_and_then, option_map, slice_get}
 use Rattle.std.specs.Prelude.{codes}
-use Rattle.std.specs.Option.{option_map_or}
 use Rattle.osc_base.specs.declared.fault.FaultCode.{FaultCode}
 use Rattle.osc_base.specs.declared.fault.Place.{Place}
 use Rattle.osc_base.specs.declared.path.Path.{Path}
@@ -18,9 +17,9 @@ use Rattle.expr_nodes.specs.Operators.{index_typed, element as element_in}
 use Rattle.expr_nodes.specs.Parts.{of_one}
 use Rattle.expr_nodes.specs.Scope.{It, Scope}
 use Rattle.expr_nodes.specs.Sizes.{field_size, info_at, unit_size}
-use Rattle.expr_nodes.specs.Typed.{Typed, Read, Listed, begun_at, items_of, place_of}
-use Rattle.expr_nodes.specs.Typing.{expr_rows, typed}
-use Rattle.text_constraints.specs.Elements.{AreSampled, Sample, SampleFor, element_path, element_read, sample_at}
+use Rattle.expr_nodes.specs.Typed.{Typed, Read, Listed, begun_at, items_of}
+use Rattle.expr_nodes.specs.Typing.{typed}
+use Rattle.text_constraints.specs.Elements.{AreSampled, Sample, SampleFor, element_path, sample_at}
 
 -- element n of those from number a on
 elements_get : (each : Path → Typed) (path : Path) (a count n : ℕ) → n < count → slice_get (items_of (elements_from a count each path)) n ≡ Some (each (then_index path (a + n)))

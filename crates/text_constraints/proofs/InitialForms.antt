@@ -1,5 +1,5 @@
 -- Initial values, by whether they are lists.
-use Rattle.std.proofs.Common.{◌≡◌, ◌∙◌, refl, sym, ap, ap₂, ℕ, suc, Bool, true, false, cond, List, [], ◌∷◌, Option, Some, None, is_some, length, map, option_map}
+use Rattle.std.proofs.Common.{◌≡◌, ◌∙◌, refl, sym, ap, ap₂, suc, Bool, true, false, cond, List, [], ◌∷◌, Option, Some, None, is_some, length, map, option_map}
 use Rattle.osc_base.specs.declared.fault.Place.{Place}
 use Rattle.dsl_tree.specs.declared.expr.Expr.{Expr}
 use Rattle.dsl_tree.specs.ExprTree.{ExprTree, items_of}

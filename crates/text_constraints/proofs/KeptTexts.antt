@@ -7,7 +7,6 @@ use Rattle.osc_base.specs.declared.fault.Place.{Place}
 use Rattle.osc_base.specs.declared.mark.Strength.{Strength}
 use Rattle.osc_base.specs.declared.path.Path.{Path}
 use Rattle.dsl_tree.specs.declared.compounds.HeirCondition.{HeirCondition}
-use Rattle.dsl_tree.specs.declared.rules.KeepKind.{KeepKind}
 use Rattle.dsl_tree.specs.ExprTree.{ExprTree, items_of}
 use Rattle.dsl_tree.specs.FileTree.{MemberTree}
 use Rattle.dsl_tree.specs.PhaseTree.{RuleTree}
@@ -20,11 +19,11 @@ use Rattle.composition.specs.Expanded.{occurrence_of}
 use Rattle.composition.specs.Givens.{FieldHere, Given, element, equals, field_here, given_condition, given_conditions, given_elements, given_field, given_initial, given_initials, given_keep, given_member, given_rule, keep_target, left_target, own_givens, strength_of, target_at, value_tree}
 use Rattle.composition.specs.Homes.{home}
 use Rattle.composition.specs.Tokens.{tokens, value_tokens}
-use Rattle.composition.specs.Scenes.{Binding, Occurrence}
+use Rattle.composition.specs.Scenes.{Binding}
 use Rattle.expansion_laws.specs.WorkNodes.{own_within}
 use Rattle.text_constraints.specs.Kept.{Holder, equal_kept, kept, mark_home, rule_kept}
-use Rattle.text_constraints.specs.OwnTexts.{base_kept, condition_kept, conditions_kept, elements_kept, field_kept, field_site, held_under, heir_kept, initial_kept, initials_kept, listed_kept, member_kept, rule_site}
-use Rattle.text_constraints.specs.Sites.{Site, here_of, left_home, path_home, read_home}
+use Rattle.text_constraints.specs.OwnTexts.{condition_kept, conditions_kept, elements_kept, field_kept, field_site, held_under, heir_kept, initial_kept, initials_kept, listed_kept, member_kept, rule_site}
+use Rattle.text_constraints.specs.Sites.{Site, here_of, left_home, read_home}
 use Rattle.text_constraints.proofs.HomedTexts.{left_is, target_is, typed_is}
 
 -- ---- lists

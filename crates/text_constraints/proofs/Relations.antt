@@ -1,5 +1,5 @@
 -- Which expressions are relations, and what their targets are.
-use Rattle.std.proofs.Common.{◌≡◌, ◌∙◌, refl, sym, ap, ap₂, true, false, Bool, cond, List, [], ◌∷◌, Option, None, Some, map, option_and_then}
+use Rattle.std.proofs.Common.{◌≡◌, ◌∙◌, refl, sym, ap, true, false, cond, Option, None, Some, map, option_and_then}
 use Rattle.std.specs.Option.{option_or}
 use Rattle.osc_base.specs.declared.fault.Place.{Place}
 use Rattle.osc_base.specs.declared.path.Path.{Path}

@@ -1,9 +1,8 @@
 -- Constraints of texts, by the homes of what they read.
-use Rattle.std.specs.Prelude.{List, Option, None, map}
+use Rattle.std.specs.Prelude.{List, Option, None}
 use Rattle.osc_base.specs.declared.fault.Place.{Place}
 use Rattle.osc_base.specs.declared.path.Path.{Path}
 use Rattle.osc_base.specs.declared.mark.Strength.{Strength}
-use Rattle.dsl_tree.specs.declared.rules.KeepKind.{KeepKind}
 use Rattle.dsl_tree.specs.ExprTree.{ExprTree}
 use Rattle.dsl_tree.specs.PhaseTree.{RuleTree}
 use Rattle.type_heads.specs.Table.{Table}

@@ -1,5 +1,5 @@
 -- Where a text stands, and the homes of what its expressions read.
-use Rattle.std.specs.Prelude.{Bool, List, Option, Some, None, cond, map, option_and_then, option_map}
+use Rattle.std.specs.Prelude.{List, Option, Some, None, cond, map, option_and_then, option_map}
 use Rattle.std.specs.Borrow.{Bor}
 use Rattle.std.specs.Option.{option_or}
 use Rattle.osc_base.specs.declared.path.Path.{Path}

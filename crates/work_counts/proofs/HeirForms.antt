@@ -1,5 +1,5 @@
 -- The amount of a condition, by whether the field is there.
-use Rattle.std.proofs.Common.{◌≡◌, ◌∙◌, refl, sym, ap, ℕ, ◌+◌, List, Option, Some, None, cond, is_some, option_map}
+use Rattle.std.proofs.Common.{◌≡◌, ◌∙◌, sym, ap, ℕ, ◌+◌, Option, Some, None, cond, is_some, option_map}
 use Rattle.std.specs.Option.{option_map_or}
 use Rattle.dsl_tree.specs.declared.compounds.HeirCondition.{HeirCondition}
 use Rattle.type_heads.specs.Types.{Field, Types}
@@ -7,7 +7,7 @@ use Rattle.type_heads.specs.Members.{field, heir_condition}
 use Rattle.composition.specs.Tokens.{value_tokens}
 use Rattle.program_fields.specs.SeenFields.{seen_field}
 use Rattle.program_fields.specs.declared.fields.TypeField.{TypeField}
-use Rattle.work_counts.specs.Amounts.{Amount, no_amount}
+use Rattle.work_counts.specs.Amounts.{no_amount}
 use Rattle.work_counts.specs.TextAmounts.{base_amount, heir_amount}
 
 module _ (ts : Types) (t : ℕ) (c : HeirCondition) (o : Option TypeField) (told : option_map seen_field o ≡ field ts t c.field.text) where

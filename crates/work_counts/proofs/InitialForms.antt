@@ -1,5 +1,5 @@
 -- The amount of an initial value, by whether it is a list.
-use Rattle.std.proofs.Common.{◌≡◌, refl, sym, ap, true, false, List, Option, Some, None}
+use Rattle.std.proofs.Common.{◌≡◌, refl, ap, true, false, List, Some, None}
 use Rattle.dsl_tree.specs.ExprTree.{ExprTree, items_of}
 use Rattle.program_texts.specs.Ranges.{listed_items}
 use Rattle.work_counts.specs.Amounts.{sum_of}

@@ -1,5 +1,5 @@
 -- The amounts of texts are those of the constraints that they give.
-use Rattle.std.proofs.Common.{◌≡◌, ◌∙◌, refl, sym, ap, ap₂, ℕ, zero, suc, ◌+◌, ◌*◌, ◌<◌, Bool, true, false, cond, List, [], ◌∷◌, ◌++◌, Option, Some, None, length, map, filter_map, flat_map, option_map, option_to_list, reverse, is_some, arith}
+use Rattle.std.proofs.Common.{◌≡◌, ◌∙◌, refl, sym, ap, ap₂, ℕ, zero, suc, ◌+◌, ◌<◌, Bool, true, false, cond, List, [], ◌∷◌, ◌++◌, Option, Some, None, length, map, filter_map, flat_map, option_map, option_to_list, reverse, is_some, arith}
 use Rattle.std.specs.List.{cons_option}
 use Rattle.std.proofs.lemmas.List.{reverse-append}
 use Rattle.std.specs.Option.{option_map_or}
@@ -13,7 +13,7 @@ use Rattle.dsl_tree.specs.PhaseTree.{RuleTree}
 use Rattle.dsl_tree.specs.FileTree.{FieldTree, MemberTree}
 use Rattle.type_heads.specs.Table.{bases}
 use Rattle.type_heads.specs.Types.{Types, Field, Member}
-use Rattle.type_heads.specs.Members.{declared_type, field, field_type, fields_declared, heir_condition, members}
+use Rattle.type_heads.specs.Members.{field, field_type, heir_condition, members}
 use Rattle.expr_nodes.specs.Typing.{first}
 use Rattle.composition.specs.declared.guard.Guard.{Guard}
 use Rattle.composition.specs.Givens.{FieldHere, Given, Here, element, field_here, given_condition, given_conditions, given_elements, given_field, given_initial, given_initials, given_member, given_rule, own_givens}

@@ -1,5 +1,5 @@
 -- How many rules and copied tokens constraints have.
-use Rattle.std.specs.Prelude.{ℕ, ◌+◌, ◌*◌, List}
+use Rattle.std.specs.Prelude.{ℕ, ◌+◌, List}
 use Rattle.composition.specs.Givens.{Given}
 use Rattle.expansion_laws.specs.Counts.{total, given_rules, given_tokens}
 use Rattle.scene_texts.specs.Capped.{capped}

@@ -1,5 +1,5 @@
 -- How many rules and copied tokens the constraints of a text have, whatever object has the text.
-use Rattle.std.specs.Prelude.{ℕ, ◌+◌, ◌*◌, Bool, true, false, List, [], ◌∷◌, Option, Some, None, cond, is_some, length, map, option_and_then}
+use Rattle.std.specs.Prelude.{ℕ, ◌+◌, ◌*◌, Bool, true, List, ◌∷◌, cond, is_some, length, map}
 use Rattle.std.specs.Option.{option_map_or}
 use Rattle.dsl_tree.specs.declared.compounds.HeirCondition.{HeirCondition}
 use Rattle.dsl_tree.specs.ExprTree.{ExprTree, items_of}

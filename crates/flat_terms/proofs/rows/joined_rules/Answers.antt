@@ -1,4 +1,4 @@
-use Rattle.std.proofs.Common.{◌≡◌, ◌∙◌, ap, map, arith}
+use Rattle.std.proofs.Common.{◌∙◌, ap, map, arith}
 use Rattle.box_eval.specs.FlatRules.{flat_rule, joined}
 use Rattle.flat_terms.specs.Joins.{rule_join, no_rules}
 use Rattle.flat_terms.proofs.Rounds.{after_round, shorter}

@@ -1,4 +1,4 @@
-use Rattle.std.proofs.Common.{◌≡◌, ◌∙◌, sym, ap, map, ◌+◌}
+use Rattle.std.proofs.Common.{◌∙◌, sym, ap, map}
 use Rattle.std.specs.List.{list_all}
 use Rattle.composition.specs.SeenParts.{seen_occurrence}
 use Rattle.composition.specs.Scenes.{Scene, Occurrence}

@@ -1,5 +1,4 @@
 use Rattle.std.proofs.Common.{◌≡◌, length, true, map}
-use Rattle.std.specs.Prelude.{find}
 use Rattle.std.specs.List.{list_all}
 use Rattle.composition.specs.SeenParts.{seen_occurrence}
 use Rattle.composition.specs.Scenes.{Occurrence}

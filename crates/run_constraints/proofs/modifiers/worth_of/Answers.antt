@@ -1,4 +1,3 @@
-use Rattle.std.proofs.Common.{◌∙◌}
 use Rattle.osc_base.specs.Fraction.{value}
 use Rattle.composition.specs.Numbers.{number_at}
 use Rattle.expr_nodes.specs.Seen.{seen}

@@ -1,5 +1,4 @@
 use Rattle.serde_json.specs.View.{view}
-use Rattle.run_texts.specs.RunShape.{all_from}
 use Rattle.run_texts.proofs.Told.{list_err}
 use Rattle.run_texts.proofs.shapes.all_in.Goals as goal
 

@@ -1,4 +1,4 @@
-use Rattle.std.proofs.Common.{◌≡◌, map, arith}
+use Rattle.std.proofs.Common.{map, arith}
 use Rattle.scene_expansion.specs.SeenWorks.{seen_work}
 use Rattle.scene_expansion.specs.Walks.{whole_after}
 use Rattle.scene_expansion.proofs.WalkSteps.{many_after}

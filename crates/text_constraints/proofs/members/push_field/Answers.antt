@@ -2,7 +2,7 @@ use Rattle.std.proofs.Common.{◌∙◌, ◌++◌, ap, map, option_map}
 use Rattle.composition.specs.SeenParts.{seen_occurrence}
 use Rattle.composition.specs.SeenScenes.{seen_scene}
 use Rattle.composition.specs.Givens.{guards_under}
-use Rattle.dsl_tree.specs.Views.{field_tree, member_tree, rule_tree}
+use Rattle.dsl_tree.specs.Views.{field_tree}
 use Rattle.expr_nodes.specs.SeenNames.{seen_it, seen_scope}
 use Rattle.program_texts.specs.SeenTexts.{types_in}
 use Rattle.type_members.specs.Listed.{seen_listed}

@@ -2,8 +2,8 @@ use Rattle.std.proofs.Common.{◌∙◌, ◌++◌, ap, map, None, refl}
 use Rattle.composition.specs.SeenParts.{seen_occurrence}
 use Rattle.composition.specs.SeenScenes.{seen_scene}
 use Rattle.composition.specs.Givens.{guards_under}
-use Rattle.dsl_tree.specs.Views.{field_tree, member_tree, rule_tree}
-use Rattle.expr_nodes.specs.SeenNames.{seen_it, seen_scope}
+use Rattle.dsl_tree.specs.Views.{rule_tree}
+use Rattle.expr_nodes.specs.SeenNames.{seen_scope}
 use Rattle.program_texts.specs.SeenTexts.{types_in}
 use Rattle.type_members.specs.Listed.{seen_listed}
 use Rattle.text_constraints.proofs.ListSteps.{on_ok}

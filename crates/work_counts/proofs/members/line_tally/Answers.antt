@@ -1,7 +1,7 @@
 use Rattle.std.proofs.Common.{◌∙◌, ◌-◌, ap, length}
-use Rattle.type_heads.specs.Table.{Table, base, line_within}
+use Rattle.type_heads.specs.Table.{Table, base}
 use Rattle.program_texts.specs.SeenTexts.{types_in}
-use Rattle.work_counts.specs.Amounts.{kept, sum_of}
+use Rattle.work_counts.specs.Amounts.{kept}
 use Rattle.work_counts.specs.TextAmounts.{base_amount}
 use Rattle.work_counts.proofs.Sums.{counted_all, counted_init, counted_more, line_end, line_none, line_split, on_line}
 use Rattle.work_counts.proofs.members.line_tally.Goals as goal

@@ -1,5 +1,4 @@
-use Rattle.std.proofs.Common.{◌≡◌, length}
-use Rattle.scene_texts.specs.Capped.{capped}
+use Rattle.std.proofs.Common.{length}
 use Rattle.type_heads.specs.Table.{line_within}
 use Rattle.program_texts.specs.SeenTexts.{types_in}
 use Rattle.work_counts.specs.Amounts.{kept, sum_of}
