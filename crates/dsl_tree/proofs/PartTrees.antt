@@ -25,7 +25,7 @@ use Rattle.dsl_tree.specs.Views.{FurtherTree, SuffixTree}
 use Rattle.dsl_tree.specs.Grammar.{Part, Symbol, Seen, Bare, Of, rules}
 use Rattle.dsl_tree.specs.Forest.{Forest, nil, seen, bare, sub}
 use Rattle.dsl_tree.specs.Written.{mark, mark_at, ident, sign_kind, at, written, listed_tail, expr, path}
-use Rattle.dsl_tree.specs.WrittenPhases.{newline, keep_kind, rule, rules_tail, named_tail, arguments_tail, arguments, dotted_names, invocation_arguments, invocation_part, parts_tail, invocation_end, invocation_rest, labelled_invocation, composition_arguments, composition, wait, block_phases, phase, phases_tail}
+use Rattle.dsl_tree.specs.WrittenPhases.{newline, by_option, keep_kind, rule, rules_tail, named_tail, arguments_tail, arguments, dotted_names, invocation_arguments, invocation_part, parts_tail, invocation_end, invocation_rest, labelled_invocation, composition_arguments, composition, wait, block_phases, phase, phases_tail}
 use Rattle.dsl_tree.specs.WrittenFile.{import_rest, import_of, imports, known_name, signed, base, bases_tail, offset_end, factor_tail, unit_end, unit_tail, item_number, enum_item, items_tail, enum_items, second_name, qualified_name, condition_value, heir_condition, optional_heir, names_tail, field_type, initial, field_end, member, members_tail, block, body, declaration, declarations, file}
 use Rattle.dsl_tree.proofs.Tests.{any_rule, is_whole}
 use Rattle.dsl_tree.proofs.WrittenRows.{further_tail, suffix_tail}
@@ -88,10 +88,6 @@ abbrev pub dash : Option Place → Forest
 dash None = nil
 dash (Some place) = mark_at place MarkKind.Dash nil
 
-abbrev pub enum_member : Option Ident → Forest
-enum_member None = nil
-enum_member (Some name) = mark MarkKind.Bang (ident name nil)
-
 abbrev pub added : Added → Forest
 added (MoreItems items) = sub (enum_items (items.0 ∷ items.1)) (newline nil)
 added (MoreMembers members) = sub (block (members.0 ∷ members.1)) nil
@@ -121,14 +117,6 @@ core (Pause w) = sub (waited w) nil
 abbrev pub after_name : AfterName → Forest
 after_name (Labelled c) = mark MarkKind.Colon (sub (core c) nil)
 after_name (Unlabelled rest) = sub (invoked rest) nil
-
-abbrev pub implies_tail : Option (Place × ExprTree) → Forest
-implies_tail None = nil
-implies_tail (Some right) = mark_at right.0 MarkKind.Arrow (sub (at 1 right.1 (written right.1)) nil)
-
-abbrev pub relation_tail : Option (Place × RelationSign × ExprTree) → Forest
-relation_tail None = nil
-relation_tail (Some right) = seen right.0 (sign_kind right.1) (sub (at 5 right.2 (written right.2)) nil)
 
 abbrev pub bracket : Bracket → Forest
 bracket (High high) = mark MarkKind.TwoDots (sub (expr high) (mark MarkKind.CloseSquare nil))
@@ -163,7 +151,7 @@ spelling Part.SecondName = (Option Ident, second_name)
 spelling Part.OptionalHeir = (Option Heir, optional_heir)
 spelling Part.HeirCondition = (Option HeirCondition, heir_condition)
 spelling Part.ConditionValue = (ConditionValue, condition_value)
-spelling Part.EnumMember = (Option Ident, enum_member)
+spelling Part.EnumMember = (Option Ident, λ t. by_option t nil (λ name. mark MarkKind.Bang (ident name nil)))
 spelling Part.Body = (List MemberTree, body)
 spelling Part.Block = (OneOrMore MemberTree, λ t. block (t.0 ∷ t.1))
 spelling Part.ExtensionRest = (Added, added)
@@ -195,14 +183,14 @@ spelling Part.Arguments = (OneOrMore ArgumentTree, λ t. arguments (t.0 ∷ t.1)
 spelling Part.ArgumentsTail = (List ArgumentTree, λ t. arguments_tail t (arguments t))
 spelling Part.NamedTail = (List ArgumentTree, named_tail)
 spelling Part.Expr = (ExprTree, expr)
-spelling Part.ImpliesTail = (Option (Place × ExprTree), implies_tail)
+spelling Part.ImpliesTail = (Option (Place × ExprTree), λ t. by_option t nil (λ right. mark_at right.0 MarkKind.Arrow (sub (at_level 1 right.1) nil)))
 spelling Part.Or = (ExprTree, at_level 1)
 spelling Part.OrTail = (List FurtherTree, further_tail 2)
 spelling Part.And = (ExprTree, at_level 2)
 spelling Part.AndTail = (List FurtherTree, further_tail 3)
 spelling Part.Not = (ExprTree, at_level 3)
 spelling Part.Relation = (ExprTree, at_level 4)
-spelling Part.RelationTail = (Option (Place × RelationSign × ExprTree), relation_tail)
+spelling Part.RelationTail = (Option (Place × RelationSign × ExprTree), λ t. by_option t nil (λ right. seen right.0 (sign_kind right.1) (sub (at_level 5 right.2) nil)))
 spelling Part.Sum = (ExprTree, at_level 5)
 spelling Part.SumTail = (List FurtherTree, further_tail 6)
 spelling Part.Product = (ExprTree, at_level 6)
