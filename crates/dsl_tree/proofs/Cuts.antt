@@ -1,5 +1,5 @@
 -- Trees and the rows of the rules that they are made from, both ways.
-use Rattle.std.proofs.Common.{◌≡◌, ℕ, suc, ◌-◌, ◌≤◌, List, [], ◌∷◌, Bool, true, false, cond, Option, Some, None, inl, inr, refl, ◌∙◌, ap, arith, sym}
+use Rattle.std.proofs.Common.{◌≡◌, ℕ, suc, ◌-◌, ◌≤◌, List, [], ◌∷◌, Bool, true, false, cond, Option, Some, None, inl, inr, refl, ap, arith, sym}
 use Rattle.std.specs.Prelude.{nat_lt}
 use Rattle.std.proofs.lemmas.Bool.{false≢true, ltb-false}
 use Rattle.osc_base.specs.declared.fault.Place.{Place}
@@ -30,19 +30,24 @@ use Rattle.dsl_tree.specs.Views.{FurtherTree, SuffixTree, Named, At, grouped, wi
 use Rattle.dsl_tree.specs.Grammar.{Part, rules}
 use Rattle.dsl_tree.specs.Forest.{Forest, nil, sub, wrong, IsOf}
 use Rattle.dsl_tree.specs.Written.{mark, ident, digits, level, lifted, raised, written, path, mark_at, or_row, and_row, sum_row, product_row, post_row, path_front}
-use Rattle.dsl_tree.specs.Written as Written
 use Rattle.dsl_tree.specs.WrittenFile.{same_place, signed, qualified_name}
 use Rattle.dsl_tree.proofs.Tests.{is_whole, right_of, is_not}
-use Rattle.dsl_tree.proofs.WrittenRows.{at_lower, suffix_tail, or_written, and_written, sum_written, product_written, post_written, front_of_row, path_of_row, further_tail}
+use Rattle.dsl_tree.proofs.WrittenRows.{at_lower, suffix_tail, or_written, and_written, sum_written, product_written, post_written, path_written, further_tail}
 use Rattle.dsl_tree.proofs.PartTrees.{Made, Choice, choice_forest, is_only, Another, Factor, Offset, MoreItems, MoreMembers, Invoked, InOrder, Pause, Labelled, Unlabelled, High, Items, at_level, dash, Tree, forest_of}
 use Rattle.dsl_tree.proofs.WholeForests.{whole_lifted}
 
--- what a token holds
+-- names and numbers, and what their tokens hold
 abbrev pub named : Place × List ℕ → Ident
 named t = record { place = t.0; text = t.1 }
 
 abbrev pub counted : Place × (ℕ × ℕ) → Digits
 counted t = record { place = t.0; digits = t.1.0; places = t.1.1 }
+
+abbrev held : Ident → Place × List ℕ
+held name = (name.place, name.text)
+
+abbrev digits_held : Digits → Place × (ℕ × ℕ)
+digits_held number = (number.place, (number.digits, number.places))
 
 abbrev pub further : Place → Operator → ExprTree → FurtherTree
 further place operator part = record { place = place; operator = operator; part = part }
@@ -66,6 +71,29 @@ pub signed_written : (sign : Option Place) (number : Digits) → signed (signed_
 signed_written None number = ap (λ (b : Bool). cond b (sub nil (digits number nil)) wrong) (same_place_refl number.place)
 signed_written (Some place) number = refl
 
+same_place_true : (p q : Place) → same_place p q ≡ true → p ≡ q
+same_place_true p q h =
+    let file : p.file ≡ q.file = grind arith in
+    let line : p.line ≡ q.line = grind arith in
+    let column : p.column ≡ q.column = grind arith in
+    let token : p.token ≡ q.token = grind arith in
+    λ i. record { file = file i; line = line i; column = column i; token = token i }
+
+signed_cut : (s : Signed) → is_whole (signed s) ≡ true → (sign : Option Place) × (signed_of sign s.number ≡ s)
+signed_cut s = go s.minus (same_place s.place s.number.place) refl refl
+  where
+    go : (m e : Bool) → m ≡ s.minus → same_place s.place s.number.place ≡ e
+        → is_whole (cond m (sub (mark_at s.place MarkKind.Dash nil) (digits s.number nil)) (cond e (sub nil (digits s.number nil)) wrong)) ≡ true → (sign : Option Place) × (signed_of sign s.number ≡ s)
+    go true e minus same w = (Some s.place, λ i. record { place = s.place; minus = minus i; number = s.number })
+    go false true minus same w = let place = same_place_true s.place s.number.place same in (None, sym (λ i. record { place = place i; minus = sym minus i; number = s.number }))
+    go false false minus same w = absurd (false≢true w)
+
+dash_whole : (sign : Option Place) → is_whole (sub (dash sign) nil) ≡ true
+dash_whole None = refl
+dash_whole (Some place) = refl
+
+-- Rows to trees
+
 -- a tree of a higher level, when nothing stands after it
 pub lower : (l : ℕ) (t : ExprTree) → is_whole (lifted l (at_level (suc l) t)) ≡ true → at_level l t ≡ lifted l (at_level (suc l) t)
 lower l t = go (nat_lt (level t) (suc l)) refl
@@ -74,11 +102,7 @@ lower l t = go (nat_lt (level t) (suc l)) refl
     go true e w = absurd (false≢true (whole_lifted l wrong w))
     go false e w = let high : suc l ≤ level t = ltb-false (level t) (suc l) e in at_lower l t (written t) high
 
--- a head of a path, which is written as a path itself, and its suffixes
-pub path_written : (head : ExprTree) (ss : List SuffixTree) → path head ≡ Written.path_row head nil → path (path_row head ss) ≡ Written.path_row head (suffix_tail ss)
-path_written head [] e = e
-path_written head (s ∷ rest) e = path_of_row (Start head) s rest ∙ front_of_row (Start head) (s ∷ rest)
-
+-- the tree that is made from a row
 abbrev pub makes : (p : Part) (choice : Choice (rules p)) → Made p (choice_forest (rules p) choice)
 makes Part.File (is, (ds, (end, u))) = (record { imports = is; decls = ds; end = end.0 }, λ h. refl)
 makes Part.Imports (inl u) = ([], λ h. refl)
@@ -265,49 +289,22 @@ makes Part.BracketRest (inr (items, (closes, u))) = (Items items, λ h. refl)
 makes Part.ListedTail (inl u) = (ExprRow.End, λ h. refl)
 makes Part.ListedTail (inr (comma, (item, (others, u)))) = (ExprRow.Item item others, λ h. refl)
 
--- the row that a tree is made from, which is of the only rule that its forest may follow
+-- Trees to rows
+
+-- The row that a tree is made from. Its rule is the only one that the tree's forest may follow.
 abbrev pub Cut : (p : Part) → Tree p → Type 0
 Cut p t =
     (choice : Choice (rules p)) × ((makes p choice).0 ≡ t) × (is_only (rules p) choice (forest_of p t) ≡ true)
     × (is_whole (choice_forest (rules p) choice) ≡ true)
 
+-- if `wrong` stands nowhere in the forest, and if that follows a rule
 abbrev WholeCut : (p : Part) → Tree p → Type 0
 WholeCut p t = is_whole (forest_of p t) ≡ true → Cut p t
 
 abbrev FitCut : (p : Part) → Tree p → Type 0
 FitCut p t = IsOf p (forest_of p t) → WholeCut p t
 
--- what a token holds
-abbrev held : Ident → Place × List ℕ
-held name = (name.place, name.text)
-
-abbrev digits_held : Digits → Place × (ℕ × ℕ)
-digits_held number = (number.place, (number.digits, number.places))
-
--- Signs
-
-same_place_true : (p q : Place) → same_place p q ≡ true → p ≡ q
-same_place_true p q h =
-    let file : p.file ≡ q.file = grind arith in
-    let line : p.line ≡ q.line = grind arith in
-    let column : p.column ≡ q.column = grind arith in
-    let token : p.token ≡ q.token = grind arith in
-    λ i. record { file = file i; line = line i; column = column i; token = token i }
-
-signed_cut : (s : Signed) → is_whole (signed s) ≡ true → (sign : Option Place) × (signed_of sign s.number ≡ s)
-signed_cut s = go s.minus (same_place s.place s.number.place) refl refl
-  where
-    go : (m e : Bool) → m ≡ s.minus → same_place s.place s.number.place ≡ e
-        → is_whole (cond m (sub (mark_at s.place MarkKind.Dash nil) (digits s.number nil)) (cond e (sub nil (digits s.number nil)) wrong)) ≡ true → (sign : Option Place) × (signed_of sign s.number ≡ s)
-    go true e minus same w = (Some s.place, λ i. record { place = s.place; minus = minus i; number = s.number })
-    go false true minus same w = let place = same_place_true s.place s.number.place same in (None, sym (λ i. record { place = place i; minus = sym minus i; number = s.number }))
-    go false false minus same w = absurd (false≢true w)
-
-dash_whole : (sign : Option Place) → is_whole (sub (dash sign) nil) ≡ true
-dash_whole None = refl
-dash_whole (Some place) = refl
-
--- Rows that hold one item at least
+-- Trees that hold one item at least
 
 type_cut : (d : PhysicalDecl) (bases : List BasePart) → WholeCut Part.Declaration (TypeDeclaration (record d { bases = bases }))
 type_cut d [] w = absurd (false≢true w)
@@ -361,7 +358,7 @@ unit_tail_cut [] (Some factor) offset w = (inr (tt, (Factor factor offset, tt)),
 unit_tail_cut [] None (Some offset) w = (inr (tt, (Offset offset, tt)), refl, refl, w)
 unit_tail_cut [] None None w = (inl (tt, (tt, tt)), refl, refl, w)
 
--- Rows of operators and of suffixes, which are grouped from the left
+-- Rows of operators and of suffixes, whose trees are grouped from the left
 
 or_cut : (t : ExprTree) (next : FurtherTree) (rest : List FurtherTree) → is_whole (or_row t (further_tail 2 (next ∷ rest))) ≡ true → Cut Part.Or (grouped Or t (next ∷ rest))
 or_cut (Start first) next rest w = ((first, (next ∷ rest, tt)), refl, refl, w)
@@ -417,6 +414,7 @@ product_sign place Operator.Star part rest fit w = (inr ((place, inl tt), (part,
 product_sign place Operator.Slash part rest fit w = (inr ((place, inr tt), (part, (rest, tt))), refl, refl, w)
 product_sign place operator part rest fit w = absurd (is_not Part.ProductTail (forest_of Part.ProductTail (further place operator part ∷ rest)) refl fit)
 
+-- the row of each tree
 pub cut : (p : Part) (t : Tree p) → IsOf p (forest_of p t) → is_whole (forest_of p t) ≡ true → Cut p t
 cut Part.File f fit w = ((f.imports, (f.decls, ((f.end, tt), tt))), refl, refl, w)
 cut Part.Imports [] fit w = (inl tt, refl, refl, w)

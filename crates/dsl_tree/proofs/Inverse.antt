@@ -13,7 +13,7 @@ use Rattle.dsl_tree.proofs.Sets.{both_ways, not_true, or_left, or_right}
 use Rattle.dsl_tree.proofs.EachPart.{each_part}
 use Rattle.dsl_tree.proofs.WholeForests.{is_is_whole}
 use Rattle.dsl_tree.proofs.Classes.{Class, Names, Numbers, Physicals, Texts, LeftOuts, Plain, Value, kind_of, AnyOf, kind_any, classes, seen_class, bare_class, seen_found, bare_found}
-use Rattle.dsl_tree.proofs.PartTrees.{Tree, forest_of, Row, row_forest, Choice, choice_forest, tag, class_tag, tags, could, is_only}
+use Rattle.dsl_tree.proofs.PartTrees.{Tree, forest_of, Row, row_forest, Choice, choice_forest, tag, class_tag, tags, may_follow, is_only}
 use Rattle.dsl_tree.proofs.Cuts.{makes, cut}
 
 -- Tokens: what one of some classes holds is found in its kind alone, if no two of them have one tag.
@@ -67,18 +67,18 @@ all_clear p = each_part (λ p. list_all (list_all is_clear) (rules p)) refl p
 
 -- Rules: no other one can be followed
 
-any_could : (f : Forest) (rs : List (List Symbol)) → ((r : List Symbol) → Follows f r → could f r ≡ true) → AnyRule rs (Follows f) → any_rule rs (could f) ≡ true
-any_could f [] sound any = absurd any
-any_could f (r ∷ rs) sound (inl does) = or_left _ _ (sound r does)
-any_could f (r ∷ rs) sound (inr any) = or_right _ _ (any_could f rs sound any)
+any_may : (f : Forest) (rs : List (List Symbol)) → ((r : List Symbol) → Follows f r → may_follow f r ≡ true) → AnyRule rs (Follows f) → any_rule rs (may_follow f) ≡ true
+any_may f [] sound any = absurd any
+any_may f (r ∷ rs) sound (inl does) = or_left _ _ (sound r does)
+any_may f (r ∷ rs) sound (inr any) = or_right _ _ (any_may f rs sound any)
 
-follows_could : (f : Forest) (ss : List Symbol) → Follows f ss → could f ss ≡ true
-follows_could nil [] h = refl
-follows_could (seen place kind f) (Seen codes ∷ ss) h =
+follows_may : (f : Forest) (ss : List Symbol) → Follows f ss → may_follow f ss ≡ true
+follows_may nil [] h = refl
+follows_may (seen place kind f) (Seen codes ∷ ss) h =
     let k = seen_found kind codes h.0 in subst (λ (x : TokenKind). has (tags codes) (tag x) ≡ true) k.1 (has_tag (classes seen_class codes) k.0)
-follows_could (bare kind f) (Bare codes ∷ ss) h = h.0
-follows_could (sub a g) (Of p ∷ ss) h = any_could a (rules p) (follows_could a) h.0
-follows_could _ _ h = absurd h
+follows_may (bare kind f) (Bare codes ∷ ss) h = h.0
+follows_may (sub a g) (Of p ∷ ss) h = any_may a (rules p) (follows_may a) h.0
+follows_may _ _ h = absurd h
 
 -- the only row of a rule whose forest is f
 abbrev RowFor : Forest → List Symbol → Type 0
@@ -100,7 +100,7 @@ chosen f (r ∷ (s ∷ rs)) clear one (inl does) =
       row.1,
       elim [
         | inl other ↦ λ e only. ap inl (row.2 other e)
-        | inr other ↦ λ e only. both_ways (could f r) (follows_could f r does) (not_true _ (left_of _ _ only))
+        | inr other ↦ λ e only. both_ways (may_follow f r) (follows_may f r does) (not_true _ (left_of _ _ only))
       ],
     )
 chosen f (r ∷ (s ∷ rs)) clear one (inr any) =
@@ -108,7 +108,7 @@ chosen f (r ∷ (s ∷ rs)) clear one (inr any) =
       inr later.0,
       later.1,
       elim [
-        | inl other ↦ λ e only. both_ways (any_rule (s ∷ rs) (could f)) (any_could f (s ∷ rs) (follows_could f) any) (not_true _ only)
+        | inl other ↦ λ e only. both_ways (any_rule (s ∷ rs) (may_follow f)) (any_may f (s ∷ rs) (follows_may f) any) (not_true _ only)
         | inr other ↦ λ e only. ap inr (later.2 other e (right_of _ _ only))
       ],
     )

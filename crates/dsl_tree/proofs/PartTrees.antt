@@ -259,16 +259,16 @@ abbrev pub tags : List ℕ → List ℕ
 tags codes = map class_tag (classes seen_class codes)
 
 -- whether a forest may follow a rule, by its first token
-abbrev pub could : Forest → List Symbol → Bool
-could nil [] = true
-could (seen place kind f) (Seen codes ∷ ss) = has (tags codes) (tag kind)
-could (bare kind f) (Bare codes ∷ ss) = has codes (code kind)
-could (sub part f) (Of p ∷ ss) = any_rule (rules p) (could part)
-could _ _ = false
+abbrev pub may_follow : Forest → List Symbol → Bool
+may_follow nil [] = true
+may_follow (seen place kind f) (Seen codes ∷ ss) = has (tags codes) (tag kind)
+may_follow (bare kind f) (Bare codes ∷ ss) = has codes (code kind)
+may_follow (sub part f) (Of p ∷ ss) = any_rule (rules p) (may_follow part)
+may_follow _ _ = false
 
 -- whether it may follow no other rule than that of the row
 abbrev pub is_only : (rs : List (List Symbol)) → Choice rs → Forest → Bool
 is_only [] choice f = absurd choice
 is_only (r ∷ []) choice f = true
-is_only (r ∷ (s ∷ rs)) (inl row) f = not (any_rule (s ∷ rs) (could f))
-is_only (r ∷ (s ∷ rs)) (inr choice) f = not (could f r) && is_only (s ∷ rs) choice f
+is_only (r ∷ (s ∷ rs)) (inl row) f = not (any_rule (s ∷ rs) (may_follow f))
+is_only (r ∷ (s ∷ rs)) (inr choice) f = not (may_follow f r) && is_only (s ∷ rs) choice f

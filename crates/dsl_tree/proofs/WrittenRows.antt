@@ -4,10 +4,11 @@ use Rattle.std.proofs.lemmas.Bool.{le-ltb}
 use Rattle.osc_base.specs.declared.fault.Place.{Place}
 use Rattle.dsl_tree.specs.declared.expr.Operator.{Operator}
 use Rattle.dsl_tree.specs.ExprTree.{ExprTree}
+use Rattle.dsl_tree.specs.Views as Views
 use Rattle.dsl_tree.specs.Views.{FurtherTree, SuffixTree, Named, At, grouped, with_suffixes}
 use Rattle.dsl_tree.specs.Forest.{Forest, nil, sub, wrong}
 pub use Rattle.dsl_tree.specs.WrittenTails.{further_tail, suffix_tail}
-use Rattle.dsl_tree.specs.Written.{level, lifted, raised, at, written, or_row, and_row, sum_row, product_row, post_row, path, path_front}
+use Rattle.dsl_tree.specs.Written.{level, lifted, raised, at, written, or_row, and_row, sum_row, product_row, post_row, path, path_row, path_front}
 
 -- Levels
 
@@ -122,3 +123,8 @@ path_of_row t (Named name) [] = refl
 path_of_row t (At place index) [] = refl
 path_of_row t (Named name) (s ∷ rest) = path_of_row (ExprTree.Dot t name) s rest
 path_of_row t (At place index) (s ∷ rest) = path_of_row (ExprTree.Index place t index) s rest
+
+-- a head of a path, which is written as a path itself, and its suffixes
+pub path_written : (head : ExprTree) (ss : List SuffixTree) → path head ≡ path_row head nil → path (Views.path_row head ss) ≡ path_row head (suffix_tail ss)
+path_written head [] e = e
+path_written head (s ∷ rest) e = path_of_row (ExprTree.Start head) s rest ∙ front_of_row (ExprTree.Start head) (s ∷ rest)
