@@ -18,14 +18,9 @@ use Rattle.dsl_tree.specs.declared.compounds.Heir.{Heir}
 use Rattle.dsl_tree.specs.declared.file.Import.{Import}
 use Rattle.dsl_tree.specs.declared.token.MarkKind.{MarkKind}
 use Rattle.dsl_tree.specs.declared.units.BasePart.{BasePart}
-use Rattle.dsl_tree.specs.declared.units.PhysicalDecl.{PhysicalDecl}
-use Rattle.dsl_tree.specs.declared.units.UnitDecl.{UnitDecl}
-use Rattle.dsl_tree.specs.declared.enums.EnumItem.{EnumItem}
-use Rattle.dsl_tree.specs.declared.enums.EnumDecl.{EnumDecl}
-use Rattle.dsl_tree.specs.declared.enums.EnumExtension.{EnumExtension as Extension}
 use Rattle.dsl_tree.specs.ExprTree.{ExprTree, Implies, Not, Relation, Minus, Dot, Index, Number, Physical, Chars, Truth, It, Actor, Name, EnumName, Group, Span, Listed, RangeCall, Start, ExprRow, Or, And, Sum, Product}
-use Rattle.dsl_tree.specs.PhaseTree.{Keep, Remove, ArgumentTree, RulePart, ModifierPart, Comp, Invoke, Wait, PhaseRow, ModifierTree}
-use Rattle.dsl_tree.specs.FileTree.{Field, Rule, Do, MemberTree, DeclarationTree, TypeDeclaration, UnitDeclaration, EnumDeclaration, CompoundDeclaration, MemberExtension, EnumExtension, FieldTree, MoreTree}
+use Rattle.dsl_tree.specs.PhaseTree.{Keep, Remove, ArgumentTree, RulePart, ModifierPart, Comp, Invoke, Wait, PhaseRow}
+use Rattle.dsl_tree.specs.FileTree.{Field, Rule, Do, MemberTree, DeclarationTree, TypeDeclaration, UnitDeclaration, EnumDeclaration, CompoundDeclaration, MemberExtension, EnumExtension}
 use Rattle.dsl_tree.specs.Views.{FurtherTree, SuffixTree, Named, At, grouped, with_suffixes, path_row}
 use Rattle.dsl_tree.specs.Grammar.{Part, rules}
 use Rattle.dsl_tree.specs.Forest.{Forest, nil, sub, wrong, IsOf}
@@ -304,19 +299,12 @@ WholeCut p t = is_whole (forest_of p t) ≡ true → Cut p t
 abbrev FitCut : (p : Part) → Tree p → Type 0
 FitCut p t = IsOf p (forest_of p t) → WholeCut p t
 
--- Trees that hold one item at least
+-- by whether a list has an item
+by_items : {A : Type 0} (P : List A → Type 0) → P [] → ((x : A) (rest : List A) → P (x ∷ rest)) → (xs : List A) → P xs
+by_items P none some [] = none
+by_items P none some (x ∷ rest) = some x rest
 
-type_cut : (d : PhysicalDecl) (bases : List BasePart) → WholeCut Part.Declaration (TypeDeclaration (record d { bases = bases }))
-type_cut d [] w = absurd (false≢true w)
-type_cut d (b ∷ rest) w = (inl ((d.place, tt), (held d.name, (tt, (tt, (tt, (b, (rest, (tt, (tt, tt))))))))), refl, refl, w)
-
-unit_cut : (d : UnitDecl) (bases : List BasePart) → WholeCut Part.Declaration (UnitDeclaration (record d { bases = bases }))
-unit_cut d [] w = absurd (false≢true w)
-unit_cut d (b ∷ rest) w = (inr (inl ((d.place, tt), (held d.name, (tt, (held d.of, (tt, (tt, (tt, (b, ((rest, d.factor, d.offset), tt)))))))))), refl, refl, w)
-
-enum_cut : (d : EnumDecl) (items : List EnumItem) → WholeCut Part.Declaration (EnumDeclaration (record d { items = items }))
-enum_cut d [] w = absurd (false≢true w)
-enum_cut d (i ∷ rest) w = (inr (inr (inl ((d.place, tt), (held d.name, (tt, ((i, rest), (tt, tt))))))), refl, refl, w)
+-- Trees that hold no row, or one of some rules
 
 compound_cut : (place : Place) (kind : CompoundKind) (first : Ident) (second : Option Ident) (heir : Option Heir) (members : List MemberTree)
     → WholeCut Part.Declaration (compound place kind first second heir members)
@@ -327,22 +315,6 @@ compound_cut place CompoundKind.Action first second heir members w =
 compound_cut place CompoundKind.Scenario first second heir members w =
     (inr (inr (inr (inr (inl ((place, inr tt), (record { first = first; second = second }, (heir, (members, tt)))))))), refl, refl, w)
 compound_cut place _ first second heir members w = absurd (false≢true w)
-
-more_cut : (e : MoreTree) (members : List MemberTree) → WholeCut Part.Declaration (MemberExtension (record e { members = members }))
-more_cut e [] w = absurd (false≢true (right_of (is_whole (qualified_name e.name)) _ w))
-more_cut e (m ∷ rest) w = (inr (inr (inr (inr (inr ((e.place, tt), (e.name, (tt, (MoreMembers (m, rest), tt)))))))), refl, refl, w)
-
-items_cut : (e : Extension) (items : List EnumItem) → WholeCut Part.Declaration (EnumExtension (record e { items = items }))
-items_cut e [] w = absurd (false≢true (right_of (is_whole (qualified_name e.name)) _ w))
-items_cut e (i ∷ rest) w = (inr (inr (inr (inr (inr ((e.place, tt), (e.name, (tt, (MoreItems (i, rest), tt)))))))), refl, refl, w)
-
-field_cut : (f : FieldTree) (names : List Ident) → WholeCut Part.Member (Field (record f { names = names }))
-field_cut f [] w = absurd (false≢true w)
-field_cut f (name ∷ names) w = (inl (held name, (names, (tt, ((f.list, f.of), (f.initial, (f.rules, tt)))))), refl, refl, w)
-
-modifier_cut : (m : ModifierTree) (arguments : List ArgumentTree) → WholeCut Part.InvocationPart (ModifierPart (record m { arguments = arguments }))
-modifier_cut m [] w = absurd (false≢true w)
-modifier_cut m (a ∷ rest) w = (inr (held m.name, (tt, ((a, rest), (tt, tt)))), refl, refl, w)
 
 argument_cut : (name : Option Ident) (value : ExprTree) (others : List ArgumentTree) → WholeCut Part.Arguments (argument name value, others)
 argument_cut None value others w = (inl (value, (others, tt)), refl, refl, w)
@@ -427,12 +399,22 @@ cut Part.DottedNames [] fit w = (inl tt, refl, refl, w)
 cut Part.DottedNames (name ∷ names) fit w = (inr (tt, (held name, (names, tt))), refl, refl, w)
 cut Part.Declarations [] fit w = (inl tt, refl, refl, w)
 cut Part.Declarations (d ∷ ds) fit w = (inr (d, (ds, tt)), refl, refl, w)
-cut Part.Declaration (TypeDeclaration d) fit w = type_cut d d.bases w
-cut Part.Declaration (UnitDeclaration d) fit w = unit_cut d d.bases w
-cut Part.Declaration (EnumDeclaration d) fit w = enum_cut d d.items w
+cut Part.Declaration (TypeDeclaration d) fit w =
+    by_items (λ bases. WholeCut Part.Declaration (TypeDeclaration (record d { bases = bases }))) (λ w. absurd (false≢true w))
+    (λ b rest w. (inl ((d.place, tt), (held d.name, (tt, (tt, (tt, (b, (rest, (tt, (tt, tt))))))))), refl, refl, w)) d.bases w
+cut Part.Declaration (UnitDeclaration d) fit w =
+    by_items (λ bases. WholeCut Part.Declaration (UnitDeclaration (record d { bases = bases }))) (λ w. absurd (false≢true w))
+    (λ b rest w. (inr (inl ((d.place, tt), (held d.name, (tt, (held d.of, (tt, (tt, (tt, (b, ((rest, d.factor, d.offset), tt)))))))))), refl, refl, w)) d.bases w
+cut Part.Declaration (EnumDeclaration d) fit w =
+    by_items (λ items. WholeCut Part.Declaration (EnumDeclaration (record d { items = items }))) (λ w. absurd (false≢true w))
+    (λ i rest w. (inr (inr (inl ((d.place, tt), (held d.name, (tt, ((i, rest), (tt, tt))))))), refl, refl, w)) d.items w
 cut Part.Declaration (CompoundDeclaration c) fit w = compound_cut c.place c.kind c.name.first c.name.second c.heir c.members w
-cut Part.Declaration (MemberExtension e) fit w = more_cut e e.members w
-cut Part.Declaration (EnumExtension e) fit w = items_cut e e.items w
+cut Part.Declaration (MemberExtension e) fit w =
+    by_items (λ members. WholeCut Part.Declaration (MemberExtension (record e { members = members }))) (λ w. absurd (false≢true (right_of (is_whole (qualified_name e.name)) _ w)))
+    (λ m rest w. (inr (inr (inr (inr (inr ((e.place, tt), (e.name, (tt, (MoreMembers (m, rest), tt)))))))), refl, refl, w)) e.members w
+cut Part.Declaration (EnumExtension e) fit w =
+    by_items (λ items. WholeCut Part.Declaration (EnumExtension (record e { items = items }))) (λ w. absurd (false≢true (right_of (is_whole (qualified_name e.name)) _ w)))
+    (λ i rest w. (inr (inr (inr (inr (inr ((e.place, tt), (e.name, (tt, (MoreItems (i, rest), tt)))))))), refl, refl, w)) e.items w
 cut Part.BasesTail [] fit w = (inl tt, refl, refl, w)
 cut Part.BasesTail (b ∷ rest) fit w = (inr (tt, (b, (rest, tt))), refl, refl, w)
 cut Part.UnitTail u fit w = unit_tail_cut u.0 u.1 u.2 w
@@ -473,7 +455,9 @@ cut Part.ExtensionRest (MoreItems items) fit w = (inl (items, (tt, tt)), refl, r
 cut Part.ExtensionRest (MoreMembers members) fit w = (inr (members, tt), refl, refl, w)
 cut Part.MembersTail [] fit w = (inl tt, refl, refl, w)
 cut Part.MembersTail (m ∷ ms) fit w = (inr (m, (ms, tt)), refl, refl, w)
-cut Part.Member (Field f) fit w = field_cut f f.names w
+cut Part.Member (Field f) fit w =
+    by_items (λ names. WholeCut Part.Member (Field (record f { names = names }))) (λ w. absurd (false≢true w))
+    (λ name names w. (inl (held name, (names, (tt, ((f.list, f.of), (f.initial, (f.rules, tt)))))), refl, refl, w)) f.names w
 cut Part.Member (Rule r) fit w = (inr (inl (r, tt)), refl, refl, w)
 cut Part.Member (Do place p) fit w = (inr (inr ((place, tt), (p, tt))), refl, refl, w)
 cut Part.NamesTail [] fit w = (inl tt, refl, refl, w)
@@ -534,7 +518,9 @@ cut Part.InvocationArguments (a ∷ rest) fit w = (inr ((a, rest), tt), refl, re
 cut Part.InvocationEnd [] fit w = (inl (tt, tt), refl, refl, w)
 cut Part.InvocationEnd (p ∷ rest) fit w = (inr (tt, (tt, (tt, (tt, (p, (rest, (tt, tt))))))), refl, refl, w)
 cut Part.InvocationPart (RulePart r) fit w = (inl (r, tt), refl, refl, w)
-cut Part.InvocationPart (ModifierPart m) fit w = modifier_cut m m.arguments w
+cut Part.InvocationPart (ModifierPart m) fit w =
+    by_items (λ arguments. WholeCut Part.InvocationPart (ModifierPart (record m { arguments = arguments }))) (λ w. absurd (false≢true w))
+    (λ a rest w. (inr (held m.name, (tt, ((a, rest), (tt, tt)))), refl, refl, w)) m.arguments w
 cut Part.PartsTail [] fit w = (inl tt, refl, refl, w)
 cut Part.PartsTail (p ∷ rest) fit w = (inr (p, (rest, tt)), refl, refl, w)
 cut Part.Arguments args fit w = argument_cut args.0.name args.0.value args.1 w
