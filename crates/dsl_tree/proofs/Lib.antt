@@ -14,10 +14,7 @@ pub mod Shortest
 pub mod Faults
 pub mod RuleFaults
 pub mod Build
-pub mod Readers
 pub mod ReadBack
-pub mod PhaseReaders
-pub mod FileReaders
 pub mod OneTrees
 pub mod Leaves
 pub mod WholeForests
@@ -29,9 +26,7 @@ pub mod TreeValues
 pub mod Ends
 pub mod TreeFiles
 pub mod Classes
-pub mod Made
-pub mod MadeExprs
-pub mod MadePhases
-pub mod MadeFiles
+pub mod PartTrees
+pub mod Cuts
 pub mod Inverse
 pub mod Tops
