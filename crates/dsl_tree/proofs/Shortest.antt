@@ -4,31 +4,21 @@ use Rattle.std.specs.Prelude.{codes}
 use Rattle.osc_base.specs.declared.fault.Place.{Place}
 use Rattle.dsl_tree.specs.declared.token.Token.{Token}
 use Rattle.dsl_tree.specs.declared.token.TokenKind.{TokenKind}
-use Rattle.dsl_tree.specs.declared.token.ExcludedWord.{ExcludedWord}
 use Rattle.dsl_tree.specs.Codes.{code, has}
 use Rattle.dsl_tree.specs.Grammar.{Part, Symbol, Seen, Bare, Of, rules}
 use Rattle.dsl_tree.specs.Forest.{Forest, nil, seen, bare, sub, wrong, Follows, IsOf, Spells}
 use Rattle.dsl_tree.proofs.EachPart.{each_part}
 use Rattle.dsl_tree.proofs.Tests.{Is-follows, any_rule, follows, is_whole, tokens_of, Spells-tokens_of, left_of, right_of}
 use Rattle.dsl_tree.proofs.Sets.{and_both}
-use Rattle.dsl_tree.proofs.Classes.{Class, Names, Numbers, Physicals, Texts, LeftOuts, Plain, Value, kind_of, bare_class}
+use Rattle.dsl_tree.proofs.Classes.{kind_of, bare_class, held}
 
 abbrev nowhere : Place
 nowhere = record { file = 0; line = 1; column = 1; token = 0 }
 
 -- a kind of token that has the first of some codes
-
-abbrev some_value : (x : Class) → Value x
-some_value Names = codes "x"
-some_value Numbers = (0, 0)
-some_value Physicals = (0, 0, codes "s")
-some_value Texts = []
-some_value LeftOuts = ExcludedWord.CoverWord
-some_value (Plain kind) = tt
-
 abbrev some_kind : List ℕ → TokenKind
 some_kind [] = TokenKind.Newline
-some_kind (c ∷ cs) = kind_of (bare_class c) (some_value (bare_class c))
+some_kind (c ∷ cs) = kind_of (bare_class c) (held (bare_class c) TokenKind.Newline)
 
 -- whether each token of a row has such a kind
 abbrev pub filled : List Symbol → Bool
