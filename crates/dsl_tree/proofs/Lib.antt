@@ -25,7 +25,6 @@ pub mod WrittenRows
 pub mod FirstNames
 pub mod Values
 pub mod FileValues
-pub mod TreeValues
 pub mod Ends
 pub mod TreeFiles
 pub mod Classes
