@@ -60,3 +60,7 @@ begins _ _ ts z h s = absurd h
 
 pub begins_part : (p : Part) (a : Forest) (ts z : List Token) → AnyRule (rules p) (Follows a) → Spells a ts z → Begun a (first p) ts
 begins_part p a ts z any s = by_rules p (Follows a) (Begun a (first p) ts) any (λ r fit does. ⊎_elim inl (λ (v, b). inr (v, Starts-subset (firsts r) (first p) ts fit.begins b)) (begins a r ts z does s))
+
+-- a forest of a row that can't be empty begins with one of its first codes
+pub begins_full : (f : Forest) (ss : List Symbol) (ts z : List Token) → empties ss ≡ false → Follows f ss → Spells f ts z → Starts (firsts ss) ts
+begins_full f ss ts z full does s = ⊎_elim (λ v. both_ways (empties ss) (void_empties f ss does v) full) (λ (v, b). b) (begins f ss ts z does s)
