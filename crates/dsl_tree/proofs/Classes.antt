@@ -1,5 +1,5 @@
 -- Kinds of tokens by their codes: what a token of some codes holds besides its kind.
-use Rattle.std.proofs.Common.{◌≡◌, ◌⊎◌, ℕ, List, [], ◌∷◌, ◌++◌, Bool, true, false, cond, map, refl, sym, ◌∙◌, ap, subst, inl, inr, ⊎_elim, eqb, arith}
+use Rattle.std.proofs.Common.{◌≡◌, ◌⊎◌, ℕ, List, [], ◌∷◌, ◌++◌, Bool, true, false, cond, map, refl, sym, ap, subst, inl, inr, ⊎_elim, eqb, arith}
 use Rattle.std.specs.Prelude.{◌==◌, nat_le, codes}
 use Rattle.std.specs.Str.{bytes_eq}
 use Rattle.std.proofs.lemmas.Bool.{false≢true, eqb-true}
@@ -148,39 +148,30 @@ classes class (c ∷ cs) = with_class (class c) (classes class cs)
 abbrev Found : List Class → TokenKind → Type 0
 Found xs kind = (v : AnyOf xs) × (kind_any xs v ≡ kind)
 
-found_head : (x : Class) (xs : List Class) (v : Value x) → Found (x ∷ xs) (kind_of x v)
-found_head x [] v = (v, refl)
-found_head x (y ∷ ys) v = (inl v, refl)
+same_is : (x y : Class) → same x y ≡ true → x ≡ y
+same_is x y h = grind arith
 
-found_same : (x y : Class) (ys : List Class) → same x y ≡ true → (v : Value x) → Found (y ∷ ys) (kind_of x v)
-found_same Names Names ys h v = found_head Names ys v
-found_same Numbers Numbers ys h v = found_head Numbers ys v
-found_same _ _ ys h v = absurd (false≢true h)
+found_first : (kind : TokenKind) (x : Class) (xs : List Class) → kind_of x (held x kind) ≡ kind → Found (x ∷ xs) kind
+found_first kind x [] e = (held x kind, e)
+found_first kind x (y ∷ ys) e = (inl (held x kind), e)
 
-found_first : (x : Class) (xs : List Class) (v : Value x) → Found (with_class x xs) (kind_of x v)
-found_first x [] v = (v, refl)
-found_first x (y ∷ ys) v = go (same x y) refl
+found_in : (kind : TokenKind) (x : Class) (xs : List Class) → (kind_of x (held x kind) ≡ kind) ⊎ Found xs kind → Found (with_class x xs) kind
+found_in kind x [] (inl e) = (held x kind, e)
+found_in kind x [] (inr f) = absurd f.0
+found_in kind x (y ∷ ys) one = go (same x y) (same_is x y) one
   where
-    go : (b : Bool) → same x y ≡ b → Found (cond b (y ∷ ys) (x ∷ (y ∷ ys))) (kind_of x v)
-    go true e = found_same x y ys e v
-    go false e = (inl v, refl)
-
-found_later : (x : Class) (xs : List Class) (v : AnyOf xs) → Found (with_class x xs) (kind_any xs v)
-found_later x [] v = absurd v
-found_later x (y ∷ ys) v = go (same x y)
-  where
-    go : (b : Bool) → Found (cond b (y ∷ ys) (x ∷ (y ∷ ys))) (kind_any (y ∷ ys) v)
-    go true = (v, refl)
-    go false = (inr v, refl)
+    go : (b : Bool) → (b ≡ true → x ≡ y) → (kind_of x (held x kind) ≡ kind) ⊎ Found (y ∷ ys) kind → Found (cond b (y ∷ ys) (x ∷ (y ∷ ys))) kind
+    go true is (inl e) = found_first kind y ys (subst (λ (z : Class). kind_of z (held z kind) ≡ kind) (is refl) e)
+    go true is (inr f) = f
+    go false is (inl e) = (inl (held x kind), e)
+    go false is (inr f) = (inr f.0, f.1)
 
 found : (class : ℕ → Class) (kind : TokenKind) → kind_of (class (code kind)) (held (class (code kind)) kind) ≡ kind → (cs : List ℕ) → has cs (code kind) ≡ true → Found (classes class cs) kind
 found class kind one [] h = absurd (false≢true h)
 found class kind one (c ∷ cs) h =
-    ⊎_elim
-    (λ e. subst (λ (n : ℕ). Found (with_class (class n) (classes class cs)) kind) (sym (eqb-true c (code kind) e))
-    (let first = found_first (class (code kind)) (classes class cs) (held (class (code kind)) kind) in (first.0, first.1 ∙ one)))
-    (λ later. let rest = found class kind one cs later in let last = found_later (class c) (classes class cs) rest.0 in (last.0, last.1 ∙ rest.1))
-    (either_of (eqb c (code kind)) (has cs (code kind)) h)
+    found_in kind (class c) (classes class cs)
+    (⊎_elim (λ e. inl (subst (λ (n : ℕ). kind_of (class n) (held (class n) kind) ≡ kind) (sym (eqb-true c (code kind) e)) one)) (λ later. inr (found class kind one cs later))
+    (either_of (eqb c (code kind)) (has cs (code kind)) h))
 
 pub seen_found : (kind : TokenKind) (cs : List ℕ) → has cs (code kind) ≡ true → Found (classes seen_class cs) kind
 seen_found kind cs h = found seen_class kind (exactly kind).0 cs h

@@ -1,8 +1,7 @@
 -- Where no forest goes on: how a fault in a part becomes one of what holds the part.
 use Rattle.std.proofs.Common.{◌≡◌, ℕ, List, [], ◌∷◌, ◌++◌, length, Bool, true, false, cond, refl, sym, ◌∙◌, ap, subst, ⊎_elim, ◌&&◌, append_assoc}
+use Rattle.std.proofs.lemmas.List.{append-nil}
 use Rattle.dsl_tree.specs.declared.token.Token.{Token}
-use Rattle.dsl_tree.specs.declared.token.TokenKind.{TokenKind}
-use Rattle.dsl_tree.specs.Codes.{code, has}
 use Rattle.dsl_tree.specs.Grammar.{Part, Symbol, rules, Seen, Bare, Of}
 use Rattle.dsl_tree.specs.Forest.{Forest, nil, seen, bare, sub, wrong, Spells, Follows, IsOf}
 use Rattle.dsl_tree.specs.Lookahead.{first, goes_on, firsts, empties, stops, apart, sound}
@@ -19,15 +18,6 @@ abbrev pub ready : List Symbol → Bool
 ready ss = sound ss && filled ss
 
 -- Tokens of a forest
-
-pub spells_append : (f : Forest) (ts z y : List Token) → Spells f ts z → Spells f (ts ++ y) (z ++ y)
-spells_append nil ts z y s = ap (λ (v : List Token). v ++ y) s
-spells_append (seen place kind f) (t ∷ ts) z y (p, k, s) = (p, k, spells_append f ts z y s)
-spells_append (bare kind f) (t ∷ ts) z y (k, s) = (k, spells_append f ts z y s)
-spells_append (sub a g) ts z y (m, s, s') = (m ++ y, spells_append a ts m y s, spells_append g m z y s')
-spells_append (seen place kind f) [] z y s = absurd s
-spells_append (bare kind f) [] z y s = absurd s
-spells_append wrong ts z y s = absurd s
 
 -- the tokens that a forest takes
 pub record Consumed (f : Forest) (ts z : List Token) : Type 0 where
@@ -54,6 +44,10 @@ consumed (sub a g) ts z (m, s, s') =
 consumed (seen place kind f) [] z s = absurd s
 consumed (bare kind f) [] z s = absurd s
 consumed wrong ts z s = absurd s
+
+spells_append : (f : Forest) (ts y : List Token) → Spells f ts [] → Spells f (ts ++ y) y
+spells_append f ts y s =
+    let c : Consumed f ts [] = consumed f ts [] s in subst (λ (v : List Token). Spells f (v ++ y) y) (sym (c.split ∙ append-nil c.used)) (c.spells y)
 
 -- what is whole before some tokens is so before others that begin alike
 pub whole_alike : (f : Forest) (ss : List Symbol) (z y : List Token) → ((cs : List ℕ) → starts cs z ≡ starts cs y) → Whole f ss z → Whole f ss y
@@ -195,7 +189,7 @@ in_part p ss ts left h fault = row_fault (moved [] refl (of_part fault)
       sub g (row ss),
       back ++ tokens (row ss),
       (is, row_follows ss (right_of (sound (Of p ∷ ss)) (filled (Of p ∷ ss)) h)),
-      (tokens (row ss), subst (λ (v : List Token). Spells g v (tokens (row ss))) (append_assoc front back (tokens (row ss))) (spells_append g (front ++ back) [] (tokens (row ss)) s), row_spells ss),
+      (tokens (row ss), subst (λ (v : List Token). Spells g v (tokens (row ss))) (append_assoc front back (tokens (row ss))) (spells_append g (front ++ back) (tokens (row ss)) s), row_spells ss),
     ))
     (λ front u back others e dead f z does stop s.
     let (a, g, m, is, d, sa, sg) = after_part f p ss (front ++ u ∷ others) z does s in

@@ -3,6 +3,7 @@ use Rattle.std.proofs.Common.{◌≡◌, List, [], ◌∷◌, true, Option, Some
 use Rattle.std.proofs.lemmas.Bool.{false≢true}
 use Rattle.osc_base.specs.declared.fault.Place.{Place}
 use Rattle.dsl_tree.specs.declared.parts.Ident.{Ident}
+use Rattle.dsl_tree.specs.declared.parts.QName.{QName}
 use Rattle.dsl_tree.specs.declared.token.MarkKind.{MarkKind}
 use Rattle.dsl_tree.specs.declared.expr.Expr.{Expr}
 use Rattle.dsl_tree.specs.declared.expr.Suffix.{Suffix}
@@ -68,27 +69,13 @@ trees_back : {V T : Type 0} (i : Inverse V T) (ts : List T) → Each i.Good ts �
 trees_back i [] h = refl
 trees_back i (t ∷ ts) (h, h') = ap₂ ◌∷◌ (i.tree_back t h) (trees_back i ts h')
 
-abbrev lists : {V T : Type 0} → (i : Inverse V T) → (form : List T → Forest) → ((ts : List T) → Whole form ts → Each i.Good ts) → Inverse (List V) (List T)
-lists i form each = record {
-  tree = map i.tree;
-  value = map i.value;
-  Good = Whole form;
-  value_back = λ vs h. values_back i vs (each (map i.tree vs) h);
-  tree_back = λ ts h. trees_back i ts (each ts h);
-}
-
--- the items of a row that is written one by one, and of one whose first item stands before such a row
-each_tail : {T : Type 0} (item : T → Forest) (tail : List T → Forest) → ((t : T) (ts : List T) → is_whole (tail (t ∷ ts)) ≡ (is_whole (item t) && (is_whole (tail ts) && true)))
-    → (ts : List T) → Whole tail ts → Each (Whole item) ts
-each_tail item tail e [] h = tt
-each_tail item tail e (t ∷ ts) h = let k = sym (e t ts) ∙ h in (left_of _ _ k, each_tail item tail e ts (left_of _ true (right_of _ _ k)))
-
-each_headed : {T : Type 0} (item : T → Forest) (form tail : List T → Forest)
+-- the items of a row, of which the first may stand before a row that is written otherwise
+each_row : {T : Type 0} (item : T → Forest) (form tail : List T → Forest)
     → ((t : T) (ts : List T) → is_whole (form (t ∷ ts)) ≡ (is_whole (item t) && (is_whole (tail ts) && true)))
     → ((t : T) (ts : List T) → is_whole (tail (t ∷ ts)) ≡ (is_whole (item t) && (is_whole (tail ts) && true)))
     → (ts : List T) → Whole form ts → Each (Whole item) ts
-each_headed item form tail e e' [] h = tt
-each_headed item form tail e e' (t ∷ ts) h = let k = sym (e t ts) ∙ h in (left_of _ _ k, each_tail item tail e' ts (left_of _ true (right_of _ _ k)))
+each_row item form tail e e' [] h = tt
+each_row item form tail e e' (t ∷ ts) h = let k = sym (e t ts) ∙ h in (left_of _ _ k, each_row item tail tail e' e' ts (left_of _ true (right_of _ _ k)))
 
 -- Paths
 
@@ -110,8 +97,8 @@ each_suffix : (ss : List SuffixTree) → Whole suffix_tail ss → Each (λ s. su
 each_suffix [] h = tt
 each_suffix (s ∷ ss) h = let both = suffix_parts s ss h in (both.0, each_suffix ss both.1)
 
-abbrev suffixes : Inverse (List Suffix) (List SuffixTree)
-suffixes = lists (record { tree = suffix_tree; value = suffix_value; Good = λ s. suffix_whole s ≡ true; value_back = suffix_back; tree_back = suffix_tree_back }) suffix_tail each_suffix
+abbrev suffix : Inverse Suffix SuffixTree
+suffix = record { tree = suffix_tree; value = suffix_value; Good = λ s. suffix_whole s ≡ true; value_back = suffix_back; tree_back = suffix_tree_back }
 
 onto_head : (h : PathHead) (rest : List Suffix) → path_onto (head_tree h) rest ≡ record { head = h; suffixes = rest }
 unfolding path_onto
@@ -134,7 +121,7 @@ path_back head (s ∷ rest) h =
     let e = path_of_row start (suffix_tree s) (map suffix_tree rest) ∙ front_of_row start (map suffix_tree (s ∷ rest)) in
     let w = path_head_whole (head_tree head) (suffix_tail (map suffix_tree (s ∷ rest))) (subst (λ (f : Forest). is_whole f ≡ true) e h) in
     onto_row start (map suffix_tree (s ∷ rest)) ∙ (onto_head head (map suffix_value (map suffix_tree (s ∷ rest)))
-    ∙ ap (λ (x : List Suffix). record { head = head; suffixes = x }) (suffixes.value_back (s ∷ rest) w))
+    ∙ ap (λ (x : List Suffix). record { head = head; suffixes = x }) (values_back suffix (s ∷ rest) (each_suffix (map suffix_tree (s ∷ rest)) w)))
 
 -- a path with a suffix at least
 front_tree : (t : ExprTree) (f : Forest) (s : Suffix) (rest : List Suffix) → is_whole (path_front t f) ≡ true → path_tree (path_onto t (s ∷ rest)) ≡ with_suffixes t (map suffix_tree (s ∷ rest))
@@ -175,8 +162,11 @@ rule_tree_back : (r : RuleTree) → Whole rule r → rule_tree (rule_value r) �
 rule_tree_back (RuleTree.Keep place kind e) h = ap (RuleTree.Keep place kind) (expr_tree_back e (left_of _ _ (right_of (is_whole (keep_kind kind)) _ h)))
 rule_tree_back (RuleTree.Remove place t) h = ap (RuleTree.Remove place) (path_tree_back t (left_of _ _ h))
 
-abbrev rules : Inverse (List RuleDecl) (List RuleTree)
-rules = lists (record { tree = rule_tree; value = rule_value; Good = Whole rule; value_back = rule_back; tree_back = rule_tree_back }) field_end (each_headed rule field_end rules_tail (λ r rs. refl) (λ r rs. refl))
+abbrev one_rule : Inverse RuleDecl RuleTree
+one_rule = record { tree = rule_tree; value = rule_value; Good = Whole rule; value_back = rule_back; tree_back = rule_tree_back }
+
+each_rule : (rs : List RuleTree) → Whole field_end rs → Each (Whole rule) rs
+each_rule = each_row rule field_end rules_tail (λ r rs. refl) (λ r rs. refl)
 
 abbrev pub argument_value : ArgumentTree → Argument
 argument_value a = record { name = a.name; value = value_of a.value }
@@ -223,15 +213,6 @@ each_composed : (args : List ArgumentTree) → Whole composition_arguments args 
 each_composed [] h = tt
 each_composed (a ∷ others) h = each_argument (a ∷ others) (left_of _ _ h)
 
-abbrev modified : Inverse (List Argument) (List ArgumentTree)
-modified = lists argument arguments each_argument
-
-abbrev invoked : Inverse (List Argument) (List ArgumentTree)
-invoked = lists argument invocation_arguments each_invoked
-
-abbrev composed : Inverse (List Argument) (List ArgumentTree)
-composed = lists argument composition_arguments each_composed
-
 -- Phases
 
 abbrev pub part_value : PartTree → InvokePart
@@ -240,15 +221,17 @@ part_value (PartTree.ModifierPart m) = InvokePart.Modifier (record { name = m.na
 
 part_back : (p : InvokePart) → Whole invocation_part (part_tree p) → part_value (part_tree p) ≡ p
 part_back (InvokePart.Rule r) h = ap InvokePart.Rule (rule_back r (left_of _ _ h))
-part_back (InvokePart.Modifier m) h = ap (λ (x : List Argument). InvokePart.Modifier (record { name = m.name; arguments = x })) (modified.value_back m.arguments (left_of _ _ h))
+part_back (InvokePart.Modifier m) h = ap (λ (x : List Argument). InvokePart.Modifier (record { name = m.name; arguments = x })) (values_back argument m.arguments (each_argument (map argument_tree m.arguments) (left_of _ _ h)))
 
 part_tree_back : (p : PartTree) → Whole invocation_part p → part_tree (part_value p) ≡ p
 part_tree_back (PartTree.RulePart r) h = ap PartTree.RulePart (rule_tree_back r (left_of _ _ h))
-part_tree_back (PartTree.ModifierPart m) h = ap (λ (x : List ArgumentTree). PartTree.ModifierPart (record { name = m.name; arguments = x })) (modified.tree_back m.arguments (left_of _ _ h))
+part_tree_back (PartTree.ModifierPart m) h = ap (λ (x : List ArgumentTree). PartTree.ModifierPart (record { name = m.name; arguments = x })) (trees_back argument m.arguments (each_argument m.arguments (left_of _ _ h)))
 
-abbrev parts : Inverse (List InvokePart) (List PartTree)
-parts = lists (record { tree = part_tree; value = part_value; Good = Whole invocation_part; value_back = part_back; tree_back = part_tree_back }) invocation_end
-    (each_headed invocation_part invocation_end parts_tail (λ p ps. refl) (λ p ps. refl))
+abbrev part : Inverse InvokePart PartTree
+part = record { tree = part_tree; value = part_value; Good = Whole invocation_part; value_back = part_back; tree_back = part_tree_back }
+
+each_part : (ps : List PartTree) → Whole invocation_end ps → Each (Whole invocation_part) ps
+each_part = each_row invocation_part invocation_end parts_tail (λ p ps. refl) (λ p ps. refl)
 
 abbrev pub comp_of : Option Ident → Place → CompKind → List Argument → List Phase → CompNode
 comp_of label place kind args members = record { label = label; place = place; kind = kind; arguments = args; members = members }
@@ -264,16 +247,16 @@ abbrev mutual
   phases_value (PhaseRow.Phase first others) = phase_value first ∷ phases_value others
 
 comp_parts : (label : Option Ident) (place : Place) (kind : CompKind) (args : List ArgumentTree) (members : PhaseRow) → Whole phase (PhaseTree.Comp label place kind args members)
-    → (Whole composition_arguments args) × (is_whole (block_phases members) ≡ true)
+    → (EachArgument args) × (is_whole (block_phases members) ≡ true)
 comp_parts label place kind args members h =
     let w = label_whole label (composition place kind args (block_phases members)) h in
-    (left_of _ _ (left_of _ _ w), right_of (is_whole (composition_arguments args)) _ (left_of _ _ w))
+    (each_composed args (left_of _ _ (left_of _ _ w)), right_of (is_whole (composition_arguments args)) _ (left_of _ _ w))
 
 invoke_parts : (label : Option Ident) (head : InvokeHead) (names : List Ident) (args : List ArgumentTree) (ps : List PartTree) → Whole phase (PhaseTree.Invoke label head names args ps)
-    → (Whole invocation_arguments args) × (Whole invocation_end ps)
+    → (EachArgument args) × (Each (Whole invocation_part) ps)
 invoke_parts label head names args ps h =
     let w = right_of (is_whole (dotted_names names)) _ (head_whole label head (invocation_rest names args ps) h) in
-    (left_of _ _ w, left_of _ _ (right_of (is_whole (invocation_arguments args)) _ w))
+    (each_invoked args (left_of _ _ w), each_part ps (left_of _ _ (right_of (is_whole (invocation_arguments args)) _ w)))
 
 wait_part : (label : Option Ident) (place : Place) (elapsed : ExprTree) → Whole phase (PhaseTree.Wait label place elapsed) → Whole expr elapsed
 wait_part label place elapsed h = left_of _ _ (left_of _ _ (label_whole label (wait place elapsed) h))
@@ -311,7 +294,7 @@ phase_case (Phase-F.Comp c) h = c.1 h
 phase_case (Phase-F.Invoke i) h =
     let (w, w') = invoke_parts i.label i.head i.names (map argument_tree i.arguments) (map part_tree i.parts) h in
     ap₂ (λ (a : List Argument) (b : List InvokePart). Phase.Invoke (record { label = i.label; head = i.head; names = i.names; arguments = a; parts = b }))
-    (invoked.value_back i.arguments w) (parts.value_back i.parts w')
+    (values_back argument i.arguments w) (values_back part i.parts w')
 phase_case (Phase-F.Wait w) h = ap (λ (e : Expr). Phase.Wait (record { label = w.label; place = w.place; elapsed = e })) (expr_back w.elapsed (wait_part w.label w.place (expr_tree w.elapsed) h))
 
 comp_case : (y : CompNode-F SuchPhase SuchComp) → Whole phase (Views.comp_step (map-CompNode Phase CompNode PhaseTree PhaseTree phase_tree comp_tree (mapped_comp y)))
@@ -319,7 +302,7 @@ comp_case : (y : CompNode-F SuchPhase SuchComp) → Whole phase (Views.comp_step
 unfolding denote.Hole.Carrier.roll
 comp_case y h =
     let (w, w') = comp_parts y.label y.place y.kind (map argument_tree y.arguments) (row_of (map phase_tree (map (λ x. x.0) y.members))) h in
-    ap₂ (λ (a : List Argument) (b : List Phase). TheViews.Comp (comp_of y.label y.place y.kind a b)) (composed.value_back y.arguments w) (block_back y.members w')
+    ap₂ (λ (a : List Argument) (b : List Phase). TheViews.Comp (comp_of y.label y.place y.kind a b)) (values_back argument y.arguments w) (block_back y.members w')
 
 phase_proof : (y : Phase-F SuchPhase SuchComp) → OfPhase (roll-Phase (mapped_phase y))
 phase_proof y h =
@@ -340,10 +323,10 @@ mutual
   phase_tree_back : (p : PhaseTree) → Whole phase p → phase_tree (phase_value p) ≡ p
   phase_tree_back (PhaseTree.Comp label place kind args members) h =
       seen_comp (comp_of label place kind (map argument_value args) (phases_value members))
-      ∙ ap₂ (PhaseTree.Comp label place kind) (composed.tree_back args (comp_parts label place kind args members h).0) (block_tree_back members (comp_parts label place kind args members h).1)
+      ∙ ap₂ (PhaseTree.Comp label place kind) (trees_back argument args (comp_parts label place kind args members h).0) (block_tree_back members (comp_parts label place kind args members h).1)
   phase_tree_back (PhaseTree.Invoke label head names args ps) h =
       seen_invoke (record { label = label; head = head; names = names; arguments = map argument_value args; parts = map part_value ps })
-      ∙ ap₂ (PhaseTree.Invoke label head names) (invoked.tree_back args (invoke_parts label head names args ps h).0) (parts.tree_back ps (invoke_parts label head names args ps h).1)
+      ∙ ap₂ (PhaseTree.Invoke label head names) (trees_back argument args (invoke_parts label head names args ps h).0) (trees_back part ps (invoke_parts label head names args ps h).1)
   phase_tree_back (PhaseTree.Wait label place elapsed) h =
       seen_wait (record { label = label; place = place; elapsed = value_of elapsed }) ∙ ap (PhaseTree.Wait label place) (expr_tree_back elapsed (wait_part label place elapsed h))
 
@@ -368,20 +351,20 @@ optional_tree_back (Some e) h = ap Some (expr_tree_back e (left_of _ _ h))
 abbrev pub field_value : FieldTree → FieldDecl
 field_value f = record { names = f.names; list = f.list; of = f.of; initial = option_map value_of f.initial; rules = map rule_value f.rules }
 
-field_parts : (names : List Ident) (f : FieldTree) → is_whole (field names f) ≡ true → (Whole initial f.initial) × (Whole field_end f.rules)
+field_parts : (names : List Ident) (f : FieldTree) → is_whole (field names f) ≡ true → (Whole initial f.initial) × (Each (Whole rule) f.rules)
 field_parts [] f h = absurd (false≢true h)
 field_parts (n ∷ ns) f h =
-    let k = right_of (is_whole (field_type f.list f.of)) _ (right_of (is_whole (names_tail ns)) _ h) in (left_of _ _ k, left_of _ _ (right_of (is_whole (initial f.initial)) _ k))
+    let k = right_of (is_whole (field_type f.list f.of)) _ (right_of (is_whole (names_tail ns)) _ h) in (left_of _ _ k, each_rule f.rules (left_of _ _ (right_of (is_whole (initial f.initial)) _ k)))
 
 field_back : (f : FieldDecl) → is_whole (field f.names (field_tree f)) ≡ true → field_value (field_tree f) ≡ f
 field_back f h =
     let (w, w') = field_parts f.names (field_tree f) h in
-    ap₂ (λ (e : Option Expr) (rs : List RuleDecl). record { names = f.names; list = f.list; of = f.of; initial = e; rules = rs }) (optional_back f.initial w) (rules.value_back f.rules w')
+    ap₂ (λ (e : Option Expr) (rs : List RuleDecl). record { names = f.names; list = f.list; of = f.of; initial = e; rules = rs }) (optional_back f.initial w) (values_back one_rule f.rules w')
 
 field_tree_back : (f : FieldTree) → is_whole (field f.names f) ≡ true → field_tree (field_value f) ≡ f
 field_tree_back f h =
     let (w, w') = field_parts f.names f h in
-    ap₂ (λ (e : Option ExprTree) (rs : List RuleTree). record { names = f.names; list = f.list; of = f.of; initial = e; rules = rs }) (optional_tree_back f.initial w) (rules.tree_back f.rules w')
+    ap₂ (λ (e : Option ExprTree) (rs : List RuleTree). record { names = f.names; list = f.list; of = f.of; initial = e; rules = rs }) (optional_tree_back f.initial w) (trees_back one_rule f.rules w')
 
 abbrev pub member_value : MemberTree → Member
 member_value (MemberTree.Field f) = Member.Field (field_value f)
@@ -402,17 +385,11 @@ abbrev one_member : Inverse Member MemberTree
 one_member = record { tree = member_tree; value = member_value; Good = Whole member; value_back = member_back; tree_back = member_tree_back }
 
 each_member : (ms : List MemberTree) → Whole block ms → Each (Whole member) ms
-each_member = each_headed member block members_tail (λ m ms. refl) (λ m ms. refl)
+each_member = each_row member block members_tail (λ m ms. refl) (λ m ms. refl)
 
 each_of_body : (ms : List MemberTree) → Whole body ms → Each (Whole member) ms
 each_of_body [] h = tt
 each_of_body (m ∷ ms) h = each_member (m ∷ ms) (left_of _ _ h)
-
-abbrev members : Inverse (List Member) (List MemberTree)
-members = lists one_member block each_member
-
-abbrev members_of_body : Inverse (List Member) (List MemberTree)
-members_of_body = lists one_member body each_of_body
 
 -- Declarations and files
 
@@ -437,38 +414,43 @@ declaration_value (DeclarationTree.CompoundDeclaration c) = Declaration.Compound
 declaration_value (DeclarationTree.MemberExtension e) = Declaration.MemberExtension (record { place = e.place; name = e.name; members = map member_value e.members })
 declaration_value (DeclarationTree.EnumExtension e) = Declaration.EnumExtension e
 
-body_whole : (c : CompoundTree) → is_whole (compound_heading c.kind c) ≡ true → Whole body c.members
-body_whole c h = left_of _ _ (right_of (is_whole (optional_heir c.heir)) _ (heading_whole c.kind c h))
+body_whole : (c : CompoundTree) → is_whole (compound_heading c.kind c) ≡ true → Each (Whole member) c.members
+body_whole c h = each_of_body c.members (left_of _ _ (right_of (is_whole (optional_heir c.heir)) _ (heading_whole c.kind c h)))
+
+extension_whole : (name : QName) (ms : List MemberTree) (rest : Forest) → is_whole (sub (qualified_name name) (sub (sub (block ms) nil) rest)) ≡ true → Each (Whole member) ms
+extension_whole name ms rest h = each_member ms (left_of _ _ (left_of _ _ (right_of (is_whole (qualified_name name)) _ h)))
 
 declaration_back : (d : Declaration) → Whole declaration (declaration_tree d) → declaration_value (declaration_tree d) ≡ d
 declaration_back (Declaration.Compound c) h =
     ap (λ (ms : List Member). Declaration.Compound (record { place = c.place; kind = c.kind; name = c.name; heir = c.heir; members = ms }))
-    (members_of_body.value_back c.members (body_whole (compound_tree c) h))
+    (values_back one_member c.members (body_whole (compound_tree c) h))
 declaration_back (Declaration.MemberExtension e) h =
     ap (λ (ms : List Member). Declaration.MemberExtension (record { place = e.place; name = e.name; members = ms }))
-    (members.value_back e.members (left_of _ _ (left_of _ _ (right_of (is_whole (qualified_name e.name)) _ h))))
+    (values_back one_member e.members (extension_whole e.name (map member_tree e.members) nil h))
 declaration_back _ h = refl
 
 declaration_tree_back : (d : DeclarationTree) → Whole declaration d → declaration_tree (declaration_value d) ≡ d
 declaration_tree_back (DeclarationTree.CompoundDeclaration c) h =
     ap (λ (ms : List MemberTree). DeclarationTree.CompoundDeclaration (record { place = c.place; kind = c.kind; name = c.name; heir = c.heir; members = ms }))
-    (members_of_body.tree_back c.members (body_whole c h))
+    (trees_back one_member c.members (body_whole c h))
 declaration_tree_back (DeclarationTree.MemberExtension e) h =
     ap (λ (ms : List MemberTree). DeclarationTree.MemberExtension (record { place = e.place; name = e.name; members = ms }))
-    (members.tree_back e.members (left_of _ _ (left_of _ _ (right_of (is_whole (qualified_name e.name)) _ h))))
+    (trees_back one_member e.members (extension_whole e.name e.members nil h))
 declaration_tree_back _ h = refl
 
-abbrev decls : Inverse (List Declaration) (List DeclarationTree)
-decls = lists (record { tree = declaration_tree; value = declaration_value; Good = Whole declaration; value_back = declaration_back; tree_back = declaration_tree_back }) declarations
-    (each_tail declaration declarations (λ d ds. refl))
+abbrev one_declaration : Inverse Declaration DeclarationTree
+one_declaration = record { tree = declaration_tree; value = declaration_value; Good = Whole declaration; value_back = declaration_back; tree_back = declaration_tree_back }
+
+each_declaration : (t : FileTree) → is_whole (file t) ≡ true → Each (Whole declaration) t.decls
+each_declaration t h = each_row declaration declarations declarations (λ d ds. refl) (λ d ds. refl) t.decls (left_of _ _ (right_of (is_whole (imports t.imports)) _ h))
 
 unfoldable pub file_value : FileTree → File
 file_value f = record { imports = f.imports; decls = map declaration_value f.decls; end = f.end }
 
 pub file_back_value : (f : File) → is_whole (file (file_tree f)) ≡ true → file_value (file_tree f) ≡ f
 unfolding file_value
-file_back_value f h = ap (λ (ds : List Declaration). record { imports = f.imports; decls = ds; end = f.end }) (decls.value_back f.decls (left_of _ _ (right_of (is_whole (imports f.imports)) _ h)))
+file_back_value f h = ap (λ (ds : List Declaration). record { imports = f.imports; decls = ds; end = f.end }) (values_back one_declaration f.decls (each_declaration (file_tree f) h))
 
 pub file_tree_back : (t : FileTree) → is_whole (file t) ≡ true → file_tree (file_value t) ≡ t
 unfolding file_value
-file_tree_back t h = ap (λ (ds : List DeclarationTree). record { imports = t.imports; decls = ds; end = t.end }) (decls.tree_back t.decls (left_of _ _ (right_of (is_whole (imports t.imports)) _ h)))
+file_tree_back t h = ap (λ (ds : List DeclarationTree). record { imports = t.imports; decls = ds; end = t.end }) (trees_back one_declaration t.decls (each_declaration t h))

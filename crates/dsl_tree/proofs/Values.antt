@@ -118,6 +118,8 @@ dot = record { node = TheViews.Expr::Dot; row = named_row; is_seen = seen_dot; s
 abbrev bracket : Post
 bracket = record { node = TheViews.Expr::Index; row = indexed_row; is_seen = seen_index; skips = indexed_skips }
 
+ruleset seen_leaves = (seen_number, seen_physical, seen_chars, seen_truth, seen_it, seen_actor, seen_name, seen_enum_name)
+
 -- one more suffix before a row
 one_before : (k : Post) (head : ExprTree) (s : Suffix) (t : SuffixTree) (next : SuffixTree) (ss : List SuffixTree) → suffix_tree s ≡ t
     → k.row (with_suffixes head (suffix_tree s ∷ next ∷ ss)) (suffix_tree s ∷ next ∷ ss) ≡ k.row (with_suffixes head (t ∷ next ∷ ss)) (next ∷ ss)
@@ -145,14 +147,6 @@ mutual
   tree_back (Index place head index) h = post_tree head (next_index place (expr index) nil) bracket (Suffix.Suffix::Index place (value_of index)) [] h
       ∙ ap (λ (s : SuffixTree). indexed_row (with_suffixes head (s ∷ [])) (s ∷ []))
       (index_seen place index (value_of index) (tree_back index (whole_at 0 index (written index) (left_of _ _ (left_of _ _ (post_whole head _ h))))))
-  tree_back (Number number) h = seen_number number
-  tree_back (Physical number unit) h = seen_physical number unit
-  tree_back (Chars place text) h = seen_chars place text
-  tree_back (Truth place value) h = seen_truth place value
-  tree_back (It place) h = seen_it place
-  tree_back (Actor place) h = seen_actor place
-  tree_back (Name name) h = seen_name name
-  tree_back (EnumName of member) h = seen_enum_name of member
   tree_back (Group place inner) h = seen_group place (value_of inner) ∙ ap (Group place) (tree_back inner (whole_at 0 inner (written inner) (left_of _ _ h)))
   tree_back (Span place low high) h = seen_span place (value_of low) (value_of high)
       ∙ ap₂ (Span place) (tree_back low (whole_at 0 low (written low) (left_of _ _ h))) (tree_back high (whole_at 0 high (written high) (left_of _ _ (left_of _ _ (right_of _ _ h)))))
@@ -162,6 +156,7 @@ mutual
   tree_back (RangeCall place low high) h = seen_range_call place (value_of low) (value_of high)
       ∙ ap₂ (RangeCall place) (tree_back low (whole_at 0 low (written low) (left_of _ _ h))) (tree_back high (whole_at 0 high (written high) (left_of _ _ (right_of _ _ h))))
   tree_back (Start first) h = absurd (false≢true h)
+  tree_back _ h = search seen_leaves
 
   or_tree : (t : ExprTree) (f : Forest) (rest : List Further) → is_whole (or_row t f) ≡ true → expr_tree (row_value t TheViews.Or rest) ≡ grouped Or t (map further_tree rest)
   or_tree (Start first) f rest h = seen_or (value_of first) rest ∙ ap (λ (x : ExprTree). grouped Or (Start x) (map further_tree rest)) (tree_back first (whole_at 2 first (written first) (left_of _ _ h)))

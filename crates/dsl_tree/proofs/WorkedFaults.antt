@@ -1,5 +1,5 @@
 -- Worked lists of tokens that spell no tree, each with its first fault.
-use Rattle.std.proofs.Common.{◌≡◌, ℕ, List, [], ◌∷◌, length, Bool, true, false, drop, refl, inl, inr}
+use Rattle.std.proofs.Common.{◌≡◌, ℕ, List, [], ◌∷◌, length, true, false, drop, refl, inl, inr}
 use Rattle.std.specs.Prelude.{codes}
 use Rattle.osc_base.specs.declared.fault.FaultCode.{FaultCode}
 use Rattle.osc_base.specs.declared.fault.Fault.{Fault}
