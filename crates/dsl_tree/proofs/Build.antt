@@ -61,21 +61,3 @@ parsed_full p r f ts rest rule e built = parsed p r f ts rest rule built (subst 
 -- a part that is left out
 pub parsed_none : (p : Part) (ts : List Token) → RuleOf p [] → Stops (first p) ts → Parsed p nil ts ts
 parsed_none p ts rule stop = parsed p [] nil ts ts rule (built_none ts) stop
-
--- Loops over the items of a row
-
-pub along_start : (X : Type 0) (p : Part) (forest_of : List X → Forest) (start : List Token) → Along X p forest_of start [] start
-along_start X p forest_of start = record { reads = λ others end h. h; faults = λ left h. h }
-
-pub along_step : (X : Type 0) (p : Part) (forest_of : List X → Forest) (start : List Token) (items : List X) (rest : List Token) (item : X) (more : List Token)
-    → ((others : List X) (end : List Token) → Parsed p (forest_of others) more end → Parsed p (forest_of (item ∷ others)) rest end)
-    → ((left : ℕ) → PartFault p more left → PartFault p rest left)
-    → Along X p forest_of start items rest → Along X p forest_of start (items ++ item ∷ []) more
-along_step X p forest_of start items rest item more read fault along = record {
-  reads = λ others end h. subst (λ (v : List X). Parsed p (forest_of v) start end) (sym (append_assoc items (item ∷ []) others)) (along.reads (item ∷ others) end (read others end h));
-  faults = λ left h. along.faults left (fault left h);
-}
-
-pub along_end : (X : Type 0) (p : Part) (forest_of : List X → Forest) (start : List Token) (items : List X) (rest end : List Token)
-    → Along X p forest_of start items rest → Parsed p (forest_of []) rest end → Parsed p (forest_of items) start end
-along_end X p forest_of start items rest end along h = subst (λ (v : List X). Parsed p (forest_of v) start end) (append-nil items) (along.reads [] end h)

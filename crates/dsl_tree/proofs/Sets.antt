@@ -19,9 +19,6 @@ pub not_true : (b : Bool) → not b ≡ true → b ≡ false
 not_true true h = sym h
 not_true false h = refl
 
-pub not_false : (b : Bool) → b ≡ false → not b ≡ true
-not_false b h = ap not h
-
 -- a Bool of which truth can't be is false
 pub is_false : (b : Bool) → (b ≡ true → ⊥) → b ≡ false
 is_false true h = absurd (h refl)
@@ -74,11 +71,6 @@ starts-cons (c ∷ cs) t ts = refl
 pub starts-nil : (cs : List ℕ) → starts cs [] ≡ false
 starts-nil [] = refl
 starts-nil (c ∷ cs) = refl
-
--- tokens that start are some
-pub some_token : (cs : List ℕ) (ts : List Token) → Starts cs ts → (t : Token) × (others : List Token) × (ts ≡ t ∷ others) × (has cs (code t.kind) ≡ true)
-some_token cs [] h = both_ways (starts cs []) h (starts-nil cs)
-some_token cs (t ∷ ts) h = (t, ts, refl, sym (starts-cons cs t ts) ∙ h)
 
 pub Starts-subset : (xs ys : List ℕ) (ts : List Token) → subset xs ys ≡ true → Starts xs ts → Starts ys ts
 Starts-subset xs ys [] s h = both_ways (starts xs []) h (starts-nil xs)
