@@ -13,8 +13,7 @@ use Rattle.dsl_tree.specs.Reading.{starts, Starts, Stops, void, Whole, Parsed}
 use Rattle.dsl_tree.proofs.Tests.{left_of, right_of, either_of, count}
 use Rattle.dsl_tree.proofs.Sets.{two_ways, both_ways, not_true, starts-nil, starts-cons, Starts-subset, Stops-subset, Stops-apart, Stops-left, Stops-right, and_both}
 use Rattle.dsl_tree.proofs.Fits.{Fit, fit_map, any_map, pick, first_goes_on}
-use Rattle.dsl_tree.proofs.Begins.{void_spells, void_empties, void_part, begins}
-use Rattle.dsl_tree.proofs.Seconds.{void_count, seconds_of, least_count}
+use Rattle.dsl_tree.proofs.Begins.{void_spells, void_empties, void_part, begins, void_count, seconds_of, least_count}
 
 -- Whole forests
 

@@ -8,7 +8,6 @@ pub mod Checked
 pub mod Sets
 pub mod Fits
 pub mod Begins
-pub mod Seconds
 pub mod Law
 pub mod Shortest
 pub mod Faults

@@ -1,5 +1,5 @@
 -- Lists of codes, and the first tokens that have them.
-use Rattle.std.proofs.Common.{◌≡◌, ◌⊎◌, ℕ, List, [], ◌∷◌, ◌++◌, Bool, true, false, refl, sym, ◌∙◌, ap, subst, inl, inr, ⊎_elim, ◌||◌, ◌&&◌, eqb, not}
+use Rattle.std.proofs.Common.{◌≡◌, ◌⊎◌, ℕ, List, [], ◌∷◌, ◌++◌, Bool, true, false, refl, sym, ◌∙◌, ap, subst, inl, inr, ⊎_elim, ◌||◌, ◌&&◌, eqb, not, arith}
 use Rattle.std.proofs.lemmas.Bool.{eqb-true, false≢true}
 use Rattle.dsl_tree.specs.declared.token.Token.{Token}
 use Rattle.dsl_tree.specs.Codes.{code, has}
@@ -16,8 +16,7 @@ pub both_ways : {G : Type 0} (b : Bool) → b ≡ true → b ≡ false → G
 both_ways b t f = absurd (false≢true (sym f ∙ t))
 
 pub not_true : (b : Bool) → not b ≡ true → b ≡ false
-not_true true h = sym h
-not_true false h = refl
+not_true b h = grind arith
 
 -- a Bool of which truth can't be is false
 pub is_false : (b : Bool) → (b ≡ true → ⊥) → b ≡ false
@@ -25,21 +24,17 @@ is_false true h = absurd (h refl)
 is_false false h = refl
 
 pub or_left : (a b : Bool) → a ≡ true → (a || b) ≡ true
-or_left true b h = refl
-or_left false b h = absurd (false≢true h)
+or_left a b h = grind arith
 
 pub or_right : (a b : Bool) → b ≡ true → (a || b) ≡ true
-or_right true b h = refl
-or_right false b h = h
+or_right a b h = grind arith
 
 pub and_both : (a b : Bool) → a ≡ true → b ≡ true → (a && b) ≡ true
-and_both true b h k = k
-and_both false b h k = absurd (false≢true h)
+and_both a b h k = grind arith
 
 -- from `not a || b`
 pub implied : (a b : Bool) → (not a || b) ≡ true → a ≡ true → b ≡ true
-implied true b h e = h
-implied false b h e = absurd (false≢true e)
+implied a b h e = grind arith
 
 pub has-subset : (xs ys : List ℕ) (k : ℕ) → subset xs ys ≡ true → has xs k ≡ true → has ys k ≡ true
 has-subset [] ys k s h = absurd (false≢true h)
@@ -56,7 +51,7 @@ has-apart (x ∷ xs) ys k s h =
 pub has-append_left : (xs ys : List ℕ) (k : ℕ) → has xs k ≡ true → has (xs ++ ys) k ≡ true
 has-append_left [] ys k h = absurd (false≢true h)
 has-append_left (x ∷ xs) ys k h =
-    ⊎_elim (λ e. or_left (eqb x k) (has (xs ++ ys) k) e) (λ e. or_right (eqb x k) (has (xs ++ ys) k) (has-append_left xs ys k e)) (either_of (eqb x k) (has xs k) h)
+    grind (arith, has-append_left xs ys k)
 
 pub has-append_right : (xs ys : List ℕ) (k : ℕ) → has ys k ≡ true → has (xs ++ ys) k ≡ true
 has-append_right [] ys k h = h

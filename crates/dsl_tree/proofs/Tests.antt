@@ -1,5 +1,5 @@
 -- Tests that compute, by which a tree that is written out in full is shown to be spelled.
-use Rattle.std.proofs.Common.{◌≡◌, ◌⊎◌, ℕ, ◌+◌, List, [], ◌∷◌, Bool, true, false, refl, inl, inr, ⊎_elim, ◌||◌, ◌&&◌}
+use Rattle.std.proofs.Common.{◌≡◌, ◌⊎◌, ℕ, ◌+◌, List, [], ◌∷◌, Bool, true, false, refl, inl, inr, ⊎_elim, ◌||◌, ◌&&◌, arith}
 use Rattle.osc_base.specs.declared.fault.Place.{Place}
 use Rattle.dsl_tree.specs.declared.token.Token.{Token}
 use Rattle.dsl_tree.specs.Codes.{code, has}
@@ -19,13 +19,10 @@ follows (sub part f) (Of p ∷ rule) = any_rule (rules p) (follows part) && foll
 follows _ _ = false
 
 pub left_of : (a b : Bool) → (a && b) ≡ true → a ≡ true
-left_of true b h = refl
-left_of false b h = h
+left_of a b h = grind arith
 
 pub right_of : (a b : Bool) → (a && b) ≡ true → b ≡ true
-right_of true b h = h
-right_of false true h = refl
-right_of false false h = h
+right_of a b h = grind arith
 
 pub either_of : (a b : Bool) → (a || b) ≡ true → (a ≡ true) ⊎ (b ≡ true)
 either_of true b h = inl refl
