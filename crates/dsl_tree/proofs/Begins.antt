@@ -46,8 +46,11 @@ begins (seen place kind f) (Seen codes ∷ ss) (t ∷ ts) z (h, h') (p, k, s) = 
 begins (bare kind f) (Bare codes ∷ ss) (t ∷ ts) z (h, h') (k, s) = inr (refl, starts-cons codes t ts ∙ ap (λ kind. has codes (code kind)) k ∙ h)
 begins (sub a g) (Of p ∷ ss) ts z (any, h) (m, s, s') =
     ⊎_elim (λ v. ⊎_elim (λ w. inl (and_both (void a) (void g) v w))
-    (λ (w, b). inr (ap (λ (x : Bool). x && void g) v ∙ w, subst (λ (e : Bool). Starts (cond e (first p ++ firsts ss) (first p)) ts) (sym (void_part p a any v))
-        (Starts-append_right (first p) (firsts ss) ts (subst (Starts (firsts ss)) (sym (void_spells a ts m v s)) b)))) (begins g ss m z h s'))
+    (λ (w, b). inr (
+      ap (λ (x : Bool). x && void g) v ∙ w,
+      subst (λ (e : Bool). Starts (cond e (first p ++ firsts ss) (first p)) ts) (sym (void_part p a any v))
+          (Starts-append_right (first p) (firsts ss) ts (subst (Starts (firsts ss)) (sym (void_spells a ts m v s)) b)),
+    )) (begins g ss m z h s'))
     (λ (v, b). inr (ap (λ (x : Bool). x && void g) v, starts_first (empty p) (first p) (firsts ss) ts b))
     (by_rules p (Follows a) (Begun a (first p) ts) any (λ r fit does. ⊎_elim inl (λ (v, b). inr (v, Starts-subset (firsts r) (first p) ts fit.begins b)) (begins a r ts m does s)))
 begins (seen place kind f) (Seen codes ∷ ss) [] z h s = absurd s

@@ -1,11 +1,10 @@
 -- What readers build: forests of rules from their parts, and of parts from their rules.
-use Rattle.std.proofs.Common.{◌≡◌, ℕ, List, [], ◌∷◌, ◌++◌, Bool, true, false, cond, refl, sym, subst, append_assoc}
-use Rattle.std.proofs.lemmas.List.{append-nil}
+use Rattle.std.proofs.Common.{◌≡◌, ℕ, List, [], ◌∷◌, Bool, true, false, cond, refl, sym, subst}
 use Rattle.dsl_tree.specs.declared.token.Token.{Token}
 use Rattle.dsl_tree.specs.Grammar.{Part, Symbol, rules, Seen, Bare, Of}
 use Rattle.dsl_tree.specs.Forest.{Forest, nil, seen, bare, sub, Spells, AnyRule}
 use Rattle.dsl_tree.specs.Lookahead.{first}
-use Rattle.dsl_tree.specs.Reading.{Stops, void, Whole, Parsed, Built, Taken, PartFault, Along}
+use Rattle.dsl_tree.specs.Reading.{Stops, void, Whole, Parsed, Built, Taken}
 use Rattle.dsl_tree.proofs.Sets.{starts-nil}
 use Rattle.dsl_tree.proofs.Fits.{any_map}
 use Rattle.dsl_tree.proofs.Begins.{void_spells}

@@ -1,5 +1,5 @@
 -- The program's rules, phases, declarations and files, and their trees: each is read back from the other.
-use Rattle.std.proofs.Common.{◌≡◌, List, [], ◌∷◌, true, Option, Some, None, option_map, map, refl, sym, ◌∙◌, ap, ap₂, subst, ◌&&◌}
+use Rattle.std.proofs.Common.{◌≡◌, List, [], ◌∷◌, true, Option, Some, None, option_map, map, refl, sym, ◌∙◌, ap, ap₂, subst, ◌&&◌, arith}
 use Rattle.std.proofs.lemmas.Bool.{false≢true}
 use Rattle.osc_base.specs.declared.fault.Place.{Place}
 use Rattle.dsl_tree.specs.declared.parts.Ident.{Ident}
@@ -53,21 +53,13 @@ abbrev Each : {T : Type 0} → (T → Type 0) → List T → Type 0
 Each Good [] = Unit {0}
 Each Good (t ∷ ts) = Good t × Each Good ts
 
--- Values and their trees, of which each is read back from the other if the tree is good.
-record Inverse (V T : Type 0) : Type 1 where
-  tree : V → T
-  value : T → V
-  Good : T → Type 0
-  value_back : (v : V) → Good (tree v) → value (tree v) ≡ v
-  tree_back : (t : T) → Good t → tree (value t) ≡ t
+values_back : {V T : Type 0} (Good : T → Type 0) (tree : V → T) (value : T → V) → ((v : V) → Good (tree v) → value (tree v) ≡ v) → (vs : List V) → Each Good (map tree vs) → map value (map tree vs) ≡ vs
+values_back Good tree value back [] h = refl
+values_back Good tree value back (v ∷ vs) (h, h') = ap₂ ◌∷◌ (back v h) (values_back Good tree value back vs h')
 
-values_back : {V T : Type 0} (i : Inverse V T) (vs : List V) → Each i.Good (map i.tree vs) → map i.value (map i.tree vs) ≡ vs
-values_back i [] h = refl
-values_back i (v ∷ vs) (h, h') = ap₂ ◌∷◌ (i.value_back v h) (values_back i vs h')
-
-trees_back : {V T : Type 0} (i : Inverse V T) (ts : List T) → Each i.Good ts → map i.tree (map i.value ts) ≡ ts
-trees_back i [] h = refl
-trees_back i (t ∷ ts) (h, h') = ap₂ ◌∷◌ (i.tree_back t h) (trees_back i ts h')
+trees_back : {V T : Type 0} (Good : T → Type 0) (tree : V → T) (value : T → V) → ((t : T) → Good t → tree (value t) ≡ t) → (ts : List T) → Each Good ts → map tree (map value ts) ≡ ts
+trees_back Good tree value back [] h = refl
+trees_back Good tree value back (t ∷ ts) (h, h') = ap₂ ◌∷◌ (back t h) (trees_back Good tree value back ts h')
 
 -- the items of a row, of which the first may stand before a row that is written otherwise
 each_row : {T : Type 0} (item : T → Forest) (form tail : List T → Forest)
@@ -97,14 +89,9 @@ each_suffix : (ss : List SuffixTree) → Whole suffix_tail ss → Each (λ s. su
 each_suffix [] h = tt
 each_suffix (s ∷ ss) h = let both = suffix_parts s ss h in (both.0, each_suffix ss both.1)
 
-abbrev suffix : Inverse Suffix SuffixTree
-suffix = record { tree = suffix_tree; value = suffix_value; Good = λ s. suffix_whole s ≡ true; value_back = suffix_back; tree_back = suffix_tree_back }
-
 onto_head : (h : PathHead) (rest : List Suffix) → path_onto (head_tree h) rest ≡ record { head = h; suffixes = rest }
 unfolding path_onto
-onto_head (PathHead.Name name) rest = refl
-onto_head (PathHead.It place) rest = refl
-onto_head (PathHead.Actor place) rest = refl
+onto_head h rest = grind arith
 
 onto_row : (t : ExprTree) (ss : List SuffixTree) → path_onto (with_suffixes t ss) [] ≡ path_onto t (map suffix_value ss)
 unfolding path_onto
@@ -121,7 +108,7 @@ path_back head (s ∷ rest) h =
     let e = path_of_row start (suffix_tree s) (map suffix_tree rest) ∙ front_of_row start (map suffix_tree (s ∷ rest)) in
     let w = path_head_whole (head_tree head) (suffix_tail (map suffix_tree (s ∷ rest))) (subst (λ (f : Forest). is_whole f ≡ true) e h) in
     onto_row start (map suffix_tree (s ∷ rest)) ∙ (onto_head head (map suffix_value (map suffix_tree (s ∷ rest)))
-    ∙ ap (λ (x : List Suffix). record { head = head; suffixes = x }) (values_back suffix (s ∷ rest) (each_suffix (map suffix_tree (s ∷ rest)) w)))
+    ∙ ap (λ (x : List Suffix). record { head = head; suffixes = x }) (values_back (λ s. suffix_whole s ≡ true) suffix_tree suffix_value suffix_back (s ∷ rest) (each_suffix (map suffix_tree (s ∷ rest)) w)))
 
 -- a path with a suffix at least
 front_tree : (t : ExprTree) (f : Forest) (s : Suffix) (rest : List Suffix) → is_whole (path_front t f) ≡ true → path_tree (path_onto t (s ∷ rest)) ≡ with_suffixes t (map suffix_tree (s ∷ rest))
@@ -162,26 +149,23 @@ rule_tree_back : (r : RuleTree) → Whole rule r → rule_tree (rule_value r) �
 rule_tree_back (RuleTree.Keep place kind e) h = ap (RuleTree.Keep place kind) (expr_tree_back e (left_of _ _ (right_of (is_whole (keep_kind kind)) _ h)))
 rule_tree_back (RuleTree.Remove place t) h = ap (RuleTree.Remove place) (path_tree_back t (left_of _ _ h))
 
-abbrev one_rule : Inverse RuleDecl RuleTree
-one_rule = record { tree = rule_tree; value = rule_value; Good = Whole rule; value_back = rule_back; tree_back = rule_tree_back }
-
 each_rule : (rs : List RuleTree) → Whole field_end rs → Each (Whole rule) rs
 each_rule = each_row rule field_end rules_tail (λ r rs. refl) (λ r rs. refl)
 
 abbrev pub argument_value : ArgumentTree → Argument
 argument_value a = record { name = a.name; value = value_of a.value }
 
-abbrev argument : Inverse Argument ArgumentTree
-argument = record {
-  tree = argument_tree;
-  value = argument_value;
-  Good = λ a. Whole expr a.value;
-  value_back = λ a h. ap (λ (x : Expr). record { name = a.name; value = x }) (expr_back a.value h);
-  tree_back = λ a h. ap (λ (x : ExprTree). record { name = a.name; value = x }) (expr_tree_back a.value h);
-}
+argument_back : (a : Argument) → Whole expr (expr_tree a.value) → argument_value (argument_tree a) ≡ a
+argument_back a h = ap (λ (x : Expr). record { name = a.name; value = x }) (expr_back a.value h)
+
+argument_tree_back : (a : ArgumentTree) → Whole expr a.value → argument_tree (argument_value a) ≡ a
+argument_tree_back a h = ap (λ (x : ExprTree). record { name = a.name; value = x }) (expr_tree_back a.value h)
+
+abbrev GoodArgument : ArgumentTree → Type 0
+GoodArgument a = Whole expr a.value
 
 abbrev EachArgument : List ArgumentTree → Type 0
-EachArgument = Each (λ a. Whole expr a.value)
+EachArgument = Each GoodArgument
 
 pub named_parts : (name : Option Ident) (value : ExprTree) (rest : Forest) → is_whole (by_option name wrong (λ n. Written.mark MarkKind.Comma (named_argument n value rest))) ≡ true → (is_whole (expr value) ≡ true) × (is_whole rest ≡ true)
 named_parts None value rest h = absurd (false≢true h)
@@ -221,14 +205,11 @@ part_value (PartTree.ModifierPart m) = InvokePart.Modifier (record { name = m.na
 
 part_back : (p : InvokePart) → Whole invocation_part (part_tree p) → part_value (part_tree p) ≡ p
 part_back (InvokePart.Rule r) h = ap InvokePart.Rule (rule_back r (left_of _ _ h))
-part_back (InvokePart.Modifier m) h = ap (λ (x : List Argument). InvokePart.Modifier (record { name = m.name; arguments = x })) (values_back argument m.arguments (each_argument (map argument_tree m.arguments) (left_of _ _ h)))
+part_back (InvokePart.Modifier m) h = ap (λ (x : List Argument). InvokePart.Modifier (record { name = m.name; arguments = x })) (values_back GoodArgument argument_tree argument_value argument_back m.arguments (each_argument (map argument_tree m.arguments) (left_of _ _ h)))
 
 part_tree_back : (p : PartTree) → Whole invocation_part p → part_tree (part_value p) ≡ p
 part_tree_back (PartTree.RulePart r) h = ap PartTree.RulePart (rule_tree_back r (left_of _ _ h))
-part_tree_back (PartTree.ModifierPart m) h = ap (λ (x : List ArgumentTree). PartTree.ModifierPart (record { name = m.name; arguments = x })) (trees_back argument m.arguments (each_argument m.arguments (left_of _ _ h)))
-
-abbrev part : Inverse InvokePart PartTree
-part = record { tree = part_tree; value = part_value; Good = Whole invocation_part; value_back = part_back; tree_back = part_tree_back }
+part_tree_back (PartTree.ModifierPart m) h = ap (λ (x : List ArgumentTree). PartTree.ModifierPart (record { name = m.name; arguments = x })) (trees_back GoodArgument argument_tree argument_value argument_tree_back m.arguments (each_argument m.arguments (left_of _ _ h)))
 
 each_part : (ps : List PartTree) → Whole invocation_end ps → Each (Whole invocation_part) ps
 each_part = each_row invocation_part invocation_end parts_tail (λ p ps. refl) (λ p ps. refl)
@@ -287,32 +268,26 @@ mapped_phase y = map-Phase SuchPhase SuchComp Phase CompNode (λ x. x.0) (λ c. 
 abbrev mapped_comp : CompNode-F SuchPhase SuchComp → CompNode-F Phase CompNode
 mapped_comp y = map-CompNode SuchPhase SuchComp Phase CompNode (λ x. x.0) (λ c. c.0) y
 
-phase_case : (y : Phase-F SuchPhase SuchComp) → Whole phase (Views.phase_step (map-Phase Phase CompNode PhaseTree PhaseTree phase_tree comp_tree (mapped_phase y)))
-    → phase_value (Views.phase_step (map-Phase Phase CompNode PhaseTree PhaseTree phase_tree comp_tree (mapped_phase y))) ≡ roll-Phase (mapped_phase y)
-unfolding roll-Phase denote.Hole.Carrier.roll
-phase_case (Phase-F.Comp c) h = c.1 h
-phase_case (Phase-F.Invoke i) h =
-    let (w, w') = invoke_parts i.label i.head i.names (map argument_tree i.arguments) (map part_tree i.parts) h in
-    ap₂ (λ (a : List Argument) (b : List InvokePart). Phase.Invoke (record { label = i.label; head = i.head; names = i.names; arguments = a; parts = b }))
-    (values_back argument i.arguments w) (values_back part i.parts w')
-phase_case (Phase-F.Wait w) h = ap (λ (e : Expr). Phase.Wait (record { label = w.label; place = w.place; elapsed = e })) (expr_back w.elapsed (wait_part w.label w.place (expr_tree w.elapsed) h))
-
-comp_case : (y : CompNode-F SuchPhase SuchComp) → Whole phase (Views.comp_step (map-CompNode Phase CompNode PhaseTree PhaseTree phase_tree comp_tree (mapped_comp y)))
-    → phase_value (Views.comp_step (map-CompNode Phase CompNode PhaseTree PhaseTree phase_tree comp_tree (mapped_comp y))) ≡ TheViews.Comp (roll-CompNode (mapped_comp y))
-unfolding denote.Hole.Carrier.roll
-comp_case y h =
-    let (w, w') = comp_parts y.label y.place y.kind (map argument_tree y.arguments) (row_of (map phase_tree (map (λ x. x.0) y.members))) h in
-    ap₂ (λ (a : List Argument) (b : List Phase). TheViews.Comp (comp_of y.label y.place y.kind a b)) (values_back argument y.arguments w) (block_back y.members w')
+by_seen : (x : Phase) (t : PhaseTree) → phase_tree x ≡ t → (Whole phase t → phase_value t ≡ x) → OfPhase x
+by_seen x t e back h = ap phase_value e ∙ back (subst (Whole phase) e h)
 
 phase_proof : (y : Phase-F SuchPhase SuchComp) → OfPhase (roll-Phase (mapped_phase y))
-phase_proof y h =
-    let e = fold-roll-Phase PhaseTree PhaseTree Views.phase_step Views.comp_step (mapped_phase y) in
-    ap phase_value e ∙ phase_case y (subst (λ (t : PhaseTree). is_whole (phase t) ≡ true) e h)
+unfolding roll-Phase denote.Hole.Carrier.roll
+phase_proof (Phase-F.Comp c) = by_seen (TheViews.Comp c.0) (comp_tree c.0) (fold-roll-Phase PhaseTree PhaseTree Views.phase_step Views.comp_step (Phase-F.Comp c.0)) c.1
+phase_proof (Phase-F.Invoke i) = by_seen (Phase.Invoke i) _ (seen_invoke i) λ h.
+    let (w, w') = invoke_parts i.label i.head i.names (map argument_tree i.arguments) (map part_tree i.parts) h in
+    ap₂ (λ (a : List Argument) (b : List InvokePart). Phase.Invoke (record { label = i.label; head = i.head; names = i.names; arguments = a; parts = b }))
+    (values_back GoodArgument argument_tree argument_value argument_back i.arguments w) (values_back (Whole invocation_part) part_tree part_value part_back i.parts w')
+phase_proof (Phase-F.Wait w) = by_seen (Phase.Wait w) _ (seen_wait w) λ h.
+    ap (λ (e : Expr). Phase.Wait (record { label = w.label; place = w.place; elapsed = e })) (expr_back w.elapsed (wait_part w.label w.place (expr_tree w.elapsed) h))
 
 comp_proof : (y : CompNode-F SuchPhase SuchComp) → OfComp (roll-CompNode (mapped_comp y))
+unfolding denote.Hole.Carrier.roll
 comp_proof y h =
     let e = fold-roll-CompNode PhaseTree PhaseTree Views.phase_step Views.comp_step (mapped_comp y) in
-    ap phase_value e ∙ comp_case y (subst (λ (t : PhaseTree). is_whole (phase t) ≡ true) e h)
+    let (w, w') = comp_parts y.label y.place y.kind (map argument_tree y.arguments) (row_of (map phase_tree (map (λ x. x.0) y.members))) (subst (Whole phase) e h) in
+    ap phase_value e
+    ∙ ap₂ (λ (a : List Argument) (b : List Phase). TheViews.Comp (comp_of y.label y.place y.kind a b)) (values_back GoodArgument argument_tree argument_value argument_back y.arguments w) (block_back y.members w')
 
 phase_back : (x : Phase) → OfPhase x
 phase_back = ind-Phase OfPhase OfComp
@@ -323,10 +298,10 @@ mutual
   phase_tree_back : (p : PhaseTree) → Whole phase p → phase_tree (phase_value p) ≡ p
   phase_tree_back (PhaseTree.Comp label place kind args members) h =
       seen_comp (comp_of label place kind (map argument_value args) (phases_value members))
-      ∙ ap₂ (PhaseTree.Comp label place kind) (trees_back argument args (comp_parts label place kind args members h).0) (block_tree_back members (comp_parts label place kind args members h).1)
+      ∙ ap₂ (PhaseTree.Comp label place kind) (trees_back GoodArgument argument_tree argument_value argument_tree_back args (comp_parts label place kind args members h).0) (block_tree_back members (comp_parts label place kind args members h).1)
   phase_tree_back (PhaseTree.Invoke label head names args ps) h =
       seen_invoke (record { label = label; head = head; names = names; arguments = map argument_value args; parts = map part_value ps })
-      ∙ ap₂ (PhaseTree.Invoke label head names) (trees_back argument args (invoke_parts label head names args ps h).0) (trees_back part ps (invoke_parts label head names args ps h).1)
+      ∙ ap₂ (PhaseTree.Invoke label head names) (trees_back GoodArgument argument_tree argument_value argument_tree_back args (invoke_parts label head names args ps h).0) (trees_back (Whole invocation_part) part_tree part_value part_tree_back ps (invoke_parts label head names args ps h).1)
   phase_tree_back (PhaseTree.Wait label place elapsed) h =
       seen_wait (record { label = label; place = place; elapsed = value_of elapsed }) ∙ ap (PhaseTree.Wait label place) (expr_tree_back elapsed (wait_part label place elapsed h))
 
@@ -359,12 +334,12 @@ field_parts (n ∷ ns) f h =
 field_back : (f : FieldDecl) → is_whole (field f.names (field_tree f)) ≡ true → field_value (field_tree f) ≡ f
 field_back f h =
     let (w, w') = field_parts f.names (field_tree f) h in
-    ap₂ (λ (e : Option Expr) (rs : List RuleDecl). record { names = f.names; list = f.list; of = f.of; initial = e; rules = rs }) (optional_back f.initial w) (values_back one_rule f.rules w')
+    ap₂ (λ (e : Option Expr) (rs : List RuleDecl). record { names = f.names; list = f.list; of = f.of; initial = e; rules = rs }) (optional_back f.initial w) (values_back (Whole rule) rule_tree rule_value rule_back f.rules w')
 
 field_tree_back : (f : FieldTree) → is_whole (field f.names f) ≡ true → field_tree (field_value f) ≡ f
 field_tree_back f h =
     let (w, w') = field_parts f.names f h in
-    ap₂ (λ (e : Option ExprTree) (rs : List RuleTree). record { names = f.names; list = f.list; of = f.of; initial = e; rules = rs }) (optional_tree_back f.initial w) (trees_back one_rule f.rules w')
+    ap₂ (λ (e : Option ExprTree) (rs : List RuleTree). record { names = f.names; list = f.list; of = f.of; initial = e; rules = rs }) (optional_tree_back f.initial w) (trees_back (Whole rule) rule_tree rule_value rule_tree_back f.rules w')
 
 abbrev pub member_value : MemberTree → Member
 member_value (MemberTree.Field f) = Member.Field (field_value f)
@@ -377,12 +352,7 @@ member_back (Member.Rule r) h = ap Member.Rule (rule_back r (left_of _ _ h))
 member_back (Member.Do place p) h = ap (Member.Do place) (phase_back p (left_of _ _ h))
 
 member_tree_back : (m : MemberTree) → Whole member m → member_tree (member_value m) ≡ m
-member_tree_back (MemberTree.Field f) h = ap MemberTree.Field (field_tree_back f h)
-member_tree_back (MemberTree.Rule r) h = ap MemberTree.Rule (rule_tree_back r (left_of _ _ h))
-member_tree_back (MemberTree.Do place p) h = ap (MemberTree.Do place) (phase_tree_back p (left_of _ _ h))
-
-abbrev one_member : Inverse Member MemberTree
-one_member = record { tree = member_tree; value = member_value; Good = Whole member; value_back = member_back; tree_back = member_tree_back }
+member_tree_back m h = grind (arith, field_tree_back, rule_tree_back, phase_tree_back)
 
 each_member : (ms : List MemberTree) → Whole block ms → Each (Whole member) ms
 each_member = each_row member block members_tail (λ m ms. refl) (λ m ms. refl)
@@ -423,23 +393,20 @@ extension_whole name ms rest h = each_member ms (left_of _ _ (left_of _ _ (right
 declaration_back : (d : Declaration) → Whole declaration (declaration_tree d) → declaration_value (declaration_tree d) ≡ d
 declaration_back (Declaration.Compound c) h =
     ap (λ (ms : List Member). Declaration.Compound (record { place = c.place; kind = c.kind; name = c.name; heir = c.heir; members = ms }))
-    (values_back one_member c.members (body_whole (compound_tree c) h))
+    (values_back (Whole member) member_tree member_value member_back c.members (body_whole (compound_tree c) h))
 declaration_back (Declaration.MemberExtension e) h =
     ap (λ (ms : List Member). Declaration.MemberExtension (record { place = e.place; name = e.name; members = ms }))
-    (values_back one_member e.members (extension_whole e.name (map member_tree e.members) nil h))
+    (values_back (Whole member) member_tree member_value member_back e.members (extension_whole e.name (map member_tree e.members) nil h))
 declaration_back _ h = refl
 
 declaration_tree_back : (d : DeclarationTree) → Whole declaration d → declaration_tree (declaration_value d) ≡ d
 declaration_tree_back (DeclarationTree.CompoundDeclaration c) h =
     ap (λ (ms : List MemberTree). DeclarationTree.CompoundDeclaration (record { place = c.place; kind = c.kind; name = c.name; heir = c.heir; members = ms }))
-    (trees_back one_member c.members (body_whole c h))
+    (trees_back (Whole member) member_tree member_value member_tree_back c.members (body_whole c h))
 declaration_tree_back (DeclarationTree.MemberExtension e) h =
     ap (λ (ms : List MemberTree). DeclarationTree.MemberExtension (record { place = e.place; name = e.name; members = ms }))
-    (trees_back one_member e.members (extension_whole e.name e.members nil h))
+    (trees_back (Whole member) member_tree member_value member_tree_back e.members (extension_whole e.name e.members nil h))
 declaration_tree_back _ h = refl
-
-abbrev one_declaration : Inverse Declaration DeclarationTree
-one_declaration = record { tree = declaration_tree; value = declaration_value; Good = Whole declaration; value_back = declaration_back; tree_back = declaration_tree_back }
 
 each_declaration : (t : FileTree) → is_whole (file t) ≡ true → Each (Whole declaration) t.decls
 each_declaration t h = each_row declaration declarations declarations (λ d ds. refl) (λ d ds. refl) t.decls (left_of _ _ (right_of (is_whole (imports t.imports)) _ h))
@@ -449,8 +416,8 @@ file_value f = record { imports = f.imports; decls = map declaration_value f.dec
 
 pub file_back_value : (f : File) → is_whole (file (file_tree f)) ≡ true → file_value (file_tree f) ≡ f
 unfolding file_value
-file_back_value f h = ap (λ (ds : List Declaration). record { imports = f.imports; decls = ds; end = f.end }) (values_back one_declaration f.decls (each_declaration (file_tree f) h))
+file_back_value f h = ap (λ (ds : List Declaration). record { imports = f.imports; decls = ds; end = f.end }) (values_back (Whole declaration) declaration_tree declaration_value declaration_back f.decls (each_declaration (file_tree f) h))
 
 pub file_tree_back : (t : FileTree) → is_whole (file t) ≡ true → file_tree (file_value t) ≡ t
 unfolding file_value
-file_tree_back t h = ap (λ (ds : List DeclarationTree). record { imports = t.imports; decls = ds; end = t.end }) (trees_back one_declaration t.decls (each_declaration t h))
+file_tree_back t h = ap (λ (ds : List DeclarationTree). record { imports = t.imports; decls = ds; end = t.end }) (trees_back (Whole declaration) declaration_tree declaration_value declaration_tree_back t.decls (each_declaration t h))

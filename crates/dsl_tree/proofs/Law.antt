@@ -1,5 +1,5 @@
 -- A list of tokens is spelled by one forest of a part at most.
-use Rattle.std.proofs.Common.{◌≡◌, ℕ, ◌≤◌, List, [], ◌∷◌, ◌++◌, Bool, true, false, cond, refl, sym, ◌∙◌, ap, ap₂, subst, ⊎_elim, ◌&&◌, not, arith}
+use Rattle.std.proofs.Common.{◌≡◌, ◌≤◌, List, [], ◌∷◌, ◌++◌, Bool, true, false, cond, refl, sym, ◌∙◌, ap, ap₂, subst, ⊎_elim, ◌&&◌, not, arith}
 use Rattle.std.specs.Prelude.{nat_le}
 use Rattle.std.proofs.lemmas.Bool.{leb-true}
 use Rattle.osc_base.specs.declared.fault.Place.{Place}
@@ -134,11 +134,11 @@ clash p r s a b ts m n fit fit' tells wa wb stop stop' sa sb =
     let fa : Follows a r = whole_follows a r m wa in
     let fb : Follows b s = whole_follows b s n wb in
     ⊎_elim (λ one.
-        ⊎_elim (λ v. ⊎_elim (λ v'. both_ways (empties r && empties s) (and_both (empties r) (empties s) (void_empties a r fa v) (void_empties b s fb v')) (not_true (empties r && empties s) (right_of _ _ one)))
-        (λ (w', start'). after_void p s a ts m fit' v sa stop start') (begins b s ts n fb sb))
-        (λ (w, start). ⊎_elim (λ v'. after_void p r b ts n fit v' sb stop' start)
-        (λ (w', start'). both_ways (starts (firsts s) ts) start' (Stops-apart (firsts r) (firsts s) ts (left_of (apart (firsts r) (firsts s)) _ one) start)) (begins b s ts n fb sb))
-        (begins a r ts m fa sa))
+    ⊎_elim (λ v. ⊎_elim (λ v'. both_ways (empties r && empties s) (and_both (empties r) (empties s) (void_empties a r fa v) (void_empties b s fb v')) (not_true (empties r && empties s) (right_of _ _ one)))
+    (λ (w', start'). after_void p s a ts m fit' v sa stop start') (begins b s ts n fb sb))
+    (λ (w, start). ⊎_elim (λ v'. after_void p r b ts n fit v' sb stop' start)
+    (λ (w', start'). both_ways (starts (firsts s) ts) start' (Stops-apart (firsts r) (firsts s) ts (left_of (apart (firsts r) (firsts s)) _ one) start)) (begins b s ts n fb sb))
+    (begins a r ts m fa sa))
     (λ two. two_tokens r s a b ts m n two fa fb sa sb)
     (either_of (apart (firsts r) (firsts s) && not (empties r && empties s)) (two_apart s r) tells)
 
@@ -165,7 +165,7 @@ law (bare kind f) (bare kind' f') (Bare codes ∷ ss) (t ∷ ts) z z' s (h, w) (
     let (e, q) = law f f' ss ts z z' s w w' sp sp' in (ap₂ bare (sym k ∙ k') e, q)
 law (sub a g) (sub b g') (Of p ∷ ss) ts z z' s (any, stop, w) (any', stop', w') (m, sa, sg) (m', sb, sg') =
     let (e, q) =
-        same_part p a b ts m m' (λ r sr wa wb. law a b r ts m m' sr wa wb sa sb) (opened p ss a g ts m z s (any, stop, w) sa sg) (opened p ss b g' ts m' z' s (any', stop', w') sb sg') in
+    same_part p a b ts m m' (λ r sr wa wb. law a b r ts m m' sr wa wb sa sb) (opened p ss a g ts m z s (any, stop, w) sa sg) (opened p ss b g' ts m' z' s (any', stop', w') sb sg') in
     let (e', q') = law g g' ss m z z' (right_of (apart (firsts ss) (goes_on p)) (sound ss) s) w w' sg (subst (λ (v : List Token). Spells g' v z') (sym q) sg') in
     (ap₂ sub e e', q')
 law (seen place kind f) f' (Seen codes ∷ ss) [] z z' s w w' sp sp' = absurd sp

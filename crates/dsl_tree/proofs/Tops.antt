@@ -1,23 +1,18 @@
 -- What a parser of whole files proves: from what was read of the part `File`, or from its fault.
-use Rattle.std.proofs.Common.{◌+◌, ◌-◌, length, drop, length-append, ap₂, arith, ◌≡◌, ℕ, List, [], ◌∷◌, ◌++◌, refl, sym, ◌∙◌, ap, subst, append_assoc}
+use Rattle.std.proofs.Common.{◌+◌, ◌-◌, length, drop, length-append, ap₂, arith, ◌≡◌, ℕ, List, [], ◌∷◌, ◌++◌, sym, ◌∙◌, ap, subst, append_assoc}
 use Rattle.std.proofs.Math.Seq.{drop-append_seam}
 use Rattle.osc_base.specs.declared.fault.Fault.{Fault}
-use Rattle.osc_base.specs.declared.fault.Place.{Place}
 use Rattle.dsl_tree.specs.declared.token.Token.{Token}
-use Rattle.dsl_tree.specs.declared.token.TokenKind.{TokenKind}
-use Rattle.dsl_tree.specs.declared.file.File.{File}
-use Rattle.dsl_tree.specs.Views.{file_tree}
 use Rattle.dsl_tree.specs.Grammar.{Part}
-use Rattle.dsl_tree.specs.Forest.{Forest, nil, seen, sub, IsOf, Spells}
+use Rattle.dsl_tree.specs.Forest.{Forest, IsOf, Spells}
 use Rattle.dsl_tree.specs.FileTree.{FileTree}
-use Rattle.dsl_tree.specs.WrittenFile.{file, imports, declarations}
+use Rattle.dsl_tree.specs.WrittenFile.{file}
 use Rattle.dsl_tree.specs.Lookahead.{goes_on}
 use Rattle.dsl_tree.specs.Reading.{Parsed, CanBegin, PartFault}
-use Rattle.dsl_tree.specs.Language.{Spelled, IsViable, FirstFault, Ended, is_end, fault_code}
-use Rattle.dsl_tree.proofs.Sets.{both_ways, starts-nil}
+use Rattle.dsl_tree.specs.Language.{Spelled, IsViable, FirstFault, fault_code}
+use Rattle.dsl_tree.proofs.Sets.{starts-nil}
 use Rattle.dsl_tree.proofs.Law.{part_follows}
-use Rattle.dsl_tree.proofs.Faults.{Consumed, consumed}
-use Rattle.dsl_tree.proofs.OneTrees.{spelled_once, one_file_spelled}
+use Rattle.dsl_tree.proofs.OneTrees.{spelled_once}
 use Rattle.dsl_tree.proofs.Inverse.{tree_of}
 
 -- a file was read

@@ -1,5 +1,5 @@
 -- The program's expressions and their trees: each is read back from the other.
-use Rattle.std.proofs.Common.{◌≡◌, ℕ, List, [], ◌∷◌, Bool, true, map, refl, ◌∙◌, ap, ap₂, subst, ◌&&◌}
+use Rattle.std.proofs.Common.{◌≡◌, ℕ, List, [], ◌∷◌, Bool, true, map, refl, ◌∙◌, ap, ap₂, subst, ◌&&◌, arith}
 use Rattle.std.proofs.lemmas.Bool.{false≢true}
 use Rattle.osc_base.specs.declared.fault.Place.{Place}
 use Rattle.dsl_tree.specs.declared.expr.Operator.{Operator}
@@ -7,7 +7,7 @@ use Rattle.dsl_tree.specs.declared.expr.Expr.{Expr}
 use Rattle.dsl_tree.specs.declared.expr.Suffix.{Suffix}
 use Rattle.dsl_tree.specs.declared.expr.Further.{Further}
 use Rattle.dsl_tree.specs.declared.expr.Expr.TheOpen.{Expr-F, Suffix-F, Further-F}
-use Rattle.dsl_tree.specs.declared.expr.Expr.TheFolds.{fold-roll-Expr, fold-roll-Suffix, fold-roll-Further, ind-Expr, ind-Suffix, map-Expr, map-Suffix, map-Further}
+use Rattle.dsl_tree.specs.declared.expr.Expr.TheFolds.{fold-roll-Expr, fold-roll-Further, ind-Expr, ind-Suffix, map-Expr, map-Suffix, map-Further}
 use Rattle.dsl_tree.specs.declared.expr.Expr.TheViews
 use Rattle.dsl_tree.specs.declared.expr.Expr.TheViews.{roll-Expr, roll-Suffix, roll-Further}
 use Rattle.dsl_tree.specs.ExprTree.{ExprTree, Implies, Or, And, Not, Relation, Sum, Product, Minus, Dot, Index, Number, Physical, Chars, Truth, It, Actor, Name, EnumName, Group, Span, Listed, RangeCall, Start, ExprRow, End, Item, row_of}
@@ -105,12 +105,10 @@ record Post : Type 0 where
   skips : (t : ExprTree) (s next : SuffixTree) (ss : List SuffixTree) → row t (s ∷ next ∷ ss) ≡ row t (next ∷ ss)
 
 named_skips : (t : ExprTree) (s next : SuffixTree) (ss : List SuffixTree) → named_row t (s ∷ next ∷ ss) ≡ named_row t (next ∷ ss)
-named_skips t (Named name) next ss = refl
-named_skips t (At place index) next ss = refl
+named_skips t s next ss = grind arith
 
 indexed_skips : (t : ExprTree) (s next : SuffixTree) (ss : List SuffixTree) → indexed_row t (s ∷ next ∷ ss) ≡ indexed_row t (next ∷ ss)
-indexed_skips t (Named name) next ss = refl
-indexed_skips t (At place index) next ss = refl
+indexed_skips t s next ss = grind arith
 
 abbrev dot : Post
 dot = record { node = TheViews.Expr::Dot; row = named_row; is_seen = seen_dot; skips = named_skips }
@@ -246,24 +244,13 @@ items_back (e ∷ rest) h = ap₂ ◌∷◌ (e.1 (whole_at 0 (expr_tree e.0) (wr
 
 -- rows of operators, and of suffixes
 
-abbrev ReadRow : Join → (Expr → List Further → Expr) → Type 0
-ReadRow join node = (left : ExprTree) (next : FurtherTree) (rest : List FurtherTree) → value_of (grouped join left (next ∷ rest)) ≡ row_value left node (map further_value (next ∷ rest))
-
-or_value : ReadRow Or TheViews.Or
-or_value left next [] = refl
-or_value left next (other ∷ rest) = or_value (Or next.place next.operator left next.part) other rest
-
-and_value : ReadRow And TheViews.And
-and_value left next [] = refl
-and_value left next (other ∷ rest) = and_value (And next.place next.operator left next.part) other rest
-
-sum_value : ReadRow Sum TheViews.Sum
-sum_value left next [] = refl
-sum_value left next (other ∷ rest) = sum_value (Sum next.place next.operator left next.part) other rest
-
-product_value : ReadRow Product TheViews.Product
-product_value left next [] = refl
-product_value left next (other ∷ rest) = product_value (Product next.place next.operator left next.part) other rest
+read_row : (join : Join) (node : Expr → List Further → Expr)
+    → ((place : Place) (operator : Operator) (left right : ExprTree) → value_of (join place operator left right) ≡ row_value left node (further_of place operator (value_of right) ∷ []))
+    → ((place : Place) (operator : Operator) (left right : ExprTree) (rest : List Further) → row_value (join place operator left right) node rest ≡ row_value left node (further_of place operator (value_of right) ∷ rest))
+    → (left : ExprTree) (next : FurtherTree) (rest : List FurtherTree) → value_of (grouped join left (next ∷ rest)) ≡ row_value left node (map further_value (next ∷ rest))
+read_row join node one row left next [] = one next.place next.operator left next.part
+read_row join node one row left next (other ∷ rest) =
+    read_row join node one row (join next.place next.operator left next.part) other rest ∙ row next.place next.operator left next.part (map further_value (other ∷ rest))
 
 abbrev ReadPost : Post → Type 0
 ReadPost k = (head : ExprTree) (s : SuffixTree) (ss : List SuffixTree) → is_whole (written (k.row (with_suffixes head (s ∷ ss)) (s ∷ ss))) ≡ true
@@ -297,7 +284,8 @@ step_of y = Views.expr_step (map-Expr Expr Suffix Further ExprTree SuffixTree Fu
 part_back : (l : ℕ) (e : SuchExpr) → is_whole (at l (expr_tree e.0) (written (expr_tree e.0))) ≡ true → value_of (expr_tree e.0) ≡ e.0
 part_back l e h = e.1 (whole_at l (expr_tree e.0) (written (expr_tree e.0)) h)
 
-ops_back : (l : ℕ) (join : Join) (node : Expr → List Further → Expr) → ReadRow join node
+ops_back : (l : ℕ) (join : Join) (node : Expr → List Further → Expr)
+    → ((left : ExprTree) (next : FurtherTree) (rest : List FurtherTree) → value_of (grouped join left (next ∷ rest)) ≡ row_value left node (map further_value (next ∷ rest)))
     → ((first : ExprTree) (next : FurtherTree) (rest : List FurtherTree) → written (grouped join (Start first) (next ∷ rest)) ≡ sub (at l first (written first)) (sub (further_tail l (next ∷ rest)) nil))
     → (first : SuchExpr) (next : SuchFurther) (rest : List SuchFurther) → is_whole (written (grouped join (Start (expr_tree first.0)) (map further_tree (map (λ f. f.0) (next ∷ rest))))) ≡ true
     → value_of (grouped join (Start (expr_tree first.0)) (map further_tree (map (λ f. f.0) (next ∷ rest)))) ≡ node first.0 (map (λ f. f.0) (next ∷ rest))
@@ -318,13 +306,13 @@ expr_case : (y : Expr-F SuchExpr SuchSuffix SuchFurther) → is_whole (written (
 unfolding roll-Expr denote.Hole.Carrier.roll
 expr_case (Expr-F.Implies place l r) h = ap₂ (TheViews.Implies place) (part_back 1 l (left_of _ _ h)) (part_back 1 r (left_of _ _ (left_of _ _ (right_of _ _ h))))
 expr_case (Expr-F.Or first []) h = absurd (false≢true h)
-expr_case (Expr-F.Or first (next ∷ rest)) h = ops_back 2 Or TheViews.Or or_value or_own first next rest h
+expr_case (Expr-F.Or first (next ∷ rest)) h = ops_back 2 Or TheViews.Or (read_row Or TheViews.Or (λ p o l r. refl) (λ p o l r rest. refl)) or_own first next rest h
 expr_case (Expr-F.And first []) h = absurd (false≢true h)
-expr_case (Expr-F.And first (next ∷ rest)) h = ops_back 3 And TheViews.And and_value and_own first next rest h
+expr_case (Expr-F.And first (next ∷ rest)) h = ops_back 3 And TheViews.And (read_row And TheViews.And (λ p o l r. refl) (λ p o l r rest. refl)) and_own first next rest h
 expr_case (Expr-F.Sum first []) h = absurd (false≢true h)
-expr_case (Expr-F.Sum first (next ∷ rest)) h = ops_back 6 Sum TheViews.Sum sum_value sum_own first next rest h
+expr_case (Expr-F.Sum first (next ∷ rest)) h = ops_back 6 Sum TheViews.Sum (read_row Sum TheViews.Sum (λ p o l r. refl) (λ p o l r rest. refl)) sum_own first next rest h
 expr_case (Expr-F.Product first []) h = absurd (false≢true h)
-expr_case (Expr-F.Product first (next ∷ rest)) h = ops_back 7 Product TheViews.Product product_value product_own first next rest h
+expr_case (Expr-F.Product first (next ∷ rest)) h = ops_back 7 Product TheViews.Product (read_row Product TheViews.Product (λ p o l r. refl) (λ p o l r rest. refl)) product_own first next rest h
 expr_case (Expr-F.Not place part) h = ap (TheViews.Not place) (part_back 4 part (left_of _ _ h))
 expr_case (Expr-F.Relation place sign l r) h = ap₂ (TheViews.Relation place sign) (part_back 5 l (left_of _ _ h)) (part_back 5 r (left_of _ _ (left_of _ _ (right_of _ _ h))))
 expr_case (Expr-F.Minus place part) h = ap (TheViews.Minus place) (part_back 8 part (left_of _ _ h))
@@ -345,17 +333,11 @@ expr_proof y h =
     let e : expr_tree (roll-Expr (mapped_expr y)) ≡ step_of y = fold-roll-Expr ExprTree SuffixTree FurtherTree Views.expr_step Views.suffix_step Views.further_step (mapped_expr y) in
     ap value_of e ∙ expr_case y (subst (λ (t : ExprTree). is_whole (written t) ≡ true) e h)
 
-suffix_case : (y : Suffix-F SuchExpr SuchSuffix SuchFurther)
-    → suffix_whole (Views.suffix_step (map-Suffix Expr Suffix Further ExprTree SuffixTree FurtherTree expr_tree suffix_tree further_tree (mapped_suffix y))) ≡ true
-    → suffix_value (Views.suffix_step (map-Suffix Expr Suffix Further ExprTree SuffixTree FurtherTree expr_tree suffix_tree further_tree (mapped_suffix y))) ≡ roll-Suffix (mapped_suffix y)
-unfolding roll-Suffix denote.Hole.Carrier.roll
-suffix_case (Suffix-F.Suffix::Dot name) h = refl
-suffix_case (Suffix-F.Suffix::Index place index) h = ap (λ (e : Expr). Suffix.Suffix::Index place e) (part_back 0 index h)
-
 suffix_proof : (y : Suffix-F SuchExpr SuchSuffix SuchFurther) → OfSuffix (roll-Suffix (mapped_suffix y))
-suffix_proof y h =
-    let e = fold-roll-Suffix ExprTree SuffixTree FurtherTree Views.expr_step Views.suffix_step Views.further_step (mapped_suffix y) in
-    ap suffix_value e ∙ suffix_case y (subst (λ (t : SuffixTree). suffix_whole t ≡ true) e h)
+unfolding roll-Suffix denote.Hole.Carrier.roll
+suffix_proof (Suffix-F.Suffix::Dot name) h = ap suffix_value (seen_dot_suffix name)
+suffix_proof (Suffix-F.Suffix::Index place index) h =
+    let e = seen_index_suffix place index.0 in ap suffix_value e ∙ ap (Suffix.Suffix::Index place) (part_back 0 index (subst (λ (t : SuffixTree). suffix_whole t ≡ true) e h))
 
 further_proof : (y : Further-F SuchExpr SuchSuffix SuchFurther) → OfFurther (roll-Further (mapped_further y))
 unfolding denote.Hole.Carrier.roll
