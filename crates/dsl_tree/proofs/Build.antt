@@ -8,6 +8,7 @@ use Rattle.dsl_tree.specs.Reading.{Stops, void, Whole, Parsed, Built, Taken}
 use Rattle.dsl_tree.proofs.Sets.{starts-nil}
 use Rattle.dsl_tree.proofs.Fits.{any_map}
 use Rattle.dsl_tree.proofs.Begins.{void_spells}
+use Rattle.dsl_tree.proofs.Law.{whole_before}
 use Rattle.dsl_tree.proofs.RuleFaults.{RuleOf}
 
 pub built_none : (ts : List Token) → Built [] nil ts ts
@@ -19,28 +20,12 @@ built_seen codes ss f ts t us rest taken built = record { whole = (taken.fits, b
 pub built_bare : (codes : List ℕ) (ss : List Symbol) (f : Forest) (ts : List Token) (t : Token) (us rest : List Token) → Taken codes ts t us → Built ss f us rest → Built (Bare codes ∷ ss) (bare t.kind f) ts rest
 built_bare codes ss f ts t us rest taken built = record { whole = (taken.fits, built.whole); spells = subst (λ (v : List Token). Spells (bare t.kind f) v rest) (sym taken.split) (refl, built.spells) }
 
-either_way : (v : Bool) (y : List Token) → cond v y y ≡ y
-either_way true y = refl
-either_way false y = refl
-
--- what is whole before some tokens is so at the end
-whole_end : (f : Forest) (ss : List Symbol) (z : List Token) → Whole f ss z → Whole f ss []
-whole_end nil [] z w = tt
-whole_end (seen place kind f) (Seen codes ∷ ss) z (h, w) = (h, whole_end f ss z w)
-whole_end (bare kind f) (Bare codes ∷ ss) z (h, w) = (h, whole_end f ss z w)
-whole_end (sub a g) (Of p ∷ ss) z (any, stop, w) = (
-  subst (λ (y : List Token). AnyRule (rules p) (λ r. Whole a r y)) (sym (either_way (void g) [])) (any_map (rules p) (λ r. Whole a r (cond (void g) z [])) (λ r. Whole a r []) (λ r does. whole_end a r (cond (void g) z []) does) any),
-  subst (λ (y : List Token). Stops (cond (void a) (first p) []) y) (sym (either_way (void g) [])) (starts-nil (cond (void a) (first p) [])),
-  whole_end g ss z w,
-)
-whole_end _ _ z w = absurd w
-
 pub built_part : (p : Part) (ss : List Symbol) (a g : Forest) (ts m rest : List Token) → Parsed p a ts m → Built ss g m rest → Built (Of p ∷ ss) (sub a g) ts rest
 built_part p ss a g ts m rest parsed built = record { whole = (go (void g) refl, stops (void g) refl, built.whole); spells = (m, parsed.spells, built.spells) }
   where
     go : (v : Bool) → void g ≡ v → AnyRule (rules p) (λ r. Whole a r (cond v rest []))
     go true e = subst (λ (y : List Token). AnyRule (rules p) (λ r. Whole a r y)) (void_spells g m rest e built.spells) parsed.whole
-    go false e = any_map (rules p) (λ r. Whole a r m) (λ r. Whole a r []) (λ r does. whole_end a r m does) parsed.whole
+    go false e = any_map (rules p) (λ r. Whole a r m) (λ r. Whole a r []) (λ r does. whole_before a r m [] (λ cs s. starts-nil cs) does) parsed.whole
 
     stops : (v : Bool) → void g ≡ v → Stops (cond (void a) (first p) []) (cond v rest [])
     stops true e = subst (Stops (cond (void a) (first p) [])) (void_spells g m rest e built.spells) parsed.stop

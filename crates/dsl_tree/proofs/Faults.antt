@@ -10,7 +10,7 @@ use Rattle.dsl_tree.proofs.Tests.{left_of, right_of}
 use Rattle.dsl_tree.proofs.Sets.{both_ways, starts-cons, Stops-apart, Stops-left}
 use Rattle.dsl_tree.proofs.Fits.{any_map}
 use Rattle.dsl_tree.proofs.Begins.{void_spells, void_empties, begins, begins_full}
-use Rattle.dsl_tree.proofs.Law.{part_follows, part_whole, stops_rest, law_part}
+use Rattle.dsl_tree.proofs.Law.{whole_before, part_follows, part_whole, stops_rest, law_part}
 use Rattle.dsl_tree.proofs.Shortest.{filled, row, row_follows, tokens, row_spells}
 
 -- what the lemmas below ask of a row of symbols, by computing
@@ -49,28 +49,9 @@ spells_append : (f : Forest) (ts y : List Token) → Spells f ts [] → Spells f
 spells_append f ts y s =
     let c : Consumed f ts [] = consumed f ts [] s in subst (λ (v : List Token). Spells f (v ++ y) y) (sym (c.split ∙ append-nil c.used)) (c.spells y)
 
--- what is whole before some tokens is so before others that begin alike
-pub whole_alike : (f : Forest) (ss : List Symbol) (z y : List Token) → ((cs : List ℕ) → starts cs z ≡ starts cs y) → Whole f ss z → Whole f ss y
-whole_alike nil [] z y e w = tt
-whole_alike (seen place kind f) (Seen codes ∷ ss) z y e (h, w) = (h, whole_alike f ss z y e w)
-whole_alike (bare kind f) (Bare codes ∷ ss) z y e (h, w) = (h, whole_alike f ss z y e w)
-whole_alike (sub a g) (Of p ∷ ss) z y e (any, stop, w) = (
-  any_map (rules p) (λ r. Whole a r (cond (void g) z [])) (λ r. Whole a r (cond (void g) y [])) (λ r does. whole_alike a r (cond (void g) z []) (cond (void g) y []) behind does) any,
-  sym (behind (cond (void a) (first p) [])) ∙ stop,
-  whole_alike g ss z y e w,
-)
-  where
-    alike : (v : Bool) (cs : List ℕ) → starts cs (cond v z []) ≡ starts cs (cond v y [])
-    alike true cs = e cs
-    alike false cs = refl
-
-    behind : (cs : List ℕ) → starts cs (cond (void g) z []) ≡ starts cs (cond (void g) y [])
-    behind cs = alike (void g) cs
-whole_alike _ _ z y e w = absurd w
-
 pub parsed_alike : (p : Part) (a : Forest) (ts us z y : List Token) → ((cs : List ℕ) → starts cs z ≡ starts cs y) → Parsed p a ts z → Spells a us y → Parsed p a us y
 parsed_alike p a ts us z y e parsed s = record {
-  whole = any_map (rules p) (λ r. Whole a r z) (λ r. Whole a r y) (λ r does. whole_alike a r z y e does) parsed.whole;
+  whole = any_map (rules p) (λ r. Whole a r z) (λ r. Whole a r y) (λ r does. whole_before a r z y (λ cs s. sym (e cs) ∙ s) does) parsed.whole;
   stop = sym (e (cond (void a) (first p) [])) ∙ parsed.stop;
   spells = s;
 }

@@ -119,10 +119,7 @@ front_tree (ExprTree.Start (ExprTree.Actor place)) f s rest h = refl
 front_tree (ExprTree.Dot head name) f s rest h = front_tree head (next_name name f) (Suffix.Suffix::Dot name) (s ∷ rest) h
     ∙ ap (λ (x : SuffixTree). with_suffixes head (x ∷ map suffix_tree (s ∷ rest))) (seen_dot_suffix name)
 front_tree (ExprTree.Index place head index) f s rest h = front_tree head (next_index place (expr index) f) (Suffix.Suffix::Index place (value_of index)) (s ∷ rest) h
-    ∙ ap (λ (x : SuffixTree). with_suffixes head (x ∷ map suffix_tree (s ∷ rest))) (index_seen place index (value_of index) (last_index place head index f h))
-  where
-    last_index : (place : Place) (head index : ExprTree) (f : Forest) → is_whole (path_front head (next_index place (expr index) f)) ≡ true → expr_tree (value_of index) ≡ index
-    last_index place head index f h = expr_tree_back index (left_of _ _ (left_of _ _ (front_whole head (next_index place (expr index) f) h)))
+    ∙ ap (λ (x : SuffixTree). with_suffixes head (x ∷ map suffix_tree (s ∷ rest))) (index_seen place index (value_of index) (expr_tree_back index (left_of _ _ (left_of _ _ (front_whole head (next_index place (expr index) f) h)))))
 front_tree _ f s rest h = absurd (false≢true h)
 
 path_tree_back : (t : ExprTree) → is_whole (path t) ≡ true → path_tree (path_onto t []) ≡ t
@@ -168,8 +165,7 @@ abbrev EachArgument : List ArgumentTree → Type 0
 EachArgument = Each GoodArgument
 
 pub named_parts : (name : Option Ident) (value : ExprTree) (rest : Forest) → is_whole (by_option name wrong (λ n. Written.mark MarkKind.Comma (named_argument n value rest))) ≡ true → (is_whole (expr value) ≡ true) × (is_whole rest ≡ true)
-named_parts None value rest h = absurd (false≢true h)
-named_parts (Some n) value rest h = (left_of _ _ h, left_of _ true (right_of (is_whole (expr value)) _ h))
+named_parts name value rest h = grind arith
 
 each_named : (args : List ArgumentTree) → Whole named_tail args → EachArgument args
 each_named [] h = tt
@@ -366,15 +362,8 @@ each_of_body (m ∷ ms) h = each_member (m ∷ ms) (left_of _ _ h)
 abbrev pub compound_value : CompoundTree → CompoundDecl
 compound_value c = record { place = c.place; kind = c.kind; name = c.name; heir = c.heir; members = map member_value c.members }
 
-plain_whole : (second : Option Ident) (first : Ident) (f : Forest) → is_whole (by_option second (ident first f) (λ s. wrong)) ≡ true → is_whole f ≡ true
-plain_whole None first f h = h
-plain_whole (Some s) first f h = absurd (false≢true h)
-
 pub heading_whole : (kind : CompoundKind) (c : CompoundTree) → is_whole (compound_heading kind c) ≡ true → is_whole (heading_rest c) ≡ true
-heading_whole CompoundKind.Struct c h = plain_whole c.name.second c.name.first (heading_rest c) h
-heading_whole CompoundKind.Actor c h = plain_whole c.name.second c.name.first (heading_rest c) h
-heading_whole CompoundKind.Action c h = right_of (is_whole (qualified_name c.name)) _ h
-heading_whole CompoundKind.Scenario c h = right_of (is_whole (qualified_name c.name)) _ h
+heading_whole kind c h = grind arith
 
 abbrev pub declaration_value : DeclarationTree → Declaration
 declaration_value (DeclarationTree.TypeDeclaration d) = Declaration.Physical d

@@ -1,5 +1,5 @@
 -- A list of tokens is spelled by one forest of a part at most.
-use Rattle.std.proofs.Common.{◌≡◌, ◌≤◌, List, [], ◌∷◌, ◌++◌, Bool, true, false, cond, refl, sym, ◌∙◌, ap, ap₂, subst, ⊎_elim, ◌&&◌, not, arith}
+use Rattle.std.proofs.Common.{◌≡◌, ℕ, ◌≤◌, List, [], ◌∷◌, ◌++◌, Bool, true, false, cond, refl, sym, ◌∙◌, ap, ap₂, subst, ⊎_elim, ◌&&◌, not, arith}
 use Rattle.std.specs.Prelude.{nat_le}
 use Rattle.std.proofs.lemmas.Bool.{leb-true}
 use Rattle.osc_base.specs.declared.fault.Place.{Place}
@@ -24,6 +24,22 @@ whole_follows (bare kind f) (Bare codes ∷ ss) z (h, w) = (h, whole_follows f s
 whole_follows (sub a g) (Of p ∷ ss) z (any, stop, w) =
     (any_map (rules p) (λ r. Whole a r (cond (void g) z [])) (Follows a) (λ r does. whole_follows a r (cond (void g) z []) does) any, whole_follows g ss z w)
 whole_follows _ _ z w = absurd w
+
+-- what is whole before some tokens is so before others, at which all stops that stops at those
+pub whole_before : (f : Forest) (ss : List Symbol) (z y : List Token) → ((cs : List ℕ) → Stops cs z → Stops cs y) → Whole f ss z → Whole f ss y
+whole_before nil [] z y e w = tt
+whole_before (seen place kind f) (Seen codes ∷ ss) z y e (h, w) = (h, whole_before f ss z y e w)
+whole_before (bare kind f) (Bare codes ∷ ss) z y e (h, w) = (h, whole_before f ss z y e w)
+whole_before (sub a g) (Of p ∷ ss) z y e (any, stop, w) = (
+  any_map (rules p) (λ r. Whole a r (cond (void g) z [])) (λ r. Whole a r (cond (void g) y [])) (λ r does. whole_before a r (cond (void g) z []) (cond (void g) y []) (behind (void g)) does) any,
+  behind (void g) (cond (void a) (first p) []) stop,
+  whole_before g ss z y e w,
+)
+  where
+    behind : (v : Bool) (cs : List ℕ) → Stops cs (cond v z []) → Stops cs (cond v y [])
+    behind true cs s = e cs s
+    behind false cs s = s
+whole_before _ _ z y e w = absurd w
 
 -- what stands after a part doesn't go on with it
 stops_behind : (p : Part) (g : Forest) (ss : List Symbol) (z : List Token) → Follows g ss → Stops (stops (Of p ∷ ss)) z → Stops (goes_on p) (cond (void g) z [])
