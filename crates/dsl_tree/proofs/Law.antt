@@ -43,26 +43,14 @@ whole_before _ _ z y e w = absurd w
 
 -- what stands after a part doesn't go on with it
 stops_behind : (p : Part) (g : Forest) (ss : List Symbol) (z : List Token) → Follows g ss → Stops (stops (Of p ∷ ss)) z → Stops (goes_on p) (cond (void g) z [])
-stops_behind p g ss z h stop = go (void g) refl
-  where
-    go : (v : Bool) → void g ≡ v → Stops (goes_on p) (cond v z [])
-    go true e = Stops-left (goes_on p) (stops ss) z (subst (λ (b : Bool). Stops (cond b (goes_on p ++ stops ss) (stops ss)) z) (void_empties g ss h e) stop)
-    go false e = starts-nil (goes_on p)
+stops_behind p g ss z h stop = grind (arith, void_empties g ss h, Stops-left (goes_on p) (stops ss) z, starts-nil (goes_on p))
 
 pub stops_rest : (p : Part) (ss : List Symbol) (z : List Token) → Stops (stops (Of p ∷ ss)) z → Stops (stops ss) z
-stops_rest p ss z = go (empties ss)
-  where
-    go : (b : Bool) → Stops (cond b (goes_on p ++ stops ss) (stops ss)) z → Stops (stops ss) z
-    go true stop = Stops-right (goes_on p) (stops ss) z stop
-    go false stop = stop
+stops_rest p ss z stop = grind (arith, Stops-right (goes_on p) (stops ss) z)
 
 -- a part that was left empty could not take what stands after it
 stops_void : (p : Part) (a : Forest) (z : List Token) → AnyRule (rules p) (Follows a) → Stops (goes_on p) z → Stops (cond (void a) (first p) []) z
-stops_void p a z any stop = go (void a) refl
-  where
-    go : (v : Bool) → void a ≡ v → Stops (cond v (first p) []) z
-    go true e = Stops-subset (first p) (goes_on p) z (first_goes_on p (void_part p a any e)) stop
-    go false e = refl
+stops_void p a z any stop = grind (arith, void_part p a any, first_goes_on p, Stops-subset (first p) (goes_on p) z)
 
 pub follows_whole : (f : Forest) (ss : List Symbol) (z : List Token) → sound ss ≡ true → Follows f ss → Stops (stops ss) z → Whole f ss z
 follows_whole nil [] z s h stop = tt

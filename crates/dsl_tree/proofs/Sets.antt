@@ -39,14 +39,12 @@ implied a b h e = grind arith
 pub has-subset : (xs ys : List ℕ) (k : ℕ) → subset xs ys ≡ true → has xs k ≡ true → has ys k ≡ true
 has-subset [] ys k s h = absurd (false≢true h)
 has-subset (x ∷ xs) ys k s h =
-    ⊎_elim (λ e. subst (λ (v : ℕ). has ys v ≡ true) (eqb-true x k e) (left_of (has ys x) (subset xs ys) s))
-    (λ e. has-subset xs ys k (right_of (has ys x) (subset xs ys) s) e) (either_of (eqb x k) (has xs k) h)
+    grind (arith, has-subset xs ys k, eqb-true x k)
 
 pub has-apart : (xs ys : List ℕ) (k : ℕ) → apart xs ys ≡ true → has xs k ≡ true → has ys k ≡ false
 has-apart [] ys k s h = absurd (false≢true h)
 has-apart (x ∷ xs) ys k s h =
-    ⊎_elim (λ e. subst (λ (v : ℕ). has ys v ≡ false) (eqb-true x k e) (not_true (has ys x) (left_of (not (has ys x)) (apart xs ys) s)))
-    (λ e. has-apart xs ys k (right_of (not (has ys x)) (apart xs ys) s) e) (either_of (eqb x k) (has xs k) h)
+    grind (arith, has-apart xs ys k, eqb-true x k)
 
 pub has-append_left : (xs ys : List ℕ) (k : ℕ) → has xs k ≡ true → has (xs ++ ys) k ≡ true
 has-append_left [] ys k h = absurd (false≢true h)
