@@ -1,5 +1,5 @@
 -- Where no forest goes on: how a fault in a part becomes one of what holds the part.
-use Rattle.std.proofs.Common.{◌≡◌, ℕ, List, [], ◌∷◌, ◌++◌, length, Bool, true, false, cond, refl, sym, ◌∙◌, ap, subst, ⊎_elim, ◌&&◌, append_assoc}
+use Rattle.std.proofs.Common.{◌≡◌, ℕ, List, [], ◌∷◌, ◌++◌, length, Bool, true, false, cond, refl, sym, ◌∙◌, ap, subst, ⊎_elim, ◌&&◌, append_assoc, arith}
 use Rattle.std.proofs.lemmas.List.{append-nil}
 use Rattle.dsl_tree.specs.declared.token.Token.{Token}
 use Rattle.dsl_tree.specs.Grammar.{Part, Symbol, rules, Seen, Bare, Of}
@@ -63,11 +63,8 @@ begin_alike cs ts (u ∷ front) t back others e = ap (starts cs) e ∙ (starts-c
 
 -- what stands after the first part of a row doesn't go on with it
 stops_middle : (p : Part) (ss : List Symbol) (g : Forest) (m z : List Token) → sound (Of p ∷ ss) ≡ true → Follows g ss → Spells g m z → Stops (stops (Of p ∷ ss)) z → Stops (goes_on p) m
-stops_middle p ss g m z s h sg stop = go (void g) refl
-  where
-    go : (v : Bool) → void g ≡ v → Stops (goes_on p) m
-    go true e = subst (Stops (goes_on p)) (sym (void_spells g m z e sg)) (Stops-left (goes_on p) (stops ss) z (subst (λ (b : Bool). Stops (cond b (goes_on p ++ stops ss) (stops ss)) z) (void_empties g ss h e) stop))
-    go false e = ⊎_elim (λ v. both_ways (void g) v e) (λ (v, b). Stops-apart (firsts ss) (goes_on p) m (left_of (apart (firsts ss) (goes_on p)) (sound ss) s) b) (begins g ss m z h sg)
+stops_middle p ss g m z h does s stop =
+    grind (arith, void_spells g m z, void_empties g ss does, Stops-left (goes_on p) (stops ss) z, begins g ss m z does s, Stops-apart (firsts ss) (goes_on p) m, left_of (apart (firsts ss) (goes_on p)) (sound ss) h)
 
 -- what a forest of a row is after its first token or part
 
