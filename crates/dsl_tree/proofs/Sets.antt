@@ -1,11 +1,10 @@
 -- Lists of codes, and the first tokens that have them.
-use Rattle.std.proofs.Common.{◌≡◌, ◌⊎◌, ℕ, List, [], ◌∷◌, ◌++◌, Bool, true, false, refl, sym, ◌∙◌, subst, inl, inr, ⊎_elim, ◌||◌, ◌&&◌, eqb, not, arith}
+use Rattle.std.proofs.Common.{◌≡◌, ◌⊎◌, ℕ, List, [], ◌∷◌, ◌++◌, Bool, true, false, refl, sym, ◌∙◌, inl, inr, ◌||◌, ◌&&◌, eqb, not, arith}
 use Rattle.std.proofs.lemmas.Bool.{eqb-true, false≢true}
 use Rattle.dsl_tree.specs.declared.token.Token.{Token}
 use Rattle.dsl_tree.specs.Codes.{code, has}
 use Rattle.dsl_tree.specs.Lookahead.{subset, apart}
 use Rattle.dsl_tree.specs.Reading.{starts, Starts, Stops}
-use Rattle.dsl_tree.proofs.Tests.{left_of, right_of, either_of}
 
 pub two_ways : (b : Bool) → (b ≡ true) ⊎ (b ≡ false)
 two_ways true = inl refl

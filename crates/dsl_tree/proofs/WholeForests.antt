@@ -1,14 +1,12 @@
 -- A forest without `wrong` is within no other that has one.
-use Rattle.std.proofs.Common.{◌≡◌, ℕ, zero, suc, ◌-◌, Bool, true, false, cond, Option, Some, None, arith}
-use Rattle.std.specs.Prelude.{nat_lt, ◌==◌, ◌||◌}
-use Rattle.std.proofs.lemmas.Bool.{false≢true}
+use Rattle.std.proofs.Common.{◌≡◌, ℕ, zero, suc, ◌-◌, true, Option, arith}
 use Rattle.dsl_tree.specs.declared.parts.Ident.{Ident}
 use Rattle.dsl_tree.specs.declared.phases.InvokeHead.{InvokeHead}
 use Rattle.dsl_tree.specs.ExprTree.{ExprTree}
-use Rattle.dsl_tree.specs.Forest.{Forest, nil, sub, wrong}
+use Rattle.dsl_tree.specs.Forest.{Forest}
 use Rattle.dsl_tree.specs.Written.{level, lifted, raised, at}
 use Rattle.dsl_tree.specs.WrittenPhases.{labelled, invocation, labelled_invocation}
-use Rattle.dsl_tree.proofs.Tests.{is_whole, left_of}
+use Rattle.dsl_tree.proofs.Tests.{is_whole}
 
 whole_lifted : (l : ℕ) (f : Forest) → is_whole (lifted l f) ≡ true → is_whole f ≡ true
 whole_lifted l f h = grind arith
