@@ -81,6 +81,7 @@ passes test (p ∷ parts) (suc n) f h = passes test parts n f (right_of (test p)
 """
 
 EACH_TAIL = """\
+-- each part stands at its own place
 at_place : (p : Part) → part_at parts (row_of p).place ≡ p
 at_place p = grind arith
 
@@ -276,7 +277,8 @@ def lists_text(grammar):
 def each_text(grammar):
     """The list of all parts, and the lemma on it."""
     words = ["Part." + grammar.parts[0], *("∷ Part." + part for part in grammar.parts[1:]), "∷ []"]
-    return EACH_HEAD + "\n".join(["abbrev pub parts : List Part", "parts =", *wrapped("   ", words)]) + "\n\n" + EACH_TAIL
+    lines = ["abbrev pub parts : List Part", "parts =", *wrapped("   ", words)]
+    return EACH_HEAD + "\n".join(lines) + "\n\n" + EACH_TAIL
 
 
 def steps_text(grammar):

@@ -30,6 +30,7 @@ parts =
     ∷ Part.OrTail ∷ Part.And ∷ Part.AndTail ∷ Part.Not ∷ Part.Relation ∷ Part.RelationTail ∷ Part.Sum ∷ Part.SumTail ∷ Part.Product ∷ Part.ProductTail
     ∷ Part.Minus ∷ Part.Postfix ∷ Part.Primary ∷ Part.BracketRest ∷ Part.ListedTail ∷ []
 
+-- each part stands at its own place
 at_place : (p : Part) → part_at parts (row_of p).place ≡ p
 at_place p = grind arith
 

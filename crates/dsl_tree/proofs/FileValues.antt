@@ -46,13 +46,16 @@ use Rattle.dsl_tree.proofs.Values.{value_of, suffix_value, suffix_whole, suffix_
 
 -- Lists
 
+-- nothing breaks the grammar in what a tree is written as
 abbrev Whole : {T : Type 0} → (T → Forest) → T → Type 0
 Whole form t = is_whole (form t) ≡ true
 
+-- all of a list
 abbrev Each : {T : Type 0} → (T → Type 0) → List T → Type 0
 Each Good [] = Unit {0}
 Each Good (t ∷ ts) = Good t × Each Good ts
 
+-- values and trees of a row are read back if each of them is
 values_back : {V T : Type 0} (Good : T → Type 0) (tree : V → T) (value : T → V) → ((v : V) → Good (tree v) → value (tree v) ≡ v) → (vs : List V) → Each Good (map tree vs) → map value (map tree vs) ≡ vs
 values_back Good tree value back [] h = refl
 values_back Good tree value back (v ∷ vs) (h, h') = ap₂ ◌∷◌ (back v h) (values_back Good tree value back vs h')
@@ -93,6 +96,7 @@ onto_head : (h : PathHead) (rest : List Suffix) → path_onto (head_tree h) rest
 unfolding path_onto
 onto_head h rest = grind arith
 
+-- a path is read from its head and the row behind it
 onto_row : (t : ExprTree) (ss : List SuffixTree) → path_onto (with_suffixes t ss) [] ≡ path_onto t (map suffix_value ss)
 unfolding path_onto
 onto_row t [] = refl
@@ -223,6 +227,8 @@ abbrev mutual
   phases_value PhaseRow.End = []
   phases_value (PhaseRow.Phase first others) = phase_value first ∷ phases_value others
 
+-- the parts of a whole phase are whole
+
 comp_parts : (label : Option Ident) (place : Place) (kind : CompKind) (args : List ArgumentTree) (members : PhaseRow) → Whole phase (PhaseTree.Comp label place kind args members)
     → (EachArgument args) × (is_whole (block_phases members) ≡ true)
 comp_parts label place kind args members h =
@@ -264,6 +270,7 @@ mapped_phase y = map-Phase SuchPhase SuchComp Phase CompNode (λ x. x.0) (λ c. 
 abbrev mapped_comp : CompNode-F SuchPhase SuchComp → CompNode-F Phase CompNode
 mapped_comp y = map-CompNode SuchPhase SuchComp Phase CompNode (λ x. x.0) (λ c. c.0) y
 
+-- a phase is read back from what is seen of it
 by_seen : (x : Phase) (t : PhaseTree) → phase_tree x ≡ t → (Whole phase t → phase_value t ≡ x) → OfPhase x
 by_seen x t e back h = ap phase_value e ∙ back (subst (Whole phase) e h)
 
