@@ -42,7 +42,7 @@ use Rattle.dsl_tree.proofs.WrittenRows.{suffix_tail, front_of_row, path_of_row}
 use Rattle.dsl_tree.proofs.WholeForests.{head_whole, label_whole}
 use Rattle.dsl_tree.proofs.Seen.{seen_dot_suffix}
 use Rattle.dsl_tree.proofs.SeenPhases.{seen_comp, seen_invoke, seen_wait}
-use Rattle.dsl_tree.proofs.Values.{value_of, suffix_value, suffix_whole, suffix_parts, suffix_back, expr_back, expr_tree_back, index_seen}
+use Rattle.dsl_tree.proofs.Values.{Such, value_of, suffix_value, suffix_whole, suffix_parts, suffix_back, expr_back, expr_tree_back, index_seen}
 
 -- Lists
 
@@ -250,31 +250,25 @@ OfPhase x = is_whole (phase (phase_tree x)) ≡ true → phase_value (phase_tree
 abbrev OfComp : CompNode → Type 0
 OfComp c = is_whole (phase (comp_tree c)) ≡ true → phase_value (comp_tree c) ≡ TheViews.Comp c
 
-abbrev SuchPhase : Type 0
-SuchPhase = (x : Phase) × OfPhase x
-
-abbrev SuchComp : Type 0
-SuchComp = (c : CompNode) × OfComp c
-
-tail_phases : (xs : List SuchPhase) → is_whole (phases_tail (row_of (map phase_tree (map (λ x. x.0) xs)))) ≡ true → phases_value (row_of (map phase_tree (map (λ x. x.0) xs))) ≡ map (λ x. x.0) xs
+tail_phases : (xs : List (Such OfPhase)) → is_whole (phases_tail (row_of (map phase_tree (map (λ x. x.0) xs)))) ≡ true → phases_value (row_of (map phase_tree (map (λ x. x.0) xs))) ≡ map (λ x. x.0) xs
 tail_phases [] h = refl
 tail_phases (x ∷ xs) h = ap₂ (λ (a : Phase) (b : List Phase). a ∷ b) (x.1 (left_of _ _ h)) (tail_phases xs (left_of _ _ (right_of _ _ h)))
 
-block_back : (xs : List SuchPhase) → is_whole (block_phases (row_of (map phase_tree (map (λ x. x.0) xs)))) ≡ true → phases_value (row_of (map phase_tree (map (λ x. x.0) xs))) ≡ map (λ x. x.0) xs
+block_back : (xs : List (Such OfPhase)) → is_whole (block_phases (row_of (map phase_tree (map (λ x. x.0) xs)))) ≡ true → phases_value (row_of (map phase_tree (map (λ x. x.0) xs))) ≡ map (λ x. x.0) xs
 block_back [] h = refl
 block_back (x ∷ xs) h = ap₂ (λ (a : Phase) (b : List Phase). a ∷ b) (x.1 (left_of _ _ h)) (tail_phases xs (left_of _ _ (right_of _ _ h)))
 
-abbrev mapped_phase : Phase-F SuchPhase SuchComp → Phase-F Phase CompNode
-mapped_phase y = map-Phase SuchPhase SuchComp Phase CompNode (λ x. x.0) (λ c. c.0) y
+abbrev mapped_phase : Phase-F (Such OfPhase) (Such OfComp) → Phase-F Phase CompNode
+mapped_phase y = map-Phase (Such OfPhase) (Such OfComp) Phase CompNode (λ x. x.0) (λ c. c.0) y
 
-abbrev mapped_comp : CompNode-F SuchPhase SuchComp → CompNode-F Phase CompNode
-mapped_comp y = map-CompNode SuchPhase SuchComp Phase CompNode (λ x. x.0) (λ c. c.0) y
+abbrev mapped_comp : CompNode-F (Such OfPhase) (Such OfComp) → CompNode-F Phase CompNode
+mapped_comp y = map-CompNode (Such OfPhase) (Such OfComp) Phase CompNode (λ x. x.0) (λ c. c.0) y
 
 -- a phase is read back from what is seen of it
 by_seen : (x : Phase) (t : PhaseTree) → phase_tree x ≡ t → (Whole phase t → phase_value t ≡ x) → OfPhase x
 by_seen x t e back h = ap phase_value e ∙ back (subst (Whole phase) e h)
 
-phase_proof : (y : Phase-F SuchPhase SuchComp) → OfPhase (roll-Phase (mapped_phase y))
+phase_proof : (y : Phase-F (Such OfPhase) (Such OfComp)) → OfPhase (roll-Phase (mapped_phase y))
 unfolding roll-Phase denote.Hole.Carrier.roll
 phase_proof (Phase-F.Comp c) = by_seen (TheViews.Comp c.0) (comp_tree c.0) (fold-roll-Phase PhaseTree PhaseTree Views.phase_step Views.comp_step (Phase-F.Comp c.0)) c.1
 phase_proof (Phase-F.Invoke i) = by_seen (Phase.Invoke i) _ (seen_invoke i) λ h.
@@ -284,7 +278,7 @@ phase_proof (Phase-F.Invoke i) = by_seen (Phase.Invoke i) _ (seen_invoke i) λ h
 phase_proof (Phase-F.Wait w) = by_seen (Phase.Wait w) _ (seen_wait w) λ h.
     ap (λ (e : Expr). Phase.Wait (record { label = w.label; place = w.place; elapsed = e })) (expr_back w.elapsed (wait_part w.label w.place (expr_tree w.elapsed) h))
 
-comp_proof : (y : CompNode-F SuchPhase SuchComp) → OfComp (roll-CompNode (mapped_comp y))
+comp_proof : (y : CompNode-F (Such OfPhase) (Such OfComp)) → OfComp (roll-CompNode (mapped_comp y))
 unfolding denote.Hole.Carrier.roll
 comp_proof y h =
     let e = fold-roll-CompNode PhaseTree PhaseTree Views.phase_step Views.comp_step (mapped_comp y) in

@@ -214,16 +214,10 @@ OfSuffix s = suffix_whole (suffix_tree s) ≡ true → suffix_value (suffix_tree
 abbrev OfFurther : Further → Type 0
 OfFurther f = is_whole (written (further_tree f).part) ≡ true → further_value (further_tree f) ≡ f
 
-abbrev SuchExpr : Type 0
-SuchExpr = (e : Expr) × OfExpr e
+abbrev pub Such : {A : Type 0} → (A → Type 0) → Type 0
+Such {A = A} Of = (x : A) × Of x
 
-abbrev SuchSuffix : Type 0
-SuchSuffix = (s : Suffix) × OfSuffix s
-
-abbrev SuchFurther : Type 0
-SuchFurther = (f : Further) × OfFurther f
-
-further_back : (l : ℕ) (rest : List SuchFurther) → is_whole (further_tail l (map further_tree (map (λ f. f.0) rest))) ≡ true
+further_back : (l : ℕ) (rest : List (Such OfFurther)) → is_whole (further_tail l (map further_tree (map (λ f. f.0) rest))) ≡ true
     → map further_value (map further_tree (map (λ f. f.0) rest)) ≡ map (λ f. f.0) rest
 further_back l [] h = refl
 further_back l (f ∷ rest) h = ap₂ ◌∷◌ (f.1 (whole_at l (further_tree f.0).part (written (further_tree f.0).part) (left_of _ _ h)))
@@ -233,12 +227,12 @@ pub suffix_parts : (t : SuffixTree) (ts : List SuffixTree) → is_whole (suffix_
 suffix_parts (Named name) ts k = (refl, left_of _ true k)
 suffix_parts (At place index) ts k = (left_of _ true (left_of (is_whole (expr index) && true) _ k), left_of _ true (right_of (is_whole (expr index) && true) _ k))
 
-suffixes_back : (suffixes : List SuchSuffix) → is_whole (suffix_tail (map suffix_tree (map (λ s. s.0) suffixes))) ≡ true
+suffixes_back : (suffixes : List (Such OfSuffix)) → is_whole (suffix_tail (map suffix_tree (map (λ s. s.0) suffixes))) ≡ true
     → map suffix_value (map suffix_tree (map (λ s. s.0) suffixes)) ≡ map (λ s. s.0) suffixes
 suffixes_back [] h = refl
 suffixes_back (s ∷ rest) h = let both = suffix_parts (suffix_tree s.0) (map suffix_tree (map (λ s. s.0) rest)) h in ap₂ ◌∷◌ (s.1 both.0) (suffixes_back rest both.1)
 
-items_back : (items : List SuchExpr) → is_whole (listed_tail (row_of (map expr_tree (map (λ e. e.0) items)))) ≡ true → values_of (row_of (map expr_tree (map (λ e. e.0) items))) ≡ map (λ e. e.0) items
+items_back : (items : List (Such OfExpr)) → is_whole (listed_tail (row_of (map expr_tree (map (λ e. e.0) items)))) ≡ true → values_of (row_of (map expr_tree (map (λ e. e.0) items))) ≡ map (λ e. e.0) items
 items_back [] h = refl
 items_back (e ∷ rest) h = ap₂ ◌∷◌ (e.1 (whole_at 0 (expr_tree e.0) (written (expr_tree e.0)) (left_of _ _ h))) (items_back rest (left_of _ _ (right_of _ _ h)))
 
@@ -268,33 +262,33 @@ indexed_value head (At place index) [] h = (refl, refl)
 indexed_value head (Named name) (s ∷ rest) h = indexed_value (Dot head name) s rest h
 indexed_value head (At place index) (s ∷ rest) h = indexed_value (Index place head index) s rest h
 
-abbrev mapped_expr : Expr-F SuchExpr SuchSuffix SuchFurther → Expr-F Expr Suffix Further
-mapped_expr y = map-Expr SuchExpr SuchSuffix SuchFurther Expr Suffix Further (λ e. e.0) (λ s. s.0) (λ f. f.0) y
+abbrev mapped_expr : Expr-F (Such OfExpr) (Such OfSuffix) (Such OfFurther) → Expr-F Expr Suffix Further
+mapped_expr y = map-Expr (Such OfExpr) (Such OfSuffix) (Such OfFurther) Expr Suffix Further (λ e. e.0) (λ s. s.0) (λ f. f.0) y
 
-abbrev mapped_suffix : Suffix-F SuchExpr SuchSuffix SuchFurther → Suffix-F Expr Suffix Further
-mapped_suffix y = map-Suffix SuchExpr SuchSuffix SuchFurther Expr Suffix Further (λ e. e.0) (λ s. s.0) (λ f. f.0) y
+abbrev mapped_suffix : Suffix-F (Such OfExpr) (Such OfSuffix) (Such OfFurther) → Suffix-F Expr Suffix Further
+mapped_suffix y = map-Suffix (Such OfExpr) (Such OfSuffix) (Such OfFurther) Expr Suffix Further (λ e. e.0) (λ s. s.0) (λ f. f.0) y
 
-abbrev mapped_further : Further-F SuchExpr SuchSuffix SuchFurther → Further-F Expr Suffix Further
-mapped_further y = map-Further SuchExpr SuchSuffix SuchFurther Expr Suffix Further (λ e. e.0) (λ s. s.0) (λ f. f.0) y
+abbrev mapped_further : Further-F (Such OfExpr) (Such OfSuffix) (Such OfFurther) → Further-F Expr Suffix Further
+mapped_further y = map-Further (Such OfExpr) (Such OfSuffix) (Such OfFurther) Expr Suffix Further (λ e. e.0) (λ s. s.0) (λ f. f.0) y
 
-abbrev step_of : Expr-F SuchExpr SuchSuffix SuchFurther → ExprTree
+abbrev step_of : Expr-F (Such OfExpr) (Such OfSuffix) (Such OfFurther) → ExprTree
 step_of y = Views.expr_step (map-Expr Expr Suffix Further ExprTree SuffixTree FurtherTree expr_tree suffix_tree further_tree (mapped_expr y))
 
 -- a part where it stands
-part_back : (l : ℕ) (e : SuchExpr) → is_whole (at l (expr_tree e.0) (written (expr_tree e.0))) ≡ true → value_of (expr_tree e.0) ≡ e.0
+part_back : (l : ℕ) (e : Such OfExpr) → is_whole (at l (expr_tree e.0) (written (expr_tree e.0))) ≡ true → value_of (expr_tree e.0) ≡ e.0
 part_back l e h = e.1 (whole_at l (expr_tree e.0) (written (expr_tree e.0)) h)
 
 ops_back : (l : ℕ) (join : Join) (node : Expr → List Further → Expr)
     → ((left : ExprTree) (next : FurtherTree) (rest : List FurtherTree) → value_of (grouped join left (next ∷ rest)) ≡ row_value left node (map further_value (next ∷ rest)))
     → ((first : ExprTree) (next : FurtherTree) (rest : List FurtherTree) → written (grouped join (Start first) (next ∷ rest)) ≡ sub (at l first (written first)) (sub (further_tail l (next ∷ rest)) nil))
-    → (first : SuchExpr) (next : SuchFurther) (rest : List SuchFurther) → is_whole (written (grouped join (Start (expr_tree first.0)) (map further_tree (map (λ f. f.0) (next ∷ rest))))) ≡ true
+    → (first : Such OfExpr) (next : Such OfFurther) (rest : List (Such OfFurther)) → is_whole (written (grouped join (Start (expr_tree first.0)) (map further_tree (map (λ f. f.0) (next ∷ rest))))) ≡ true
     → value_of (grouped join (Start (expr_tree first.0)) (map further_tree (map (λ f. f.0) (next ∷ rest)))) ≡ node first.0 (map (λ f. f.0) (next ∷ rest))
 ops_back l join node read own first next rest h =
     let w = subst (λ (f : Forest). is_whole f ≡ true) (own (expr_tree first.0) (further_tree next.0) (map further_tree (map (λ f. f.0) rest))) h in
     read (Start (expr_tree first.0)) (further_tree next.0) (map further_tree (map (λ f. f.0) rest))
     ∙ ap₂ node (part_back l first (left_of _ _ w)) (further_back l (next ∷ rest) (left_of _ true (right_of _ _ w)))
 
-post_back : (k : Post) → ReadPost k → (head : SuchExpr) (next : SuchSuffix) (rest : List SuchSuffix)
+post_back : (k : Post) → ReadPost k → (head : Such OfExpr) (next : Such OfSuffix) (rest : List (Such OfSuffix))
     → is_whole (written (k.row (with_suffixes (Start (expr_tree head.0)) (map suffix_tree (map (λ s. s.0) (next ∷ rest)))) (map suffix_tree (map (λ s. s.0) (next ∷ rest))))) ≡ true
     → value_of (k.row (with_suffixes (Start (expr_tree head.0)) (map suffix_tree (map (λ s. s.0) (next ∷ rest)))) (map suffix_tree (map (λ s. s.0) (next ∷ rest)))) ≡ k.node head.0 (map (λ s. s.0) (next ∷ rest))
 post_back k read head next rest h =
@@ -302,7 +296,7 @@ post_back k read head next rest h =
     let w = subst (λ (f : Forest). is_whole f ≡ true) (ap written both.1 ∙ post_own (expr_tree head.0) (suffix_tree next.0) (map suffix_tree (map (λ s. s.0) rest))) h in
     both.0 ∙ ap₂ k.node (part_back 9 head (left_of _ _ w)) (suffixes_back (next ∷ rest) (left_of _ true (right_of _ _ w)))
 
-expr_case : (y : Expr-F SuchExpr SuchSuffix SuchFurther) → is_whole (written (step_of y)) ≡ true → value_of (step_of y) ≡ roll-Expr (mapped_expr y)
+expr_case : (y : Expr-F (Such OfExpr) (Such OfSuffix) (Such OfFurther)) → is_whole (written (step_of y)) ≡ true → value_of (step_of y) ≡ roll-Expr (mapped_expr y)
 unfolding roll-Expr denote.Hole.Carrier.roll
 expr_case (Expr-F.Implies place l r) h = ap₂ (TheViews.Implies place) (part_back 1 l (left_of _ _ h)) (part_back 1 r (left_of _ _ (left_of _ _ (right_of _ _ h))))
 expr_case (Expr-F.Or first []) h = absurd (false≢true h)
@@ -328,18 +322,18 @@ expr_case (Expr-F.Listed place (item ∷ others)) h =
 expr_case (Expr-F.RangeCall place low high) h = ap₂ (TheViews.RangeCall place) (part_back 0 low (left_of _ _ h)) (part_back 0 high (left_of _ _ (right_of _ _ h)))
 expr_case _ h = refl
 
-expr_proof : (y : Expr-F SuchExpr SuchSuffix SuchFurther) → OfExpr (roll-Expr (mapped_expr y))
+expr_proof : (y : Expr-F (Such OfExpr) (Such OfSuffix) (Such OfFurther)) → OfExpr (roll-Expr (mapped_expr y))
 expr_proof y h =
     let e : expr_tree (roll-Expr (mapped_expr y)) ≡ step_of y = fold-roll-Expr ExprTree SuffixTree FurtherTree Views.expr_step Views.suffix_step Views.further_step (mapped_expr y) in
     ap value_of e ∙ expr_case y (subst (λ (t : ExprTree). is_whole (written t) ≡ true) e h)
 
-suffix_proof : (y : Suffix-F SuchExpr SuchSuffix SuchFurther) → OfSuffix (roll-Suffix (mapped_suffix y))
+suffix_proof : (y : Suffix-F (Such OfExpr) (Such OfSuffix) (Such OfFurther)) → OfSuffix (roll-Suffix (mapped_suffix y))
 unfolding roll-Suffix denote.Hole.Carrier.roll
 suffix_proof (Suffix-F.Suffix::Dot name) h = ap suffix_value (seen_dot_suffix name)
 suffix_proof (Suffix-F.Suffix::Index place index) h =
     let e = seen_index_suffix place index.0 in ap suffix_value e ∙ ap (Suffix.Suffix::Index place) (part_back 0 index (subst (λ (t : SuffixTree). suffix_whole t ≡ true) e h))
 
-further_proof : (y : Further-F SuchExpr SuchSuffix SuchFurther) → OfFurther (roll-Further (mapped_further y))
+further_proof : (y : Further-F (Such OfExpr) (Such OfSuffix) (Such OfFurther)) → OfFurther (roll-Further (mapped_further y))
 unfolding denote.Hole.Carrier.roll
 further_proof y h =
     let e = fold-roll-Further ExprTree SuffixTree FurtherTree Views.expr_step Views.suffix_step Views.further_step (mapped_further y) in
