@@ -20,34 +20,26 @@ ready ss = sound ss && filled ss
 -- Tokens of a forest
 
 -- the tokens that a forest takes
-pub record Consumed (f : Forest) (ts z : List Token) : Type 0 where
-  pub used : List Token
-  pub split : ts ≡ used ++ z
-  pub spells : (y : List Token) → Spells f (used ++ y) y
+abbrev Consumed : Forest → List Token → List Token → Type 0
+Consumed f ts z = (used : List Token) × (ts ≡ used ++ z) × ((y : List Token) → Spells f (used ++ y) y)
 
-pub consumed : (f : Forest) (ts z : List Token) → Spells f ts z → Consumed f ts z
-consumed nil ts z s = record { used = []; split = s; spells = λ y. refl }
-consumed (seen place kind f) (t ∷ ts) z (p, k, s) =
-    let c : Consumed f ts z = consumed f ts z s in
-    record { used = t ∷ c.used; split = ap (λ (v : List Token). t ∷ v) c.split; spells = λ y. (p, k, c.spells y) }
-consumed (bare kind f) (t ∷ ts) z (k, s) =
-    let c : Consumed f ts z = consumed f ts z s in
-    record { used = t ∷ c.used; split = ap (λ (v : List Token). t ∷ v) c.split; spells = λ y. (k, c.spells y) }
+consumed : (f : Forest) (ts z : List Token) → Spells f ts z → Consumed f ts z
+consumed nil ts z s = ([], s, λ y. refl)
+consumed (seen place kind f) (t ∷ ts) z (p, k, s) = let (used, e, more) = consumed f ts z s in (t ∷ used, ap (λ (v : List Token). t ∷ v) e, λ y. (p, k, more y))
+consumed (bare kind f) (t ∷ ts) z (k, s) = let (used, e, more) = consumed f ts z s in (t ∷ used, ap (λ (v : List Token). t ∷ v) e, λ y. (k, more y))
 consumed (sub a g) ts z (m, s, s') =
-    let c : Consumed a ts m = consumed a ts m s in
-    let d : Consumed g m z = consumed g m z s' in
-    record {
-      used = c.used ++ d.used;
-      split = c.split ∙ (ap (λ (v : List Token). c.used ++ v) d.split ∙ sym (append_assoc c.used d.used z));
-      spells = λ y. (d.used ++ y, subst (λ (v : List Token). Spells a v (d.used ++ y)) (sym (append_assoc c.used d.used y)) (c.spells (d.used ++ y)), d.spells y);
-    }
+    let (used, e, more) = consumed a ts m s in
+    let (used', e', more') = consumed g m z s' in (
+      used ++ used',
+      e ∙ (ap (λ (v : List Token). used ++ v) e' ∙ sym (append_assoc used used' z)),
+      λ y. (used' ++ y, subst (λ (v : List Token). Spells a v (used' ++ y)) (sym (append_assoc used used' y)) (more (used' ++ y)), more' y),
+    )
 consumed (seen place kind f) [] z s = absurd s
 consumed (bare kind f) [] z s = absurd s
 consumed wrong ts z s = absurd s
 
 spells_append : (f : Forest) (ts y : List Token) → Spells f ts [] → Spells f (ts ++ y) y
-spells_append f ts y s =
-    let c : Consumed f ts [] = consumed f ts [] s in subst (λ (v : List Token). Spells f (v ++ y) y) (sym (c.split ∙ append-nil c.used)) (c.spells y)
+spells_append f ts y s = let (used, e, more) = consumed f ts [] s in subst (λ (v : List Token). Spells f (v ++ y) y) (sym (e ∙ append-nil used)) (more y)
 
 pub parsed_alike : (p : Part) (a : Forest) (ts us z y : List Token) → ((cs : List ℕ) → starts cs z ≡ starts cs y) → Parsed p a ts z → Spells a us y → Parsed p a us y
 parsed_alike p a ts us z y e parsed s = record {
@@ -176,12 +168,12 @@ in_part p ss ts left h fault = row_fault (moved [] refl (of_part fault)
 -- the fault stands after the first part
 pub past_part : (p : Part) (ss : List Symbol) (a : Forest) (ts m : List Token) (left : ℕ) → ready (Of p ∷ ss) ≡ true → Parsed p a ts m → RowFault ss m left → RowFault (Of p ∷ ss) ts left
 past_part p ss a ts m left h parsed fault =
-    let c : Consumed a ts m = consumed a ts m parsed.spells in
-    row_fault (moved c.used c.split (of_row fault)
-    (λ front back g does s. (sub a g, back, (part_follows p a m parsed.whole, does), (front ++ back, c.spells (front ++ back), s)))
+    let (used, split, again) = consumed a ts m parsed.spells in
+    row_fault (moved used split (of_row fault)
+    (λ front back g does s. (sub a g, back, (part_follows p a m parsed.whole, does), (front ++ back, again (front ++ back), s)))
     (λ front u back others e dead f z does stop s.
     let w : List Token = front ++ u ∷ others in
-    let (b, g, n, is, d, sb, sg) = after_part f p ss (c.used ++ w) z does s in
-    let pa : Parsed p a (c.used ++ w) w = parsed_alike p a ts (c.used ++ w) m w (λ cs. begin_alike cs m front u back others e) parsed (c.spells w) in
-    let pb : Parsed p b (c.used ++ w) n = part_whole p b (c.used ++ w) n is (stops_middle p ss g n z (left_of (sound (Of p ∷ ss)) (filled (Of p ∷ ss)) h) d sg stop) sb in
-    dead others g z d (stops_rest p ss z stop) (subst (λ (v : List Token). Spells g v z) (sym (law_part p a b (c.used ++ w) w n pa pb).1) sg)))
+    let (b, g, n, is, d, sb, sg) = after_part f p ss (used ++ w) z does s in
+    let pa : Parsed p a (used ++ w) w = parsed_alike p a ts (used ++ w) m w (λ cs. begin_alike cs m front u back others e) parsed (again w) in
+    let pb : Parsed p b (used ++ w) n = part_whole p b (used ++ w) n is (stops_middle p ss g n z (left_of (sound (Of p ∷ ss)) (filled (Of p ∷ ss)) h) d sg stop) sb in
+    dead others g z d (stops_rest p ss z stop) (subst (λ (v : List Token). Spells g v z) (sym (law_part p a b (used ++ w) w n pa pb).1) sg)))
