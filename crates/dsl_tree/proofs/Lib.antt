@@ -8,7 +8,6 @@ pub mod Checked
 pub mod Sets
 pub mod Fits
 pub mod Begins
-pub mod Seconds
 pub mod Law
 pub mod Shortest
 pub mod Faults
@@ -22,7 +21,6 @@ pub mod WrittenRows
 pub mod FirstNames
 pub mod Values
 pub mod FileValues
-pub mod TreeValues
 pub mod Ends
 pub mod TreeFiles
 pub mod Classes

@@ -1,6 +1,5 @@
 -- A forest without `wrong` is within no other that has one.
-use Rattle.std.proofs.Common.{◌≡◌, ℕ, zero, suc, ◌-◌, List, [], ◌∷◌, Bool, true, false, cond, Option, Some, None, refl, ◌&&◌}
-use Rattle.std.specs.Prelude.{nat_lt, ◌==◌, ◌||◌}
+use Rattle.std.proofs.Common.{◌≡◌, ℕ, zero, suc, ◌-◌, List, [], ◌∷◌, true, false, Option, refl, ◌&&◌, arith}
 use Rattle.std.proofs.lemmas.Bool.{false≢true}
 use Rattle.dsl_tree.specs.declared.parts.Ident.{Ident}
 use Rattle.dsl_tree.specs.declared.phases.InvokeHead.{InvokeHead}
@@ -14,32 +13,20 @@ use Rattle.dsl_tree.proofs.Sets.{and_both}
 use Rattle.dsl_tree.proofs.Fits.{by_rules}
 
 pub whole_lifted : (l : ℕ) (f : Forest) → is_whole (lifted l f) ≡ true → is_whole f ≡ true
-whole_lifted l f = go ((l == 3) || (l == 7))
-  where
-    go : (b : Bool) → is_whole (cond b (sub f nil) (sub f (sub nil nil))) ≡ true → is_whole f ≡ true
-    go true h = left_of (is_whole f) true h
-    go false h = left_of (is_whole f) true h
+whole_lifted l f h = grind arith
 
 pub whole_raised : (d l : ℕ) (f : Forest) → is_whole (raised d l f) ≡ true → is_whole f ≡ true
 whole_raised zero l f h = h
 whole_raised (suc d) l f h = whole_raised d (suc l) f (whole_lifted l (raised d (suc l) f) h)
 
 pub whole_at : (l : ℕ) (t : ExprTree) (f : Forest) → is_whole (at l t f) ≡ true → is_whole f ≡ true
-whole_at l t f = go (nat_lt (level t) l)
-  where
-    go : (b : Bool) → is_whole (cond b wrong (raised (level t - l) l f)) ≡ true → is_whole f ≡ true
-    go true h = absurd (false≢true h)
-    go false h = whole_raised (level t - l) l f h
+whole_at l t f h = grind (arith, whole_raised (level t - l) l f)
 
 pub head_whole : (label : Option Ident) (head : InvokeHead) (rest : Forest) → is_whole (labelled label (invocation head rest) (labelled_invocation head rest)) ≡ true → is_whole rest ≡ true
-head_whole None (InvokeHead.Name name) rest h = left_of _ true (left_of _ true h)
-head_whole None (InvokeHead.Actor place) rest h = left_of _ true h
-head_whole (Some l) (InvokeHead.Name name) rest h = left_of _ true (left_of _ true (left_of _ true h))
-head_whole (Some l) (InvokeHead.Actor place) rest h = left_of _ true (left_of _ true (left_of _ true h))
+head_whole label head rest h = grind arith
 
 pub label_whole : (label : Option Ident) (core : Forest) → is_whole (labelled label core core) ≡ true → is_whole core ≡ true
-label_whole None core h = h
-label_whole (Some l) core h = left_of _ true (left_of _ true h)
+label_whole label core h = grind arith
 
 -- `wrong` stands nowhere in a forest that follows a rule
 pub follows_is_whole : (f : Forest) (ss : List Symbol) → Follows f ss → is_whole f ≡ true
