@@ -1,5 +1,6 @@
 -- Tests that compute, by which a tree that is written out in full is shown to be spelled.
-use Rattle.std.proofs.Common.{◌≡◌, ◌⊎◌, ℕ, ◌+◌, List, [], ◌∷◌, Bool, true, false, refl, inl, inr, ⊎_elim, ◌||◌, ◌&&◌, arith}
+use Rattle.std.proofs.Common.{◌≡◌, ◌⊎◌, ℕ, ◌+◌, List, [], ◌∷◌, Bool, true, false, refl, inl, inr, ⊎_elim, ◌||◌, ◌&&◌, sym, ◌∙◌, arith}
+use Rattle.std.proofs.lemmas.Bool.{false≢true}
 use Rattle.osc_base.specs.declared.fault.Place.{Place}
 use Rattle.dsl_tree.specs.declared.token.Token.{Token}
 use Rattle.dsl_tree.specs.Codes.{code, has}
@@ -79,3 +80,27 @@ Spells-tokens_of place (sub part f) n rest h = (
   Spells-tokens_of place f (n + count part) rest (right_of (is_whole part) (is_whole f) h),
 )
 Spells-tokens_of place wrong n rest h = absurd (cc)
+
+is_one_of : (a b : Bool) → (a ≡ true) ⊎ (b ≡ true) → (a || b) ≡ true
+is_one_of true b h = refl
+is_one_of false b (inl h) = absurd (false≢true h)
+is_one_of false b (inr h) = h
+
+are_both : (a b : Bool) → a ≡ true → b ≡ true → (a && b) ≡ true
+are_both a b h k = grind arith
+
+any_rule-AnyRule : (rs : List (List Symbol)) (test : List Symbol → Bool) (Does : List Symbol → Type 0) → ((r : List Symbol) → Does r → test r ≡ true) → AnyRule rs Does → any_rule rs test ≡ true
+any_rule-AnyRule [] test Does sound h = absurd h
+any_rule-AnyRule (r ∷ rs) test Does sound (inl does) = is_one_of (test r) (any_rule rs test) (inl (sound r does))
+any_rule-AnyRule (r ∷ rs) test Does sound (inr any) = is_one_of (test r) (any_rule rs test) (inr (any_rule-AnyRule rs test Does sound any))
+
+follows-Follows : (f : Forest) (rule : List Symbol) → Follows f rule → follows f rule ≡ true
+follows-Follows nil [] h = refl
+follows-Follows (seen place kind f) (Seen codes ∷ rule) (h, h') = are_both (has codes (code kind)) (follows f rule) h (follows-Follows f rule h')
+follows-Follows (bare kind f) (Bare codes ∷ rule) (h, h') = are_both (has codes (code kind)) (follows f rule) h (follows-Follows f rule h')
+follows-Follows (sub part f) (Of p ∷ rule) (any, h) =
+    are_both (any_rule (rules p) (follows part)) (follows f rule) (any_rule-AnyRule (rules p) (follows part) (Follows part) (follows-Follows part) any) (follows-Follows f rule h)
+follows-Follows _ _ h = absurd h
+
+pub is_not : (p : Part) (f : Forest) → any_rule (rules p) (follows f) ≡ false → IsOf p f → ⊥
+is_not p f h is = absurd (false≢true (sym h ∙ any_rule-AnyRule (rules p) (follows f) (Follows f) (follows-Follows f) is))
