@@ -1,25 +1,8 @@
 -- What is read of a part is a forest of it, and where reading goes wrong no forest goes on.
 use Rattle.std.proofs.Common.{◌≡◌, ℕ, zero, suc, List, [], ◌∷◌, ◌++◌, length, Bool, true, false, cond, refl, sym, ◌∙◌, ap, subst, inl, inr, ⊎_elim, ◌&&◌, ◌||◌, not, Result, Ok, Err}
 use Rattle.std.proofs.lemmas.Bool.{false≢true}
-use Rattle.osc_base.specs.declared.stop.Stop.{Stop}
-use Rattle.osc_base.specs.declared.stop.Stop.TheVariants.{At, Memory}
-use Rattle.dsl_tree.specs.declared.token.Token.{Token}
-use Rattle.dsl_tree.specs.Codes.{code, has}
-use Rattle.dsl_tree.specs.Grammar.{Part, Symbol, Seen, Bare, Of, rules}
-use Rattle.dsl_tree.specs.Forest.{Forest, nil, seen, bare, sub, AnyRule}
-use Rattle.dsl_tree.specs.Lookahead.{first, firsts, empty, empties, sound, subset}
-use Rattle.dsl_tree.specs.Reading.{starts, Stops, void, Whole, Parsed, Built, Taken, NotTaken, PartFault, RowFault}
-use Rattle.dsl_tree.proofs.Tests.{left_of, right_of, either_of}
-use Rattle.dsl_tree.proofs.Sets.{both_ways, is_false, not_true, starts-cons, Starts-subset}
-use Rattle.dsl_tree.proofs.Begins.{void_empties}
-use Rattle.dsl_tree.proofs.Law.{whole_follows}
-use Rattle.dsl_tree.proofs.Shortest.{filled}
-use Rattle.dsl_tree.proofs.Faults.{ready, wrong_seen, wrong_bare, past_seen, past_bare, in_part as fault_in_part, past_part}
-use Rattle.dsl_tree.proofs.RuleFaults.{RuleOf, all_apart, by_rule}
-use Rattle.dsl_tree.proofs.Build.{built_none, built_seen, built_bare, built_part, parsed_full, parsed_none}
-use Rattle.dsl_tree.proofs.FirstNames.{arguments_named, arguments_plain, arguments_name}
-use Rattle.dsl_tree.proofs.EachPart.{each_part}
-use Rattle.dsl_parser.specs.Descent.{Outcome, onto, and_then, take, after, only_part, in_row, by_rules, optional, names, colon, begins_label, plain_argument, named_rest, named_argument, is_arguments, in_part, deep}
+use Rattle.dsl_parser.specs.Words.{Stop, At, Memory, Token, code, has, Part, Symbol, Seen, Bare, Of, rules, Forest, nil, seen, bare, sub, AnyRule, first, firsts, empty, empties, sound, subset, starts, Stops, void, Whole, Parsed, Built, Taken, NotTaken, PartFault, RowFault, Outcome, onto, and_then, take, after, only_part, in_row, by_rules, optional, names, colon, begins_label, plain_argument, named_rest, named_argument, is_arguments, in_part, deep}
+use Rattle.dsl_tree.proofs.{Tests.left_of, Tests.right_of, Tests.either_of, Sets.both_ways, Sets.is_false, Sets.not_true, Sets.starts-cons, Sets.Starts-subset, Begins.void_empties, Law.whole_follows, Shortest.filled, Faults.ready, Faults.wrong_seen, Faults.wrong_bare, Faults.past_seen, Faults.past_bare, Faults.in_part as fault_in_part, Faults.past_part, RuleFaults.RuleOf, RuleFaults.all_apart, RuleFaults.by_rule, Build.built_none, Build.built_seen, Build.built_bare, Build.built_part, Build.parsed_full, Build.parsed_none, FirstNames.arguments_named, FirstNames.arguments_plain, FirstNames.arguments_name, EachPart.each_part}
 use Rattle.dsl_parser.proofs.OtherRules.{by_rest, stops_both}
 
 -- Outcomes

@@ -1,19 +1,8 @@
 -- Each part is read by its rule: no number of parts within one another is too small.
 use Rattle.std.proofs.Common.{◌≡◌, ℕ, zero, suc, ◌+◌, ◌*◌, ◌<◌, ◌≤◌, List, [], ◌∷◌, length, Bool, true, false, cond, refl, sym, ◌∙◌, ap, ap₂, subst, ◌&&◌, Ok, Err, arith}
-use Rattle.std.specs.Prelude.{max, nat_lt}
 use Rattle.std.proofs.lemmas.Bool.{false≢true, ltb-true}
-use Rattle.osc_base.specs.declared.stop.Stop.TheVariants.{At}
-use Rattle.dsl_tree.specs.declared.token.Token.{Token}
-use Rattle.dsl_tree.specs.Grammar.{Part, Symbol, Seen, Bare, Of, rules}
-use Rattle.dsl_tree.specs.Forest.{Forest, nil, seen, bare, sub, wrong, Spells}
-use Rattle.dsl_tree.specs.Lookahead.{first, firsts, empty}
-use Rattle.dsl_tree.specs.Reading.{starts, void, Parsed, PartFault}
-use Rattle.dsl_tree.proofs.Tests.{left_of, right_of}
-use Rattle.dsl_tree.proofs.Sets.{both_ways, is_false}
-use Rattle.dsl_tree.proofs.Begins.{void_part}
-use Rattle.dsl_tree.proofs.Law.{part_follows}
-use Rattle.dsl_tree.proofs.EachPart.{each_part}
-use Rattle.dsl_parser.specs.Descent.{Outcome, onto, and_then, take, after, only_part, in_row, by_rules, optional, begins_label, plain_argument, named_argument, is_arguments, in_part, deep, room, read}
+use Rattle.dsl_parser.specs.Words.{max, nat_lt, At, Token, Part, Symbol, Seen, Bare, Of, rules, Forest, nil, seen, bare, sub, wrong, Spells, first, firsts, empty, starts, void, Parsed, PartFault, Outcome, onto, and_then, take, after, only_part, in_row, by_rules, optional, begins_label, plain_argument, named_argument, is_arguments, in_part, deep, room, read}
+use Rattle.dsl_tree.proofs.{Tests.left_of, Tests.right_of, Sets.both_ways, Sets.is_false, Begins.void_part, Law.part_follows, EachPart.each_part}
 use Rattle.dsl_parser.proofs.ReadParts.{Took, PartHeld, taken, deep_held}
 
 -- How long what is left is
