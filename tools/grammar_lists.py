@@ -1,11 +1,10 @@
 #!/usr/bin/env python3
-"""Writes what follows from the rules of the grammar: two files of crates/dsl_tree, and one of crates/dsl_parser.
+"""Writes what follows from the rules of the grammar: two files of crates/dsl_tree.
 
 It reads the parts and their rules from specs/Grammar.antt and the numbers of codes from specs/Codes.antt.
 
 - specs/PartLists.antt: for each part the least lists that pass the test `is_predictive` of specs/Lookahead.antt.
 - proofs/EachPart.antt: the list of all parts, and that a test which holds on it holds of each.
-- proofs/Steps.antt of dsl_parser: the step of each part, by its name.
 
 With `--check` it writes nothing, and fails if a file isn't what it would write.
 """
@@ -87,17 +86,6 @@ at_place p = grind arith
 
 pub each_part : (test : Part → Bool) → list_all test parts ≡ true → (p : Part) → test p ≡ true
 each_part test h p = subst (λ (q : Part). test q ≡ true) (at_place p) (passes test parts (row_of p).place (left_of (test Part.File) _ h) h)
-"""
-
-STEPS_HEAD = """\
--- Written by tools/grammar_lists.py from the parts of Grammar.antt of dsl_tree: change those, and run it again.
---
--- The step of each part: which of its rules is read.
-use Rattle.std.proofs.Common.{◌≡◌, List}
-use Rattle.dsl_tree.specs.declared.token.Token.{Token}
-use Rattle.dsl_tree.specs.Grammar.{Part}
-use Rattle.dsl_parser.specs.Descent.{in_part, read}
-use Rattle.dsl_parser.proofs.ReadSteps.{read_step}
 """
 
 
@@ -281,22 +269,11 @@ def each_text(grammar):
     return EACH_HEAD + "\n".join(lines) + "\n\n" + EACH_TAIL
 
 
-def steps_text(grammar):
-    """The step of each part."""
-    text = STEPS_HEAD
-    for part in grammar.parts:
-        name = "step_" + re.sub(r"(?<!^)(?=[A-Z])", "_", part).lower()
-        text += f"\npub {name} : (ts : List Token) → read Part.{part} ts ≡ in_part read Part.{part} ts\n"
-        text += f"{name} ts = read_step Part.{part} ts\n"
-    return text
-
-
 def main():
     grammar = Grammar(plain(SPECS / "Grammar.antt"), plain(SPECS / "Codes.antt"))
     outputs = {
         SPECS / "PartLists.antt": lists_text(grammar),
         CRATE / "proofs/EachPart.antt": each_text(grammar),
-        CRATES / "dsl_parser/proofs/Steps.antt": steps_text(grammar),
     }
     for path, text in outputs.items():
         if "--check" not in sys.argv[1:]:
