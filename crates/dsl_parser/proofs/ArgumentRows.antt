@@ -1,6 +1,6 @@
 -- The steps of arguments, and the loop that reads those without names.
 use Rattle.std.proofs.Common.{◌≡◌, ◌<◌, ◌≤◌, ℕ, List, [], ◌∷◌, ◌++◌, length, map, Bool, true, false, cond, Some, None, refl, sym, ◌∙◌, ap, subst, append_assoc, Ok, Err, arith}
-use Rattle.dsl_parser.specs.Words.{Place, Stop, Token, Expr, TokenKind, MarkKind, Ident, Argument, mark_code, Part, nil, seen, bare, sub, Stops, expr_tree, argument_tree, mark, expr, at, name_token, rule_at, Outcome, onto, take, after, in_row, names, colon, begins_label, plain_argument, named_argument, read, arguments_of, HasMore, IsPlain, IsNamed, Grows, IsRow}
+use Rattle.dsl_parser.specs.Words.{Place, Stop, Token, Expr, TokenKind, MarkKind, Ident, Argument, mark_code, Part, nil, seen, bare, sub, Stops, expr_tree, argument_tree, mark, expr, at, name_token, rule_at, Outcome, onto, take, after, in_row, in_part, names, colon, begins_label, plain_argument, named_argument, read, arguments_of, HasMore, IsPlain, IsNamed, Grows, IsRow}
 use Rattle.dsl_tree.specs.WrittenPhases as written
 use Rattle.dsl_parser.proofs.{Lengths.take_shorter, Lengths.read_within, ReadParts.Took, ReadSteps.read_step, RowSteps.pair, RowSteps.pair_read, RowSteps.pair_second, RowSteps.read_so}
 
@@ -11,6 +11,9 @@ labelled ts h = read_step Part.Arguments ts ∙ ap (λ (b : Bool). cond b (in_ro
 
 pub unlabelled : (ts : List Token) → begins_label ts ≡ false → read Part.Arguments ts ≡ pair Part.Expr Part.ArgumentsTail ts
 unlabelled ts h = read_step Part.Arguments ts ∙ ap (λ (b : Bool). cond b (in_row read named_argument ts) (in_row read plain_argument ts)) h
+
+pub step_arguments_tail : (ts : List Token) → read Part.ArgumentsTail ts ≡ in_part read Part.ArgumentsTail ts
+step_arguments_tail ts = read_step Part.ArgumentsTail ts
 
 abbrev plain_of : Expr → Argument
 plain_of value = record { name = None; value = value }

@@ -1,9 +1,20 @@
--- What blocks and arguments are written as, of which there is one item at least; and types with members.
+-- What blocks and arguments are written as, of which there is one item at least, and the steps of parts that end with
+-- a block; and types with members.
 use Rattle.std.proofs.Common.{◌≡◌, ◌<◌, List, [], ◌∷◌, length, map, refl, arith, true, false, sym, Option, None}
-use Rattle.dsl_parser.specs.Words.{MarkKind, WordKind, RuleDecl, Member, Argument, InvokePart, nil, sub, rule_tree, member_tree, part_tree, argument_tree, mark, word, in_block, Place, Ident, CompoundDecl, CompoundKind, Heir, QName, Forest, compound_tree, ident, word_at, body, compound_heading, optional_heir, qualified_name, is_plain, kind_word}
+use Rattle.dsl_parser.specs.Words.{MarkKind, WordKind, RuleDecl, Member, Argument, InvokePart, nil, sub, rule_tree, member_tree, part_tree, argument_tree, mark, word, in_block, Place, Ident, CompoundDecl, CompoundKind, Heir, QName, Forest, compound_tree, ident, word_at, body, compound_heading, optional_heir, qualified_name, is_plain, kind_word, Token, Part, in_part, read}
 use Rattle.dsl_tree.specs.WrittenPhases as phases
 use Rattle.dsl_tree.specs.WrittenFile as file
 use Rattle.std.proofs.lemmas.Bool.{false≢true}
+use Rattle.dsl_parser.proofs.ReadSteps.{read_step}
+
+pub step_field_end : (ts : List Token) → read Part.FieldEnd ts ≡ in_part read Part.FieldEnd ts
+step_field_end ts = read_step Part.FieldEnd ts
+
+pub step_invocation_end : (ts : List Token) → read Part.InvocationEnd ts ≡ in_part read Part.InvocationEnd ts
+step_invocation_end ts = read_step Part.InvocationEnd ts
+
+pub step_body : (ts : List Token) → read Part.Body ts ≡ in_part read Part.Body ts
+step_body ts = read_step Part.Body ts
 
 pub rules_block : (rs : List RuleDecl) → 0 < length rs → file.field_end (map rule_tree rs) ≡ word WordKind.WithWord (mark MarkKind.Colon (in_block (λ r. phases.rule (rule_tree r)) (λ xs. phases.rules_tail (map rule_tree xs)) rs))
 rules_block [] some = absurd (omega (arith, some))

@@ -56,7 +56,7 @@ fn named(alloc: Global, tokens: &mut Cursor<'_>) -> Result<Argument, Stop>
 }
 
 /// Whether another argument stands after one without a name: a comma, or the closing bracket.
-#[tactic(auto, using(crate::proofs::ReadSteps::read_step, crate::proofs::Lengths::lengths))]
+#[tactic(auto, using(crate::proofs::ArgumentRows::step_arguments_tail, crate::proofs::Lengths::lengths))]
 fn more(tokens: &mut Cursor<'_>) -> Result<bool, Stop>
     ensures { HasMore tokens.old result tokens.new }
 {

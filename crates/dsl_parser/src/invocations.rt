@@ -47,7 +47,7 @@ impl Item for InvokePart {
     }
 }
 
-#[tactic(auto, using(crate::proofs::ReadSteps::read_step, crate::proofs::Blocks::parts_block))]
+#[tactic(auto, using(crate::proofs::Blocks::step_invocation_end, crate::proofs::Blocks::parts_block))]
 fn invocation_end(alloc: Global, tokens: &mut Cursor<'_>) -> Result<Row<InvokePart>, Stop>
     ensures { Gives (λ ps. written.invocation_end (map part_tree ps)) (read Part.InvocationEnd tokens.old) result tokens.new }
 {

@@ -137,7 +137,7 @@ pub fn members(alloc: Global, tokens: &mut Cursor<'_>) -> Result<Row<Member>, St
 }
 
 /// The line end, or a colon and a block of members.
-#[tactic(auto, using(crate::proofs::ReadSteps::read_step, crate::proofs::Blocks::members_body))]
+#[tactic(auto, using(crate::proofs::Blocks::step_body, crate::proofs::Blocks::members_body))]
 pub fn body(alloc: Global, tokens: &mut Cursor<'_>) -> Result<Row<Member>, Stop>
     ensures { Gives (λ ms. written.body (map member_tree ms)) (read Part.Body tokens.old) result tokens.new }
 {

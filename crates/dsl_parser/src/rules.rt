@@ -96,7 +96,7 @@ impl Item for RuleDecl {
 }
 
 /// The end of a field: the line end, or `with:` and a block of rules.
-#[tactic(auto, using(crate::proofs::ReadSteps::read_step, crate::proofs::Blocks::rules_block))]
+#[tactic(auto, using(crate::proofs::Blocks::step_field_end, crate::proofs::Blocks::rules_block))]
 pub fn rules_of_field(alloc: Global, tokens: &mut Cursor<'_>) -> Result<Row<RuleDecl>, Stop>
     ensures { Gives (λ rs. field_end (map rule_tree rs)) (read Part.FieldEnd tokens.old) result tokens.new }
 {
