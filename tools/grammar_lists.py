@@ -1,11 +1,10 @@
 #!/usr/bin/env python3
-"""Writes what follows from the rules of the grammar: two files of crates/dsl_tree, and one of crates/dsl_parser.
+"""Writes what follows from the rules of the grammar: two files of crates/dsl_tree.
 
 It reads the parts and their rules from specs/Grammar.antt and the numbers of codes from specs/Codes.antt.
 
 - specs/PartLists.antt: for each part the least lists that pass the test `is_predictive` of specs/Lookahead.antt.
 - proofs/EachPart.antt: the list of all parts, and that a test which holds on it holds of each.
-- proofs/Steps.antt of dsl_parser: the step of each part, by its name.
 
 With `--check` it writes nothing, and fails if a file isn't what it would write.
 """
@@ -24,37 +23,69 @@ LISTS_HEAD = """\
 -- lists but that they pass the test `is_predictive`, which proofs/Checked.antt computes for each part.
 use Rattle.std.specs.Prelude.{ℕ, List, [], ◌∷◌, Bool, true, false}
 use Rattle.dsl_tree.specs.Grammar.{Part}
+
+-- the place of a part in the list of all parts, and what the functions below say of it
+pub record Row : Type 0 where
+  pub place : ℕ
+  pub empty : Bool
+  pub first : List ℕ
+  pub goes_on : List ℕ
+  pub second : List ℕ
+
+abbrev row : ℕ → Bool → List ℕ → List ℕ → List ℕ → Row
+row n e f g s = record { place = n; empty = e; first = f; goes_on = g; second = s }
+
+abbrev pub row_of : Part → Row
+"""
+
+LISTS_TAIL = """\
+-- the codes of the first token of a part
+abbrev pub first : Part → List ℕ
+first p = (row_of p).first
+
+-- whether a part may be written as nothing
+abbrev pub empty : Part → Bool
+empty p = (row_of p).empty
+
+-- the codes with which a longer part goes on at the end of a whole one
+abbrev pub goes_on : Part → List ℕ
+goes_on p = (row_of p).goes_on
+
+-- the codes of the second token of a part
+abbrev pub second : Part → List ℕ
+second p = (row_of p).second
 """
 
 EACH_HEAD = """\
 -- Written by tools/grammar_lists.py from the parts of Grammar.antt: change those, and run it again.
 --
 -- The list of all parts: a test that holds on it holds of each.
-use Rattle.std.proofs.Common.{◌≡◌, ℕ, zero, suc, List, [], ◌∷◌, Bool, true, drop}
+use Rattle.std.proofs.Common.{◌≡◌, ℕ, zero, suc, List, [], ◌∷◌, Bool, true, subst, arith}
 use Rattle.std.specs.List.{list_all}
 use Rattle.dsl_tree.specs.Grammar.{Part}
+use Rattle.dsl_tree.specs.PartLists.{row_of}
 use Rattle.dsl_tree.proofs.Tests.{left_of, right_of}
 
--- from a place in a list on
-passed : (test : Part → Bool) (parts : List Part) (n : ℕ) → list_all test parts ≡ true → list_all test (drop n parts) ≡ true
-passed test parts zero h = h
-passed test [] (suc n) h = h
-passed test (p ∷ parts) (suc n) h = passed test parts n (right_of (test p) (list_all test parts) h)
+-- the part at a place
+abbrev part_at : List Part → ℕ → Part
+part_at [] n = Part.File
+part_at (p ∷ parts) zero = p
+part_at (p ∷ parts) (suc n) = part_at parts n
 
-first_passes : (test : Part → Bool) (p : Part) (others : List Part) → list_all test (p ∷ others) ≡ true → test p ≡ true
-first_passes test p others h = left_of (test p) (list_all test others) h
+passes : (test : Part → Bool) (parts : List Part) (n : ℕ) → test Part.File ≡ true → list_all test parts ≡ true → test (part_at parts n) ≡ true
+passes test [] n f h = f
+passes test (p ∷ parts) zero f h = left_of (test p) (list_all test parts) h
+passes test (p ∷ parts) (suc n) f h = passes test parts n f (right_of (test p) (list_all test parts) h)
 
 """
 
-STEPS_HEAD = """\
--- Written by tools/grammar_lists.py from the parts of Grammar.antt of dsl_tree: change those, and run it again.
---
--- The step of each part: which of its rules is read.
-use Rattle.std.proofs.Common.{◌≡◌, List}
-use Rattle.dsl_tree.specs.declared.token.Token.{Token}
-use Rattle.dsl_tree.specs.Grammar.{Part}
-use Rattle.dsl_parser.specs.Descent.{in_part, read}
-use Rattle.dsl_parser.proofs.ReadSteps.{read_step}
+EACH_TAIL = """\
+-- each part stands at its own place
+at_place : (p : Part) → part_at parts (row_of p).place ≡ p
+at_place p = grind arith
+
+pub each_part : (test : Part → Bool) → list_all test parts ≡ true → (p : Part) → test p ≡ true
+each_part test h p = subst (λ (q : Part). test q ≡ true) (at_place p) (passes test parts (row_of p).place (left_of (test Part.File) _ h) h)
 """
 
 
@@ -207,53 +238,35 @@ def lists(grammar):
     return empty, first, goes_on, second
 
 
-def table(comment, name, kind, parts, value):
-    lines = ["", "-- " + comment, f"abbrev pub {name} : Part → {kind}"]
-    return lines + [f"{name} Part.{part} = {value(part)}" for part in parts]
+def wrapped(head, words, width=150):
+    """The words after the head, in as few lines as the width lets."""
+    lines = [head]
+    for word in words:
+        if len(lines[-1]) + 1 + len(word) > width:
+            lines.append("   ")
+        lines[-1] += " " + word
+    return lines
 
 
 def lists_text(grammar):
     empty, first, goes_on, second = lists(grammar)
 
     def codes(values):
-        return lambda part: " ∷ ".join([str(code) for code in sorted(values[part])] + ["[]"])
+        text = " ∷ ".join([str(code) for code in sorted(values)] + ["[]"])
+        return f"({text})" if values else text
 
-    lines = table("the codes of the first token of a part", "first", "List ℕ", grammar.parts, codes(first))
-    lines += table(
-        "whether a part may be written as nothing", "empty", "Bool", grammar.parts, lambda p: str(empty[p]).lower()
-    )
-    lines += table(
-        "the codes with which a longer part goes on at the end of a whole one",
-        "goes_on",
-        "List ℕ",
-        grammar.parts,
-        codes(goes_on),
-    )
-    lines += table("the codes of the second token of a part", "second", "List ℕ", grammar.parts, codes(second))
-    return LISTS_HEAD + "\n".join(lines) + "\n"
+    lines = []
+    for at, part in enumerate(grammar.parts):
+        columns = [codes(table[part]) for table in (first, goes_on, second)]
+        lines += wrapped(f"row_of Part.{part} =", [f"row {at} {str(empty[part]).lower()}", *columns])
+    return LISTS_HEAD + "\n".join(lines) + "\n\n" + LISTS_TAIL
 
 
 def each_text(grammar):
     """The list of all parts, and the lemma on it."""
-    lines = ["abbrev pub parts : List Part", "parts ="]
-    lines += ["    " + ("" if at == 0 else "∷ ") + "Part." + part for at, part in enumerate(grammar.parts)]
-    lines += ["    ∷ []", ""]
-    lines += ["pub each_part : (test : Part → Bool) → list_all test parts ≡ true → (p : Part) → test p ≡ true"]
-    lines += [
-        f"each_part test h Part.{part} = first_passes test Part.{part} (drop {at + 1} parts) (passed test parts {at} h)"
-        for at, part in enumerate(grammar.parts)
-    ]
-    return EACH_HEAD + "\n".join(lines) + "\n"
-
-
-def steps_text(grammar):
-    """The step of each part."""
-    text = STEPS_HEAD
-    for part in grammar.parts:
-        name = "step_" + re.sub(r"(?<!^)(?=[A-Z])", "_", part).lower()
-        text += f"\npub {name} : (ts : List Token) → read Part.{part} ts ≡ in_part read Part.{part} ts\n"
-        text += f"{name} ts = read_step Part.{part} ts\n"
-    return text
+    words = ["Part." + grammar.parts[0], *("∷ Part." + part for part in grammar.parts[1:]), "∷ []"]
+    lines = ["abbrev pub parts : List Part", "parts =", *wrapped("   ", words)]
+    return EACH_HEAD + "\n".join(lines) + "\n\n" + EACH_TAIL
 
 
 def main():
@@ -261,7 +274,6 @@ def main():
     outputs = {
         SPECS / "PartLists.antt": lists_text(grammar),
         CRATE / "proofs/EachPart.antt": each_text(grammar),
-        CRATES / "dsl_parser/proofs/Steps.antt": steps_text(grammar),
     }
     for path, text in outputs.items():
         if "--check" not in sys.argv[1:]:

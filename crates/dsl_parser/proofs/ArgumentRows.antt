@@ -1,29 +1,8 @@
 -- The steps of arguments, and the loop that reads those without names.
 use Rattle.std.proofs.Common.{◌≡◌, ◌<◌, ◌≤◌, ℕ, List, [], ◌∷◌, ◌++◌, length, map, Bool, true, false, cond, Some, None, refl, sym, ◌∙◌, ap, subst, append_assoc, Ok, Err, arith}
-use Rattle.osc_base.specs.declared.fault.Place.{Place}
-use Rattle.osc_base.specs.declared.stop.Stop.{Stop}
-use Rattle.dsl_tree.specs.declared.token.Token.{Token}
-use Rattle.dsl_tree.specs.declared.expr.Expr.{Expr}
-use Rattle.dsl_tree.specs.declared.token.TokenKind.{TokenKind}
-use Rattle.dsl_tree.specs.declared.token.MarkKind.{MarkKind}
-use Rattle.dsl_tree.specs.declared.parts.Ident.{Ident}
-use Rattle.dsl_tree.specs.declared.phases.Argument.{Argument}
-use Rattle.dsl_tree.specs.Codes.{mark_code}
-use Rattle.dsl_tree.specs.Grammar.{Part}
-use Rattle.dsl_tree.specs.Forest.{Forest, nil, seen, bare, sub}
-use Rattle.dsl_tree.specs.Reading.{Stops}
-use Rattle.dsl_tree.specs.Views.{expr_tree, argument_tree}
-use Rattle.dsl_tree.specs.Written.{mark, expr}
+use Rattle.dsl_parser.specs.Words.{Place, Stop, Token, Expr, TokenKind, MarkKind, Ident, Argument, mark_code, Part, nil, seen, bare, sub, Stops, expr_tree, argument_tree, mark, expr, at, name_token, rule_at, Outcome, onto, take, after, in_row, in_part, names, colon, begins_label, plain_argument, named_argument, read, arguments_of, HasMore, IsPlain, IsNamed, Grows, IsRow}
 use Rattle.dsl_tree.specs.WrittenPhases as written
-use Rattle.dsl_parser.specs.Cursor.{at, name_token}
-use Rattle.dsl_parser.specs.Rests.{rule_at}
-use Rattle.dsl_parser.specs.Descent.{Outcome, onto, take, after, in_row, names, colon, begins_label, plain_argument, named_argument, read}
-use Rattle.dsl_parser.specs.Arguments.{arguments_of, HasMore, IsPlain, IsNamed}
-use Rattle.dsl_parser.specs.Rows.{Grows, IsRow}
-use Rattle.dsl_parser.proofs.Lengths.{take_shorter, read_within}
-use Rattle.dsl_parser.proofs.ReadParts.{Took}
-use Rattle.dsl_parser.proofs.ReadSteps.{read_step}
-use Rattle.dsl_parser.proofs.RowSteps.{pair, pair_read, pair_second}
+use Rattle.dsl_parser.proofs.{Lengths.take_shorter, Lengths.read_within, ReadParts.Took, ReadSteps.read_step, RowSteps.pair, RowSteps.pair_read, RowSteps.pair_second, RowSteps.read_so}
 
 -- The first argument
 
@@ -32,6 +11,9 @@ labelled ts h = read_step Part.Arguments ts ∙ ap (λ (b : Bool). cond b (in_ro
 
 pub unlabelled : (ts : List Token) → begins_label ts ≡ false → read Part.Arguments ts ≡ pair Part.Expr Part.ArgumentsTail ts
 unlabelled ts h = read_step Part.Arguments ts ∙ ap (λ (b : Bool). cond b (in_row read named_argument ts) (in_row read plain_argument ts)) h
+
+pub step_arguments_tail : (ts : List Token) → read Part.ArgumentsTail ts ≡ in_part read Part.ArgumentsTail ts
+step_arguments_tail ts = read_step Part.ArgumentsTail ts
 
 abbrev plain_of : Expr → Argument
 plain_of value = record { name = None; value = value }
@@ -77,9 +59,6 @@ close = mark_code MarkKind.CloseRound ∷ []
 
 abbrev comma : List ℕ
 comma = mark_code MarkKind.Comma ∷ []
-
-abbrev read_so : List Token → Forest → Outcome
-read_so z f = Ok (f, z)
 
 comma_row : (place : Place) (ts m : List Token) → Stops close ts → take comma ts ≡ Ok (at (TokenKind.Mark MarkKind.Comma) place, m) → read Part.NamedTail ts ≡ onto (bare (TokenKind.Mark MarkKind.Comma)) (in_row read named_argument m)
 comma_row place ts m stop h =

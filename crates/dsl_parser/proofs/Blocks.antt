@@ -1,17 +1,20 @@
--- What blocks and arguments are written as, of which there is one item at least.
-use Rattle.std.proofs.Common.{◌≡◌, ◌<◌, List, [], ◌∷◌, length, map, refl, arith}
-use Rattle.dsl_tree.specs.declared.token.MarkKind.{MarkKind}
-use Rattle.dsl_tree.specs.declared.token.WordKind.{WordKind}
-use Rattle.dsl_tree.specs.declared.rules.RuleDecl.{RuleDecl}
-use Rattle.dsl_tree.specs.declared.compounds.Member.{Member}
-use Rattle.dsl_tree.specs.declared.phases.Argument.{Argument}
-use Rattle.dsl_tree.specs.declared.phases.InvokePart.{InvokePart}
-use Rattle.dsl_tree.specs.Forest.{nil, sub}
-use Rattle.dsl_tree.specs.Views.{rule_tree, member_tree, part_tree, argument_tree}
-use Rattle.dsl_tree.specs.Written.{mark, word}
+-- What blocks and arguments are written as, of which there is one item at least, and the steps of parts that end with
+-- a block; and types with members.
+use Rattle.std.proofs.Common.{◌≡◌, ◌<◌, List, [], ◌∷◌, length, map, refl, arith, true, false, sym, Option, None}
+use Rattle.dsl_parser.specs.Words.{MarkKind, WordKind, RuleDecl, Member, Argument, InvokePart, nil, sub, rule_tree, member_tree, part_tree, argument_tree, mark, word, in_block, Place, Ident, CompoundDecl, CompoundKind, Heir, QName, Forest, compound_tree, ident, word_at, body, compound_heading, optional_heir, qualified_name, is_plain, kind_word, Token, Part, in_part, read}
 use Rattle.dsl_tree.specs.WrittenPhases as phases
 use Rattle.dsl_tree.specs.WrittenFile as file
-use Rattle.dsl_parser.specs.Rows.{in_block}
+use Rattle.std.proofs.lemmas.Bool.{false≢true}
+use Rattle.dsl_parser.proofs.ReadSteps.{read_step}
+
+pub step_field_end : (ts : List Token) → read Part.FieldEnd ts ≡ in_part read Part.FieldEnd ts
+step_field_end ts = read_step Part.FieldEnd ts
+
+pub step_invocation_end : (ts : List Token) → read Part.InvocationEnd ts ≡ in_part read Part.InvocationEnd ts
+step_invocation_end ts = read_step Part.InvocationEnd ts
+
+pub step_body : (ts : List Token) → read Part.Body ts ≡ in_part read Part.Body ts
+step_body ts = read_step Part.Body ts
 
 pub rules_block : (rs : List RuleDecl) → 0 < length rs → file.field_end (map rule_tree rs) ≡ word WordKind.WithWord (mark MarkKind.Colon (in_block (λ r. phases.rule (rule_tree r)) (λ xs. phases.rules_tail (map rule_tree xs)) rs))
 rules_block [] some = absurd (omega (arith, some))
@@ -38,3 +41,26 @@ of_composition [] some = absurd (omega (arith, some))
 of_composition (x ∷ xs) some = refl
 
 pub ruleset some_arguments = (of_invocation, of_composition)
+
+abbrev pub rest_of : Option Heir → List Member → Forest
+rest_of heir members = sub (optional_heir heir) (sub (body (map member_tree members)) nil)
+
+abbrev pub compound : Place → CompoundKind → QName → Option Heir → List Member → CompoundDecl
+compound place kind name heir members = record { place = place; kind = kind; name = name; heir = heir; members = members }
+
+abbrev pub alone : Ident → QName
+alone first = record { first = first; second = None }
+
+pub plain_forest : (place : Place) (kind : CompoundKind) (first : Ident) (heir : Option Heir) (members : List Member) → is_plain kind ≡ true
+    → compound_heading kind (compound_tree (compound place kind (alone first) heir members)) ≡ word_at place (kind_word kind) (ident first (rest_of heir members))
+plain_forest place CompoundKind.Struct first heir members h = refl
+plain_forest place CompoundKind.Actor first heir members h = refl
+plain_forest place CompoundKind.Action first heir members h = absurd (false≢true h)
+plain_forest place CompoundKind.Scenario first heir members h = absurd (false≢true h)
+
+pub owned_forest : (place : Place) (kind : CompoundKind) (name : QName) (heir : Option Heir) (members : List Member) → is_plain kind ≡ false
+    → compound_heading kind (compound_tree (compound place kind name heir members)) ≡ word_at place (kind_word kind) (sub (qualified_name name) (rest_of heir members))
+owned_forest place CompoundKind.Struct name heir members h = absurd (false≢true (sym h))
+owned_forest place CompoundKind.Actor name heir members h = absurd (false≢true (sym h))
+owned_forest place CompoundKind.Action name heir members h = refl
+owned_forest place CompoundKind.Scenario name heir members h = refl

@@ -1,28 +1,12 @@
 -- What expressions are written as, by what their parts are.
 use Rattle.std.proofs.Common.{◌≡◌, ℕ, zero, suc, ◌+◌, ◌-◌, ◌≤◌, List, [], ◌∷◌, length, map, Bool, true, false, cond, Some, refl, sym, ◌∙◌, ap, subst, inl, inr, arith}
-use Rattle.std.specs.Prelude.{nat_lt, slice_get}
 use Rattle.std.proofs.lemmas.Bool.{ltb-false, false≢true}
 use Rattle.std.proofs.lemmas.Option.{none-some, same_Some}
-use Rattle.osc_base.specs.declared.fault.Place.{Place}
-use Rattle.dsl_tree.specs.declared.parts.Ident.{Ident}
-use Rattle.dsl_tree.specs.declared.expr.Expr.{Expr}
-use Rattle.dsl_tree.specs.declared.expr.Further.{Further}
-use Rattle.dsl_tree.specs.declared.expr.Suffix.{Suffix}
-use Rattle.dsl_tree.specs.declared.expr.RelationSign.{RelationSign}
-use Rattle.dsl_tree.specs.declared.token.MarkKind.{MarkKind}
-use Rattle.dsl_tree.specs.declared.token.WordKind.{WordKind}
+use Rattle.dsl_parser.specs.Words.{nat_lt, slice_get, Place, Ident, Expr, Further, Suffix, RelationSign, MarkKind, WordKind, Token, ExprTree, FurtherTree, SuffixTree, grouped, with_suffixes, named_row, indexed_row, expr_tree, suffix_tree, further_tree, Part, Symbol, rules, Forest, nil, seen, sub, wrong, AnyRule, level, lifted, raised, written, operator_kind, sign_kind, next_part, mark, mark_at, word_at, ident, expr, listed_tail, Whole, Parsed, RowLevel, at_level, row_level, item_level, tail_of, suffix_forest, suffix_of, suffixes_of, is_named, ends_named, items_of, row_node, post_node}
 use Rattle.dsl_tree.specs.declared.expr.Expr.TheViews
-use Rattle.dsl_tree.specs.declared.token.Token.{Token}
-use Rattle.dsl_tree.specs.ExprTree.{ExprTree, row_of}
-use Rattle.dsl_tree.specs.Views.{FurtherTree, SuffixTree, grouped, with_suffixes, named_row, indexed_row, expr_tree, suffix_tree, further_tree}
-use Rattle.dsl_tree.specs.Grammar.{Part, Symbol, rules}
-use Rattle.dsl_tree.specs.Forest.{Forest, nil, seen, sub, wrong, AnyRule}
-use Rattle.dsl_tree.specs.Written.{level, lifted, raised, at, written, operator_kind, sign_kind, next_part, mark, mark_at, word_at, ident, expr, listed_tail}
-use Rattle.dsl_tree.specs.Reading.{Whole, Parsed}
-use Rattle.dsl_tree.proofs.Seen.{seen_implies, seen_or, seen_and, seen_not, seen_relation, seen_sum, seen_product, seen_minus, seen_dot, seen_index, seen_group, seen_span, seen_listed, seen_range_call, seen_further, seen_dot_suffix, seen_index_suffix}
-use Rattle.dsl_tree.proofs.WrittenRows.{at_own, at_lower, further_tail, suffix_tail, or_written, and_written, sum_written, product_written, post_written}
-use Rattle.dsl_parser.specs.declared.levels.RowLevel.{RowLevel}
-use Rattle.dsl_parser.specs.Levels.{at_level, row_level, item_level, tail_of, suffix_forest, suffix_of, suffixes_of, is_named, ends_named, items_of}
+use Rattle.dsl_tree.specs.ExprTree.{row_of}
+use Rattle.dsl_tree.specs.Written.{at}
+use Rattle.dsl_tree.proofs.{Seen.seen_implies, Seen.seen_or, Seen.seen_and, Seen.seen_not, Seen.seen_relation, Seen.seen_sum, Seen.seen_product, Seen.seen_minus, Seen.seen_dot, Seen.seen_index, Seen.seen_group, Seen.seen_span, Seen.seen_listed, Seen.seen_range_call, Seen.seen_further, Seen.seen_dot_suffix, Seen.seen_index_suffix, WrittenRows.at_own, WrittenRows.at_lower, WrittenRows.further_tail, WrittenRows.suffix_tail, WrittenRows.or_written, WrittenRows.and_written, WrittenRows.sum_written, WrittenRows.product_written, WrittenRows.post_written}
 
 -- Levels
 
@@ -82,24 +66,11 @@ from_tree n m e first next rest join is written_so =
     ∙ (written_so (expr_tree first) (further_tree next) (map further_tree rest)
     ∙ ap (λ (v : Forest). sub (at m (expr_tree first) (written (expr_tree first))) (sub v nil)) (sym (tail_forest m (next ∷ rest))))
 
-pub or_row : (first : Expr) (next : Further) (rest : List Further) → at_level 1 (TheViews.Or first (next ∷ rest)) ≡ row_forest RowLevel.OrRow first (next ∷ rest)
-or_row first next rest = from_tree 1 2 (TheViews.Or first (next ∷ rest)) first next rest ExprTree.Or (seen_or first (next ∷ rest)) or_written
-
-pub and_row : (first : Expr) (next : Further) (rest : List Further) → at_level 2 (TheViews.And first (next ∷ rest)) ≡ row_forest RowLevel.AndRow first (next ∷ rest)
-and_row first next rest = from_tree 2 3 (TheViews.And first (next ∷ rest)) first next rest ExprTree.And (seen_and first (next ∷ rest)) and_written
-
-pub sum_row : (first : Expr) (next : Further) (rest : List Further) → at_level 5 (TheViews.Sum first (next ∷ rest)) ≡ row_forest RowLevel.SumRow first (next ∷ rest)
-sum_row first next rest = from_tree 5 6 (TheViews.Sum first (next ∷ rest)) first next rest ExprTree.Sum (seen_sum first (next ∷ rest)) sum_written
-
-pub product_row : (first : Expr) (next : Further) (rest : List Further) → at_level 6 (TheViews.Product first (next ∷ rest)) ≡ row_forest RowLevel.ProductRow first (next ∷ rest)
-product_row first next rest = from_tree 6 7 (TheViews.Product first (next ∷ rest)) first next rest ExprTree.Product (seen_product first (next ∷ rest)) product_written
-
-pub some_items : (row r : RowLevel) (make : Expr → List Further → Expr) (e first : Expr) (rest : List Further) → row ≡ r → e ≡ make first rest
-    → ((next : Further) (others : List Further) → at_level (row_level r) (make first (next ∷ others)) ≡ row_forest r first (next ∷ others))
-    → (next : Further) (others : List Further) → rest ≡ next ∷ others → at_level (row_level row) e ≡ row_forest row first rest
-some_items row r make e first rest is node so next others some =
-    subst (λ (x : RowLevel). at_level (row_level x) e ≡ row_forest x first rest) (sym is)
-    (ap (at_level (row_level r)) (node ∙ ap (make first) some) ∙ (so next others ∙ ap (row_forest r first) (sym some)))
+pub row_some : (row : RowLevel) (first : Expr) (next : Further) (rest : List Further) → at_level (row_level row) (row_node row first (next ∷ rest)) ≡ row_forest row first (next ∷ rest)
+row_some RowLevel.OrRow first next rest = from_tree 1 2 (TheViews.Or first (next ∷ rest)) first next rest ExprTree.Or (seen_or first (next ∷ rest)) or_written
+row_some RowLevel.AndRow first next rest = from_tree 2 3 (TheViews.And first (next ∷ rest)) first next rest ExprTree.And (seen_and first (next ∷ rest)) and_written
+row_some RowLevel.SumRow first next rest = from_tree 5 6 (TheViews.Sum first (next ∷ rest)) first next rest ExprTree.Sum (seen_sum first (next ∷ rest)) sum_written
+row_some RowLevel.ProductRow first next rest = from_tree 6 7 (TheViews.Product first (next ∷ rest)) first next rest ExprTree.Product (seen_product first (next ∷ rest)) product_written
 
 -- Other nodes
 
@@ -183,15 +154,16 @@ post_of e head s rest is =
 pub post_none : (head : Expr) → 9 ≤ level (expr_tree head) → at_level 8 head ≡ post_forest head []
 post_none head h = level_lower 8 head h
 
-pub post_named : (head : Expr) (s : Suffix) (rest : List Suffix) → ends_named (map suffix_tree (s ∷ rest)) ≡ true → at_level 8 (TheViews.Expr::Dot head (s ∷ rest)) ≡ post_forest head (s ∷ rest)
-post_named head s rest h =
-    post_of (TheViews.Expr::Dot head (s ∷ rest)) head s rest
-    (seen_dot head (s ∷ rest) ∙ named_so (with_suffixes (ExprTree.Start (expr_tree head)) (map suffix_tree (s ∷ rest))) (map suffix_tree (s ∷ rest)) h)
-
-pub post_indexed : (head : Expr) (s : Suffix) (rest : List Suffix) → ends_named (map suffix_tree (s ∷ rest)) ≡ false → at_level 8 (TheViews.Expr::Index head (s ∷ rest)) ≡ post_forest head (s ∷ rest)
-post_indexed head s rest h =
-    post_of (TheViews.Expr::Index head (s ∷ rest)) head s rest
-    (seen_index head (s ∷ rest) ∙ indexed_so (with_suffixes (ExprTree.Start (expr_tree head)) (map suffix_tree (s ∷ rest))) (suffix_tree s) (map suffix_tree rest) h)
+pub post_some : (head : Expr) (s : Suffix) (rest : List Suffix) → at_level 8 (post_node head (s ∷ rest)) ≡ post_forest head (s ∷ rest)
+post_some head s rest = go (ends_named (map suffix_tree (s ∷ rest))) refl
+  where
+    go : (b : Bool) → ends_named (map suffix_tree (s ∷ rest)) ≡ b → at_level 8 (cond b (TheViews.Expr::Dot head (s ∷ rest)) (TheViews.Expr::Index head (s ∷ rest))) ≡ post_forest head (s ∷ rest)
+    go true h =
+        post_of (TheViews.Expr::Dot head (s ∷ rest)) head s rest
+        (seen_dot head (s ∷ rest) ∙ named_so (with_suffixes (ExprTree.Start (expr_tree head)) (map suffix_tree (s ∷ rest))) (map suffix_tree (s ∷ rest)) h)
+    go false h =
+        post_of (TheViews.Expr::Index head (s ∷ rest)) head s rest
+        (seen_index head (s ∷ rest) ∙ indexed_so (with_suffixes (ExprTree.Start (expr_tree head)) (map suffix_tree (s ∷ rest))) (suffix_tree s) (map suffix_tree rest) h)
 
 last_is : (xs : List Suffix) (i : ℕ) (s : Suffix) → i + 1 ≡ length xs → slice_get xs i ≡ Some s → is_named (suffix_tree s) ≡ ends_named (map suffix_tree xs)
 last_is [] i s n get = absurd (omega (arith, n))
@@ -203,16 +175,6 @@ last_is (x ∷ (y ∷ rest)) (suc i) s n get = last_is (y ∷ rest) i s (omega (
 pub last_named : (xs : List Suffix) (s : Suffix) → slice_get xs (length xs - 1) ≡ Some s → is_named (suffix_tree s) ≡ ends_named (map suffix_tree xs)
 last_named [] s get = absurd (none-some s get)
 last_named (x ∷ xs) s get = last_is (x ∷ xs) (length (x ∷ xs) - 1) s (omega arith) get
-
-pub some_named : (head : Expr) (suffixes : List Suffix) → ends_named (map suffix_tree suffixes) ≡ true
-    → (s : Suffix) (rest : List Suffix) → suffixes ≡ s ∷ rest → at_level 8 (TheViews.Expr::Dot head suffixes) ≡ post_forest head suffixes
-some_named head [] h s rest is = absurd (false≢true h)
-some_named head (x ∷ xs) h s rest is = post_named head x xs h
-
-pub some_indexed : (head : Expr) (suffixes : List Suffix) → ends_named (map suffix_tree suffixes) ≡ false
-    → (s : Suffix) (rest : List Suffix) → suffixes ≡ s ∷ rest → at_level 8 (TheViews.Expr::Index head suffixes) ≡ post_forest head suffixes
-some_indexed head [] h s rest is = absurd (cc)
-some_indexed head (x ∷ xs) h s rest is = post_indexed head x xs h
 
 pub dot_forest : (name : Ident) → suffix_of (Suffix.Suffix::Dot name) ≡ mark MarkKind.Dot (ident name nil)
 unfolding suffix_of

@@ -1,52 +1,25 @@
 -- The steps of the readers of expressions.
 use Rattle.std.proofs.Common.{◌≡◌, ◌<◌, ◌≤◌, ℕ, List, [], ◌∷◌, length, refl, sym, ◌∙◌, ap, subst, Ok, Err, arith}
-use Rattle.osc_base.specs.declared.fault.Place.{Place}
-use Rattle.osc_base.specs.declared.stop.Stop.{Stop}
-use Rattle.dsl_tree.specs.declared.expr.Expr.{Expr}
-use Rattle.dsl_tree.specs.declared.expr.Further.{Further}
-use Rattle.dsl_tree.specs.declared.expr.Operator.{Operator}
-use Rattle.dsl_tree.specs.declared.expr.Suffix.{Suffix}
-use Rattle.dsl_tree.specs.declared.token.Token.{Token}
-use Rattle.dsl_tree.specs.declared.token.TokenKind.{TokenKind}
-use Rattle.dsl_tree.specs.declared.token.MarkKind.{MarkKind}
-use Rattle.dsl_tree.specs.Codes.{mark_code}
-use Rattle.dsl_tree.specs.Grammar.{Part}
-use Rattle.dsl_tree.specs.Forest.{Forest, nil, seen, bare, sub}
-use Rattle.dsl_tree.specs.Lookahead.{first}
-use Rattle.dsl_tree.specs.Reading.{starts, Starts, Stops, Parsed}
-use Rattle.dsl_tree.specs.Written.{operator_kind}
+use Rattle.dsl_parser.specs.Words.{Place, Stop, Expr, Further, Operator, Suffix, Token, TokenKind, MarkKind, mark_code, Part, Forest, nil, seen, bare, sub, first, starts, Starts, Stops, Parsed, operator_kind, RowLevel, OrRow, AndRow, SumRow, ProductRow, at, Outcome, onto, take, after, read, at_level, row_part, row_level, item_part, item_level, tail_part, operators, tail_of, suffixes_of, items_of, Grows, row_node, post_node}
 use Rattle.dsl_tree.proofs.Sets.{both_ways}
-use Rattle.dsl_parser.specs.declared.levels.RowLevel.{RowLevel}
-use Rattle.dsl_parser.specs.declared.levels.RowLevel.TheVariants.{OrRow, AndRow, SumRow, ProductRow}
-use Rattle.dsl_parser.specs.Cursor.{at}
-use Rattle.dsl_parser.specs.Descent.{Outcome, onto, take, after, read}
-use Rattle.dsl_parser.specs.Levels.{at_level, row_part, row_level, item_part, item_level, tail_part, operators, tail_of, suffixes_of, items_of}
-use Rattle.dsl_parser.specs.Rows.{Grows}
-use Rattle.dsl_parser.proofs.ExprForests.{level_lower, level_of_part, row_forest, row_alone, post_none, post_forest}
-use Rattle.dsl_parser.proofs.Lengths.{take_shorter, read_within}
-use Rattle.dsl_parser.proofs.ReadParts.{Took}
-use Rattle.dsl_parser.proofs.RowSteps.{optional_none, optional_some, pair, pair_first, pair_read, pair_second}
-use Rattle.dsl_parser.proofs.ReadSteps.{read_step, read_parsed}
-
-abbrev read_so : Forest → List Token → Outcome
-read_so f z = Ok (f, z)
+use Rattle.dsl_parser.proofs.{ExprForests.level_lower, ExprForests.level_of_part, ExprForests.row_some, ExprForests.row_alone, ExprForests.post_none, ExprForests.post_some, Lengths.take_shorter, Lengths.read_within, ReadParts.Took, RowSteps.optional_none, RowSteps.optional_some, RowSteps.pair, RowSteps.pair_first, RowSteps.pair_read, RowSteps.pair_second, ReadSteps.read_step, ReadSteps.read_parsed, RowSteps.read_so}
 
 -- Expressions of a higher level
 
 pub alone_expr : (e : Expr) (ts z : List Token) → read Part.Or ts ≡ Ok (at_level 1 e, z) → Stops (first Part.ImpliesTail) z → read Part.Expr ts ≡ Ok (at_level 0 e, z)
 alone_expr e ts z h stop =
     read_step Part.Expr ts ∙ pair_read Part.Or Part.ImpliesTail (at_level 1 e) nil ts z z h (optional_none Part.ImpliesTail z refl refl stop)
-    ∙ ap (λ (f : Forest). read_so f z) (sym (level_lower 0 e (level_of_part Part.Or 1 e ts z (read_parsed Part.Or ts (at_level 1 e) z h))))
+    ∙ ap (λ (f : Forest). read_so z f) (sym (level_lower 0 e (level_of_part Part.Or 1 e ts z (read_parsed Part.Or ts (at_level 1 e) z h))))
 
 pub alone_relation : (e : Expr) (ts z : List Token) → read Part.Sum ts ≡ Ok (at_level 5 e, z) → Stops (first Part.RelationTail) z → read Part.Relation ts ≡ Ok (at_level 4 e, z)
 alone_relation e ts z h stop =
     read_step Part.Relation ts ∙ pair_read Part.Sum Part.RelationTail (at_level 5 e) nil ts z z h (optional_none Part.RelationTail z refl refl stop)
-    ∙ ap (λ (f : Forest). read_so f z) (sym (level_lower 4 e (level_of_part Part.Sum 5 e ts z (read_parsed Part.Sum ts (at_level 5 e) z h))))
+    ∙ ap (λ (f : Forest). read_so z f) (sym (level_lower 4 e (level_of_part Part.Sum 5 e ts z (read_parsed Part.Sum ts (at_level 5 e) z h))))
 
 pub alone_postfix : (e : Expr) (ts z : List Token) → read Part.Primary ts ≡ Ok (at_level 9 e, z) → Stops (first Part.SuffixesTail) z → read Part.Postfix ts ≡ Ok (at_level 8 e, z)
 alone_postfix e ts z h stop =
     read_step Part.Postfix ts ∙ pair_read Part.Primary Part.SuffixesTail (at_level 9 e) nil ts z z h (optional_none Part.SuffixesTail z refl refl stop)
-    ∙ ap (λ (f : Forest). read_so f z) (sym (post_none e (level_of_part Part.Primary 9 e ts z (read_parsed Part.Primary ts (at_level 9 e) z h))))
+    ∙ ap (λ (f : Forest). read_so z f) (sym (post_none e (level_of_part Part.Primary 9 e ts z (read_parsed Part.Primary ts (at_level 9 e) z h))))
 
 pub lower_not : (e : Expr) (ts z : List Token) → read Part.Relation ts ≡ Ok (at_level 4 e, z) → at_level 3 e ≡ sub (at_level 4 e) nil
 lower_not e ts z h = level_lower 3 e (level_of_part Part.Relation 4 e ts z (read_parsed Part.Relation ts (at_level 4 e) z h))
@@ -80,7 +53,7 @@ some_operator ProductRow ts start = optional_some Part.ProductTail ts refl refl 
 pub alone_item : (l : RowLevel) (e : Expr) (ts z : List Token) → read (item_part l) ts ≡ Ok (at_level (item_level l) e, z) → Stops (operators l) z → read (row_part l) ts ≡ Ok (at_level (row_level l) e, z)
 alone_item l e ts z h stop =
     step_row l ts ∙ pair_read (item_part l) (tail_part l) (at_level (item_level l) e) nil ts z z h (no_operator l z stop)
-    ∙ ap (λ (f : Forest). read_so f z) (sym (row_alone l e (level_of_part (item_part l) (item_level l) e ts z (read_parsed (item_part l) ts (at_level (item_level l) e) z h))))
+    ∙ ap (λ (f : Forest). read_so z f) (sym (row_alone l e (level_of_part (item_part l) (item_level l) e ts z (read_parsed (item_part l) ts (at_level (item_level l) e) z h))))
 
 -- what an operator has of the row after it
 taken_operator : (l : RowLevel) (place : Place) (operator : Operator) (ts m : List Token) → Starts (operators l) ts → take (operators l) ts ≡ Ok (at (operator_kind operator) place, m)
@@ -103,7 +76,7 @@ pub operator_stops : (l : RowLevel) (place : Place) (operator : Operator) (ts m 
 operator_stops l place operator ts m e start h one = taken_operator l place operator ts m start h ∙ ap (onto (seen place (operator_kind operator))) (pair_first (item_part l) (tail_part l) m e one)
 
 pub operators_end : (l : RowLevel) (ts m : List Token) → Stops (operators l) ts → m ≡ ts → read (tail_part l) ts ≡ Ok (nil, m)
-operators_end l ts m stop same = no_operator l ts stop ∙ ap (read_so nil) (sym same)
+operators_end l ts m stop same = no_operator l ts stop ∙ ap (λ (z : List Token). read_so z nil) (sym same)
 
 -- tokens that begin a tail have some of it
 begun_tail : (p : Part) (ts z : List Token) → Starts (first p) ts → read p ts ≡ Ok (nil, z) → {A : Type 0} → A
@@ -111,22 +84,19 @@ begun_tail p ts z start h =
     let parsed : Parsed p nil ts z = read_parsed p ts nil z h in
     both_ways (starts (first p) ts) start (subst (Stops (first p)) (sym parsed.spells) parsed.stop)
 
-pub items_read : (l : RowLevel) (e item : Expr) (rest : List Further) (ts m z : List Token) → read (item_part l) ts ≡ Ok (at_level (item_level l) item, m) → Starts (operators l) m
-    → read (tail_part l) m ≡ Ok (tail_of (item_level l) rest, z)
-    → ((next : Further) (others : List Further) → rest ≡ next ∷ others → at_level (row_level l) e ≡ row_forest l item rest)
-    → read (row_part l) ts ≡ Ok (at_level (row_level l) e, z)
-items_read l e item [] ts m z one start two so = begun_tail (tail_part l) m z start two
-items_read l e item (next ∷ others) ts m z one start two so =
+pub items_read : (l : RowLevel) (item : Expr) (rest : List Further) (ts m z : List Token) → read (item_part l) ts ≡ Ok (at_level (item_level l) item, m) → Starts (operators l) m
+    → read (tail_part l) m ≡ Ok (tail_of (item_level l) rest, z) → read (row_part l) ts ≡ Ok (at_level (row_level l) (row_node l item rest), z)
+items_read l item [] ts m z one start two = begun_tail (tail_part l) m z start two
+items_read l item (next ∷ others) ts m z one start two =
     step_row l ts ∙ pair_read (item_part l) (tail_part l) (at_level (item_level l) item) (tail_of (item_level l) (next ∷ others)) ts m z one two
-    ∙ ap (λ (f : Forest). read_so f z) (sym (so next others refl))
+    ∙ ap (λ (f : Forest). read_so z f) (sym (row_some l item next others))
 
-pub suffixes_read : (e head : Expr) (rest : List Suffix) (ts m z : List Token) → read Part.Primary ts ≡ Ok (at_level 9 head, m) → Starts (first Part.SuffixesTail) m
-    → read Part.SuffixesTail m ≡ Ok (suffixes_of rest, z) → ((s : Suffix) (others : List Suffix) → rest ≡ s ∷ others → at_level 8 e ≡ post_forest head rest)
-    → read Part.Postfix ts ≡ Ok (at_level 8 e, z)
-suffixes_read e head [] ts m z one start two so = begun_tail Part.SuffixesTail m z start two
-suffixes_read e head (s ∷ others) ts m z one start two so =
+pub suffixes_read : (head : Expr) (rest : List Suffix) (ts m z : List Token) → read Part.Primary ts ≡ Ok (at_level 9 head, m) → Starts (first Part.SuffixesTail) m
+    → read Part.SuffixesTail m ≡ Ok (suffixes_of rest, z) → read Part.Postfix ts ≡ Ok (at_level 8 (post_node head rest), z)
+suffixes_read head [] ts m z one start two = begun_tail Part.SuffixesTail m z start two
+suffixes_read head (s ∷ others) ts m z one start two =
     read_step Part.Postfix ts ∙ pair_read Part.Primary Part.SuffixesTail (at_level 9 head) (suffixes_of (s ∷ others)) ts m z one two
-    ∙ ap (λ (f : Forest). read_so f z) (sym (so s others refl))
+    ∙ ap (λ (f : Forest). read_so z f) (sym (post_some head s others))
 
 -- Items of a list
 
@@ -149,4 +119,4 @@ pub list_stops : (place : Place) (ts m : List Token) (e : Stop ℕ) → Starts c
 list_stops place ts m e start h one = taken_comma place ts m start h ∙ ap (onto (bare (TokenKind.Mark MarkKind.Comma))) (pair_first Part.Expr Part.ListedTail m e one)
 
 pub list_ends : (ts m : List Token) → Stops comma ts → m ≡ ts → read Part.ListedTail ts ≡ Ok (nil, m)
-list_ends ts m stop same = optional_none Part.ListedTail ts refl refl stop ∙ ap (read_so nil) (sym same)
+list_ends ts m stop same = optional_none Part.ListedTail ts refl refl stop ∙ ap (λ (z : List Token). read_so z nil) (sym same)

@@ -1,18 +1,8 @@
--- What operands without brackets are written as.
-use Rattle.std.proofs.Common.{◌≡◌, List, ℕ, true, false, Some, None, refl}
-use Rattle.osc_base.specs.declared.fault.Place.{Place}
-use Rattle.dsl_tree.specs.declared.parts.Digits.{Digits}
-use Rattle.dsl_tree.specs.declared.parts.Ident.{Ident}
-use Rattle.dsl_tree.specs.declared.token.TokenKind.{TokenKind}
-use Rattle.dsl_tree.specs.declared.token.WordKind.{WordKind}
-use Rattle.dsl_tree.specs.declared.expr.Expr.{Expr}
-use Rattle.dsl_tree.specs.ExprTree.{ExprTree}
-use Rattle.dsl_tree.specs.Forest.{nil, seen, sub}
-use Rattle.dsl_tree.specs.Written.{word_at, ident}
-use Rattle.dsl_tree.proofs.Seen.{seen_number, seen_physical, seen_chars, seen_truth, seen_it, seen_actor, seen_name, seen_enum_name}
-use Rattle.dsl_parser.specs.Levels.{at_level}
-use Rattle.dsl_parser.specs.Readers.{enum_member}
-use Rattle.dsl_parser.proofs.ExprForests.{level_own}
+-- What operands without brackets, and paths, are written as.
+use Rattle.std.proofs.Common.{◌≡◌, List, ℕ, true, false, Some, None, refl, [], ◌∷◌, map, sym, ◌∙◌, ap}
+use Rattle.dsl_parser.specs.Words.{Place, Digits, Ident, TokenKind, WordKind, Expr, ExprTree, nil, seen, sub, word_at, ident, at_level, enum_member, PathHead, Suffix, Forest, head_tree, path_tree, suffix_tree, path, path_row, head_token, suffixes_of}
+use Rattle.dsl_tree.proofs.{Seen.seen_number, Seen.seen_physical, Seen.seen_chars, Seen.seen_truth, Seen.seen_it, Seen.seen_actor, Seen.seen_name, Seen.seen_enum_name, WrittenRows.front_of_row, WrittenRows.path_of_row}
+use Rattle.dsl_parser.proofs.ExprForests.{level_own, suffixes_forest}
 
 pub number_forest : (number : Digits) → at_level 9 (Expr.Number number) ≡ seen number.place (TokenKind.Number number.digits number.places) nil
 number_forest number = level_own 9 (Expr.Number number) (ExprTree.Number number) (seen_number number) refl
@@ -46,3 +36,22 @@ pub ruleset word_forests = (true_forest, false_forest, it_forest, actor_forest)
 pub ruleset leaf_forests = (number_forest, physical_forest, chars_forest)
 
 pub ruleset name_forests = (name_forest, enum_name_forest)
+
+alone : (h : PathHead) → path (head_tree h) ≡ path_row (head_tree h) nil
+alone (PathHead.Name name) = refl
+alone (PathHead.It place) = refl
+alone (PathHead.Actor place) = refl
+
+headed : (h : PathHead) (f : Forest) → path_row (head_tree h) f ≡ seen (head_token h).place (head_token h).kind (sub f nil)
+headed (PathHead.Name name) f = refl
+headed (PathHead.It place) f = refl
+headed (PathHead.Actor place) f = refl
+
+row : (head : PathHead) (suffixes : List Suffix) → path (path_tree (record { head = head; suffixes = suffixes })) ≡ path_row (head_tree head) (suffixes_of suffixes)
+row head [] = alone head
+row head (s ∷ rest) =
+    path_of_row (ExprTree.Start (head_tree head)) (suffix_tree s) (map suffix_tree rest)
+    ∙ (front_of_row (ExprTree.Start (head_tree head)) (map suffix_tree (s ∷ rest)) ∙ ap (path_row (head_tree head)) (sym (suffixes_forest (s ∷ rest))))
+
+pub path_forest : (head : PathHead) (suffixes : List Suffix) → path (path_tree (record { head = head; suffixes = suffixes })) ≡ seen (head_token head).place (head_token head).kind (sub (suffixes_of suffixes) nil)
+path_forest head suffixes = row head suffixes ∙ headed head (suffixes_of suffixes)

@@ -1,19 +1,9 @@
 -- Tokens that were taken, and how many are left after them.
 use Rattle.std.proofs.Common.{◌≡◌, ℕ, ◌+◌, ◌<◌, ◌≤◌, List, [], ◌∷◌, length, true, false, refl, sym, ◌∙◌, ap, subst, Ok, arith}
 use Rattle.std.proofs.lemmas.Bool.{false≢true}
-use Rattle.osc_base.specs.declared.fault.Place.{Place}
-use Rattle.dsl_tree.specs.declared.token.Token.{Token}
-use Rattle.dsl_tree.specs.declared.token.TokenKind.{TokenKind}
-use Rattle.dsl_tree.specs.Codes.{code}
-use Rattle.dsl_tree.specs.Grammar.{Part}
-use Rattle.dsl_tree.specs.Forest.{Forest}
-use Rattle.dsl_tree.specs.Lookahead.{empty, subset}
-use Rattle.dsl_tree.specs.Language.{Ended}
+use Rattle.dsl_parser.specs.Words.{Place, Token, TokenKind, code, Part, Forest, empty, subset, Ended, at, take, read}
 use Rattle.dsl_tree.proofs.Sets.{has-subset}
-use Rattle.dsl_parser.specs.Cursor.{at}
-use Rattle.dsl_parser.specs.Descent.{take, read}
-use Rattle.dsl_parser.proofs.ReadParts.{taken, take_first}
-use Rattle.dsl_parser.proofs.ReadSteps.{taken_shorter, parsed_within, parsed_shorter, read_parsed}
+use Rattle.dsl_parser.proofs.{ReadParts.taken, ReadParts.take_first, ReadSteps.taken_shorter, ReadSteps.parsed_within, ReadSteps.parsed_shorter, ReadSteps.read_parsed}
 
 -- a token of one of few codes is one of many
 pub take_within : (few many : List ℕ) (ts : List Token) (t : Token) (rest : List Token) → subset few many ≡ true → take few ts ≡ Ok (t, rest) → take many ts ≡ Ok (t, rest)

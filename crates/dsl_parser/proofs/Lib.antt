@@ -1,6 +1,5 @@
 mod ArgumentRows
 mod Blocks
-mod CompoundForests
 mod ExprForests
 mod ExprSteps
 mod LeafForests
@@ -8,13 +7,9 @@ mod Lengths
 mod Loops
 mod OtherRules
 mod OtherTokens
-mod PathForests
-mod PhaseSteps
-mod Ranks
 mod ReadParts
 mod ReadSteps
 mod RowSteps
 mod StartForms
 mod Steps
-mod UnitRows
 mod Wholes

@@ -1,15 +1,8 @@
 -- The invariant of a loop that reads the items of a row.
 use Rattle.std.proofs.Common.{◌≡◌, ◌≢◌, ℕ, List, [], ◌∷◌, ◌++◌, sym, ◌∙◌, ap, subst, append_assoc, Result, Ok, Err, IfErr}
-use Rattle.std.specs.Result.{IsErr, IsErrAnd}
 use Rattle.std.proofs.lemmas.Bool.{false≢true}
 use Rattle.std.proofs.lemmas.List.{append-nil}
-use Rattle.osc_base.specs.declared.stop.Stop.{Stop}
-use Rattle.osc_base.specs.declared.stop.Stop.TheVariants.{Memory}
-use Rattle.dsl_tree.specs.declared.token.Token.{Token}
-use Rattle.dsl_tree.specs.Grammar.{Part}
-use Rattle.dsl_tree.specs.Forest.{Forest}
-use Rattle.dsl_parser.specs.Descent.{read, Gives}
-use Rattle.dsl_parser.specs.Rows.{Grows, IsRow}
+use Rattle.dsl_parser.specs.Words.{IsErr, IsErrAnd, Stop, Memory, Token, Part, Forest, read, Gives, Grows, IsRow}
 
 -- What is read of the rest of the row is read of the whole of it, with the items so far before it.
 pub record Along {X : Type 0} (p : Part) (rest : List X → Forest) (begun so_far : List X) (old now : List Token) : Type 0 where

@@ -1,15 +1,7 @@
 -- A part whose tokens begin with none of its other rules.
 use Rattle.std.proofs.Common.{◌≡◌, ◌⊎◌, ℕ, List, [], ◌∷◌, ◌++◌, length, true, false, sym, ◌∙◌, subst, inl, inr, ⊎_elim, eqb}
-use Rattle.dsl_tree.specs.declared.token.Token.{Token}
-use Rattle.dsl_tree.specs.Codes.{code, has}
-use Rattle.dsl_tree.specs.Grammar.{Part, Symbol, rules}
-use Rattle.dsl_tree.specs.Forest.{Follows}
-use Rattle.dsl_tree.specs.Lookahead.{first, firsts, empty, empties, subset}
-use Rattle.dsl_tree.specs.Reading.{starts, Stops, NotTaken, CanBegin, PartFault, RowFault}
-use Rattle.dsl_tree.proofs.Tests.{either_of}
-use Rattle.dsl_tree.proofs.Sets.{two_ways, both_ways, is_false, or_left, or_right, starts-nil, starts-cons, Stops-subset}
-use Rattle.dsl_tree.proofs.Begins.{void_empties, begins}
-use Rattle.dsl_tree.proofs.RuleFaults.{RuleOf, all_apart, by_rule, no_rule}
+use Rattle.dsl_parser.specs.Words.{Token, code, has, Part, Symbol, rules, Follows, first, firsts, empty, empties, subset, starts, Stops, NotTaken, CanBegin, PartFault, RowFault}
+use Rattle.dsl_tree.proofs.{Tests.either_of, Sets.two_ways, Sets.both_ways, Sets.is_false, Sets.or_left, Sets.or_right, Sets.starts-nil, Sets.starts-cons, Sets.Stops-subset, Begins.void_empties, Begins.begins, RuleFaults.RuleOf, RuleFaults.all_apart, RuleFaults.by_rule, RuleFaults.no_rule}
 
 -- what stands in two lists together stands in one of them
 has_either : (xs ys : List ℕ) (k : ℕ) → has (xs ++ ys) k ≡ true → (has xs k ≡ true) ⊎ (has ys k ≡ true)

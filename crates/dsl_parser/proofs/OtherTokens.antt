@@ -1,22 +1,9 @@
 -- A token with which no rule of a part begins.
 use Rattle.std.proofs.Common.{◌≡◌, ℕ, List, [], ◌∷◌, ◌++◌, length, Bool, true, false, cond, refl, sym, ◌∙◌, ap, subst, ◌&&◌, Err}
 use Rattle.std.proofs.lemmas.Bool.{false≢true}
-use Rattle.osc_base.specs.declared.stop.Stop.{Stop}
-use Rattle.osc_base.specs.declared.stop.Stop.TheVariants.{At}
-use Rattle.dsl_tree.specs.declared.token.Token.{Token}
-use Rattle.dsl_tree.specs.Codes.{code, has}
-use Rattle.dsl_tree.specs.Grammar.{Part, Symbol, Seen, Bare, Of, rules}
-use Rattle.dsl_tree.specs.Forest.{seen, bare}
-use Rattle.dsl_tree.specs.Lookahead.{first, firsts, subset}
-use Rattle.dsl_tree.specs.Reading.{Stops}
-use Rattle.dsl_tree.proofs.Tests.{left_of, right_of}
-use Rattle.dsl_tree.proofs.Sets.{starts-cons, Stops-subset}
-use Rattle.dsl_parser.specs.Descent.{Outcome, onto, take, after, in_row, by_rules, read}
-use Rattle.dsl_parser.specs.Levels.{bracket_codes, truth_codes}
-use Rattle.dsl_parser.specs.Operands.{value_codes}
-use Rattle.dsl_parser.proofs.OtherRules.{stops_both}
-use Rattle.dsl_parser.proofs.ReadParts.{Took, took}
-use Rattle.dsl_parser.proofs.ReadSteps.{read_step}
+use Rattle.dsl_parser.specs.Words.{Stop, At, Token, code, has, Part, Symbol, Seen, Bare, Of, rules, seen, bare, first, firsts, subset, Stops, Outcome, onto, take, after, in_row, by_rules, read, bracket_codes, truth_codes, value_codes}
+use Rattle.dsl_tree.proofs.{Tests.left_of, Tests.right_of, Sets.starts-cons, Sets.Stops-subset}
+use Rattle.dsl_parser.proofs.{OtherRules.stops_both, ReadParts.Took, ReadParts.took, ReadSteps.read_step}
 
 -- a rule that begins with a token of one of these codes
 abbrev begins_within : List ℕ → List Symbol → Bool

@@ -1,50 +1,29 @@
 -- What is read of a part is a forest of it, and where reading goes wrong no forest goes on.
 use Rattle.std.proofs.Common.{◌≡◌, ℕ, zero, suc, List, [], ◌∷◌, ◌++◌, length, Bool, true, false, cond, refl, sym, ◌∙◌, ap, subst, inl, inr, ⊎_elim, ◌&&◌, ◌||◌, not, Result, Ok, Err}
 use Rattle.std.proofs.lemmas.Bool.{false≢true}
-use Rattle.osc_base.specs.declared.stop.Stop.{Stop}
-use Rattle.osc_base.specs.declared.stop.Stop.TheVariants.{At}
-use Rattle.dsl_tree.specs.declared.token.Token.{Token}
-use Rattle.dsl_tree.specs.Codes.{code, has}
-use Rattle.dsl_tree.specs.Grammar.{Part, Symbol, Seen, Bare, Of, rules}
-use Rattle.dsl_tree.specs.Forest.{Forest, nil, seen, bare, sub, AnyRule}
-use Rattle.dsl_tree.specs.Lookahead.{first, firsts, empty, empties, sound, subset}
-use Rattle.dsl_tree.specs.Reading.{starts, Stops, void, Whole, Parsed, Built, Taken, NotTaken, PartFault, RowFault}
-use Rattle.dsl_tree.proofs.Tests.{left_of, right_of, either_of}
-use Rattle.dsl_tree.proofs.Sets.{both_ways, is_false, not_true, starts-cons, Starts-subset}
-use Rattle.dsl_tree.proofs.Begins.{void_empties}
-use Rattle.dsl_tree.proofs.Law.{whole_follows}
-use Rattle.dsl_tree.proofs.Shortest.{filled}
-use Rattle.dsl_tree.proofs.Faults.{ready, wrong_seen, wrong_bare, past_seen, past_bare, in_part as fault_in_part, past_part}
-use Rattle.dsl_tree.proofs.RuleFaults.{RuleOf, all_apart, by_rule}
-use Rattle.dsl_tree.proofs.Build.{built_none, built_seen, built_bare, built_part, parsed_full, parsed_none}
-use Rattle.dsl_tree.proofs.FirstNames.{arguments_named, arguments_plain, arguments_name}
-use Rattle.dsl_tree.proofs.EachPart.{each_part}
-use Rattle.dsl_parser.specs.Descent.{Outcome, onto, and_then, take, after, only_part, in_row, by_rules, optional, names, colon, begins_label, plain_argument, named_rest, named_argument, is_arguments, in_part, deep}
+use Rattle.dsl_parser.specs.Words.{Stop, At, Memory, Token, code, has, Part, Symbol, Seen, Bare, Of, rules, Forest, nil, seen, bare, sub, AnyRule, first, firsts, empty, empties, sound, subset, starts, Stops, void, Whole, Parsed, Built, Taken, NotTaken, PartFault, RowFault, Outcome, onto, and_then, take, after, only_part, in_row, by_rules, optional, names, colon, begins_label, plain_argument, named_rest, named_argument, is_arguments, in_part, deep}
+use Rattle.dsl_tree.proofs.{Tests.left_of, Tests.right_of, Tests.either_of, Sets.both_ways, Sets.is_false, Sets.not_true, Sets.starts-cons, Sets.Starts-subset, Begins.void_empties, Law.whole_follows, Shortest.filled, Faults.ready, Faults.wrong_seen, Faults.wrong_bare, Faults.past_seen, Faults.past_bare, Faults.in_part as fault_in_part, Faults.past_part, RuleFaults.RuleOf, RuleFaults.all_apart, RuleFaults.by_rule, Build.built_none, Build.built_seen, Build.built_bare, Build.built_part, Build.parsed_full, Build.parsed_none, FirstNames.arguments_named, FirstNames.arguments_plain, FirstNames.arguments_name, EachPart.each_part}
 use Rattle.dsl_parser.proofs.OtherRules.{by_rest, stops_both}
 
 -- Outcomes
 
-abbrev forest_of : Outcome → Forest
-forest_of (Ok x) = x.0
-forest_of (Err e) = nil
+-- a claim of what was read and is left, and one of the token at which reading goes wrong
+abbrev pub Held : {A : Type 0} → (A → List Token → Type 0) → (ℕ → Type 0) → Result (A × List Token) (Stop ℕ) → Type 0
+Held P F (Ok x) = P x.0 x.1
+Held P F (Err (At left)) = F left
+Held P F (Err Memory) = Unit {0}
 
-abbrev rest_of : Outcome → List Token
-rest_of (Ok x) = x.1
-rest_of (Err e) = []
+held_onto : (P Q : Forest → List Token → Type 0) (F G : ℕ → Type 0) (wrap : Forest → Forest) (o : Outcome)
+    → ((f : Forest) (rest : List Token) → P f rest → Q (wrap f) rest) → ((left : ℕ) → F left → G left) → Held P F o → Held Q G (onto wrap o)
+held_onto P Q F G wrap (Ok x) reads fails h = reads x.0 x.1 h
+held_onto P Q F G wrap (Err (At left)) reads fails h = fails left h
+held_onto P Q F G wrap (Err Memory) reads fails h = tt
 
-abbrev FromOnto : (Forest → Forest) → Outcome → Forest → List Token → Type 0
-FromOnto wrap o f rest = (g : Forest) × (o ≡ Ok (g, rest)) × (wrap g ≡ f)
-
-onto_ok : (wrap : Forest → Forest) (o : Outcome) (f : Forest) (rest : List Token) → onto wrap o ≡ Ok (f, rest) → FromOnto wrap o f rest
-onto_ok wrap (Ok x) f rest h = (x.0, ap (λ (z : List Token). paired x.0 z) (ap rest_of h), ap forest_of h)
-  where
-    paired : Forest → List Token → Outcome
-    paired g z = Ok (g, z)
-onto_ok wrap (Err e) f rest h = absurd (cc)
-
-onto_err : (wrap : Forest → Forest) (o : Outcome) (e : Stop ℕ) → onto wrap o ≡ Err e → o ≡ Err e
-onto_err wrap (Ok x) e h = absurd (cc)
-onto_err wrap (Err d) e h = h
+held_as : (P Q : Forest → List Token → Type 0) (F G : ℕ → Type 0) (o : Outcome)
+    → ((f : Forest) (rest : List Token) → P f rest → Q f rest) → ((left : ℕ) → F left → G left) → Held P F o → Held Q G o
+held_as P Q F G (Ok x) reads fails h = reads x.0 x.1 h
+held_as P Q F G (Err (At left)) reads fails h = fails left h
+held_as P Q F G (Err Memory) reads fails h = tt
 
 -- Tokens
 
@@ -54,87 +33,32 @@ Took = Result (Token × List Token) (Stop ℕ)
 abbrev pub took : Token → List Token → Took
 took t ts = Ok (t, ts)
 
-abbrev token_of : Token → Took → Token
-token_of t (Ok x) = x.0
-token_of t (Err e) = t
+abbrev TakenOr : List ℕ → List Token → Took → Type 0
+TakenOr codes ts o = Held (λ t rest. Taken codes ts t rest) (λ left. NotTaken codes ts left) o
 
-abbrev behind_of : Took → List Token
-behind_of (Ok x) = x.1
-behind_of (Err e) = []
+taken_or_not : (codes : List ℕ) (ts : List Token) → TakenOr codes ts (take codes ts)
+unfolding take
+taken_or_not codes [] = tt
+taken_or_not codes (t ∷ ts) = go (has codes (code t.kind)) refl
+  where
+    go : (b : Bool) → has codes (code t.kind) ≡ b → TakenOr codes (t ∷ ts) (cond b (took t ts) (Err (At (length (t ∷ ts)))))
+    go true fits = record { split = refl; fits = fits }
+    go false misfits = record { token = t; back = ts; split = refl; count = refl; misfits = misfits }
 
 pub taken : (codes : List ℕ) (ts : List Token) (t : Token) (rest : List Token) → take codes ts ≡ Ok (t, rest) → Taken codes ts t rest
-unfolding take
-taken codes [] t rest h = absurd (cc)
-taken codes (u ∷ us) t rest h = go (has codes (code u.kind)) refl h
-  where
-    go : (b : Bool) → has codes (code u.kind) ≡ b → cond b (took u us) (Err (At (length (u ∷ us)))) ≡ took t rest → Taken codes (u ∷ us) t rest
-    go true fits e =
-        let same : u ≡ t = ap (token_of u) e in
-        let behind : us ≡ rest = ap behind_of e in
-        record { split = ap (λ (x : Token). x ∷ us) same ∙ ap (λ (x : List Token). t ∷ x) behind; fits = ap (λ (x : Token). has codes (code x.kind)) (sym same) ∙ fits }
-    go false fits e = absurd (cc)
-
-pub not_taken : (codes : List ℕ) (ts : List Token) (left : ℕ) → take codes ts ≡ Err (At left) → NotTaken codes ts left
-unfolding take
-not_taken codes [] left h = absurd (cc)
-not_taken codes (u ∷ us) left h = go (has codes (code u.kind)) refl h
-  where
-    wrong : ℕ → Took
-    wrong n = Err (At n)
-
-    go : (b : Bool) → has codes (code u.kind) ≡ b → cond b (took u us) (Err (At (length (u ∷ us)))) ≡ Err (At left) → NotTaken codes (u ∷ us) left
-    go true fits e = absurd (cc)
-    go false misfits e = record { token = u; back = us; split = refl; count = let n : length (u ∷ us) ≡ left = cc in sym n; misfits = misfits }
-
-abbrev the_err : Stop ℕ → Outcome
-the_err e = Err e
-
-abbrev stop_err : Stop ℕ → Took
-stop_err e = Err e
-
-err_of : (e : Stop ℕ) (left : ℕ) → the_err e ≡ Err (At left) → e ≡ At left
-err_of e left h = cc
+taken codes ts t rest h = subst (TakenOr codes ts) h (taken_or_not codes ts)
 
 -- Rows
 
-abbrev ReadsWell : (Part → List Token → Outcome) → Type 0
-ReadsWell R = (p : Part) (ts : List Token) (f : Forest) (rest : List Token) → R p ts ≡ Ok (f, rest) → Parsed p f ts rest
+-- of a rule, and of a part
+abbrev RowHeld : List Symbol → List Token → Outcome → Type 0
+RowHeld ss ts o = Held (λ f rest. Built ss f ts rest) (λ left. RowFault ss ts left) o
 
-abbrev FailsWell : (Part → List Token → Outcome) → Type 0
-FailsWell R = (p : Part) (ts : List Token) (left : ℕ) → R p ts ≡ Err (At left) → PartFault p ts left
+abbrev pub PartHeld : Part → List Token → Outcome → Type 0
+PartHeld p ts o = Held (λ f rest. Parsed p f ts rest) (λ left. PartFault p ts left) o
 
-row_built : (R : Part → List Token → Outcome) → ReadsWell R → (ss : List Symbol) (ts : List Token) (f : Forest) (rest : List Token) → in_row R ss ts ≡ Ok (f, rest) → Built ss f ts rest
-row_built R well [] ts f rest h =
-    let e : nil ≡ f = ap forest_of h in
-    let z : ts ≡ rest = ap rest_of h in
-    subst (λ (g : Forest). Built [] g ts rest) e (subst (Built [] nil ts) z (built_none ts))
-row_built R well (Seen codes ∷ ss) ts f rest h = go (take codes ts) refl h (row_built R well ss)
-  where
-    go : (o : Took) → take codes ts ≡ o → after o (λ t m. onto (seen t.place t.kind) (in_row R ss m)) ≡ Ok (f, rest)
-        → ((m : List Token) (g : Forest) (z : List Token) → in_row R ss m ≡ Ok (g, z) → Built ss g m z) → Built (Seen codes ∷ ss) f ts rest
-    go (Ok (t, m)) e h again =
-        let (g, read, is) = onto_ok (seen t.place t.kind) (in_row R ss m) f rest h in
-        subst (λ (x : Forest). Built (Seen codes ∷ ss) x ts rest) is (built_seen codes ss g ts t m rest (taken codes ts t m e) (again m g rest read))
-    go (Err e) is h again = absurd (cc)
-row_built R well (Bare codes ∷ ss) ts f rest h = go (take codes ts) refl h (row_built R well ss)
-  where
-    go : (o : Took) → take codes ts ≡ o → after o (λ t m. onto (bare t.kind) (in_row R ss m)) ≡ Ok (f, rest)
-        → ((m : List Token) (g : Forest) (z : List Token) → in_row R ss m ≡ Ok (g, z) → Built ss g m z) → Built (Bare codes ∷ ss) f ts rest
-    go (Ok (t, m)) e h again =
-        let (g, read, is) = onto_ok (bare t.kind) (in_row R ss m) f rest h in
-        subst (λ (x : Forest). Built (Bare codes ∷ ss) x ts rest) is (built_bare codes ss g ts t m rest (taken codes ts t m e) (again m g rest read))
-    go (Err e) is h again = absurd (cc)
-row_built R well (Of p ∷ []) ts f rest h =
-    let (g, read, is) = onto_ok only_part (R p ts) f rest h in
-    subst (λ (x : Forest). Built (Of p ∷ []) x ts rest) is (built_part p [] g nil ts rest rest (well p ts g rest read) (built_none rest))
-row_built R well (Of p ∷ s ∷ ss) ts f rest h = go (R p ts) refl h (row_built R well (s ∷ ss))
-  where
-    go : (o : Outcome) → R p ts ≡ o → and_then o (λ part m. onto (sub part) (in_row R (s ∷ ss) m)) ≡ Ok (f, rest)
-        → ((m : List Token) (g : Forest) (z : List Token) → in_row R (s ∷ ss) m ≡ Ok (g, z) → Built (s ∷ ss) g m z) → Built (Of p ∷ s ∷ ss) f ts rest
-    go (Ok (part, m)) e h again =
-        let (g, read, is) = onto_ok (sub part) (in_row R (s ∷ ss) m) f rest h in
-        subst (λ (x : Forest). Built (Of p ∷ s ∷ ss) x ts rest) is (built_part p (s ∷ ss) part g ts m rest (well p ts part m e) (again m g rest read))
-    go (Err e) is h again = absurd (cc)
+abbrev Holds : (Part → List Token → Outcome) → Type 0
+Holds R = (p : Part) (ts : List Token) → PartHeld p ts (R p ts)
 
 ready_seen : (codes : List ℕ) (ss : List Symbol) → ready (Seen codes ∷ ss) ≡ true → ready ss ≡ true
 ready_seen codes ss h = both (sound ss) _ (filled ss) h
@@ -151,27 +75,40 @@ ready_of p ss h = last _ (sound ss) (filled ss) h
     last true b c h = h
     last false b c h = absurd (false≢true h)
 
-row_fault : (R : Part → List Token → Outcome) → ReadsWell R → FailsWell R → (ss : List Symbol) (ts : List Token) (left : ℕ) → ready ss ≡ true → in_row R ss ts ≡ Err (At left) → RowFault ss ts left
-row_fault R well fails [] ts left ok h = absurd (cc)
-row_fault R well fails (Seen codes ∷ ss) ts left ok h = go (take codes ts) refl h (λ m. row_fault R well fails ss m left (ready_seen codes ss ok))
+-- one row after another: what was read of the first stands before what is read of the second
+row_onto : (ss rule : List Symbol) (ts m : List Token) (wrap : Forest → Forest) (o : Outcome) → ((f : Forest) (rest : List Token) → Built ss f m rest → Built rule (wrap f) ts rest)
+    → ((left : ℕ) → RowFault ss m left → RowFault rule ts left) → RowHeld ss m o → RowHeld rule ts (onto wrap o)
+row_onto ss rule ts m wrap o = held_onto (λ f rest. Built ss f m rest) (λ f rest. Built rule f ts rest) (λ left. RowFault ss m left) (λ left. RowFault rule ts left) wrap o
+
+token_held : (codes : List ℕ) (ss rule : List Symbol) (ts : List Token) (wrap : Token → Forest → Forest) (next : List Token → Outcome)
+    → ((t : Token) (m : List Token) (f : Forest) (rest : List Token) → Taken codes ts t m → Built ss f m rest → Built rule (wrap t f) ts rest)
+    → ((t : Token) (m : List Token) (left : ℕ) → Taken codes ts t m → RowFault ss m left → RowFault rule ts left)
+    → ((left : ℕ) → NotTaken codes ts left → RowFault rule ts left) → ((m : List Token) → RowHeld ss m (next m)) → RowHeld rule ts (after (take codes ts) (λ t m. onto (wrap t) (next m)))
+token_held codes ss rule ts wrap next reads past wrong again = go (take codes ts) (taken_or_not codes ts)
   where
-    go : (o : Took) → take codes ts ≡ o → after o (λ t m. onto (seen t.place t.kind) (in_row R ss m)) ≡ Err (At left)
-        → ((m : List Token) → in_row R ss m ≡ Err (At left) → RowFault ss m left) → RowFault (Seen codes ∷ ss) ts left
-    go (Ok (t, m)) e h again = past_seen codes ss ts t m left (taken codes ts t m e) (again m (onto_err (seen t.place t.kind) (in_row R ss m) (At left) h))
-    go (Err e) is h again = let same : the_err e ≡ Err (At left) = h in wrong_seen codes ss ts left ok (not_taken codes ts left (is ∙ ap stop_err (err_of e left same)))
-row_fault R well fails (Bare codes ∷ ss) ts left ok h = go (take codes ts) refl h (λ m. row_fault R well fails ss m left (ready_seen codes ss ok))
+    go : (o : Took) → TakenOr codes ts o → RowHeld rule ts (after o (λ t m. onto (wrap t) (next m)))
+    go (Ok (t, m)) fits = row_onto ss rule ts m (wrap t) (next m) (λ f rest. reads t m f rest fits) (λ left. past t m left fits) (again m)
+    go (Err (At left)) misfits = wrong left misfits
+    go (Err Memory) h = tt
+
+row_held : (R : Part → List Token → Outcome) → Holds R → (ss : List Symbol) (ts : List Token) → ready ss ≡ true → RowHeld ss ts (in_row R ss ts)
+row_held R holds [] ts ok = built_none ts
+row_held R holds (Seen codes ∷ ss) ts ok =
+    token_held codes ss (Seen codes ∷ ss) ts (λ t. seen t.place t.kind) (in_row R ss) (λ t m f rest. built_seen codes ss f ts t m rest) (λ t m left. past_seen codes ss ts t m left)
+    (λ left. wrong_seen codes ss ts left ok) (λ m. row_held R holds ss m (ready_seen codes ss ok))
+row_held R holds (Bare codes ∷ ss) ts ok =
+    token_held codes ss (Bare codes ∷ ss) ts (λ t. bare t.kind) (in_row R ss) (λ t m f rest. built_bare codes ss f ts t m rest) (λ t m left. past_bare codes ss ts t m left)
+    (λ left. wrong_bare codes ss ts left ok) (λ m. row_held R holds ss m (ready_seen codes ss ok))
+row_held R holds (Of p ∷ []) ts ok =
+    held_onto (λ f rest. Parsed p f ts rest) (λ f rest. Built (Of p ∷ []) f ts rest) (λ left. PartFault p ts left) (λ left. RowFault (Of p ∷ []) ts left) only_part (R p ts)
+    (λ f rest parsed. built_part p [] f nil ts rest rest parsed (built_none rest)) (λ left. fault_in_part p [] ts left ok) (holds p ts)
+row_held R holds (Of p ∷ s ∷ ss) ts ok = go (R p ts) (holds p ts) (λ m. row_held R holds (s ∷ ss) m (ready_of p (s ∷ ss) ok))
   where
-    go : (o : Took) → take codes ts ≡ o → after o (λ t m. onto (bare t.kind) (in_row R ss m)) ≡ Err (At left)
-        → ((m : List Token) → in_row R ss m ≡ Err (At left) → RowFault ss m left) → RowFault (Bare codes ∷ ss) ts left
-    go (Ok (t, m)) e h again = past_bare codes ss ts t m left (taken codes ts t m e) (again m (onto_err (bare t.kind) (in_row R ss m) (At left) h))
-    go (Err e) is h again = let same : the_err e ≡ Err (At left) = h in wrong_bare codes ss ts left ok (not_taken codes ts left (is ∙ ap stop_err (err_of e left same)))
-row_fault R well fails (Of p ∷ []) ts left ok h = fault_in_part p [] ts left ok (fails p ts left (onto_err only_part (R p ts) (At left) h))
-row_fault R well fails (Of p ∷ s ∷ ss) ts left ok h = go (R p ts) refl h (λ m. row_fault R well fails (s ∷ ss) m left (ready_of p (s ∷ ss) ok))
-  where
-    go : (o : Outcome) → R p ts ≡ o → and_then o (λ part m. onto (sub part) (in_row R (s ∷ ss) m)) ≡ Err (At left)
-        → ((m : List Token) → in_row R (s ∷ ss) m ≡ Err (At left) → RowFault (s ∷ ss) m left) → RowFault (Of p ∷ s ∷ ss) ts left
-    go (Ok (part, m)) e h again = past_part p (s ∷ ss) part ts m left ok (well p ts part m e) (again m (onto_err (sub part) (in_row R (s ∷ ss) m) (At left) h))
-    go (Err e) is h again = fault_in_part p (s ∷ ss) ts left ok (fails p ts left (is ∙ h))
+    go : (o : Outcome) → PartHeld p ts o → ((m : List Token) → RowHeld (s ∷ ss) m (in_row R (s ∷ ss) m)) → RowHeld (Of p ∷ s ∷ ss) ts (and_then o (λ part m. onto (sub part) (in_row R (s ∷ ss) m)))
+    go (Ok (part, m)) parsed again =
+        row_onto (s ∷ ss) (Of p ∷ s ∷ ss) ts m (sub part) (in_row R (s ∷ ss) m) (λ f rest. built_part p (s ∷ ss) part f ts m rest parsed) (λ left. past_part p (s ∷ ss) part ts m left ok parsed) (again m)
+    go (Err (At left)) fault again = fault_in_part p (s ∷ ss) ts left ok fault
+    go (Err Memory) h again = tt
 
 -- Parts
 
@@ -208,36 +145,31 @@ full_forest f r z full w = is_false (void f) (λ v. both_ways (empties r) (void_
 full_part : (p : Part) (r : List Symbol) (f : Forest) (ts rest : List Token) → RuleOf p r → empties r ≡ false → Built r f ts rest → Parsed p f ts rest
 full_part p r f ts rest rule full built = parsed_full p r f ts rest rule (full_forest f r rest full built.whole) built
 
+-- a part by one of its rules, if a fault of the rule is one of the part
+by_row : (R : Part → List Token → Outcome) → Holds R → (p : Part) (r : List Symbol) (ts : List Token) → RuleOf p r → empties r ≡ false → ready r ≡ true
+    → ((left : ℕ) → RowFault r ts left → PartFault p ts left) → PartHeld p ts (in_row R r ts)
+by_row R holds p r ts rule full ok faults =
+    held_as (λ f rest. Built r f ts rest) (λ f rest. Parsed p f ts rest) (λ left. RowFault r ts left) (λ left. PartFault p ts left) (in_row R r ts) (λ f rest. full_part p r f ts rest rule full) faults (row_held R holds r ts ok)
+
 -- the rules in a list are of the part
 abbrev AllOf : Part → List (List Symbol) → Type 0
 AllOf p rs = (r : List Symbol) → AnyRule rs (λ s. s ≡ r) → RuleOf p r
 
-order_parsed : (R : Part → List Token → Outcome) → ReadsWell R → (p : Part) (rs : List (List Symbol)) → AllOf p rs → all_full rs ≡ true
-    → (ts : List Token) (f : Forest) (rest : List Token) → by_rules R rs ts ≡ Ok (f, rest) → Parsed p f ts rest
-order_parsed R well p [] of full ts f rest h = absurd (cc)
-order_parsed R well p (r ∷ []) of full ts f rest h = full_part p r f ts rest (of r (inl refl)) (not_true (empties r) (left_of (not (empties r)) true full)) (row_built R well r ts f rest h)
-order_parsed R well p (r ∷ s ∷ rs) of full ts f rest h =
-    go (starts (firsts r) ts) h (order_parsed R well p (s ∷ rs) (λ x any. of x (inr any)) (right_of (not (empties r)) (all_full (s ∷ rs)) full) ts f rest)
-  where
-    go : (b : Bool) → cond b (in_row R r ts) (by_rules R (s ∷ rs) ts) ≡ Ok (f, rest) → (by_rules R (s ∷ rs) ts ≡ Ok (f, rest) → Parsed p f ts rest) → Parsed p f ts rest
-    go true h others = full_part p r f ts rest (of r (inl refl)) (not_true (empties r) (left_of (not (empties r)) (all_full (s ∷ rs)) full)) (row_built R well r ts f rest h)
-    go false h others = others h
-
-order_fault : (R : Part → List Token → Outcome) → ReadsWell R → FailsWell R → (p : Part) → empty p ≡ false → all_apart (rules p) ≡ true
-    → (rs : List (List Symbol)) → AllOf p rs → all_full rs ≡ true → all_ready rs ≡ true
-    → (before : List ℕ) → covered p before rs ≡ true → (ts : List Token) (left : ℕ) → Stops before ts → by_rules R rs ts ≡ Err (At left) → PartFault p ts left
-order_fault R well fails p blank tells [] of full ok before cover ts left stop h = absurd (cc)
-order_fault R well fails p blank tells (r ∷ []) of full ok before cover ts left stop h =
-    by_rest p r before ts left (of r (inl refl)) tells blank (not_true (empties r) (left_of (not (empties r)) true full)) cover stop (row_fault R well fails r ts left (left_of (ready r) true ok) h)
-order_fault R well fails p blank tells (r ∷ s ∷ rs) of full ok before cover ts left stop h =
-    go (starts (firsts r) ts) refl h
-    (λ miss. order_fault R well fails p blank tells (s ∷ rs) (λ x any. of x (inr any)) (right_of (not (empties r)) (all_full (s ∷ rs)) full) (right_of (ready r) (all_ready (s ∷ rs)) ok) (firsts r ++ before) cover ts left
+order_held : (R : Part → List Token → Outcome) → Holds R → (p : Part) → empty p ≡ false → all_apart (rules p) ≡ true → (rs : List (List Symbol)) → AllOf p rs → all_full rs ≡ true → all_ready rs ≡ true
+    → (before : List ℕ) → covered p before rs ≡ true → (ts : List Token) → Stops before ts → PartHeld p ts (by_rules R rs ts)
+order_held R holds p blank tells [] of full ok before cover ts stop = tt
+order_held R holds p blank tells (r ∷ []) of full ok before cover ts stop =
+    let some : empties r ≡ false = not_true (empties r) (left_of (not (empties r)) true full) in
+    by_row R holds p r ts (of r (inl refl)) some (left_of (ready r) true ok) (λ left. by_rest p r before ts left (of r (inl refl)) tells blank some cover stop)
+order_held R holds p blank tells (r ∷ s ∷ rs) of full ok before cover ts stop =
+    go (starts (firsts r) ts) refl
+    (λ miss. order_held R holds p blank tells (s ∷ rs) (λ x any. of x (inr any)) (right_of (not (empties r)) (all_full (s ∷ rs)) full) (right_of (ready r) (all_ready (s ∷ rs)) ok) (firsts r ++ before) cover ts
     (stops_both (firsts r) before ts miss stop))
   where
-    go : (b : Bool) → starts (firsts r) ts ≡ b → cond b (in_row R r ts) (by_rules R (s ∷ rs) ts) ≡ Err (At left)
-        → (Stops (firsts r) ts → by_rules R (s ∷ rs) ts ≡ Err (At left) → PartFault p ts left) → PartFault p ts left
-    go true start h others = by_rule p r ts left (of r (inl refl)) tells start (row_fault R well fails r ts left (left_of (ready r) (all_ready (s ∷ rs)) ok) h)
-    go false miss h others = others miss h
+    go : (b : Bool) → starts (firsts r) ts ≡ b → (Stops (firsts r) ts → PartHeld p ts (by_rules R (s ∷ rs) ts)) → PartHeld p ts (cond b (in_row R r ts) (by_rules R (s ∷ rs) ts))
+    go true start others =
+        by_row R holds p r ts (of r (inl refl)) (not_true (empties r) (left_of (not (empties r)) (all_full (s ∷ rs)) full)) (left_of (ready r) (all_ready (s ∷ rs)) ok) (λ left. by_rule p r ts left (of r (inl refl)) tells start)
+    go false miss others = others miss
 
 -- a part that may be left out
 abbrev Optional : Part → List (List Symbol) → Type 0
@@ -263,26 +195,15 @@ rule_ready (s ∷ rs) r ok (inr any) = rule_ready rs r (right_of (ready s) (all_
 abbrev left_out : List Token → Outcome
 left_out ts = Ok (nil, ts)
 
-optional_parsed : (R : Part → List Token → Outcome) → ReadsWell R → (p : Part) → Optional p (rules p)
-    → (ts : List Token) (f : Forest) (rest : List Token) → cond (starts (first p) ts) (in_row R (optional (rules p)) ts) (left_out ts) ≡ Ok (f, rest) → Parsed p f ts rest
-optional_parsed R well p (none, rule, full, within) ts f rest h = go (starts (first p) ts) refl h
+optional_held : (R : Part → List Token → Outcome) → Holds R → (p : Part) → Optional p (rules p) → all_apart (rules p) ≡ true → all_ready (rules p) ≡ true
+    → (ts : List Token) → PartHeld p ts (cond (starts (first p) ts) (in_row R (optional (rules p)) ts) (left_out ts))
+optional_held R holds p (none, rule, full, within) tells ok ts = go (starts (first p) ts) refl
   where
-    go : (b : Bool) → starts (first p) ts ≡ b → cond b (in_row R (optional (rules p)) ts) (left_out ts) ≡ Ok (f, rest) → Parsed p f ts rest
-    go true start h = full_part p (optional (rules p)) f ts rest rule full (row_built R well (optional (rules p)) ts f rest h)
-    go false stop h =
-        let e : nil ≡ f = ap forest_of h in
-        let z : ts ≡ rest = ap rest_of h in
-        subst (λ (g : Forest). Parsed p g ts rest) e (subst (Parsed p nil ts) z (parsed_none p ts none stop))
-
-optional_fault : (R : Part → List Token → Outcome) → ReadsWell R → FailsWell R → (p : Part) → Optional p (rules p) → all_apart (rules p) ≡ true → all_ready (rules p) ≡ true
-    → (ts : List Token) (left : ℕ) → cond (starts (first p) ts) (in_row R (optional (rules p)) ts) (left_out ts) ≡ Err (At left) → PartFault p ts left
-optional_fault R well fails p (none, rule, full, within) tells ok ts left h = go (starts (first p) ts) refl h
-  where
-    go : (b : Bool) → starts (first p) ts ≡ b → cond b (in_row R (optional (rules p)) ts) (left_out ts) ≡ Err (At left) → PartFault p ts left
-    go true start h =
-        by_rule p (optional (rules p)) ts left rule tells (Starts-subset (first p) (firsts (optional (rules p))) ts within start)
-        (row_fault R well fails (optional (rules p)) ts left (rule_ready (rules p) (optional (rules p)) ok rule) h)
-    go false stop h = absurd (cc)
+    go : (b : Bool) → starts (first p) ts ≡ b → PartHeld p ts (cond b (in_row R (optional (rules p)) ts) (left_out ts))
+    go true start =
+        by_row R holds p (optional (rules p)) ts rule full (rule_ready (rules p) (optional (rules p)) ok rule)
+        (λ left. by_rule p (optional (rules p)) ts left rule tells (Starts-subset (first p) (firsts (optional (rules p))) ts within start))
+    go false stop = parsed_none p ts none stop
 
 -- Arguments
 
@@ -297,18 +218,27 @@ take_first codes t ts h = ap (λ (b : Bool). cond b (took t ts) (Err (At (length
 first_taken : (codes : List ℕ) (t : Token) (ts : List Token) → has codes (code t.kind) ≡ true → Taken codes (t ∷ ts) t ts
 first_taken codes t ts h = record { split = refl; fits = h }
 
-labelled_fault : (R : Part → List Token → Outcome) → ReadsWell R → FailsWell R → (ts : List Token) (left : ℕ) → begins_label ts ≡ true → in_row R named_argument ts ≡ Err (At left) → PartFault Part.Arguments ts left
+-- what stands after a name and its colon
+abbrev behind_colon : (Part → List Token → Outcome) → Took → Outcome
+behind_colon R o = after o (λ u m. onto (bare u.kind) (in_row R named_rest m))
+
+labelled_held : (R : Part → List Token → Outcome) → Holds R → (ts : List Token) → begins_label ts ≡ true → PartHeld Part.Arguments ts (in_row R named_argument ts)
 unfolding begins_label
-labelled_fault R well fails (t ∷ u ∷ vs) left b h =
-    let one : has names (code t.kind) ≡ true = left_of (has names (code t.kind)) (has colon (code u.kind)) b in
-    let two : has colon (code u.kind) ≡ true = right_of (has names (code t.kind)) (has colon (code u.kind)) b in
-    let e : after (took t (u ∷ vs)) (λ x m. onto (seen x.place x.kind) (after (take colon m) (λ y z. onto (bare y.kind) (in_row R named_rest z)))) ≡ Err (At left) =
-    ap (λ (o : Took). after o (λ x m. onto (seen x.place x.kind) (after (take colon m) (λ y z. onto (bare y.kind) (in_row R named_rest z))))) (sym (take_first names t (u ∷ vs) one)) ∙ h in
-    let e' : after (take colon (u ∷ vs)) (λ y z. onto (bare y.kind) (in_row R named_rest z)) ≡ Err (At left) = onto_err (seen t.place t.kind) (after (take colon (u ∷ vs)) (λ y z. onto (bare y.kind) (in_row R named_rest z))) (At left) e in
-    let e'' : after (took u vs) (λ y z. onto (bare y.kind) (in_row R named_rest z)) ≡ Err (At left) = ap (λ (o : Took). after o (λ y z. onto (bare y.kind) (in_row R named_rest z))) (sym (take_first colon u vs two)) ∙ e' in
-    arguments_named (t ∷ u ∷ vs) t (u ∷ vs) u vs left (first_taken names t (u ∷ vs) one) (first_taken colon u vs two) (row_fault R well fails named_rest vs left refl (onto_err (bare u.kind) (in_row R named_rest vs) (At left) e''))
-labelled_fault R well fails [] left b h = absurd (cc)
-labelled_fault R well fails (t ∷ []) left b h = absurd (cc)
+labelled_held R holds (t ∷ u ∷ vs) b =
+    let one : Taken names (t ∷ u ∷ vs) t (u ∷ vs) = first_taken names t (u ∷ vs) (left_of (has names (code t.kind)) (has colon (code u.kind)) b) in
+    let two : Taken colon (u ∷ vs) u vs = first_taken colon u vs (right_of (has names (code t.kind)) (has colon (code u.kind)) b) in
+    subst (λ (o : Took). PartHeld Part.Arguments (t ∷ u ∷ vs) (after o (λ x m. onto (seen x.place x.kind) (behind_colon R (take colon m))))) (sym (take_first names t (u ∷ vs) one.fits))
+    (subst (λ (o : Took). PartHeld Part.Arguments (t ∷ u ∷ vs) (onto (seen t.place t.kind) (behind_colon R o))) (sym (take_first colon u vs two.fits))
+    (held_onto (λ f rest. Built named_after f (u ∷ vs) rest) (λ f rest. Parsed Part.Arguments f (t ∷ u ∷ vs) rest) (λ left. RowFault named_rest vs left) (λ left. PartFault Part.Arguments (t ∷ u ∷ vs) left) (seen t.place t.kind) (onto (bare u.kind) (in_row R named_rest vs))
+    (λ f rest built. full_part Part.Arguments named_argument (seen t.place t.kind f) (t ∷ u ∷ vs) rest (inr (inl refl)) refl (built_seen names named_after f (t ∷ u ∷ vs) t (u ∷ vs) rest one built))
+    (λ left. arguments_named (t ∷ u ∷ vs) t (u ∷ vs) u vs left one two)
+    (held_onto (λ f rest. Built named_rest f vs rest) (λ f rest. Built named_after f (u ∷ vs) rest) (λ left. RowFault named_rest vs left) (λ left. RowFault named_rest vs left) (bare u.kind) (in_row R named_rest vs)
+    (λ f rest. built_bare colon named_rest f (u ∷ vs) u vs rest two) (λ left fault. fault) (row_held R holds named_rest vs refl))))
+  where
+    named_after : List Symbol
+    named_after = Bare colon ∷ named_rest
+labelled_held R holds [] b = absurd (cc)
+labelled_held R holds (t ∷ []) b = absurd (cc)
 
 plain_fault : (ts : List Token) (left : ℕ) → begins_label ts ≡ false → RowFault plain_argument ts left → PartFault Part.Arguments ts left
 unfolding begins_label
@@ -324,21 +254,12 @@ plain_fault (t ∷ u ∷ vs) left b fault = go (has names (code t.kind)) refl b
     go true h e = arguments_name (t ∷ u ∷ vs) t (u ∷ vs) left (first_taken names t (u ∷ vs) h) (starts-cons colon u vs ∙ e) fault
     go false h e = arguments_plain (t ∷ u ∷ vs) left (starts-cons names t (u ∷ vs) ∙ h) fault
 
-arguments_parsed : (R : Part → List Token → Outcome) → ReadsWell R → (ts : List Token) (f : Forest) (rest : List Token)
-    → cond (begins_label ts) (in_row R named_argument ts) (in_row R plain_argument ts) ≡ Ok (f, rest) → Parsed Part.Arguments f ts rest
-arguments_parsed R well ts f rest h = go (begins_label ts) h
+arguments_held : (R : Part → List Token → Outcome) → Holds R → (ts : List Token) → PartHeld Part.Arguments ts (cond (begins_label ts) (in_row R named_argument ts) (in_row R plain_argument ts))
+arguments_held R holds ts = go (begins_label ts) refl
   where
-    go : (b : Bool) → cond b (in_row R named_argument ts) (in_row R plain_argument ts) ≡ Ok (f, rest) → Parsed Part.Arguments f ts rest
-    go true h = full_part Part.Arguments named_argument f ts rest (inr (inl refl)) refl (row_built R well named_argument ts f rest h)
-    go false h = full_part Part.Arguments plain_argument f ts rest (inl refl) refl (row_built R well plain_argument ts f rest h)
-
-arguments_fault : (R : Part → List Token → Outcome) → ReadsWell R → FailsWell R → (ts : List Token) (left : ℕ)
-    → cond (begins_label ts) (in_row R named_argument ts) (in_row R plain_argument ts) ≡ Err (At left) → PartFault Part.Arguments ts left
-arguments_fault R well fails ts left h = go (begins_label ts) refl h
-  where
-    go : (b : Bool) → begins_label ts ≡ b → cond b (in_row R named_argument ts) (in_row R plain_argument ts) ≡ Err (At left) → PartFault Part.Arguments ts left
-    go true e h = labelled_fault R well fails ts left e h
-    go false e h = plain_fault ts left e (row_fault R well fails plain_argument ts left refl h)
+    go : (b : Bool) → begins_label ts ≡ b → PartHeld Part.Arguments ts (cond b (in_row R named_argument ts) (in_row R plain_argument ts))
+    go true label = labelled_held R holds ts label
+    go false plain = by_row R holds Part.Arguments plain_argument ts (inl refl) refl refl (λ left. plain_fault ts left plain)
 
 -- All parts
 
@@ -354,44 +275,25 @@ not_arguments p e =
 abbrev in_other : (Part → List Token → Outcome) → Part → List Token → Outcome
 in_other R p ts = cond (empty p) (cond (starts (first p) ts) (in_row R (optional (rules p)) ts) (left_out ts)) (by_rules R (rules p) ts)
 
-other_parsed : (R : Part → List Token → Outcome) → ReadsWell R → (p : Part) → others p ≡ true → (ts : List Token) (f : Forest) (rest : List Token) → in_other R p ts ≡ Ok (f, rest) → Parsed p f ts rest
-other_parsed R well p ok ts f rest h = go (empty p) refl (right_of (all_apart (rules p)) _ ok) h
-  where
-    go : (b : Bool) → empty p ≡ b → cond b (is_optional p (rules p)) (all_full (rules p) && covered p [] (rules p)) ≡ true
-        → cond b (cond (starts (first p) ts) (in_row R (optional (rules p)) ts) (left_out ts)) (by_rules R (rules p) ts) ≡ Ok (f, rest) → Parsed p f ts rest
-    go true e ok h = optional_parsed R well p (optional_rules p (rules p) ok) ts f rest h
-    go false e ok h = order_parsed R well p (rules p) (λ r any. any) (left_of (all_full (rules p)) (covered p [] (rules p)) ok) ts f rest h
-
-other_fault : (R : Part → List Token → Outcome) → ReadsWell R → FailsWell R → (p : Part) → all_ready (rules p) ≡ true → others p ≡ true → (ts : List Token) (left : ℕ) → in_other R p ts ≡ Err (At left) → PartFault p ts left
-other_fault R well fails p filled ok ts left h = go (empty p) refl (right_of (all_apart (rules p)) _ ok) h
+other_held : (R : Part → List Token → Outcome) → Holds R → (p : Part) → all_ready (rules p) ≡ true → others p ≡ true → (ts : List Token) → PartHeld p ts (in_other R p ts)
+other_held R holds p filled ok ts = go (empty p) refl (right_of (all_apart (rules p)) _ ok)
   where
     tells : all_apart (rules p) ≡ true
     tells = left_of (all_apart (rules p)) _ ok
 
     go : (b : Bool) → empty p ≡ b → cond b (is_optional p (rules p)) (all_full (rules p) && covered p [] (rules p)) ≡ true
-        → cond b (cond (starts (first p) ts) (in_row R (optional (rules p)) ts) (left_out ts)) (by_rules R (rules p) ts) ≡ Err (At left) → PartFault p ts left
-    go true e ok h = optional_fault R well fails p (optional_rules p (rules p) ok) tells filled ts left h
-    go false e ok h =
-        order_fault R well fails p e tells (rules p) (λ r any. any) (left_of (all_full (rules p)) (covered p [] (rules p)) ok) filled [] (right_of (all_full (rules p)) (covered p [] (rules p)) ok) ts left refl h
+        → PartHeld p ts (cond b (cond (starts (first p) ts) (in_row R (optional (rules p)) ts) (left_out ts)) (by_rules R (rules p) ts))
+    go true e ok = optional_held R holds p (optional_rules p (rules p) ok) tells filled ts
+    go false e ok =
+        order_held R holds p e tells (rules p) (λ r any. any) (left_of (all_full (rules p)) (covered p [] (rules p)) ok) filled [] (right_of (all_full (rules p)) (covered p [] (rules p)) ok) ts refl
 
-part_parsed : (R : Part → List Token → Outcome) → ReadsWell R → (p : Part) (ts : List Token) (f : Forest) (rest : List Token) → in_part R p ts ≡ Ok (f, rest) → Parsed p f ts rest
-part_parsed R well p ts f rest h = go (is_arguments p) refl h
+part_held : (R : Part → List Token → Outcome) → Holds R → (p : Part) (ts : List Token) → PartHeld p ts (in_part R p ts)
+part_held R holds p ts = go (is_arguments p) refl
   where
-    go : (b : Bool) → is_arguments p ≡ b → cond b (cond (begins_label ts) (in_row R named_argument ts) (in_row R plain_argument ts)) (in_other R p ts) ≡ Ok (f, rest) → Parsed p f ts rest
-    go true e h = subst (λ (q : Part). Parsed q f ts rest) (sym (arguments_only p e)) (arguments_parsed R well ts f rest h)
-    go false e h = other_parsed R well p (not_arguments p e) ts f rest h
+    go : (b : Bool) → is_arguments p ≡ b → PartHeld p ts (cond b (cond (begins_label ts) (in_row R named_argument ts) (in_row R plain_argument ts)) (in_other R p ts))
+    go true e = subst (λ (q : Part). PartHeld q ts (cond (begins_label ts) (in_row R named_argument ts) (in_row R plain_argument ts))) (sym (arguments_only p e)) (arguments_held R holds ts)
+    go false e = other_held R holds p (left_of (all_ready (rules p)) _ (readable p)) (not_arguments p e) ts
 
-part_fault : (R : Part → List Token → Outcome) → ReadsWell R → FailsWell R → (p : Part) (ts : List Token) (left : ℕ) → in_part R p ts ≡ Err (At left) → PartFault p ts left
-part_fault R well fails p ts left h = go (is_arguments p) refl h
-  where
-    go : (b : Bool) → is_arguments p ≡ b → cond b (cond (begins_label ts) (in_row R named_argument ts) (in_row R plain_argument ts)) (in_other R p ts) ≡ Err (At left) → PartFault p ts left
-    go true e h = subst (λ (q : Part). PartFault q ts left) (sym (arguments_only p e)) (arguments_fault R well fails ts left h)
-    go false e h = other_fault R well fails p (left_of (all_ready (rules p)) _ (readable p)) (not_arguments p e) ts left h
-
-pub deep_parsed : (n : ℕ) (p : Part) (ts : List Token) (f : Forest) (rest : List Token) → deep n p ts ≡ Ok (f, rest) → Parsed p f ts rest
-deep_parsed zero p ts f rest h = absurd (cc)
-deep_parsed (suc n) p ts f rest h = part_parsed (deep n) (deep_parsed n) p ts f rest h
-
-pub deep_fault : (n : ℕ) (p : Part) (ts : List Token) (left : ℕ) → deep n p ts ≡ Err (At left) → PartFault p ts left
-deep_fault zero p ts left h = absurd (cc)
-deep_fault (suc n) p ts left h = part_fault (deep n) (deep_parsed n) (deep_fault n) p ts left h
+pub deep_held : (n : ℕ) (p : Part) (ts : List Token) → PartHeld p ts (deep n p ts)
+deep_held zero p ts = tt
+deep_held (suc n) p ts = part_held (deep n) (deep_held n) p ts

@@ -1,21 +1,9 @@
 -- Each part is read by its rule: no number of parts within one another is too small.
-use Rattle.std.proofs.Common.{◌≡◌, ℕ, zero, suc, ◌+◌, ◌*◌, ◌<◌, ◌≤◌, List, [], ◌∷◌, length, Bool, true, false, cond, refl, sym, ◌∙◌, ap, ◌&&◌, Result, Ok, Err, arith}
-use Rattle.std.specs.Prelude.{max, nat_lt}
+use Rattle.std.proofs.Common.{◌≡◌, ℕ, zero, suc, ◌+◌, ◌*◌, ◌<◌, ◌≤◌, List, [], ◌∷◌, length, Bool, true, false, cond, refl, sym, ◌∙◌, ap, ap₂, subst, ◌&&◌, Ok, Err, arith}
 use Rattle.std.proofs.lemmas.Bool.{false≢true, ltb-true}
-use Rattle.osc_base.specs.declared.stop.Stop.{Stop}
-use Rattle.osc_base.specs.declared.stop.Stop.TheVariants.{At}
-use Rattle.dsl_tree.specs.declared.token.Token.{Token}
-use Rattle.dsl_tree.specs.Grammar.{Part, Symbol, Seen, Bare, Of, rules}
-use Rattle.dsl_tree.specs.Forest.{Forest, nil, seen, bare, sub, wrong, Spells}
-use Rattle.dsl_tree.specs.Lookahead.{first, firsts, empty}
-use Rattle.dsl_tree.specs.Reading.{starts, void, Parsed, PartFault}
-use Rattle.dsl_tree.proofs.Tests.{left_of, right_of}
-use Rattle.dsl_tree.proofs.Sets.{both_ways, is_false}
-use Rattle.dsl_tree.proofs.Begins.{void_part}
-use Rattle.dsl_tree.proofs.Law.{part_follows}
-use Rattle.dsl_tree.proofs.EachPart.{each_part}
-use Rattle.dsl_parser.specs.Descent.{Outcome, onto, and_then, take, after, only_part, in_row, by_rules, optional, begins_label, plain_argument, named_argument, is_arguments, in_part, deep, room, read}
-use Rattle.dsl_parser.proofs.ReadParts.{taken, deep_parsed, deep_fault}
+use Rattle.dsl_parser.specs.Words.{max, nat_lt, At, Token, Part, Symbol, Seen, Bare, Of, rules, Forest, nil, seen, bare, sub, wrong, Spells, first, firsts, empty, starts, void, Parsed, PartFault, Outcome, onto, and_then, take, after, only_part, in_row, by_rules, optional, begins_label, plain_argument, named_argument, is_arguments, in_part, deep, room, read}
+use Rattle.dsl_tree.proofs.{Tests.left_of, Tests.right_of, Sets.both_ways, Sets.is_false, Begins.void_part, Law.part_follows, EachPart.each_part}
+use Rattle.dsl_parser.proofs.ReadParts.{Took, PartHeld, taken, deep_held}
 
 -- How long what is left is
 
@@ -123,29 +111,26 @@ abbrev Agree : ℕ → Reader → Reader → Type 0
 Agree n R S = (q : Part) (ts : List Token) → 100 * length ts + rank q < n → R q ts ≡ S q ts
 
 abbrev Well : Reader → Type 0
-Well R = (p : Part) (ts : List Token) (f : Forest) (rest : List Token) → R p ts ≡ Ok (f, rest) → Parsed p f ts rest
+Well R = (p : Part) (ts : List Token) → PartHeld p ts (R p ts)
 
-abbrev Took : Type 0
-Took = Result (Token × List Token) (Stop ℕ)
+well_read : (R : Reader) → Well R → (p : Part) (ts : List Token) (f : Forest) (rest : List Token) → R p ts ≡ Ok (f, rest) → Parsed p f ts rest
+well_read R well p ts f rest h = subst (PartHeld p ts) h (well p ts)
+
+-- what stands after a token is shorter
+token_same : (R S : List Token → Outcome) (wrap : Token → Forest → Forest) (codes : List ℕ) (ss : List Symbol) (ts : List Token) (n bound : ℕ) → 100 * length ts + bound ≤ n
+    → ((m : List Token) (b : ℕ) → below b ss ≡ true → b ≤ 100 → 100 * length m + b ≤ n → R m ≡ S m) → after (take codes ts) (λ t m. onto (wrap t) (R m)) ≡ after (take codes ts) (λ t m. onto (wrap t) (S m))
+token_same R S wrap codes ss ts n bound room again = go (take codes ts) refl
+  where
+    go : (o : Took) → take codes ts ≡ o → after o (λ t m. onto (wrap t) (R m)) ≡ after o (λ t m. onto (wrap t) (S m))
+    go (Err e) is = refl
+    go (Ok (t, m)) is =
+        let e : length m + 1 ≡ length ts = taken_shorter codes ts t m is in
+        ap (onto (wrap t)) (again m 100 (all_small ss) (omega arith) (omega (arith, e, room)))
 
 row_same : (R S : Reader) (n : ℕ) → Agree n R S → Well R → (ss : List Symbol) (ts : List Token) (bound : ℕ) → below bound ss ≡ true → bound ≤ 100 → 100 * length ts + bound ≤ n → in_row R ss ts ≡ in_row S ss ts
 row_same R S n agree well [] ts bound h small room = refl
-row_same R S n agree well (Seen codes ∷ ss) ts bound h small room = go (take codes ts) refl (row_same R S n agree well ss)
-  where
-    go : (o : Took) → take codes ts ≡ o → ((m : List Token) (b : ℕ) → below b ss ≡ true → b ≤ 100 → 100 * length m + b ≤ n → in_row R ss m ≡ in_row S ss m)
-        → after o (λ t m. onto (seen t.place t.kind) (in_row R ss m)) ≡ after o (λ t m. onto (seen t.place t.kind) (in_row S ss m))
-    go (Err e) is again = refl
-    go (Ok (t, m)) is again =
-        let e : length m + 1 ≡ length ts = taken_shorter codes ts t m is in
-        ap (onto (seen t.place t.kind)) (again m 100 (all_small ss) (omega arith) (omega (arith, e, room)))
-row_same R S n agree well (Bare codes ∷ ss) ts bound h small room = go (take codes ts) refl (row_same R S n agree well ss)
-  where
-    go : (o : Took) → take codes ts ≡ o → ((m : List Token) (b : ℕ) → below b ss ≡ true → b ≤ 100 → 100 * length m + b ≤ n → in_row R ss m ≡ in_row S ss m)
-        → after o (λ t m. onto (bare t.kind) (in_row R ss m)) ≡ after o (λ t m. onto (bare t.kind) (in_row S ss m))
-    go (Err e) is again = refl
-    go (Ok (t, m)) is again =
-        let e : length m + 1 ≡ length ts = taken_shorter codes ts t m is in
-        ap (onto (bare t.kind)) (again m 100 (all_small ss) (omega arith) (omega (arith, e, room)))
+row_same R S n agree well (Seen codes ∷ ss) ts bound h small room = token_same (in_row R ss) (in_row S ss) (λ t. seen t.place t.kind) codes ss ts n bound room (row_same R S n agree well ss)
+row_same R S n agree well (Bare codes ∷ ss) ts bound h small room = token_same (in_row R ss) (in_row S ss) (λ t. bare t.kind) codes ss ts n bound room (row_same R S n agree well ss)
 row_same R S n agree well (Of p ∷ []) ts bound h small room =
     let less : rank p < bound = ltb-true (rank p) bound (left_of (nat_lt (rank p) bound) _ h) in
     ap (onto only_part) (agree p ts (omega (arith, less, room)))
@@ -161,22 +146,25 @@ row_same R S n agree well (Of p ∷ s ∷ ss) ts bound h small room =
     go (Ok (f, m)) is again = ap (onto (sub f)) (rest (empty p) refl (right_of (nat_lt (rank p) bound) _ h))
       where
         rest : (b : Bool) → empty p ≡ b → cond b (below bound (s ∷ ss)) true ≡ true → in_row R (s ∷ ss) m ≡ in_row S (s ∷ ss) m
-        rest true blank low = let e : length m ≤ length ts = parsed_within p f ts m (well p ts f m is) in again m bound low small (omega (arith, e, room))
-        rest false full low = let e : length m < length ts = parsed_shorter p f ts m full (well p ts f m is) in again m 100 (all_small (s ∷ ss)) (omega arith) (omega (arith, e, room))
+        rest true blank low = let e : length m ≤ length ts = parsed_within p f ts m (well_read R well p ts f m is) in again m bound low small (omega (arith, e, room))
+        rest false full low = let e : length m < length ts = parsed_shorter p f ts m full (well_read R well p ts f m is) in again m 100 (all_small (s ∷ ss)) (omega arith) (omega (arith, e, room))
 
 rules_same : (R S : Reader) (n : ℕ) → Agree n R S → Well R → (rs : List (List Symbol)) (ts : List Token) (bound : ℕ) → all_below bound rs ≡ true → bound ≤ 100 → 100 * length ts + bound ≤ n → by_rules R rs ts ≡ by_rules S rs ts
 rules_same R S n agree well [] ts bound h small room = refl
 rules_same R S n agree well (r ∷ []) ts bound h small room = row_same R S n agree well r ts bound (left_of (below bound r) true h) small room
 rules_same R S n agree well (r ∷ s ∷ rs) ts bound h small room =
-    ap (λ (o : Outcome). cond (starts (firsts r) ts) o (by_rules R (s ∷ rs) ts)) (row_same R S n agree well r ts bound (left_of (below bound r) (all_below bound (s ∷ rs)) h) small room)
-    ∙ ap (λ (o : Outcome). cond (starts (firsts r) ts) (in_row S r ts) o) (rules_same R S n agree well (s ∷ rs) ts bound (right_of (below bound r) (all_below bound (s ∷ rs)) h) small room)
+    ap₂ (cond (starts (firsts r) ts)) (row_same R S n agree well r ts bound (left_of (below bound r) (all_below bound (s ∷ rs)) h) small room)
+    (rules_same R S n agree well (s ∷ rs) ts bound (right_of (below bound r) (all_below bound (s ∷ rs)) h) small room)
+
+abbrev in_arguments : Reader → List Token → Outcome
+in_arguments R ts = cond (begins_label ts) (in_row R named_argument ts) (in_row R plain_argument ts)
+
+abbrev in_other : Reader → Part → List Token → Outcome
+in_other R p ts = cond (empty p) (cond (starts (first p) ts) (in_row R (optional (rules p)) ts) (Ok (nil, ts))) (by_rules R (rules p) ts)
 
 part_same : (R S : Reader) (p : Part) (ts : List Token) → Agree (100 * length ts + rank p) R S → Well R → in_part R p ts ≡ in_part S p ts
-part_same R S p ts agree well = go (is_arguments p) last
+part_same R S p ts agree well = go (is_arguments p) (right_of (below (rank p) (optional (rules p))) _ three)
   where
-    n : ℕ
-    n = 100 * length ts + rank p
-
     small : rank p ≤ 100
     small = let h : rank p < 100 = rank_small p in omega (arith, h)
 
@@ -186,31 +174,21 @@ part_same R S p ts agree well = go (is_arguments p) last
     three : (below (rank p) (optional (rules p)) && cond (is_arguments p) (below (rank p) named_argument && below (rank p) plain_argument) true) ≡ true
     three = right_of (all_below (rank p) (rules p)) _ two
 
-    last : cond (is_arguments p) (below (rank p) named_argument && below (rank p) plain_argument) true ≡ true
-    last = right_of (below (rank p) (optional (rules p))) _ three
-
     row : (r : List Symbol) → below (rank p) r ≡ true → in_row R r ts ≡ in_row S r ts
     row r h = row_same R S (100 * length ts + rank p) agree well r ts (rank p) h small (omega arith)
 
-    others : cond (empty p) (cond (starts (first p) ts) (in_row R (optional (rules p)) ts) (Ok (nil, ts))) (by_rules R (rules p) ts) ≡ cond (empty p) (cond (starts (first p) ts) (in_row S (optional (rules p)) ts) (Ok (nil, ts))) (by_rules S (rules p) ts)
-    others =
-        ap (λ (o : Outcome). cond (empty p) (cond (starts (first p) ts) o (Ok (nil, ts))) (by_rules R (rules p) ts)) (row (optional (rules p)) (left_of (below (rank p) (optional (rules p))) _ three))
-        ∙ ap (λ (o : Outcome). cond (empty p) (cond (starts (first p) ts) (in_row S (optional (rules p)) ts) (Ok (nil, ts))) o)
-        (rules_same R S (100 * length ts + rank p) agree well (rules p) ts (rank p) (left_of (all_below (rank p) (rules p)) _ two) small (omega arith))
-
-    go : (b : Bool) → cond b (below (rank p) named_argument && below (rank p) plain_argument) true ≡ true
-        → cond b (cond (begins_label ts) (in_row R named_argument ts) (in_row R plain_argument ts)) (cond (empty p) (cond (starts (first p) ts) (in_row R (optional (rules p)) ts) (Ok (nil, ts))) (by_rules R (rules p) ts))
-        ≡ cond b (cond (begins_label ts) (in_row S named_argument ts) (in_row S plain_argument ts)) (cond (empty p) (cond (starts (first p) ts) (in_row S (optional (rules p)) ts) (Ok (nil, ts))) (by_rules S (rules p) ts))
+    go : (b : Bool) → cond b (below (rank p) named_argument && below (rank p) plain_argument) true ≡ true → cond b (in_arguments R ts) (in_other R p ts) ≡ cond b (in_arguments S ts) (in_other S p ts)
     go true h =
-        ap (λ (o : Outcome). cond (begins_label ts) o (in_row R plain_argument ts)) (row named_argument (left_of (below (rank p) named_argument) (below (rank p) plain_argument) h))
-        ∙ ap (λ (o : Outcome). cond (begins_label ts) (in_row S named_argument ts) o) (row plain_argument (right_of (below (rank p) named_argument) (below (rank p) plain_argument) h))
-    go false h = others
+        ap₂ (cond (begins_label ts)) (row named_argument (left_of (below (rank p) named_argument) (below (rank p) plain_argument) h)) (row plain_argument (right_of (below (rank p) named_argument) (below (rank p) plain_argument) h))
+    go false h =
+        ap₂ (λ (o o' : Outcome). cond (empty p) (cond (starts (first p) ts) o (Ok (nil, ts))) o') (row (optional (rules p)) (left_of (below (rank p) (optional (rules p))) _ three))
+        (rules_same R S (100 * length ts + rank p) agree well (rules p) ts (rank p) (left_of (all_below (rank p) (rules p)) _ two) small (omega arith))
 
 -- enough is as good as more
 deep_same : (n m : ℕ) (p : Part) (ts : List Token) → 100 * length ts + rank p < n → 100 * length ts + rank p < m → deep n p ts ≡ deep m p ts
 deep_same zero m p ts h k = absurd (omega (arith, h))
 deep_same (suc n) zero p ts h k = absurd (omega (arith, k))
-deep_same (suc n) (suc m) p ts h k = part_same (deep n) (deep m) p ts (λ q us less. deep_same n m q us (omega (arith, less, h)) (omega (arith, less, k))) (deep_parsed n)
+deep_same (suc n) (suc m) p ts h k = part_same (deep n) (deep m) p ts (λ q us less. deep_same n m q us (omega (arith, less, h)) (omega (arith, less, k))) (deep_held n)
 
 room_is : (ts : List Token) → room ts ≡ suc (99 + 100 * length ts)
 room_is [] = omega arith
@@ -224,12 +202,14 @@ read_step p ts =
     let here : rank p < 100 = rank_small p in
     let there : rank q < 100 = rank_small q in
     let e : room us ≡ suc (99 + 100 * length us) = room_is us in
-    deep_same (99 + 100 * length ts) (room us) q us (omega (arith, less, here)) (omega (arith, there, e))) (deep_parsed (99 + 100 * length ts))
+    deep_same (99 + 100 * length ts) (room us) q us (omega (arith, less, here)) (omega (arith, there, e))) (deep_held (99 + 100 * length ts))
+
+read_held : (p : Part) (ts : List Token) → PartHeld p ts (read p ts)
+unfolding read
+read_held p ts = deep_held (room ts) p ts
 
 pub read_parsed : (p : Part) (ts : List Token) (f : Forest) (rest : List Token) → read p ts ≡ Ok (f, rest) → Parsed p f ts rest
-unfolding read
-read_parsed p ts f rest h = deep_parsed (room ts) p ts f rest h
+read_parsed p ts f rest h = subst (PartHeld p ts) h (read_held p ts)
 
 pub read_fault : (p : Part) (ts : List Token) (left : ℕ) → read p ts ≡ Err (At left) → PartFault p ts left
-unfolding read
-read_fault p ts left h = deep_fault (room ts) p ts left h
+read_fault p ts left h = subst (PartHeld p ts) h (read_held p ts)

@@ -1,15 +1,7 @@
 -- A part that may be left out, and a row of parts: a token that begins one of them begins it.
 use Rattle.std.proofs.Common.{◌≡◌, ℕ, List, [], ◌∷◌, Bool, true, false, cond, sym, ◌∙◌, ap, ap₂, Ok, Err}
-use Rattle.osc_base.specs.declared.stop.Stop.{Stop}
-use Rattle.dsl_tree.specs.declared.token.Token.{Token}
-use Rattle.dsl_tree.specs.Grammar.{Part, Symbol, Of, rules}
-use Rattle.dsl_tree.specs.Forest.{Forest, nil, sub}
-use Rattle.dsl_tree.specs.Lookahead.{first, empty}
-use Rattle.dsl_tree.specs.Reading.{starts, Starts, Stops}
-use Rattle.dsl_parser.specs.Descent.{Outcome, onto, and_then, only_part, in_row, by_rules, optional, begins_label, plain_argument, named_argument, is_arguments, read}
-use Rattle.dsl_parser.specs.Rows.{Grows}
-use Rattle.dsl_parser.proofs.Lengths.{read_shorter}
-use Rattle.dsl_parser.proofs.ReadSteps.{read_step}
+use Rattle.dsl_parser.specs.Words.{Stop, Token, Part, Symbol, Of, rules, Forest, nil, sub, first, empty, starts, Starts, Stops, Outcome, onto, and_then, only_part, in_row, by_rules, optional, begins_label, plain_argument, named_argument, is_arguments, read, Grows, IsItemRow}
+use Rattle.dsl_parser.proofs.{Lengths.read_shorter, ReadSteps.read_step}
 
 -- A part that may be left out
 
@@ -47,7 +39,7 @@ pair_second p q f ts m e one two = ap (λ (o : Outcome). and_then o (λ part m. 
 row_begins : (p q : Part) (ts : List Token) → is_arguments p ≡ false → empty p ≡ true → optional (rules p) ≡ Of q ∷ Of p ∷ [] → Starts (first p) ts → read p ts ≡ pair q p ts
 row_begins p q ts other blank two start = optional_some p ts other blank start ∙ ap (λ (r : List Symbol). in_row read r ts) two
 
-abbrev read_so : List Token → Forest → Outcome
+abbrev pub read_so : List Token → Forest → Outcome
 read_so z f = Ok (f, z)
 
 pub part_grows : {X : Type 0} (p q : Part) (rest : List X → Forest) (item : X) (f : Forest) (ts m : List Token) → is_arguments p ≡ false → empty p ≡ true → optional (rules p) ≡ Of q ∷ Of p ∷ [] → empty q ≡ false
@@ -60,3 +52,12 @@ part_grows p q rest item f ts m other blank two full form start h = (
 
 pub part_stops : (p q : Part) (ts : List Token) (e : Stop ℕ) → is_arguments p ≡ false → empty p ≡ true → optional (rules p) ≡ Of q ∷ Of p ∷ [] → Starts (first p) ts → read q ts ≡ Err e → read p ts ≡ Err e
 part_stops p q ts e other blank two start h = row_begins p q ts other blank two start ∙ pair_first q p ts e h
+
+pub item_grows : {X : Type 0} (q p : Part) (item : X → Forest) (rest : List X → Forest) → IsItemRow q p item rest → (x : X) (ts m : List Token) → Starts (first p) ts → read q ts ≡ Ok (item x, m) → Grows p rest ts x m
+item_grows q p item rest (other, blank, two, full, none, form) x ts m start h = part_grows p q rest x (item x) ts m other blank two full (form x) start h
+
+pub item_stops : {X : Type 0} (q p : Part) (item : X → Forest) (rest : List X → Forest) → IsItemRow q p item rest → (ts : List Token) (e : Stop ℕ) → Starts (first p) ts → read q ts ≡ Err e → read p ts ≡ Err e
+item_stops q p item rest (other, blank, two, full, none, form) ts e start h = part_stops p q ts e other blank two start h
+
+pub items_end : {X : Type 0} (q p : Part) (item : X → Forest) (rest : List X → Forest) → IsItemRow q p item rest → (ts : List Token) → Stops (first p) ts → read p ts ≡ Ok (rest [], ts)
+items_end q p item rest (other, blank, two, full, none, form) ts stop = optional_none p ts other blank stop ∙ ap (read_so ts) (sym none)

@@ -1,28 +1,9 @@
--- How phases without a block are read: an invocation behind a label, and a wait.
-use Rattle.std.proofs.Common.{◌≡◌, ◌<◌, ◌≤◌, List, [], ◌∷◌, length, map, Bool, cond, Some, None, refl, sym, ◌∙◌, ap, subst, Ok, arith}
-use Rattle.osc_base.specs.declared.fault.Place.{Place}
-use Rattle.dsl_tree.specs.declared.parts.Ident.{Ident}
-use Rattle.dsl_tree.specs.declared.expr.Expr.{Expr}
-use Rattle.dsl_tree.specs.declared.token.Token.{Token}
-use Rattle.dsl_tree.specs.declared.token.WordKind.TheVariants.{ActorWord}
-use Rattle.dsl_tree.specs.declared.phases.InvokeHead.{InvokeHead}
-use Rattle.dsl_tree.specs.declared.phases.Phase.{Phase}
-use Rattle.dsl_tree.specs.Codes.{word_code}
-use Rattle.dsl_tree.specs.Grammar.{Part}
-use Rattle.dsl_tree.specs.Forest.{Forest, nil, seen, sub}
-use Rattle.dsl_tree.specs.Lookahead.{first}
-use Rattle.dsl_tree.specs.PhaseTree.{PhaseTree}
-use Rattle.dsl_tree.specs.Reading.{starts, Starts, Stops}
-use Rattle.dsl_tree.specs.Views.{phase_tree, expr_tree, argument_tree, part_tree}
+-- How phases are read: those without a block, and the steps of the readers of compositions.
+use Rattle.std.proofs.Common.{◌≡◌, ◌<◌, ◌≤◌, List, [], ◌∷◌, length, map, Bool, cond, Some, None, refl, sym, ◌∙◌, ap, subst, Ok, arith, ◌≢◌, ℕ, Option, Err}
+use Rattle.dsl_parser.specs.Words.{Place, Ident, Expr, Token, ActorWord, InvokeHead, Phase, word_code, Part, Forest, nil, seen, sub, first, PhaseTree, starts, Starts, Stops, phase_tree, expr_tree, argument_tree, part_tree, InvocationRest, Outcome, onto, take, after, only_part, in_row, names, read, behind_label, core_of, invoke_codes, invoke_token, label_rest, IsStarted, rule_at, Stop, Memory, row_of, rest_at, headed, IsHeaded, CompositionHead, Composition}
 use Rattle.dsl_tree.specs.WrittenPhases as written
-use Rattle.dsl_parser.specs.declared.invocations.InvocationRest.{InvocationRest}
 use Rattle.dsl_parser.specs.declared.phases.PhaseStart.TheVariants.{Whole}
-use Rattle.dsl_parser.specs.Descent.{Outcome, onto, take, after, only_part, in_row, names, read}
-use Rattle.dsl_parser.specs.Phases.{behind_label, core_of, invoke_codes, invoke_token, label_rest, IsStarted}
-use Rattle.dsl_parser.specs.Rests.{rule_at}
-use Rattle.dsl_parser.proofs.Lengths.{take_shorter, read_within, read_shorter}
-use Rattle.dsl_parser.proofs.ReadParts.{Took}
-use Rattle.dsl_parser.proofs.ReadSteps.{read_step}
+use Rattle.dsl_parser.proofs.{Lengths.take_shorter, Lengths.read_within, Lengths.read_shorter, ReadParts.Took, ReadSteps.read_step, RowSteps.read_so}
 
 -- Behind a label
 
@@ -37,9 +18,6 @@ rest_of rest = written.invocation_rest rest.names (map argument_tree rest.argume
 
 abbrev invoked : Ident → InvokeHead → InvocationRest → PhaseTree
 invoked label head rest = PhaseTree.Invoke (Some label) head rest.names (map argument_tree rest.arguments) (map part_tree rest.parts)
-
-abbrev read_so : List Token → Forest → Outcome
-read_so z f = Ok (f, z)
 
 head_forest : (head : InvokeHead) (f : Forest) → seen (invoke_token head).place (invoke_token head).kind (sub f nil) ≡ written.labelled_invocation head f
 head_forest (InvokeHead.Name name) f = refl
@@ -115,3 +93,22 @@ wait_started place elapsed phase ts k m name composition actor same waits is =
       refl,
       read_shorter Part.Wait ts (wait_of place elapsed) m refl one,
     )
+
+-- A composition: what stands before its block, and the phases in it
+
+abbrev pub StartsComposition : Option Ident → List Token → List Token → Type 0
+StartsComposition label ts a = IsStarted Part.Phase (λ f. f) (λ f. f) ts (Ok (Composition label)) a
+
+pub composed_read : (label : Option Ident) (head : CompositionHead) (members : List Phase) (whole : Phase) (ts a b z : List Token) → StartsComposition label ts a → IsHeaded a (Ok head) b
+    → in_row read (rest_at Part.Composition 0 5) b ≡ Ok (written.block_phases (row_of (map phase_tree members)), z)
+    → phase_tree whole ≡ PhaseTree.Comp label head.place head.kind (map argument_tree head.arguments) (row_of (map phase_tree members))
+    → read Part.Phase ts ≡ Ok (written.phase (phase_tree whole), z)
+composed_read label head members whole ts a b z (within, starts, form, fails) (less, heads, stops) block is =
+    let f : Forest = written.block_phases (row_of (map phase_tree members)) in
+    starts (headed head f) z (heads f z block) ∙ ap (whole_so z) (sym is)
+
+pub composition_stops : (label : Option Ident) (ts a : List Token) (e : Stop ℕ) → StartsComposition label ts a → (e ≢ Memory → read Part.Composition a ≡ Err e) → e ≢ Memory → read Part.Phase ts ≡ Err e
+composition_stops label ts a e (within, starts, form, fails) stop some = fails e (stop some)
+
+pub block_stops : (head : CompositionHead) (a b : List Token) (e : Stop ℕ) → IsHeaded a (Ok head) b → (e ≢ Memory → in_row read (rest_at Part.Composition 0 5) b ≡ Err e) → e ≢ Memory → read Part.Composition a ≡ Err e
+block_stops head a b e (less, heads, fails) stop some = fails e (stop some)

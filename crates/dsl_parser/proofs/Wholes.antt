@@ -1,17 +1,6 @@
 -- What `parse` has of what is read of a file: the two halves of a first fault, its token, and the tree.
 use Rattle.std.proofs.Common.{◌≡◌, ◌≢◌, ◌-◌, ◌<◌, ◌≤◌, ℕ, suc, List, [], ◌∷◌, ◌++◌, length, drop, get_or, sym, ◌∙◌, ap, subst, length-append, drop-cons, Ok, Err, arith}
-use Rattle.osc_base.specs.declared.fault.Fault.{Fault}
-use Rattle.osc_base.specs.declared.stop.Stop.{Stop}
-use Rattle.osc_base.specs.declared.stop.Stop.TheVariants.{At, Memory}
-use Rattle.dsl_tree.specs.declared.file.File.{File}
-use Rattle.dsl_tree.specs.declared.token.Token.{Token}
-use Rattle.dsl_tree.specs.Grammar.{Part}
-use Rattle.dsl_tree.specs.Reading.{Parsed, PartFault}
-use Rattle.dsl_tree.specs.Language.{FirstFault}
-use Rattle.dsl_tree.specs.Views.{file_tree}
-use Rattle.dsl_tree.specs.WrittenFile.{file}
-use Rattle.dsl_parser.specs.Answers.{HasViableFront, HasDeadToken}
-use Rattle.dsl_parser.specs.Descent.{read}
+use Rattle.dsl_parser.specs.Words.{Fault, Stop, At, Memory, File, Token, Part, Parsed, PartFault, FirstFault, file_tree, file, HasViableFront, HasDeadToken, read}
 use Rattle.dsl_parser.proofs.ReadSteps.{read_parsed, read_fault}
 
 pub viable_half : (ts : List Token) (fault : Fault) → FirstFault ts fault → HasViableFront ts fault

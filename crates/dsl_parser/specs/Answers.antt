@@ -1,8 +1,5 @@
 -- What `parse` says of tokens that spell no tree.
-use Rattle.std.specs.Prelude.{◌≡◌, List, [], ◌∷◌, ◌++◌}
-use Rattle.osc_base.specs.declared.fault.Fault.{Fault}
-use Rattle.dsl_tree.specs.declared.token.Token.{Token}
-use Rattle.dsl_tree.specs.Language.{IsViable, fault_code}
+use Rattle.dsl_parser.specs.Terms.{◌≡◌, List, [], ◌∷◌, ◌++◌, Fault, Token, IsViable, fault_code}
 
 -- `FirstFault` of dsl_tree has two halves. The first: the spelling of some tree begins with the
 -- tokens before the fault.

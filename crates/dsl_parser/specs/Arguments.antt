@@ -1,14 +1,5 @@
 -- What the readers of one argument ensure.
-use Rattle.std.specs.Prelude.{◌≡◌, ◌≢◌, ◌<◌, ℕ, List, [], ◌∷◌, length, map, true, false, Bool, Result, Ok, Err}
-use Rattle.osc_base.specs.declared.stop.Stop.{Stop}
-use Rattle.osc_base.specs.declared.stop.Stop.TheVariants.{Memory}
-use Rattle.dsl_tree.specs.declared.token.Token.{Token}
-use Rattle.dsl_tree.specs.declared.token.MarkKind.{MarkKind}
-use Rattle.dsl_tree.specs.declared.phases.Argument.{Argument}
-use Rattle.dsl_tree.specs.Grammar.{Part}
-use Rattle.dsl_tree.specs.Forest.{Forest, nil, sub}
-use Rattle.dsl_tree.specs.Views.{argument_tree}
-use Rattle.dsl_tree.specs.Written.{mark}
+use Rattle.dsl_parser.specs.Terms.{◌≡◌, ◌≢◌, ◌<◌, ℕ, List, [], ◌∷◌, length, map, true, false, Bool, Result, Ok, Err, Stop, Memory, Token, MarkKind, Argument, Part, Forest, nil, sub, argument_tree, mark}
 use Rattle.dsl_tree.specs.WrittenPhases as written
 use Rattle.dsl_parser.specs.Descent.{read, in_row, named_argument}
 

@@ -1,14 +1,6 @@
 -- What a cursor shows: the tokens that are left.
-use Rattle.std.specs.Prelude.{ℕ, List, [], ◌∷◌}
-use Rattle.osc_base.specs.declared.fault.Place.{Place}
-use Rattle.dsl_tree.specs.declared.parts.Digits.{Digits}
-use Rattle.dsl_tree.specs.declared.parts.Ident.{Ident}
-use Rattle.dsl_tree.specs.declared.token.Token.{Token}
-use Rattle.dsl_tree.specs.declared.token.TokenKind.{TokenKind}
-use Rattle.dsl_tree.specs.Codes.{code, si_text, factor_text, offset_text, si_name, other_name, small_number, large_number, point_number}
-use Rattle.dsl_tree.specs.Language.{Ended}
-use Rattle.dsl_parser.specs.declared.tokens.Cursor.TheInside.{Inside}
-use Rattle.dsl_parser.specs.declared.signs.Sign.{Sign}
+use Rattle.dsl_parser.specs.Terms.{ℕ, List, [], ◌∷◌, Place, Digits, Ident, Token, TokenKind, code, si_text, factor_text, offset_text, si_name, other_name, small_number, large_number, point_number, Ended}
+use Rattle.dsl_parser.specs.declared.{tokens.Cursor.TheInside.Inside, signs.Sign.Sign}
 
 abbrev pub left_of : Inside → List Token
 left_of c = c.left.now

@@ -1,15 +1,7 @@
 -- How a reader goes down the grammar: one token chooses the rule of a part, or two at the beginning of arguments, and
 -- the rule's symbols are read one after another.
-use Rattle.std.specs.Prelude.{◌≡◌, ◌≢◌, ℕ, zero, suc, ◌+◌, List, [], ◌∷◌, length, Bool, true, false, cond, ◌&&◌, Option, Some, None, Result, Ok, Err}
-use Rattle.osc_base.specs.declared.stop.Stop.{Stop}
-use Rattle.osc_base.specs.declared.stop.Stop.TheVariants.{At, Memory}
-use Rattle.dsl_tree.specs.declared.token.Token.{Token}
-use Rattle.dsl_tree.specs.declared.token.MarkKind.{MarkKind}
-use Rattle.dsl_tree.specs.Codes.{code, has, mark_code, si_name, factor_name, offset_name, other_name}
-use Rattle.dsl_tree.specs.Grammar.{Part, Symbol, Seen, Bare, Of, rules, name, mark}
-use Rattle.dsl_tree.specs.Forest.{Forest, nil, seen, bare, sub}
-use Rattle.dsl_tree.specs.Lookahead.{first, firsts, empty}
-use Rattle.dsl_tree.specs.Reading.{starts, Parsed, PartFault}
+use Rattle.dsl_parser.specs.Terms.{◌≡◌, ◌≢◌, ℕ, zero, suc, ◌+◌, List, [], ◌∷◌, length, Bool, true, false, cond, ◌&&◌, Option, Some, None, Result, Ok, Err, Stop, At, Memory, Token, MarkKind, code, has, mark_code, si_name, factor_name, offset_name, other_name, Part, Symbol, Seen, Bare, Of, rules, name, Forest, nil, seen, bare, sub, first, firsts, empty, starts}
+use Rattle.dsl_tree.specs.Grammar.{mark}
 
 -- A forest and the tokens after it; or the token at which no reading goes on, by the number of tokens from it to the
 -- end. `Memory` stands for a list that ends where a token is wanted: no list with END at its end does.
@@ -111,9 +103,3 @@ Gives view outcome (Err e) new = e ≢ Memory → outcome ≡ Err e
 abbrev pub Tries : {A : Type 0} → (A → Token) → List ℕ → List Token → Option A → List Token → Type 0
 Tries view codes old (Some a) new = (starts codes old ≡ true) × (take codes old ≡ Ok (view a, new))
 Tries view codes old None new = (starts codes old ≡ false) × (new ≡ old)
-
--- The law: a part is read by its rule; what is read is a forest of it; where it goes wrong no forest goes on.
-pub record Law : Type 0 where
-  pub read_step : (p : Part) (ts : List Token) → read p ts ≡ in_part read p ts
-  pub read_parsed : (p : Part) (ts : List Token) (f : Forest) (rest : List Token) → read p ts ≡ Ok (f, rest) → Parsed p f ts rest
-  pub read_fault : (p : Part) (ts : List Token) (left : ℕ) → read p ts ≡ Err (At left) → PartFault p ts left

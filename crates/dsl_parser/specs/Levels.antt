@@ -1,20 +1,10 @@
 -- The levels of expressions: `Expr` 0, `Or` 1, `And` 2, `Not` 3, `Relation` 4, `Sum` 5, `Product` 6,
 -- `Minus` 7, `Postfix` 8 and `Primary` 9.
-use Rattle.std.specs.Prelude.{ℕ, Bool, true, false, List, [], ◌∷◌}
-use Rattle.dsl_tree.specs.declared.expr.Expr.{Expr}
-use Rattle.dsl_tree.specs.declared.expr.Further.{Further}
-use Rattle.dsl_tree.specs.declared.expr.Suffix.{Suffix}
-use Rattle.dsl_tree.specs.declared.token.MarkKind.{MarkKind}
-use Rattle.dsl_tree.specs.declared.token.WordKind.TheVariants.{ActorWord, FalseWord, ItWord, RangeWord, TrueWord}
-use Rattle.dsl_tree.specs.Codes.{mark_code, word_code}
-use Rattle.dsl_tree.specs.Grammar.{Part, Symbol}
-use Rattle.dsl_tree.specs.Forest.{Forest, nil, seen, sub}
-use Rattle.dsl_tree.specs.Lookahead.{first}
-use Rattle.dsl_tree.specs.Views.{SuffixTree, Named, At, expr_tree, suffix_tree}
-use Rattle.dsl_tree.specs.Written.{at, written, operator_kind, mark, mark_at, ident, expr}
-use Rattle.dsl_parser.specs.Rests.{rule_at}
-use Rattle.dsl_parser.specs.declared.levels.RowLevel.{RowLevel}
-use Rattle.dsl_parser.specs.declared.levels.RowLevel.TheVariants.{OrRow, AndRow, SumRow, ProductRow}
+use Rattle.dsl_parser.specs.Terms.{ℕ, Bool, true, false, List, [], ◌∷◌, Expr, Further, Suffix, MarkKind, ActorWord, FalseWord, ItWord, RangeWord, TrueWord, mark_code, word_code, Part, Forest, nil, seen, sub, first, SuffixTree, Named, expr_tree, suffix_tree, written, operator_kind, mark, mark_at, ident, expr, cond, map}
+use Rattle.dsl_tree.specs.declared.expr.Expr.TheViews
+use Rattle.dsl_tree.specs.Views.{At}
+use Rattle.dsl_tree.specs.Written.{at}
+use Rattle.dsl_parser.specs.declared.{levels.RowLevel.RowLevel, levels.RowLevel.TheVariants.OrRow, levels.RowLevel.TheVariants.AndRow, levels.RowLevel.TheVariants.SumRow, levels.RowLevel.TheVariants.ProductRow}
 
 -- what an expression is written as in a place for one of a level
 unfoldable pub at_level : ℕ → Expr → Forest
@@ -53,6 +43,13 @@ tail_part AndRow = Part.AndTail
 tail_part SumRow = Part.SumTail
 tail_part ProductRow = Part.ProductTail
 
+-- such a row as an expression
+abbrev pub row_node : RowLevel → Expr → List Further → Expr
+row_node OrRow first rest = TheViews.Or first rest
+row_node AndRow first rest = TheViews.And first rest
+row_node SumRow first rest = TheViews.Sum first rest
+row_node ProductRow first rest = TheViews.Product first rest
+
 -- the codes of its operators
 abbrev pub operators : RowLevel → List ℕ
 operators row = first (tail_part row)
@@ -84,6 +81,10 @@ ends_named [] = false
 ends_named (x ∷ []) = is_named x
 ends_named (x ∷ y ∷ rest) = ends_named (y ∷ rest)
 
+-- an operand with suffixes
+abbrev pub post_node : Expr → List Suffix → Expr
+post_node head suffixes = cond (ends_named (map suffix_tree suffixes)) (TheViews.Expr::Dot head suffixes) (TheViews.Expr::Index head suffixes)
+
 -- items of a list, each after a comma
 abbrev pub items_of : List Expr → Forest
 items_of [] = nil
@@ -101,15 +102,3 @@ truth_codes = word_code TrueWord ∷ word_code FalseWord ∷ word_code ItWord �
 -- the codes of brackets and of `range`
 abbrev pub bracket_codes : List ℕ
 bracket_codes = mark_code MarkKind.OpenRound ∷ mark_code MarkKind.OpenSquare ∷ word_code RangeWord ∷ []
-
-abbrev pub name_rule : List Symbol
-name_rule = rule_at Part.Primary 6
-
-abbrev pub group_rule : List Symbol
-group_rule = rule_at Part.Primary 7
-
-abbrev pub bracket_rule : List Symbol
-bracket_rule = rule_at Part.Primary 8
-
-abbrev pub range_rule : List Symbol
-range_rule = rule_at Part.Primary 9

@@ -4,9 +4,9 @@ pub mod Cursor
 pub mod Descent
 pub mod Levels
 pub mod Members
-pub mod Operands
 pub mod Phases
 pub mod Readers
 pub mod Rests
 pub mod Rows
-pub mod UnitRows
+pub mod Terms
+pub mod Words

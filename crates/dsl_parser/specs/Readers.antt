@@ -1,15 +1,6 @@
 -- What parts are written as that the trees have no type of their own for.
-use Rattle.std.specs.Prelude.{ℕ, List, [], ◌∷◌, ◌++◌, Option, Some, None}
-use Rattle.dsl_tree.specs.declared.parts.Ident.{Ident}
-use Rattle.dsl_tree.specs.declared.rules.PathHead.{PathHead}
-use Rattle.dsl_tree.specs.declared.token.Token.{Token}
-use Rattle.dsl_tree.specs.declared.token.TokenKind.{TokenKind}
-use Rattle.dsl_tree.specs.declared.token.MarkKind.{MarkKind}
-use Rattle.dsl_tree.specs.declared.token.WordKind.TheVariants.{ItWord, ActorWord}
-use Rattle.dsl_tree.specs.Codes.{word_code}
-use Rattle.dsl_tree.specs.Forest.{Forest, nil}
-use Rattle.dsl_tree.specs.Written.{mark, ident}
-use Rattle.dsl_parser.specs.Cursor.{at, name_token}
+use Rattle.dsl_parser.specs.Terms.{ℕ, List, [], ◌∷◌, ◌++◌, Option, Some, None, Ident, PathHead, Token, TokenKind, MarkKind, ItWord, ActorWord, word_code, physical_code, text_code, Forest, nil, mark, ident}
+use Rattle.dsl_parser.specs.Cursor.{at, name_token, numbers}
 use Rattle.dsl_parser.specs.Descent.{names}
 
 -- the member after the name of an enum
@@ -25,3 +16,7 @@ abbrev pub head_token : PathHead → Token
 head_token (PathHead.Name name) = name_token name
 head_token (PathHead.It place) = at (TokenKind.Word ItWord) place
 head_token (PathHead.Actor place) = at (TokenKind.Word ActorWord) place
+
+-- the codes of the values of one token: names, numbers, physical literals and strings
+abbrev pub value_codes : List ℕ
+value_codes = names ++ (numbers ++ (physical_code ∷ text_code ∷ []))

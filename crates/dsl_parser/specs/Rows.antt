@@ -1,12 +1,6 @@
 -- What readers of rows of items ensure.
-use Rattle.std.specs.Prelude.{◌≡◌, ◌≢◌, ◌<◌, ℕ, List, [], ◌∷◌, ◌++◌, length, Option, Some, None, Result, Ok, Err}
-use Rattle.osc_base.specs.declared.stop.Stop.{Stop}
-use Rattle.osc_base.specs.declared.stop.Stop.TheVariants.{Memory}
-use Rattle.dsl_tree.specs.declared.token.Token.{Token}
-use Rattle.dsl_tree.specs.Grammar.{Part}
-use Rattle.dsl_tree.specs.Forest.{Forest, wrong, sub}
-use Rattle.dsl_tree.specs.WrittenPhases.{opened, block_end}
-use Rattle.dsl_parser.specs.Descent.{read}
+use Rattle.dsl_parser.specs.Terms.{◌≡◌, ◌≢◌, ◌<◌, ℕ, List, [], ◌∷◌, ◌++◌, length, true, false, Option, Some, None, Result, Ok, Err, Stop, Memory, Token, Part, Of, rules, Forest, nil, wrong, sub, empty, opened, block_end}
+use Rattle.dsl_parser.specs.Descent.{read, is_arguments, optional}
 
 -- What is left of a row is the part p. One more item was read, and what is left after it is again p.
 abbrev pub Grows : {X : Type 0} → Part → (List X → Forest) → List Token → X → List Token → Type 0
@@ -31,3 +25,9 @@ pub record IsRow {X : Type 0} (p : Part) (rest : List X → Forest) (begun all :
 abbrev pub in_block : {X : Type 0} → (X → Forest) → (List X → Forest) → List X → Forest
 in_block item rest [] = wrong
 in_block item rest (x ∷ xs) = opened (sub (item x) (sub (rest xs) block_end))
+
+-- any number of parts, one after another: the tail is such a row
+abbrev pub IsItemRow : {X : Type 0} → Part → Part → (X → Forest) → (List X → Forest) → Type 0
+IsItemRow {X} part tail item rest =
+    (is_arguments tail ≡ false) × (empty tail ≡ true) × (optional (rules tail) ≡ Of part ∷ Of tail ∷ []) × (empty part ≡ false)
+    × (rest [] ≡ nil) × ((x : X) (xs : List X) → rest (x ∷ xs) ≡ sub (item x) (sub (rest xs) nil))

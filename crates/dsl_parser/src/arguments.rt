@@ -1,12 +1,7 @@
 //! Arguments.
 
-ghost use Rattle.std.specs.Prelude.{◌≡◌, ◌<◌, length, map, true, false, IfOk};
-ghost use Rattle.dsl_tree.specs.Grammar.{Part};
-ghost use Rattle.dsl_tree.specs.Views.{argument_tree};
+ghost use Rattle.dsl_parser.specs.Words.{◌≡◌, ◌<◌, length, map, true, false, IfOk, Part, argument_tree, read, begins_label as has_label, Gives, HasMore, IsPlain, IsNamed, IsNext};
 ghost use Rattle.dsl_tree.specs.WrittenPhases as written;
-ghost use Rattle.dsl_parser.specs.Descent.{read, begins_label as has_label, Gives};
-ghost use Rattle.dsl_parser.specs.Arguments.{HasMore, IsPlain, IsNamed};
-ghost use Rattle.dsl_parser.specs.Rows.{IsNext};
 
 use crate::expressions::expr;
 use crate::rows::{Repeated, with_rest};
@@ -38,7 +33,7 @@ impl Repeated for Argument {
 
     ghost rest = { λ xs. written.named_tail (map argument_tree xs) };
 
-    #[tactic(auto, using(crate::proofs::Steps::step_named_tail, crate::proofs::Lengths::lengths))]
+    #[tactic(auto, using(crate::proofs::ReadSteps::read_step, crate::proofs::Lengths::lengths))]
     fn next(alloc: Global, tokens: &mut Cursor<'_>) -> Result<Option<Argument>, Stop> {
         match tokens.take(Mark(MarkKind::CloseRound)) {
             Some(_) => Ok(None),
@@ -61,7 +56,7 @@ fn named(alloc: Global, tokens: &mut Cursor<'_>) -> Result<Argument, Stop>
 }
 
 /// Whether another argument stands after one without a name: a comma, or the closing bracket.
-#[tactic(auto, using(crate::proofs::Steps::step_arguments_tail, crate::proofs::Lengths::lengths))]
+#[tactic(auto, using(crate::proofs::ArgumentRows::step_arguments_tail, crate::proofs::Lengths::lengths))]
 fn more(tokens: &mut Cursor<'_>) -> Result<bool, Stop>
     ensures { HasMore tokens.old result tokens.new }
 {

@@ -3,22 +3,11 @@
 //! Each part of the grammar has its reader; those of the four rows of operators are one, by the level
 //! of the row. What stands in a row is read by a loop, so that calls nest only as brackets do.
 
-ghost use Rattle.std.specs.Prelude.{◌≡◌, ◌≢◌, ◌<◌, ◌≤◌, [], ◌∷◌, length, Err, IfOk, IfErr};
-ghost use Rattle.osc_base.specs.declared.stop.Stop.TheVariants.{Memory};
-ghost use Rattle.dsl_tree.specs.declared.token.MarkKind.{MarkKind};
-ghost use Rattle.dsl_tree.specs.Forest.{nil, sub};
-ghost use Rattle.dsl_tree.specs.Grammar.{Part};
-ghost use Rattle.dsl_tree.specs.Lookahead.{first};
-ghost use Rattle.dsl_tree.specs.Reading.{starts};
-ghost use Rattle.dsl_tree.specs.Views.{expr_tree};
+ghost use Rattle.dsl_parser.specs.Words.{◌≡◌, ◌≢◌, ◌<◌, ◌≤◌, [], ◌∷◌, length, Err, IfOk, IfErr, Memory, MarkKind, nil, sub, Part, first, starts, expr_tree, read, in_row, Gives, at_level, row_part, row_level, item_part, item_level, tail_part, tail_of, suffix_of, suffixes_of, items_of, rule_at, IsRow};
 ghost use Rattle.dsl_tree.specs.Written as written;
-ghost use Rattle.dsl_parser.specs.Descent.{read, in_row, Gives};
 ghost use Rattle.dsl_parser.specs.Levels as level;
-ghost use Rattle.dsl_parser.specs.Levels.{at_level, row_part, row_level, item_part, item_level, tail_part, tail_of, suffix_of, suffixes_of, items_of};
-ghost use Rattle.dsl_parser.specs.Rows.{IsRow};
 
-use crate::levels::{RowLevel, begins_operator, row_of, take_operator, take_sign};
-use crate::nodes;
+use crate::levels::{RowLevel, begins_operator, row_of, take_operator, take_sign, with_suffixes};
 use crate::operands::leaf;
 use crate::signs::Sign::{Mark, Word};
 use crate::stop::Stop;
@@ -166,7 +155,7 @@ fn postfix(alloc: Global, tokens: &mut Cursor<'_>) -> Result<Expr, Stop>
     }
     let head = Boxed::new(alloc, head)?;
     let suffixes = suffixes(alloc, tokens)?;
-    Ok(nodes::with_suffixes(head, suffixes))
+    Ok(with_suffixes(head, suffixes))
 }
 
 /// The suffixes that the tokens begin with.
@@ -227,7 +216,7 @@ fn primary(alloc: Global, tokens: &mut Cursor<'_>) -> Result<Expr, Stop>
 #[cycle(expressions)]
 #[tactic(auto, using(crate::proofs::ExprForests::group_forest, crate::proofs::Lengths::lengths))]
 fn group(alloc: Global, tokens: &mut Cursor<'_>) -> Result<Expr, Stop>
-    ensures gives { Gives (at_level 9) (in_row read level.group_rule tokens.old) result tokens.new }
+    ensures gives { Gives (at_level 9) (in_row read (rule_at Part.Primary 7) tokens.old) result tokens.new }
     ensures shorter { IfOk result (λ found. length tokens.new < length tokens.old) }
 {
     let place = tokens.expect(Mark(MarkKind::OpenRound))?;
@@ -241,7 +230,7 @@ fn group(alloc: Global, tokens: &mut Cursor<'_>) -> Result<Expr, Stop>
 #[cycle(expressions)]
 #[tactic(auto, using(crate::proofs::ExprForests::range_forest, crate::proofs::Lengths::lengths))]
 fn range_call(alloc: Global, tokens: &mut Cursor<'_>) -> Result<Expr, Stop>
-    ensures gives { Gives (at_level 9) (in_row read level.range_rule tokens.old) result tokens.new }
+    ensures gives { Gives (at_level 9) (in_row read (rule_at Part.Primary 9) tokens.old) result tokens.new }
     ensures shorter { IfOk result (λ found. length tokens.new < length tokens.old) }
 {
     let place = tokens.expect(Word(WordKind::RangeWord))?;
@@ -259,7 +248,7 @@ fn range_call(alloc: Global, tokens: &mut Cursor<'_>) -> Result<Expr, Stop>
 #[cycle(expressions)]
 #[tactic(auto, using(crate::proofs::Lengths::lengths))]
 fn bracket(alloc: Global, tokens: &mut Cursor<'_>) -> Result<Expr, Stop>
-    ensures gives { Gives (at_level 9) (in_row read level.bracket_rule tokens.old) result tokens.new }
+    ensures gives { Gives (at_level 9) (in_row read (rule_at Part.Primary 8) tokens.old) result tokens.new }
     ensures shorter { IfOk result (λ found. length tokens.new < length tokens.old) }
 {
     let place = tokens.expect(Mark(MarkKind::OpenSquare))?;

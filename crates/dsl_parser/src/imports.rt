@@ -1,16 +1,9 @@
 //! Imports.
 
-ghost use Rattle.std.specs.Prelude.{◌≡◌, ◌≢◌, Err, IfOk, IfErr};
-ghost use Rattle.osc_base.specs.declared.stop.Stop.TheVariants.{Memory};
-ghost use Rattle.dsl_tree.specs.declared.file.Import.{Import};
-ghost use Rattle.dsl_tree.specs.Grammar.{Part};
-ghost use Rattle.dsl_tree.specs.WrittenPhases.{dotted_names};
+ghost use Rattle.dsl_parser.specs.Words.{◌≡◌, ◌≢◌, refl, Err, IfOk, IfErr, Memory, Import, Part, dotted_names, read, in_row, Gives, rule_at, IsNext, IsRow};
 ghost use Rattle.dsl_tree.specs.WrittenFile as written;
-ghost use Rattle.dsl_parser.specs.Descent.{read, in_row, Gives};
-ghost use Rattle.dsl_parser.specs.Rests.{dotted_import};
-ghost use Rattle.dsl_parser.specs.Rows.{IsNext, IsRow};
 
-use crate::rows::{Repeated, rest_of_row, row_of};
+use crate::rows::{Item, items, row_of};
 use crate::signs::Sign::{self, Mark, Word};
 use crate::stop::Stop;
 use crate::tokens::Cursor;
@@ -19,7 +12,7 @@ use osc_base::Row;
 use std::alloc::Global;
 
 /// A point and the name after it, if the tokens begin with a point.
-#[tactic(auto, using(crate::proofs::Steps::step_dotted_names, crate::proofs::Lengths::lengths))]
+#[tactic(auto, using(crate::proofs::ReadSteps::read_step, crate::proofs::Lengths::lengths))]
 fn next_name(alloc: Global, tokens: &mut Cursor<'_>) -> Result<Option<Ident>, Stop>
     ensures { IsNext Part.DottedNames dotted_names tokens.old result tokens.new }
 {
@@ -46,7 +39,7 @@ pub fn dotted_names(
 }
 
 fn names_of_import(alloc: Global, tokens: &mut Cursor<'_>) -> Result<Row<Ident>, Stop>
-    ensures { Gives (λ names. written.import_rest (Import.Dotted names)) (in_row read dotted_import tokens.old) result tokens.new }
+    ensures { Gives (λ names. written.import_rest (Import.Dotted names)) (in_row read (rule_at Part.ImportRest 1) tokens.old) result tokens.new }
 {
     let first = tokens.expect_name(alloc)?;
     let names = dotted_names(alloc, row_of(alloc, first)?, tokens)?;
@@ -54,7 +47,7 @@ fn names_of_import(alloc: Global, tokens: &mut Cursor<'_>) -> Result<Row<Ident>,
     Ok(names)
 }
 
-#[tactic(auto, using(crate::proofs::Steps::step_import_rest))]
+#[tactic(auto, using(crate::proofs::ReadSteps::read_step))]
 fn import_rest(alloc: Global, tokens: &mut Cursor<'_>) -> Result<Import, Stop>
     ensures { Gives written.import_rest (read Part.ImportRest tokens.old) result tokens.new }
 {
@@ -67,25 +60,25 @@ fn import_rest(alloc: Global, tokens: &mut Cursor<'_>) -> Result<Import, Stop>
     Ok(Import::Dotted { names })
 }
 
-#[tactic(auto, using(crate::proofs::Steps::step_import))]
-fn import(alloc: Global, tokens: &mut Cursor<'_>) -> Result<Import, Stop>
-    ensures { Gives written.import_of (read Part.Import tokens.old) result tokens.new }
-{
-    tokens.expect(Word(WordKind::ImportWord))?;
-    import_rest(alloc, tokens)
-}
+impl Item for Import {
+    ghost part = { Part.Import };
 
-impl Repeated for Import {
     ghost tail = { Part.Imports };
+
+    ghost item = { written.import_of };
 
     ghost rest = { written.imports };
 
-    #[tactic(auto, using(crate::proofs::Steps::step_imports, crate::proofs::Lengths::lengths))]
-    fn next(alloc: Global, tokens: &mut Cursor<'_>) -> Result<Option<Import>, Stop> {
-        if !tokens.begins(Word(WordKind::ImportWord)) {
-            return Ok(None);
-        }
-        Ok(Some(import(alloc, tokens)?))
+    ghost law = { (refl, refl, refl, refl, refl, λ x xs. refl) };
+
+    fn begins(tokens: &Cursor<'_>) -> bool {
+        tokens.begins(Word(WordKind::ImportWord))
+    }
+
+    #[tactic(auto, using(crate::proofs::ReadSteps::read_step))]
+    fn item(alloc: Global, tokens: &mut Cursor<'_>) -> Result<Import, Stop> {
+        tokens.expect(Word(WordKind::ImportWord))?;
+        import_rest(alloc, tokens)
     }
 }
 
@@ -93,5 +86,5 @@ impl Repeated for Import {
 pub fn imports(alloc: Global, tokens: &mut Cursor<'_>) -> Result<Row<Import>, Stop>
     ensures { Gives written.imports (read Part.Imports tokens.old) result tokens.new }
 {
-    rest_of_row(alloc, tokens)
+    items(alloc, tokens)
 }

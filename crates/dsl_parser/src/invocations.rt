@@ -1,27 +1,20 @@
 //! Invocations after their head: arguments, and the block of rules and modifiers.
 
-ghost use Rattle.std.specs.Prelude.{◌≡◌, map};
-ghost use Rattle.dsl_tree.specs.Grammar.{Part};
-ghost use Rattle.dsl_tree.specs.Views.{argument_tree, part_tree};
+ghost use Rattle.dsl_parser.specs.Words.{◌≡◌, map, refl, Part, argument_tree, part_tree, read, in_row, Gives, rule_at};
 ghost use Rattle.dsl_tree.specs.WrittenPhases as written;
-ghost use Rattle.dsl_parser.specs.Descent.{read, in_row, Gives};
-ghost use Rattle.dsl_parser.specs.Phases.{modifier_rule};
-ghost use Rattle.dsl_parser.specs.Rows.{IsNext};
 
 use crate::arguments::arguments;
 use crate::imports::dotted_names;
-use crate::rows::{Item, Repeated, block};
-use crate::rules::rule;
+use crate::rows::{Item, block};
 use crate::signs::Sign::{self, Mark, Word};
-use crate::starts::{begins_part, begins_rule};
 use crate::stop::Stop;
 use crate::tokens::Cursor;
-use dsl_tree::{Argument, Ident, InvokePart, MarkKind, ModifierNode, WordKind};
+use dsl_tree::{Argument, Ident, InvokePart, MarkKind, ModifierNode, RuleDecl, WordKind};
 use osc_base::Row;
 use std::alloc::Global;
 
 fn modifier(alloc: Global, tokens: &mut Cursor<'_>) -> Result<InvokePart, Stop>
-    ensures { Gives (λ p. written.invocation_part (part_tree p)) (in_row read modifier_rule tokens.old) result tokens.new }
+    ensures { Gives (λ p. written.invocation_part (part_tree p)) (in_row read (rule_at Part.InvocationPart 1) tokens.old) result tokens.new }
 {
     let name = tokens.expect_name(alloc)?;
     tokens.expect(Mark(MarkKind::OpenRound))?;
@@ -30,41 +23,31 @@ fn modifier(alloc: Global, tokens: &mut Cursor<'_>) -> Result<InvokePart, Stop>
     Ok(InvokePart::Modifier(ModifierNode { name, arguments }))
 }
 
-#[tactic(auto, using(crate::proofs::Steps::step_invocation_part))]
-fn part(alloc: Global, tokens: &mut Cursor<'_>) -> Result<InvokePart, Stop>
-    ensures { Gives (λ p. written.invocation_part (part_tree p)) (read Part.InvocationPart tokens.old) result tokens.new }
-{
-    if begins_rule(tokens) {
-        return Ok(InvokePart::Rule(rule(alloc, tokens)?));
-    }
-    modifier(alloc, tokens)
-}
-
-impl Repeated for InvokePart {
-    ghost tail = { Part.PartsTail };
-
-    ghost rest = { λ ps. written.parts_tail (map part_tree ps) };
-
-    #[tactic(auto, using(crate::proofs::Steps::step_parts_tail, crate::proofs::Lengths::lengths))]
-    fn next(alloc: Global, tokens: &mut Cursor<'_>) -> Result<Option<InvokePart>, Stop> {
-        if !begins_part(tokens) {
-            return Ok(None);
-        }
-        Ok(Some(part(alloc, tokens)?))
-    }
-}
-
 impl Item for InvokePart {
     ghost part = { Part.InvocationPart };
 
+    ghost tail = { Part.PartsTail };
+
     ghost item = { λ p. written.invocation_part (part_tree p) };
 
+    ghost rest = { λ ps. written.parts_tail (map part_tree ps) };
+
+    ghost law = { (refl, refl, refl, refl, refl, λ x xs. refl) };
+
+    fn begins(tokens: &Cursor<'_>) -> bool {
+        tokens.begins_name() || RuleDecl::begins(tokens)
+    }
+
+    #[tactic(auto, using(crate::proofs::ReadSteps::read_step))]
     fn item(alloc: Global, tokens: &mut Cursor<'_>) -> Result<InvokePart, Stop> {
-        part(alloc, tokens)
+        if RuleDecl::begins(tokens) {
+            return Ok(InvokePart::Rule(RuleDecl::item(alloc, tokens)?));
+        }
+        modifier(alloc, tokens)
     }
 }
 
-#[tactic(auto, using(crate::proofs::Steps::step_invocation_end, crate::proofs::Blocks::parts_block))]
+#[tactic(auto, using(crate::proofs::Blocks::step_invocation_end, crate::proofs::Blocks::parts_block))]
 fn invocation_end(alloc: Global, tokens: &mut Cursor<'_>) -> Result<Row<InvokePart>, Stop>
     ensures { Gives (λ ps. written.invocation_end (map part_tree ps)) (read Part.InvocationEnd tokens.old) result tokens.new }
 {
@@ -77,7 +60,7 @@ fn invocation_end(alloc: Global, tokens: &mut Cursor<'_>) -> Result<Row<InvokePa
     Ok(parts)
 }
 
-#[tactic(auto, using(crate::proofs::Steps::step_invocation_arguments, crate::proofs::Blocks::some_arguments))]
+#[tactic(auto, using(crate::proofs::ReadSteps::read_step, crate::proofs::Blocks::some_arguments))]
 fn invocation_arguments(alloc: Global, tokens: &mut Cursor<'_>) -> Result<Row<Argument>, Stop>
     ensures { Gives (λ xs. written.invocation_arguments (map argument_tree xs)) (read Part.InvocationArguments tokens.old) result tokens.new }
 {
@@ -89,7 +72,7 @@ fn invocation_arguments(alloc: Global, tokens: &mut Cursor<'_>) -> Result<Row<Ar
 }
 
 /// The arguments of a composition in their brackets, if there are any.
-#[tactic(auto, using(crate::proofs::Steps::step_composition_arguments, crate::proofs::Blocks::some_arguments))]
+#[tactic(auto, using(crate::proofs::ReadSteps::read_step, crate::proofs::Blocks::some_arguments))]
 pub fn composition_arguments(alloc: Global, tokens: &mut Cursor<'_>) -> Result<Row<Argument>, Stop>
     ensures { Gives (λ xs. written.composition_arguments (map argument_tree xs)) (read Part.CompositionArguments tokens.old) result tokens.new }
 {

@@ -1,21 +1,10 @@
-//! The rows of operators, by their level.
+//! The rows of operators, by their level, and rows of suffixes.
 
-ghost use Rattle.std.specs.Prelude.{◌≡◌, [], ◌∷◌, List, true, false, IfSome, IfNone};
-ghost use Rattle.dsl_tree.specs.declared.expr.Further.{Further};
-ghost use Rattle.dsl_tree.specs.declared.token.TokenKind.{TokenKind};
-ghost use Rattle.dsl_tree.specs.Codes.{code, has, mark_code};
-ghost use Rattle.dsl_tree.specs.Forest.{nil, sub};
-ghost use Rattle.dsl_tree.specs.Grammar.{Part};
-ghost use Rattle.dsl_tree.specs.Lookahead.{first};
-ghost use Rattle.dsl_tree.specs.Reading.{starts};
-ghost use Rattle.dsl_tree.specs.Written.{operator_kind, sign_kind};
-ghost use Rattle.dsl_parser.specs.Cursor.{at};
-ghost use Rattle.dsl_parser.specs.Descent.{Tries};
-ghost use Rattle.dsl_parser.specs.Levels.{at_level, operators, row_level, item_level, tail_of};
+ghost use Rattle.dsl_parser.specs.Words.{◌≡◌, true, false, IfSome, IfNone, TokenKind, code, has, mark_code, Part, first, starts, operator_kind, sign_kind, at, Tries, operators, row_node, post_node, suffix_tree, is_named, ends_named, map};
 
 use crate::signs::Sign::{Mark, Word};
 use crate::tokens::Cursor;
-use dsl_tree::{Expr, Further, MarkKind, Operator, RelationSign, TokenKind, WordKind};
+use dsl_tree::{Expr, Further, MarkKind, Operator, RelationSign, Suffix, TokenKind, WordKind};
 use osc_base::{Boxed, Place, Row};
 
 /// A row of operators: `or`, `and`, `+` and `-`, or `*` and `/`.
@@ -104,14 +93,40 @@ pub fn take_sign(tokens: &mut Cursor<'_>) -> Option<(Place, RelationSign)>
     Some((token.place, sign))
 }
 
-/// A row of its first item and one or more items after it.
+/// A row of its first item and the items after it.
 pub fn row_of(row: RowLevel, first: Boxed<Expr>, rest: Row<Further>) -> Expr
-    ensures { (next : Further) (others : List Further) → rest ≡ next ∷ others → at_level (row_level row) result ≡ sub (at_level (item_level row) first) (sub (tail_of (item_level row) rest) nil) }
+    ensures { result ≡ row_node row first rest }
 {
     match row {
         RowLevel::OrRow => Expr::Or { first, rest },
         RowLevel::AndRow => Expr::And { first, rest },
         RowLevel::SumRow => Expr::Sum { first, rest },
         RowLevel::ProductRow => Expr::Product { first, rest },
+    }
+}
+
+fn is_name(suffix: &Suffix) -> bool
+    ensures { result ≡ is_named (suffix_tree suffix.now) }
+{
+    matches!(suffix, Suffix::Dot(_))
+}
+
+fn ends_in_name(suffixes: &[Suffix]) -> bool
+    ensures { result ≡ ends_named (map suffix_tree suffixes.now) }
+{
+    match suffixes.last() {
+        Some(suffix) => is_name(suffix),
+        None => false,
+    }
+}
+
+/// An operand with suffixes.
+pub fn with_suffixes(head: Boxed<Expr>, suffixes: Row<Suffix>) -> Expr
+    ensures { result ≡ post_node head suffixes }
+{
+    if ends_in_name(suffixes.as_slice()) {
+        Expr::Dot { head, suffixes }
+    } else {
+        Expr::Index { head, suffixes }
     }
 }

@@ -4,24 +4,17 @@
 
 mod arguments;
 mod declarations;
-mod enums;
 mod expressions;
-mod files;
-mod headings;
 mod imports;
 mod invocations;
 mod levels;
 mod members;
-mod names;
-mod nodes;
 mod operands;
 mod parser;
-mod paths;
 mod phases;
 mod rows;
 mod rules;
 mod signs;
-mod starts;
 mod stop;
 mod tokens;
 mod units;

@@ -1,24 +1,39 @@
 //! Members of types, and their blocks.
 
-ghost use Rattle.std.specs.Prelude.{◌≡◌, ◌<◌, length, map, IfOk};
-ghost use Rattle.dsl_tree.specs.Grammar.{Part};
-ghost use Rattle.dsl_tree.specs.Views.{field_tree, member_tree};
+ghost use Rattle.dsl_parser.specs.Words.{◌≡◌, ◌<◌, length, map, refl, IfOk, Part, field_tree, member_tree, read, in_row, Gives, written_field_rest, rule_at, rest_at, ◌∷◌, drop, IsNext};
 ghost use Rattle.dsl_tree.specs.WrittenFile as written;
-ghost use Rattle.dsl_parser.specs.Descent.{read, in_row, Gives};
-ghost use Rattle.dsl_parser.specs.Members.{field_rule, field_rest, written_field_rest, do_rule};
-ghost use Rattle.dsl_parser.specs.Rows.{IsNext};
 
-use crate::names::names_from;
 use crate::phases::phase;
-use crate::rows::{Item, Repeated, block};
-use crate::rules::{initial_value, rule, rules_of_field};
+use crate::rows::{Item, Repeated, block, row_from};
+use crate::rules::{initial_value, rules_of_field};
 use crate::signs::Sign::{self, Mark, Word};
-use crate::starts::{begins_member, begins_rule};
 use crate::stop::Stop;
 use crate::tokens::Cursor;
 use dsl_tree::{Expr, FieldDecl, Ident, MarkKind, Member, RuleDecl, WordKind};
 use osc_base::{Place, Row};
 use std::alloc::Global;
+
+impl Repeated for Ident {
+    ghost tail = { Part.NamesTail };
+
+    ghost rest = { written.names_tail };
+
+    #[tactic(auto, using(crate::proofs::ReadSteps::read_step, crate::proofs::Lengths::lengths))]
+    fn next(alloc: Global, tokens: &mut Cursor<'_>) -> Result<Option<Ident>, Stop> {
+        if tokens.take(Mark(MarkKind::Comma)).is_none() {
+            return Ok(None);
+        }
+        Ok(Some(tokens.expect_name(alloc)?))
+    }
+}
+
+/// The names from this one on.
+fn names_from(alloc: Global, first: Ident, tokens: &mut Cursor<'_>) -> Result<Row<Ident>, Stop>
+    ensures first { IfOk result (λ names. names ≡ first ∷ drop 1 names) }
+    ensures rest { Gives (λ names. written.names_tail (drop 1 names)) (read Part.NamesTail tokens.old) result tokens.new }
+{
+    row_from(alloc, first, tokens)
+}
 
 /// The type of a field.
 #[derive(Drop)]
@@ -27,7 +42,7 @@ struct FieldType {
     of: Ident,
 }
 
-#[tactic(auto, using(crate::proofs::Steps::step_field_type))]
+#[tactic(auto, using(crate::proofs::ReadSteps::read_step))]
 fn field_type(alloc: Global, tokens: &mut Cursor<'_>) -> Result<FieldType, Stop>
     ensures { Gives (λ t. written.field_type t.list t.of) (read Part.FieldType tokens.old) result tokens.new }
 {
@@ -50,7 +65,7 @@ struct FieldRest {
 }
 
 fn field_behind_names(alloc: Global, tokens: &mut Cursor<'_>) -> Result<FieldRest, Stop>
-    ensures { Gives written_field_rest (in_row read field_rest tokens.old) result tokens.new }
+    ensures { Gives written_field_rest (in_row read (rest_at Part.Member 0 2) tokens.old) result tokens.new }
 {
     tokens.expect(Mark(MarkKind::Colon))?;
     let of = field_type(alloc, tokens)?;
@@ -60,7 +75,7 @@ fn field_behind_names(alloc: Global, tokens: &mut Cursor<'_>) -> Result<FieldRes
 }
 
 fn field(alloc: Global, tokens: &mut Cursor<'_>) -> Result<FieldDecl, Stop>
-    ensures { Gives (λ f. written.field f.names (field_tree f)) (in_row read field_rule tokens.old) result tokens.new }
+    ensures { Gives (λ f. written.field f.names (field_tree f)) (in_row read (rule_at Part.Member 0) tokens.old) result tokens.new }
 {
     let first = tokens.expect_name(alloc)?;
     let names = names_from(alloc, first, tokens)?;
@@ -77,52 +92,42 @@ fn field(alloc: Global, tokens: &mut Cursor<'_>) -> Result<FieldDecl, Stop>
 }
 
 fn do_member(alloc: Global, tokens: &mut Cursor<'_>) -> Result<Member, Stop>
-    ensures { Gives (λ m. written.member (member_tree m)) (in_row read do_rule tokens.old) result tokens.new }
+    ensures { Gives (λ m. written.member (member_tree m)) (in_row read (rule_at Part.Member 2) tokens.old) result tokens.new }
 {
     let place = tokens.expect(Word(WordKind::DoWord))?;
     let phase = phase(alloc, tokens)?;
     Ok(Member::Do { place, phase })
 }
 
-#[tactic(auto, using(crate::proofs::Steps::step_member))]
-fn member(alloc: Global, tokens: &mut Cursor<'_>) -> Result<Member, Stop>
-    ensures { Gives (λ m. written.member (member_tree m)) (read Part.Member tokens.old) result tokens.new }
-{
-    if tokens.begins_name() {
-        return Ok(Member::Field(field(alloc, tokens)?));
-    }
-    if begins_rule(tokens) {
-        return Ok(Member::Rule(rule(alloc, tokens)?));
-    }
-    do_member(alloc, tokens)
-}
-
-impl Repeated for Member {
-    ghost tail = { Part.MembersTail };
-
-    ghost rest = { λ ms. written.members_tail (map member_tree ms) };
-
-    #[tactic(auto, using(crate::proofs::Steps::step_members_tail, crate::proofs::Lengths::lengths))]
-    fn next(alloc: Global, tokens: &mut Cursor<'_>) -> Result<Option<Member>, Stop> {
-        if !begins_member(tokens) {
-            return Ok(None);
-        }
-        Ok(Some(member(alloc, tokens)?))
-    }
-}
-
 impl Item for Member {
     ghost part = { Part.Member };
 
+    ghost tail = { Part.MembersTail };
+
     ghost item = { λ m. written.member (member_tree m) };
 
+    ghost rest = { λ ms. written.members_tail (map member_tree ms) };
+
+    ghost law = { (refl, refl, refl, refl, refl, λ x xs. refl) };
+
+    fn begins(tokens: &Cursor<'_>) -> bool {
+        tokens.begins_name() || RuleDecl::begins(tokens) || tokens.begins(Word(WordKind::DoWord))
+    }
+
+    #[tactic(auto, using(crate::proofs::ReadSteps::read_step))]
     fn item(alloc: Global, tokens: &mut Cursor<'_>) -> Result<Member, Stop> {
-        member(alloc, tokens)
+        if tokens.begins_name() {
+            return Ok(Member::Field(field(alloc, tokens)?));
+        }
+        if RuleDecl::begins(tokens) {
+            return Ok(Member::Rule(RuleDecl::item(alloc, tokens)?));
+        }
+        do_member(alloc, tokens)
     }
 }
 
 /// A block of members, one or more, after its colon.
-#[tactic(auto, using(crate::proofs::Steps::step_block, crate::proofs::Blocks::members_block))]
+#[tactic(auto, using(crate::proofs::ReadSteps::read_step, crate::proofs::Blocks::members_block))]
 pub fn members(alloc: Global, tokens: &mut Cursor<'_>) -> Result<Row<Member>, Stop>
     ensures gives { Gives (λ ms. written.block (map member_tree ms)) (read Part.Block tokens.old) result tokens.new }
     ensures some { IfOk result (λ ms. 0 < length ms) }
@@ -132,7 +137,7 @@ pub fn members(alloc: Global, tokens: &mut Cursor<'_>) -> Result<Row<Member>, St
 }
 
 /// The line end, or a colon and a block of members.
-#[tactic(auto, using(crate::proofs::Steps::step_body, crate::proofs::Blocks::members_body))]
+#[tactic(auto, using(crate::proofs::Blocks::step_body, crate::proofs::Blocks::members_body))]
 pub fn body(alloc: Global, tokens: &mut Cursor<'_>) -> Result<Row<Member>, Stop>
     ensures { Gives (λ ms. written.body (map member_tree ms)) (read Part.Body tokens.old) result tokens.new }
 {

@@ -1,20 +1,11 @@
 //! Operands of a token or two.
 
-ghost use Rattle.std.specs.Prelude.{◌≡◌, [], ◌∷◌, true, false, IfSome, IfNone};
-ghost use Rattle.dsl_tree.specs.Codes.{code, has};
-ghost use Rattle.dsl_tree.specs.Forest.{nil, seen, sub};
-ghost use Rattle.dsl_tree.specs.Grammar.{Part};
-ghost use Rattle.dsl_tree.specs.Reading.{starts};
-ghost use Rattle.dsl_tree.specs.Written.{ident};
-ghost use Rattle.dsl_parser.specs.Descent.{read, in_row, Gives};
-ghost use Rattle.dsl_parser.specs.Levels.{at_level, bracket_codes, truth_codes, name_rule};
-ghost use Rattle.dsl_parser.specs.Operands.{value_codes};
-ghost use Rattle.dsl_parser.specs.Readers.{enum_member as member_forest};
+ghost use Rattle.dsl_parser.specs.Words.{◌≡◌, [], ◌∷◌, true, false, IfSome, IfNone, code, has, nil, seen, sub, Part, starts, ident, read, in_row, Gives, at_level, bracket_codes, truth_codes, value_codes, enum_member as member_forest, rule_at};
 
-use crate::headings::enum_member;
+use crate::signs::Sign::Mark;
 use crate::stop::Stop;
 use crate::tokens::Cursor;
-use dsl_tree::{Expr, Ident, TokenKind, WordKind};
+use dsl_tree::{Expr, Ident, MarkKind, TokenKind, WordKind};
 use osc_base::Place;
 use std::alloc::Global;
 
@@ -62,9 +53,20 @@ fn name_node(name: Ident, member: Option<Ident>) -> Expr
     }
 }
 
+/// The member after the name of an enum, if there is one.
+#[tactic(auto, using(crate::proofs::ReadSteps::read_step))]
+pub fn enum_member(alloc: Global, tokens: &mut Cursor<'_>) -> Result<Option<Ident>, Stop>
+    ensures { Gives member_forest (read Part.EnumMember tokens.old) result tokens.new }
+{
+    match tokens.take(Mark(MarkKind::Bang)) {
+        Some(_) => Ok(Some(tokens.expect_name(alloc)?)),
+        None => Ok(None),
+    }
+}
+
 /// A name with the member after it.
 fn name_operand(alloc: Global, tokens: &mut Cursor<'_>) -> Result<Expr, Stop>
-    ensures { Gives (at_level 9) (in_row read name_rule tokens.old) result tokens.new }
+    ensures { Gives (at_level 9) (in_row read (rule_at Part.Primary 6) tokens.old) result tokens.new }
 {
     let name = tokens.expect_name(alloc)?;
     let member = enum_member(alloc, tokens)?;

@@ -1,13 +1,7 @@
-ghost use Rattle.std.specs.Prelude.{◌≡◌, IfOk, IfErr};
-ghost use Rattle.dsl_tree.specs.FileTree.{FileTree};
-ghost use Rattle.dsl_tree.specs.Grammar.{Part};
-ghost use Rattle.dsl_tree.specs.Reading.{PartFault};
-ghost use Rattle.dsl_tree.specs.Views.{file_tree};
-ghost use Rattle.dsl_tree.specs.Language.{Ended, Spelled, FirstFault, fault_code};
-ghost use Rattle.osc_base.specs.Stops.{OnStop};
-ghost use Rattle.dsl_parser.specs.Answers.{HasViableFront, HasDeadToken};
+ghost use Rattle.dsl_parser.specs.Words.{◌≡◌, IfOk, IfErr, FileTree, Part, PartFault, file_tree, Ended, Spelled, FirstFault, fault_code, OnStop, HasViableFront, HasDeadToken, ◌≢◌, [], Ok, Err, Memory, read, file as file_forest};
 
-use crate::files::file;
+use crate::declarations::declarations;
+use crate::imports::imports;
 use crate::stop::{ParseStop, Stop};
 use crate::tokens::Cursor;
 use dsl_tree::{File, Token, TokenKind, Tokens};
@@ -57,4 +51,20 @@ fn fault_at(tokens: &[Token], left: usize) -> Fault
         place: token.place,
         code: code_at(&token.kind),
     }
+}
+
+/// A file, to the end of its tokens.
+#[tactic(auto, using(crate::proofs::ReadSteps::read_step))]
+fn file(alloc: Global, tokens: &mut Cursor<'_>) -> Result<File, Stop>
+    ensures ok { IfOk result (λ f. read Part.File tokens.old ≡ Ok (file_forest (file_tree f), [])) }
+    ensures err { IfErr result (λ e. e ≢ Memory → read Part.File tokens.old ≡ Err e) }
+{
+    let imports = imports(alloc, tokens)?;
+    let decls = declarations(alloc, tokens)?;
+    let end = tokens.expect_end()?;
+    Ok(File {
+        imports,
+        decls,
+        end,
+    })
 }

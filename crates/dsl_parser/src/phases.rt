@@ -1,27 +1,19 @@
 //! Phases of a behaviour. They nest in the blocks of compositions.
 
-ghost use Rattle.std.specs.Prelude.{◌≡◌, ◌≢◌, [], ◌∷◌, map, Err, IfOk, IfErr};
-ghost use Rattle.osc_base.specs.declared.stop.Stop.TheVariants.{Memory};
-ghost use Rattle.dsl_tree.specs.Grammar.{Part};
-ghost use Rattle.dsl_tree.specs.PhaseTree.{PhaseTree, row_of};
-ghost use Rattle.dsl_tree.specs.Reading.{starts};
-ghost use Rattle.dsl_tree.specs.Views.{phase_tree, expr_tree, argument_tree, part_tree};
+ghost use Rattle.dsl_parser.specs.Words.{◌≡◌, ◌≢◌, [], ◌∷◌, map, Err, IfOk, IfErr, Memory, Part, PhaseTree, row_of, starts, phase_tree, expr_tree, argument_tree, part_tree, take, read, in_row, Gives, composition_codes, composition_token, core_of, behind_label, behind_name, invoke_codes, invoke_token, label_rest, name_rest, phases_rest, IsStarted, IsHeaded, rest_at, IsRow, first};
 ghost use Rattle.dsl_tree.specs.WrittenPhases as written;
-ghost use Rattle.dsl_parser.specs.Descent.{take, read, in_row, Gives};
-ghost use Rattle.dsl_parser.specs.Phases.{wait_rest, written_wait_rest, composition_codes, composition_token, composition_block, phases_block, core_of, behind_label, behind_name, invoke_codes, invoke_token, label_rest, name_rest, phases_rest, IsStarted, IsHeaded, IsOpened};
-ghost use Rattle.dsl_parser.specs.Rows.{IsRow};
 
 use crate::expressions::expr;
 use crate::invocations::{InvocationRest, composition_arguments, invocation_rest};
 use crate::rows::row_of as one_row;
 use crate::signs::Sign::{self, Mark, Word};
-use crate::starts::{begins_composition, begins_phase};
 use crate::stop::Stop;
 use crate::tokens::Cursor;
 use crate::units::closed;
+use dsl_tree::WordKind::{ActorWord, ElapsedWord, OneOfWord, ParallelWord, SerialWord, WaitWord};
 use dsl_tree::{
     Argument, CompKind, CompNode, Expr, Ident, InvokeHead, InvokeNode, MarkKind, Phase, TokenKind,
-    WaitNode, WordKind,
+    WaitNode,
 };
 use osc_base::{Place, Row};
 use std::alloc::Global;
@@ -51,23 +43,16 @@ fn invoke(label: Option<Ident>, head: InvokeHead, rest: InvocationRest) -> Phase
     })
 }
 
-fn elapsed(alloc: Global, tokens: &mut Cursor<'_>) -> Result<Expr, Stop>
-    ensures { Gives (λ e. written_wait_rest (expr_tree e)) (in_row read wait_rest tokens.old) result tokens.new }
-{
-    tokens.expect(Word(WordKind::ElapsedWord))?;
-    tokens.expect(Mark(MarkKind::OpenRound))?;
-    let elapsed = expr(alloc, tokens)?;
-    closed(tokens)?;
-    Ok(elapsed)
-}
-
 /// A wait, as the place of its word and the time.
 #[tactic(auto, using(crate::proofs::Steps::step_wait))]
 fn wait(alloc: Global, tokens: &mut Cursor<'_>) -> Result<(Place, Expr), Stop>
     ensures { Gives (λ w. core_of (written.wait w.0 (expr_tree w.1))) (read Part.Wait tokens.old) result tokens.new }
 {
-    let place = tokens.expect(Word(WordKind::WaitWord))?;
-    let elapsed = elapsed(alloc, tokens)?;
+    let place = tokens.expect(Word(WaitWord))?;
+    tokens.expect(Word(ElapsedWord))?;
+    tokens.expect(Mark(MarkKind::OpenRound))?;
+    let elapsed = expr(alloc, tokens)?;
+    closed(tokens)?;
     Ok((place, elapsed))
 }
 
@@ -81,11 +66,30 @@ fn waiting(label: Option<Ident>, place: Place, elapsed: Expr) -> Phase
     })
 }
 
+/// Whether the first token begins a composition.
+fn begins_composition(tokens: &Cursor<'_>) -> bool
+    ensures { result ≡ starts (first Part.Composition) tokens.now }
+{
+    tokens.begins(Word(SerialWord))
+        || tokens.begins(Word(ParallelWord))
+        || tokens.begins(Word(OneOfWord))
+}
+
+/// Whether the first token begins a phase.
+fn begins_phase(tokens: &Cursor<'_>) -> bool
+    ensures { result ≡ starts (first Part.Phase) tokens.now }
+{
+    tokens.begins_name()
+        || tokens.begins(Word(ActorWord))
+        || begins_composition(tokens)
+        || tokens.begins(Word(WaitWord))
+}
+
 /// Whether the first token is a name or `actor`.
 fn begins_head(tokens: &Cursor<'_>) -> bool
     ensures { result ≡ starts invoke_codes tokens.now }
 {
-    tokens.begins_name() || tokens.begins(Word(WordKind::ActorWord))
+    tokens.begins_name() || tokens.begins(Word(ActorWord))
 }
 
 /// The head of an invocation behind a label.
@@ -96,9 +100,7 @@ fn invoke_head(alloc: Global, tokens: &mut Cursor<'_>) -> Result<InvokeHead, Sto
     let (first, _) = tokens.split();
     match &first.kind {
         TokenKind::Name(_) => Ok(InvokeHead::Name(tokens.expect_name(alloc)?)),
-        TokenKind::Word(WordKind::ActorWord) => {
-            Ok(InvokeHead::Actor(tokens.expect(Word(WordKind::ActorWord))?))
-        }
+        TokenKind::Word(ActorWord) => Ok(InvokeHead::Actor(tokens.expect(Word(ActorWord))?)),
         _ => Err(tokens.miss()),
     }
 }
@@ -149,7 +151,7 @@ fn start(alloc: Global, tokens: &mut Cursor<'_>) -> Result<PhaseStart, Stop>
     if begins_composition(tokens) {
         return Ok(PhaseStart::Composition(None));
     }
-    if let Some(place) = tokens.take(Word(WordKind::ActorWord)) {
+    if let Some(place) = tokens.take(Word(ActorWord)) {
         let rest = invocation_rest(alloc, tokens)?;
         return Ok(PhaseStart::Whole(invoke(None, InvokeHead::Actor(place), rest)));
     }
@@ -164,21 +166,17 @@ fn composition_word(tokens: &mut Cursor<'_>) -> Result<(Place, CompKind), Stop>
 {
     let (first, _) = tokens.split();
     match &first.kind {
-        TokenKind::Word(WordKind::SerialWord) => {
-            Ok((tokens.expect(Word(WordKind::SerialWord))?, CompKind::Serial))
-        }
-        TokenKind::Word(WordKind::ParallelWord) => Ok((
-            tokens.expect(Word(WordKind::ParallelWord))?,
+        TokenKind::Word(SerialWord) => Ok((tokens.expect(Word(SerialWord))?, CompKind::Serial)),
+        TokenKind::Word(ParallelWord) => Ok((
+            tokens.expect(Word(ParallelWord))?,
             CompKind::Parallel,
         )),
-        TokenKind::Word(WordKind::OneOfWord) => {
-            Ok((tokens.expect(Word(WordKind::OneOfWord))?, CompKind::OneOf))
-        }
+        TokenKind::Word(OneOfWord) => Ok((tokens.expect(Word(OneOfWord))?, CompKind::OneOf)),
         _ => Err(tokens.miss()),
     }
 }
 
-/// A composition before its block.
+/// A composition before the phases of its block.
 #[derive(Drop)]
 struct CompositionHead {
     place: Place,
@@ -193,20 +191,13 @@ fn composition_head(alloc: Global, tokens: &mut Cursor<'_>) -> Result<Compositio
     let (place, kind) = composition_word(tokens)?;
     let arguments = composition_arguments(alloc, tokens)?;
     tokens.expect(Mark(MarkKind::Colon))?;
+    tokens.expect(Sign::Newline)?;
+    tokens.expect(Sign::Indent)?;
     Ok(CompositionHead {
         place,
         kind,
         arguments,
     })
-}
-
-#[tactic(auto, using(crate::proofs::Lengths::lengths))]
-fn opened(tokens: &mut Cursor<'_>) -> Result<(), Stop>
-    ensures { IsOpened tokens.old result tokens.new }
-{
-    tokens.expect(Sign::Newline)?;
-    tokens.expect(Sign::Indent)?;
-    Ok(())
 }
 
 fn composed(label: Option<Ident>, head: CompositionHead, members: Row<Phase>) -> Phase
@@ -237,7 +228,6 @@ pub fn phase(alloc: Global, tokens: &mut Cursor<'_>) -> Result<Phase, Stop>
         PhaseStart::Composition(label) => label,
     };
     let head = composition_head(alloc, tokens)?;
-    opened(tokens)?;
     let members = phases_in_block(alloc, tokens)?;
     Ok(composed(label, head, members))
 }
@@ -246,7 +236,7 @@ pub fn phase(alloc: Global, tokens: &mut Cursor<'_>) -> Result<Phase, Stop>
 #[cycle(phase_readers)]
 #[tactic(auto, using(crate::proofs::Lengths::lengths))]
 fn phases_in_block(alloc: Global, tokens: &mut Cursor<'_>) -> Result<Row<Phase>, Stop>
-    ensures { Gives (λ ps. written.block_phases (row_of (map phase_tree ps))) (in_row read phases_block tokens.old) result tokens.new }
+    ensures { Gives (λ ps. written.block_phases (row_of (map phase_tree ps))) (in_row read (rest_at Part.Composition 0 5) tokens.old) result tokens.new }
 {
     let first = phase(alloc, tokens)?;
     let phases = phases_from(alloc, first, tokens)?;

@@ -1,11 +1,6 @@
 //! Rows of items.
 
-ghost use Rattle.std.specs.Prelude.{◌≡◌, ◌≢◌, ◌<◌, [], ◌∷◌, List, length, drop, Err, IfOk, IfErr};
-ghost use Rattle.osc_base.specs.declared.stop.Stop.TheVariants.{Memory};
-ghost use Rattle.dsl_tree.specs.Grammar.{Part, Of, newline, indent, dedent};
-ghost use Rattle.dsl_tree.specs.Forest.{Forest};
-ghost use Rattle.dsl_parser.specs.Descent.{read, in_row, Gives};
-ghost use Rattle.dsl_parser.specs.Rows.{IsNext, IsRow, in_block};
+ghost use Rattle.dsl_parser.specs.Words.{◌≡◌, ◌≢◌, ◌<◌, [], ◌∷◌, List, length, drop, Err, IfOk, IfErr, Memory, Part, Of, newline, indent, dedent, Forest, first, starts, read, in_row, Gives, IsNext, IsRow, in_block, IsItemRow};
 
 use crate::signs::Sign;
 use crate::stop::Stop;
@@ -26,15 +21,26 @@ pub trait Repeated: Drop {
         ensures { IsNext tail rest tokens.old result tokens.new };
 }
 
-/// What stands in blocks.
-pub trait Item: Repeated {
+/// What stands in rows without anything between.
+pub trait Item: Drop {
+    /// An item, and any number of them.
     ghost part: { Part };
 
-    /// What the part is written as.
+    ghost tail: { Part };
+
+    /// What they are written as.
     ghost item: { Self → Forest };
+
+    ghost rest: { List Self → Forest };
+
+    /// Whether the tokens begin with an item.
+    fn begins(tokens: &Cursor<'_>) -> bool
+        ensures { result ≡ starts (first tail) tokens.now };
 
     fn item(alloc: Global, tokens: &mut Cursor<'_>) -> Result<Self, Stop>
         ensures { Gives item (read part tokens.old) result tokens.new };
+
+    ghost law: { IsItemRow part tail item rest };
 }
 
 /// The row with this item alone.
@@ -62,13 +68,6 @@ pub fn with_rest<T: Repeated>(
     Ok(row)
 }
 
-/// All items that are left of a row.
-pub fn rest_of_row<T: Repeated>(alloc: Global, tokens: &mut Cursor<'_>) -> Result<Row<T>, Stop>
-    ensures { Gives T.rest (read T.tail tokens.old) result tokens.new }
-{
-    with_rest(alloc, Row::new(alloc), tokens)
-}
-
 /// The row with this item and those after it.
 pub fn row_from<T: Repeated>(
     alloc: Global,
@@ -81,15 +80,39 @@ pub fn row_from<T: Repeated>(
     with_rest(alloc, row_of(alloc, first)?, tokens)
 }
 
+/// The items with all that stand after them.
+pub fn with_items<T: Item>(
+    alloc: Global,
+    begun: Row<T>,
+    tokens: &mut Cursor<'_>,
+) -> Result<Row<T>, Stop>
+    ensures ok { IfOk result (λ all. IsRow T.tail T.rest begun all tokens.old tokens.new) }
+    ensures err { IfErr result (λ e. e ≢ Memory → read T.tail tokens.old ≡ Err e) }
+{
+    let mut row = begun;
+    'items: while T::begins(tokens) {
+        let item = T::item(alloc, tokens)?;
+        row.push(item)?;
+    }
+    Ok(row)
+}
+
+/// All items that are left of a row.
+pub fn items<T: Item>(alloc: Global, tokens: &mut Cursor<'_>) -> Result<Row<T>, Stop>
+    ensures { Gives T.rest (read T.tail tokens.old) result tokens.new }
+{
+    with_items(alloc, Row::new(alloc), tokens)
+}
+
 /// A block: the line end and the indentation, one item or more, and the end of the block.
 pub fn block<T: Item>(alloc: Global, tokens: &mut Cursor<'_>) -> Result<Row<T>, Stop>
     ensures gives { Gives (in_block T.item T.rest) (in_row read (newline ∷ indent ∷ Of T.part ∷ Of T.tail ∷ dedent ∷ []) tokens.old) result tokens.new }
-    ensures some { IfOk result (λ row. 0 < length row) }
+    ensures some { IfOk result (λ all. 0 < length all) }
 {
     tokens.expect(Sign::Newline)?;
     tokens.expect(Sign::Indent)?;
     let first = T::item(alloc, tokens)?;
-    let row = row_from(alloc, first, tokens)?;
+    let row = with_items(alloc, row_of(alloc, first)?, tokens)?;
     tokens.expect(Sign::Dedent)?;
     Ok(row)
 }

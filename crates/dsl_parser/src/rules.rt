@@ -1,27 +1,20 @@
 //! Rules: `keep` and `remove_default`.
 
-ghost use Rattle.std.specs.Prelude.{◌≡◌, map, option_map, Ok};
-ghost use Rattle.dsl_tree.specs.Grammar.{Part};
-ghost use Rattle.dsl_tree.specs.Views.{expr_tree, rule_tree};
-ghost use Rattle.dsl_tree.specs.WrittenFile.{initial, field_end};
+ghost use Rattle.dsl_parser.specs.Words.{◌≡◌, map, option_map, refl, Ok, Part, expr_tree, rule_tree, initial, field_end, read, in_row, Gives, rule_at, path as path_forest, path_tree, take, head_token, head_codes};
 ghost use Rattle.dsl_tree.specs.WrittenPhases as written;
-ghost use Rattle.dsl_parser.specs.Descent.{read, in_row, Gives};
-ghost use Rattle.dsl_parser.specs.Rests.{keep_rule, remove_rule};
-ghost use Rattle.dsl_parser.specs.Rows.{IsNext};
 
-use crate::expressions::expr;
-use crate::paths::path;
-use crate::rows::{Item, Repeated, block};
+use crate::expressions::{expr, suffixes};
+use crate::rows::{Item, block};
 use crate::signs::Sign::{self, Mark, Word};
-use crate::starts::begins_rule;
 use crate::stop::Stop;
 use crate::tokens::Cursor;
 use crate::units::closed;
-use dsl_tree::{Expr, KeepKind, MarkKind, RuleDecl, WordKind};
+use dsl_tree::WordKind::{ActorWord, ItWord};
+use dsl_tree::{Expr, KeepKind, MarkKind, PathHead, PathNode, RuleDecl, TokenKind, WordKind};
 use osc_base::Row;
 use std::alloc::Global;
 
-#[tactic(auto, using(crate::proofs::Steps::step_keep_kind, crate::proofs::Lengths::take_within))]
+#[tactic(auto, using(crate::proofs::ReadSteps::read_step, crate::proofs::Lengths::take_within))]
 fn keep_kind(tokens: &mut Cursor<'_>) -> KeepKind
     ensures { read Part.KeepKind tokens.old ≡ Ok (written.keep_kind result, tokens.new) }
 {
@@ -34,8 +27,31 @@ fn keep_kind(tokens: &mut Cursor<'_>) -> KeepKind
     KeepKind::Plain
 }
 
+#[tactic(auto, unfolding(crate::specs::Descent::take))]
+fn head(alloc: Global, tokens: &mut Cursor<'_>) -> Result<PathHead, Stop>
+    ensures { Gives head_token (take head_codes tokens.old) result tokens.new }
+{
+    let (first, _) = tokens.split();
+    match &first.kind {
+        TokenKind::Name(_) => Ok(PathHead::Name(tokens.expect_name(alloc)?)),
+        TokenKind::Word(ItWord) => Ok(PathHead::It(tokens.expect(Word(ItWord))?)),
+        TokenKind::Word(ActorWord) => Ok(PathHead::Actor(tokens.expect(Word(ActorWord))?)),
+        _ => Err(tokens.miss()),
+    }
+}
+
+/// A path: a name, `it` or `actor`, and any suffixes.
+#[tactic(auto, using(crate::proofs::ReadSteps::read_step, crate::proofs::LeafForests::path_forest))]
+fn path(alloc: Global, tokens: &mut Cursor<'_>) -> Result<PathNode, Stop>
+    ensures { Gives (λ p. path_forest (path_tree p)) (read Part.Path tokens.old) result tokens.new }
+{
+    let head = head(alloc, tokens)?;
+    let suffixes = suffixes(alloc, tokens)?;
+    Ok(PathNode { head, suffixes })
+}
+
 fn keep(alloc: Global, tokens: &mut Cursor<'_>) -> Result<RuleDecl, Stop>
-    ensures { Gives (λ r. written.rule (rule_tree r)) (in_row read keep_rule tokens.old) result tokens.new }
+    ensures { Gives (λ r. written.rule (rule_tree r)) (in_row read (rule_at Part.Rule 0) tokens.old) result tokens.new }
 {
     let place = tokens.expect(Word(WordKind::KeepWord))?;
     tokens.expect(Mark(MarkKind::OpenRound))?;
@@ -46,7 +62,7 @@ fn keep(alloc: Global, tokens: &mut Cursor<'_>) -> Result<RuleDecl, Stop>
 }
 
 fn remove(alloc: Global, tokens: &mut Cursor<'_>) -> Result<RuleDecl, Stop>
-    ensures { Gives (λ r. written.rule (rule_tree r)) (in_row read remove_rule tokens.old) result tokens.new }
+    ensures { Gives (λ r. written.rule (rule_tree r)) (in_row read (rule_at Part.Rule 1) tokens.old) result tokens.new }
 {
     let place = tokens.expect(Word(WordKind::RemoveDefaultWord))?;
     tokens.expect(Mark(MarkKind::OpenRound))?;
@@ -55,43 +71,32 @@ fn remove(alloc: Global, tokens: &mut Cursor<'_>) -> Result<RuleDecl, Stop>
     Ok(RuleDecl::Remove { place, path })
 }
 
-/// A rule and the line end.
-#[tactic(auto, using(crate::proofs::Steps::step_rule))]
-pub fn rule(alloc: Global, tokens: &mut Cursor<'_>) -> Result<RuleDecl, Stop>
-    ensures { Gives (λ r. written.rule (rule_tree r)) (read Part.Rule tokens.old) result tokens.new }
-{
-    if tokens.begins(Word(WordKind::KeepWord)) {
-        return keep(alloc, tokens);
-    }
-    remove(alloc, tokens)
-}
-
-impl Repeated for RuleDecl {
-    ghost tail = { Part.RulesTail };
-
-    ghost rest = { λ rs. written.rules_tail (map rule_tree rs) };
-
-    #[tactic(auto, using(crate::proofs::Steps::step_rules_tail, crate::proofs::Lengths::lengths))]
-    fn next(alloc: Global, tokens: &mut Cursor<'_>) -> Result<Option<RuleDecl>, Stop> {
-        if !begins_rule(tokens) {
-            return Ok(None);
-        }
-        Ok(Some(rule(alloc, tokens)?))
-    }
-}
-
 impl Item for RuleDecl {
     ghost part = { Part.Rule };
 
+    ghost tail = { Part.RulesTail };
+
     ghost item = { λ r. written.rule (rule_tree r) };
 
+    ghost rest = { λ rs. written.rules_tail (map rule_tree rs) };
+
+    ghost law = { (refl, refl, refl, refl, refl, λ x xs. refl) };
+
+    fn begins(tokens: &Cursor<'_>) -> bool {
+        tokens.begins(Word(WordKind::KeepWord)) || tokens.begins(Word(WordKind::RemoveDefaultWord))
+    }
+
+    #[tactic(auto, using(crate::proofs::ReadSteps::read_step))]
     fn item(alloc: Global, tokens: &mut Cursor<'_>) -> Result<RuleDecl, Stop> {
-        rule(alloc, tokens)
+        if tokens.begins(Word(WordKind::KeepWord)) {
+            return keep(alloc, tokens);
+        }
+        remove(alloc, tokens)
     }
 }
 
 /// The end of a field: the line end, or `with:` and a block of rules.
-#[tactic(auto, using(crate::proofs::Steps::step_field_end, crate::proofs::Blocks::rules_block))]
+#[tactic(auto, using(crate::proofs::Blocks::step_field_end, crate::proofs::Blocks::rules_block))]
 pub fn rules_of_field(alloc: Global, tokens: &mut Cursor<'_>) -> Result<Row<RuleDecl>, Stop>
     ensures { Gives (λ rs. field_end (map rule_tree rs)) (read Part.FieldEnd tokens.old) result tokens.new }
 {
@@ -105,7 +110,7 @@ pub fn rules_of_field(alloc: Global, tokens: &mut Cursor<'_>) -> Result<Row<Rule
 }
 
 /// The value that a field's declaration gives it, if there is one.
-#[tactic(auto, using(crate::proofs::Steps::step_initial))]
+#[tactic(auto, using(crate::proofs::ReadSteps::read_step))]
 pub fn initial_value(alloc: Global, tokens: &mut Cursor<'_>) -> Result<Option<Expr>, Stop>
     ensures { Gives (λ value. initial (option_map expr_tree value)) (read Part.Initial tokens.old) result tokens.new }
 {

@@ -2,14 +2,7 @@
 //!
 //! If the first token is another one, `take..` returns none, and `expect..` a stop.
 
-ghost use Rattle.std.specs.Prelude.{◌≡◌, [], ◌∷◌, length, false};
-ghost use Rattle.osc_base.specs.declared.stop.Stop.{Stop};
-ghost use Rattle.dsl_tree.specs.declared.token.TokenKind.{TokenKind};
-ghost use Rattle.dsl_tree.specs.Codes.{code, small_number, text_code, physical_code};
-ghost use Rattle.dsl_tree.specs.Reading.{starts};
-ghost use Rattle.dsl_tree.specs.Language.{Ended};
-ghost use Rattle.dsl_parser.specs.Descent.{take, names, Gives, Tries};
-ghost use Rattle.dsl_parser.specs.Cursor.{at, kind_of, sign_codes, name_token, number_token, numbers, whole_numbers, base_names, text_token, physical_token};
+ghost use Rattle.dsl_parser.specs.Words.{◌≡◌, [], ◌∷◌, length, false, Stop, TokenKind, code, small_number, text_code, physical_code, starts, Ended, take, names, Gives, Tries, at, kind_of, sign_codes, name_token, number_token, numbers, whole_numbers, base_names, text_token, physical_token};
 
 use crate::signs::{Sign, is_sign};
 use crate::stop::Stop;

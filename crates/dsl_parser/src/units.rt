@@ -1,16 +1,8 @@
 //! Declarations of physical types and units.
 
-ghost use Rattle.std.specs.Prelude.{◌≡◌, ◌≢◌, Ok, Err, IfOk, IfErr};
-ghost use Rattle.osc_base.specs.declared.stop.Stop.TheVariants.{Memory};
-ghost use Rattle.dsl_tree.specs.Grammar.{Part};
-ghost use Rattle.dsl_tree.specs.Forest.{nil, sub};
-ghost use Rattle.dsl_tree.specs.Written.{digits};
+ghost use Rattle.dsl_parser.specs.Words.{◌≡◌, ◌≢◌, [], ◌∷◌, Ok, Err, IfOk, IfErr, Memory, Part, nil, sub, digits, read, in_row, Gives, optional_dash, rule_at, rest_at, IsNext, IsRow, IsUnitNext, IsUnitMore, written_tail};
 ghost use Rattle.dsl_tree.specs.WrittenFile as written;
-ghost use Rattle.dsl_parser.specs.Descent.{read, in_row, Gives};
 ghost use Rattle.dsl_parser.specs.Rests as rest;
-ghost use Rattle.dsl_parser.specs.Rests.{optional_dash};
-ghost use Rattle.dsl_parser.specs.Rows.{IsNext};
-ghost use Rattle.dsl_parser.specs.UnitRows.{IsUnitNext, IsUnitMore, IsUnitRow};
 
 use crate::rows::{Repeated, row_from, row_of};
 use crate::signs::Sign::{self, Mark, Word};
@@ -20,7 +12,7 @@ use dsl_tree::{BasePart, Digits, Ident, MarkKind, PhysicalDecl, Signed, UnitDecl
 use osc_base::{Place, Row};
 use std::alloc::Global;
 
-#[tactic(auto, using(crate::proofs::Steps::step_optional_dash))]
+#[tactic(auto, using(crate::proofs::ReadSteps::read_step))]
 fn dash(tokens: &mut Cursor<'_>) -> Option<Place>
     ensures { read Part.OptionalDash tokens.old ≡ Ok (optional_dash result, tokens.new) }
 {
@@ -44,7 +36,7 @@ fn with_dash(dash: Option<Place>, number: Digits) -> Signed
     }
 }
 
-#[tactic(auto, using(crate::proofs::Steps::step_signed))]
+#[tactic(auto, using(crate::proofs::ReadSteps::read_step))]
 fn signed(tokens: &mut Cursor<'_>) -> Result<Signed, Stop>
     ensures { Gives written.signed (read Part.Signed tokens.old) result tokens.new }
 {
@@ -53,7 +45,7 @@ fn signed(tokens: &mut Cursor<'_>) -> Result<Signed, Stop>
     Ok(with_dash(dash, number))
 }
 
-#[tactic(auto, using(crate::proofs::Steps::step_base))]
+#[tactic(auto, using(crate::proofs::ReadSteps::read_step))]
 fn base(alloc: Global, tokens: &mut Cursor<'_>) -> Result<BasePart, Stop>
     ensures { Gives written.base (read Part.Base tokens.old) result tokens.new }
 {
@@ -66,7 +58,7 @@ fn base(alloc: Global, tokens: &mut Cursor<'_>) -> Result<BasePart, Stop>
 
 /// The closing bracket and the line end.
 pub fn closed(tokens: &mut Cursor<'_>) -> Result<(), Stop>
-    ensures { Gives (λ closed. written.bases_end) (in_row read rest.closing tokens.old) result tokens.new }
+    ensures { Gives (λ closed. written.bases_end) (in_row read (rule_at Part.UnitTail 0) tokens.old) result tokens.new }
 {
     tokens.expect(Mark(MarkKind::CloseRound))?;
     tokens.expect(Sign::Newline)?;
@@ -88,7 +80,7 @@ impl Repeated for BasePart {
 }
 
 fn bases_of_type(alloc: Global, tokens: &mut Cursor<'_>) -> Result<Row<BasePart>, Stop>
-    ensures { Gives written.type_bases (in_row read rest.type_bases tokens.old) result tokens.new }
+    ensures { Gives written.type_bases (in_row read (rest_at Part.Declaration 0 5) tokens.old) result tokens.new }
 {
     let first = base(alloc, tokens)?;
     let bases = row_from(alloc, first, tokens)?;
@@ -96,22 +88,16 @@ fn bases_of_type(alloc: Global, tokens: &mut Cursor<'_>) -> Result<Row<BasePart>
     Ok(bases)
 }
 
-fn si_of_type(alloc: Global, tokens: &mut Cursor<'_>) -> Result<Row<BasePart>, Stop>
-    ensures { Gives rest.written_type_si (in_row read rest.type_si tokens.old) result tokens.new }
-{
-    tokens.expect(Word(WordKind::IsWord))?;
-    tokens.expect(Sign::Si)?;
-    tokens.expect(Mark(MarkKind::OpenRound))?;
-    bases_of_type(alloc, tokens)
-}
-
 /// `type NAME is SI(BASES)` and the line end.
 pub fn type_declaration(alloc: Global, tokens: &mut Cursor<'_>) -> Result<PhysicalDecl, Stop>
-    ensures { Gives written.type_declaration (in_row read rest.type_rule tokens.old) result tokens.new }
+    ensures { Gives written.type_declaration (in_row read (rule_at Part.Declaration 0) tokens.old) result tokens.new }
 {
     let place = tokens.expect(Word(WordKind::TypeWord))?;
     let name = tokens.expect_name(alloc)?;
-    let bases = si_of_type(alloc, tokens)?;
+    tokens.expect(Word(WordKind::IsWord))?;
+    tokens.expect(Sign::Si)?;
+    tokens.expect(Mark(MarkKind::OpenRound))?;
+    let bases = bases_of_type(alloc, tokens)?;
     Ok(PhysicalDecl { place, name, bases })
 }
 
@@ -123,7 +109,7 @@ struct UnitEnd {
 }
 
 fn offset_rest(tokens: &mut Cursor<'_>) -> Result<Signed, Stop>
-    ensures { Gives rest.written_offset_rest (in_row read rest.offset_rest tokens.old) result tokens.new }
+    ensures { Gives rest.written_offset_rest (in_row read (rest_at Part.UnitMore 2 1) tokens.old) result tokens.new }
 {
     tokens.expect(Mark(MarkKind::Colon))?;
     let offset = signed(tokens)?;
@@ -131,7 +117,7 @@ fn offset_rest(tokens: &mut Cursor<'_>) -> Result<Signed, Stop>
     Ok(offset)
 }
 
-#[tactic(auto, using(crate::proofs::Steps::step_factor_tail))]
+#[tactic(auto, using(crate::proofs::ReadSteps::read_step))]
 fn factor_tail(tokens: &mut Cursor<'_>) -> Result<Option<Signed>, Stop>
     ensures { Gives written.factor_tail (read Part.FactorTail tokens.old) result tokens.new }
 {
@@ -145,7 +131,7 @@ fn factor_tail(tokens: &mut Cursor<'_>) -> Result<Option<Signed>, Stop>
 }
 
 fn factor_rest(tokens: &mut Cursor<'_>) -> Result<UnitEnd, Stop>
-    ensures { Gives rest.written_factor_rest (in_row read rest.factor_rest tokens.old) result tokens.new }
+    ensures { Gives rest.written_factor_rest (in_row read (rest_at Part.UnitMore 1 1) tokens.old) result tokens.new }
 {
     tokens.expect(Mark(MarkKind::Colon))?;
     let factor = Some(signed(tokens)?);
@@ -206,7 +192,7 @@ struct UnitBases {
 
 /// The bases of a unit from this one on, and what stands after them.
 fn unit_rest(alloc: Global, first: BasePart, tokens: &mut Cursor<'_>) -> Result<UnitBases, Stop>
-    ensures ok { IfOk result (λ unit. IsUnitRow first unit tokens.old tokens.new) }
+    ensures ok { IfOk result (λ unit. IsRow Part.UnitTail (written_tail unit.end) (first ∷ []) unit.bases tokens.old tokens.new) }
     ensures err { IfErr result (λ e. e ≢ Memory → read Part.UnitTail tokens.old ≡ Err e) }
 {
     let mut bases = row_of(alloc, first)?;
@@ -220,20 +206,11 @@ fn unit_rest(alloc: Global, first: BasePart, tokens: &mut Cursor<'_>) -> Result<
 }
 
 fn bases_of_unit(alloc: Global, tokens: &mut Cursor<'_>) -> Result<UnitBases, Stop>
-    ensures { Gives rest.written_unit_bases (in_row read rest.unit_bases tokens.old) result tokens.new }
+    ensures { Gives rest.written_unit_bases (in_row read (rest_at Part.Declaration 1 7) tokens.old) result tokens.new }
 {
     let first = base(alloc, tokens)?;
     let unit = unit_rest(alloc, first, tokens)?;
     Ok(unit)
-}
-
-fn si_of_unit(alloc: Global, tokens: &mut Cursor<'_>) -> Result<UnitBases, Stop>
-    ensures { Gives rest.written_unit_si (in_row read rest.unit_si tokens.old) result tokens.new }
-{
-    tokens.expect(Word(WordKind::IsWord))?;
-    tokens.expect(Sign::Si)?;
-    tokens.expect(Mark(MarkKind::OpenRound))?;
-    bases_of_unit(alloc, tokens)
 }
 
 /// A unit after its own name.
@@ -244,17 +221,20 @@ struct UnitName {
 }
 
 fn unit_of(alloc: Global, tokens: &mut Cursor<'_>) -> Result<UnitName, Stop>
-    ensures { Gives rest.written_unit_of (in_row read rest.unit_of tokens.old) result tokens.new }
+    ensures { Gives rest.written_unit_of (in_row read (rest_at Part.Declaration 1 2) tokens.old) result tokens.new }
 {
     tokens.expect(Word(WordKind::OfWord))?;
     let of = tokens.expect_name(alloc)?;
-    let unit = si_of_unit(alloc, tokens)?;
+    tokens.expect(Word(WordKind::IsWord))?;
+    tokens.expect(Sign::Si)?;
+    tokens.expect(Mark(MarkKind::OpenRound))?;
+    let unit = bases_of_unit(alloc, tokens)?;
     Ok(UnitName { of, unit })
 }
 
 /// `unit NAME of OF is SI(BASES, factor: F, offset: O)` and the line end.
 pub fn unit_declaration(alloc: Global, tokens: &mut Cursor<'_>) -> Result<UnitDecl, Stop>
-    ensures { Gives written.unit_declaration (in_row read rest.unit_rule tokens.old) result tokens.new }
+    ensures { Gives written.unit_declaration (in_row read (rule_at Part.Declaration 1) tokens.old) result tokens.new }
 {
     let place = tokens.expect(Word(WordKind::UnitWord))?;
     let name = tokens.expect_name(alloc)?;

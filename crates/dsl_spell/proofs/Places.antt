@@ -1,35 +1,13 @@
 -- What is written of an expression in its place, and of rows.
 use Rattle.std.proofs.Common.{◌≡◌, ◌⊎◌, inl, inr, ℕ, zero, suc, ◌-◌, ◌+◌, ◌<◌, ◌≤◌, length, drop, get_or, List, [], ◌∷◌, Bool, true, false, cond, map, refl, sym, ◌∙◌, ap, subst, Option, Some, None}
-use Rattle.std.specs.Prelude.{nat_lt, ◌==◌, ◌||◌}
 use Rattle.std.proofs.lemmas.List.{drop_more}
 use Rattle.std.proofs.Math.ListN.{drop_of_length-le}
-use Rattle.osc_base.specs.declared.fault.Place.{Place}
-use Rattle.dsl_tree.specs.declared.token.TokenKind.{TokenKind}
-use Rattle.dsl_tree.specs.declared.token.MarkKind.{MarkKind}
-use Rattle.dsl_tree.specs.declared.expr.Expr.{Expr}
-use Rattle.dsl_tree.specs.declared.expr.Operator.{Operator}
-use Rattle.dsl_tree.specs.declared.expr.Suffix.{Suffix}
-use Rattle.dsl_tree.specs.declared.expr.Further.{Further}
-use Rattle.dsl_tree.specs.ExprTree.{ExprTree, row_of}
-use Rattle.dsl_tree.specs.Views.{FurtherTree, SuffixTree, Named, At, grouped, with_suffixes, named_row, indexed_row, expr_tree, suffix_tree, further_tree, path_row, head_tree, argument_tree, phase_tree}
-use Rattle.dsl_tree.specs.Forest.{Forest, nil, sub, wrong}
-use Rattle.dsl_tree.specs.Written.{operator_kind, level, lifted, raised, at, next_part, next_name, next_index, written, listed, listed_tail, expr, mark, path}
-use Rattle.dsl_tree.proofs.Seen.{seen_or, seen_and, seen_sum, seen_product, seen_dot, seen_index, seen_further}
-use Rattle.dsl_tree.proofs.WrittenRows.{or_own, and_own, sum_own, product_own, post_own, path_of_row, front_of_row}
-use Rattle.dsl_tree.specs.declared.parts.Ident.{Ident}
-use Rattle.dsl_tree.specs.declared.rules.PathHead.{PathHead}
-use Rattle.dsl_tree.specs.declared.phases.Argument.{Argument}
-use Rattle.dsl_tree.specs.declared.phases.Phase.{Phase}
-use Rattle.dsl_tree.specs.PhaseTree.{ArgumentTree}
+use Rattle.dsl_spell.specs.Writing.{nat_lt, ◌==◌, ◌||◌, Place, TokenKind, MarkKind, Expr, Operator, Suffix, Further, ExprTree, row_of, FurtherTree, SuffixTree, Named, At, grouped, with_suffixes, named_row, indexed_row, expr_tree, suffix_tree, further_tree, path_row, head_tree, argument_tree, phase_tree, Forest, nil, sub, wrong, operator_kind, level, raised, at, next_part, next_name, next_index, written, listed, listed_tail, expr, mark, path, Ident, PathHead, Argument, Phase, ArgumentTree, dotted_names, named_tail, arguments, arguments_tail, invocation_arguments, phase, block_phases, phases_tail, BasePart, base, bases_tail, unit_tail, unit_bases, Writer, put, wrote, Whole, Writes, Fills, Joins, Steps, further_tail, suffix_tail, label_of, argument_of, comma_row}
+use Rattle.dsl_tree.proofs.{Seen.seen_or, Seen.seen_and, Seen.seen_sum, Seen.seen_product, Seen.seen_dot, Seen.seen_index, Seen.seen_further, WrittenRows.or_own, WrittenRows.and_own, WrittenRows.sum_own, WrittenRows.product_own, WrittenRows.post_own, WrittenRows.path_of_row, WrittenRows.front_of_row}
 use Rattle.dsl_tree.specs.PhaseTree.{row_of as phase_row}
-use Rattle.dsl_tree.specs.WrittenPhases.{dotted_names, named_tail, arguments, arguments_tail, invocation_arguments, phase, block_phases, phases_tail}
-use Rattle.dsl_tree.specs.declared.units.BasePart.{BasePart}
-use Rattle.dsl_tree.specs.WrittenFile.{base, bases_tail, unit_tail, unit_bases}
 use Rattle.dsl_tree.specs.declared.expr.Expr.TheViews
 use Rattle.dsl_tree.proofs.WrittenRows as Rows
 use Rattle.dsl_tree.specs.Written as Written
-use Rattle.dsl_spell.specs.declared.writer.Writer.{Writer}
-use Rattle.dsl_spell.specs.Writing.{put, wrote, Whole, Writes, Fills, Joins, Steps, further_tail, suffix_tail, label_of, argument_of, comma_row}
 
 -- Rows, item by item
 

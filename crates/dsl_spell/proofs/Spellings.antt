@@ -2,18 +2,8 @@
 use Rattle.std.proofs.Common.{◌≡◌, List, [], ◌∷◌, ◌++◌, true, refl, sym, ◌∙◌, ap, subst, append_assoc}
 use Rattle.std.proofs.lemmas.Bool.{false≢true}
 use Rattle.std.proofs.lemmas.List.{append-nil}
-use Rattle.dsl_tree.specs.declared.token.Token.{Token}
-use Rattle.dsl_tree.specs.declared.file.File.{File}
-use Rattle.dsl_tree.specs.Grammar.{Part}
-use Rattle.dsl_tree.specs.Forest.{Forest, nil, seen, bare, sub, wrong, Spells}
-use Rattle.dsl_tree.specs.Views.{file_tree}
-use Rattle.dsl_tree.specs.WrittenFile.{file}
-use Rattle.dsl_tree.specs.Language.{FollowsGrammar, Spelled}
-use Rattle.dsl_tree.proofs.Tests.{is_whole, left_of, right_of}
-use Rattle.dsl_tree.proofs.Leaves.{leaves, Spells-leaves}
-use Rattle.dsl_tree.proofs.OneTrees.{is_is_whole}
-use Rattle.dsl_spell.specs.declared.writer.Writer.{Writer}
-use Rattle.dsl_spell.specs.Writing.{put, wrote, Whole, Writes}
+use Rattle.dsl_spell.specs.Writing.{Token, File, Part, Forest, nil, seen, bare, sub, wrong, Spells, file_tree, file, FollowsGrammar, Spelled, Writer, put, wrote, Whole, Writes}
+use Rattle.dsl_tree.proofs.{Tests.is_whole, Tests.left_of, Tests.right_of, Leaves.leaves, Leaves.Spells-leaves, OneTrees.is_is_whole}
 
 whole : (f : Forest) → is_whole f ≡ true → Whole f
 whole nil h = tt

@@ -1,6 +1,4 @@
-ghost use Rattle.std.specs.Prelude.{◌≡◌, [], List, OnOk};
-ghost use Rattle.dsl_tree.specs.Forest.{Forest, nil};
-ghost use Rattle.dsl_spell.specs.Writing.{Writes, Steps, comma_row, with_rows};
+ghost use Rattle.dsl_spell.specs.Writing.{◌≡◌, [], List, OnOk, Forest, nil, Writes, Steps, comma_row, with_rows};
 
 use crate::writer::{Writer, bare, bare_word, closed, line_end, opened};
 use dsl_tree::{MarkKind, WordKind};

@@ -1,9 +1,4 @@
-ghost use Rattle.std.specs.Prelude.{◌≡◌, map, OnOk};
-ghost use Rattle.dsl_tree.specs.ExprTree.{row_of};
-ghost use Rattle.dsl_tree.specs.Forest.{nil};
-ghost use Rattle.dsl_tree.specs.Written.{operator_kind, sign_kind, truth_word, written, listed, mark as bare_mark, ident};
-ghost use Rattle.dsl_tree.specs.Views.{expr_tree, suffix_tree, further_tree};
-ghost use Rattle.dsl_spell.specs.Writing.{put, wrote, Writes, Fills, Joins, Steps, suffix_tail};
+ghost use Rattle.dsl_spell.specs.Writing.{◌≡◌, map, OnOk, row_of, nil, operator_kind, sign_kind, truth_word, written, listed, mark as bare_mark, ident, expr_tree, suffix_tree, further_tree, put, wrote, Writes, Fills, Joins, Steps, suffix_tail};
 
 use crate::writer::{Writer, bare, digits, mark, name, push, word};
 use dsl_tree::{

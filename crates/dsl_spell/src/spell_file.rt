@@ -1,11 +1,4 @@
-ghost use Rattle.std.specs.Prelude.{◌≡◌, [], map, option_map, refl, OnOk};
-ghost use Rattle.dsl_tree.specs.declared.file.Import.{Import};
-ghost use Rattle.dsl_tree.specs.Forest.{nil};
-ghost use Rattle.dsl_tree.specs.Written.{ident};
-ghost use Rattle.dsl_tree.specs.WrittenFile.{imports, signed, base, bases_tail, type_declaration, unit_end, unit_bases, unit_declaration, enum_item, items_tail, enum_items, enum_declaration, qualified_name, optional_heir, names_tail, field_type, initial, field, member, members_tail, block, body, compound_heading, declaration, declarations};
-ghost use Rattle.dsl_tree.specs.Views.{expr_tree, field_tree, member_tree, compound_tree, more_tree, declaration_tree};
-ghost use Rattle.dsl_tree.specs.FileTree.{DeclarationTree};
-ghost use Rattle.dsl_spell.specs.Writing.{put, wrote, Writes};
+ghost use Rattle.dsl_spell.specs.Writing.{◌≡◌, [], map, option_map, refl, OnOk, Import, nil, ident, imports, signed, base, bases_tail, type_declaration, unit_end, unit_bases, unit_declaration, enum_item, items_tail, enum_items, enum_declaration, qualified_name, optional_heir, names_tail, field_type, initial, field, member, members_tail, block, body, compound_heading, declaration, declarations, expr_tree, field_tree, member_tree, compound_tree, more_tree, declaration_tree, DeclarationTree, put, wrote, Writes};
 
 use crate::rows::{Item, Next, push_commas, push_rest, push_with};
 use crate::spell_expr::{chars, enum_name, push_expr, truth};

@@ -1,11 +1,6 @@
-ghost use Rattle.std.specs.Prelude.{◌≡◌, map, refl, OnOk};
-ghost use Rattle.dsl_tree.specs.Forest.{nil};
-ghost use Rattle.dsl_tree.specs.declared.phases.Phase.TheOpen.{Phase-F};
-ghost use Rattle.dsl_tree.specs.Written.{path, path_row};
-ghost use Rattle.dsl_tree.specs.WrittenPhases.{rule, rules_tail, dotted_names, invocation_arguments, modifier, parts_tail, invocation_rest, composition_arguments, phase, block_phases};
+ghost use Rattle.dsl_spell.specs.Writing.{◌≡◌, map, refl, OnOk, nil, Phase-F, path, rule, rules_tail, dotted_names, invocation_arguments, modifier, parts_tail, invocation_rest, composition_arguments, phase, block_phases, head_tree, path_tree, rule_tree, argument_tree, part_tree, phase_tree, comp_tree, phase_step, wrote, Writes, label_of, argument_of};
+ghost use Rattle.dsl_tree.specs.Written.{path_row};
 ghost use Rattle.dsl_tree.specs.PhaseTree.{row_of};
-ghost use Rattle.dsl_tree.specs.Views.{head_tree, path_tree, rule_tree, argument_tree, part_tree, phase_tree, comp_tree, phase_step};
-ghost use Rattle.dsl_spell.specs.Writing.{wrote, Writes, label_of, argument_of};
 
 use crate::rows::{Next, push_with};
 use crate::spell_expr::{push_expr, push_suffixes};
@@ -141,15 +136,6 @@ pub(crate) fn push_dotted(w: &mut Writer, names: &[Ident]) -> Result<(), AllocEr
     Ok(())
 }
 
-fn push_invocation_rest(w: &mut Writer, node: &InvokeNode) -> Result<(), AllocError>
-    ensures { OnOk result (Writes w.old (invocation_rest node.now.names (map argument_tree node.now.arguments) (map part_tree node.now.parts)) w.new) }
-{
-    push_dotted(w, node.names.as_slice())?;
-    bare(w, MarkKind::OpenRound)?;
-    push_arguments(w, node.arguments.as_slice())?;
-    push_with(w, node.parts.as_slice())
-}
-
 fn push_invocation(w: &mut Writer, node: &InvokeNode) -> Result<(), AllocError>
     ensures { OnOk result (Writes w.old (phase (phase_step (Phase-F.Invoke node.now))) w.new) }
 {
@@ -158,7 +144,10 @@ fn push_invocation(w: &mut Writer, node: &InvokeNode) -> Result<(), AllocError>
         InvokeHead::Name(text) => name(w, text)?,
         InvokeHead::Actor(place) => word(w, *place, WordKind::ActorWord)?,
     }
-    push_invocation_rest(w, node)
+    push_dotted(w, node.names.as_slice())?;
+    bare(w, MarkKind::OpenRound)?;
+    push_arguments(w, node.arguments.as_slice())?;
+    push_with(w, node.parts.as_slice())
 }
 
 fn push_wait(w: &mut Writer, node: &WaitNode) -> Result<(), AllocError>

@@ -1,8 +1,4 @@
-ghost use Rattle.std.specs.Prelude.{IfOk, OnOk};
-ghost use Rattle.dsl_tree.specs.Views.{file_tree};
-ghost use Rattle.dsl_tree.specs.WrittenFile.{file as file_forest};
-ghost use Rattle.dsl_tree.specs.Language.{FollowsGrammar, Spelled};
-ghost use Rattle.dsl_spell.specs.Writing.{Writes};
+ghost use Rattle.dsl_spell.specs.Writing.{IfOk, OnOk, file_tree, file as file_forest, FollowsGrammar, Spelled, Writes};
 
 use crate::rows::push_rest;
 use crate::writer::{Writer, push};

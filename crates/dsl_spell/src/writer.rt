@@ -1,5 +1,4 @@
-ghost use Rattle.std.specs.Prelude.{◌≡◌, OnOk};
-ghost use Rattle.dsl_spell.specs.Writing.{put};
+ghost use Rattle.dsl_spell.specs.Writing.{◌≡◌, OnOk, put};
 
 use dsl_tree::{Digits, Ident, MarkKind, Token, TokenKind, Tokens, WordKind};
 use osc_base::{Place, Text};

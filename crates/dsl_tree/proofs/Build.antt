@@ -1,14 +1,14 @@
 -- What readers build: forests of rules from their parts, and of parts from their rules.
-use Rattle.std.proofs.Common.{◌≡◌, ℕ, List, [], ◌∷◌, ◌++◌, Bool, true, false, cond, refl, sym, subst, append_assoc}
-use Rattle.std.proofs.lemmas.List.{append-nil}
+use Rattle.std.proofs.Common.{◌≡◌, ℕ, List, [], ◌∷◌, Bool, true, false, cond, refl, sym, subst}
 use Rattle.dsl_tree.specs.declared.token.Token.{Token}
 use Rattle.dsl_tree.specs.Grammar.{Part, Symbol, rules, Seen, Bare, Of}
 use Rattle.dsl_tree.specs.Forest.{Forest, nil, seen, bare, sub, Spells, AnyRule}
 use Rattle.dsl_tree.specs.Lookahead.{first}
-use Rattle.dsl_tree.specs.Reading.{Stops, void, Whole, Parsed, Built, Taken, PartFault, Along}
+use Rattle.dsl_tree.specs.Reading.{Stops, void, Whole, Parsed, Built, Taken}
 use Rattle.dsl_tree.proofs.Sets.{starts-nil}
 use Rattle.dsl_tree.proofs.Fits.{any_map}
 use Rattle.dsl_tree.proofs.Begins.{void_spells}
+use Rattle.dsl_tree.proofs.Law.{whole_before}
 use Rattle.dsl_tree.proofs.RuleFaults.{RuleOf}
 
 pub built_none : (ts : List Token) → Built [] nil ts ts
@@ -20,28 +20,12 @@ built_seen codes ss f ts t us rest taken built = record { whole = (taken.fits, b
 pub built_bare : (codes : List ℕ) (ss : List Symbol) (f : Forest) (ts : List Token) (t : Token) (us rest : List Token) → Taken codes ts t us → Built ss f us rest → Built (Bare codes ∷ ss) (bare t.kind f) ts rest
 built_bare codes ss f ts t us rest taken built = record { whole = (taken.fits, built.whole); spells = subst (λ (v : List Token). Spells (bare t.kind f) v rest) (sym taken.split) (refl, built.spells) }
 
-either_way : (v : Bool) (y : List Token) → cond v y y ≡ y
-either_way true y = refl
-either_way false y = refl
-
--- what is whole before some tokens is so at the end
-whole_end : (f : Forest) (ss : List Symbol) (z : List Token) → Whole f ss z → Whole f ss []
-whole_end nil [] z w = tt
-whole_end (seen place kind f) (Seen codes ∷ ss) z (h, w) = (h, whole_end f ss z w)
-whole_end (bare kind f) (Bare codes ∷ ss) z (h, w) = (h, whole_end f ss z w)
-whole_end (sub a g) (Of p ∷ ss) z (any, stop, w) = (
-  subst (λ (y : List Token). AnyRule (rules p) (λ r. Whole a r y)) (sym (either_way (void g) [])) (any_map (rules p) (λ r. Whole a r (cond (void g) z [])) (λ r. Whole a r []) (λ r does. whole_end a r (cond (void g) z []) does) any),
-  subst (λ (y : List Token). Stops (cond (void a) (first p) []) y) (sym (either_way (void g) [])) (starts-nil (cond (void a) (first p) [])),
-  whole_end g ss z w,
-)
-whole_end _ _ z w = absurd w
-
 pub built_part : (p : Part) (ss : List Symbol) (a g : Forest) (ts m rest : List Token) → Parsed p a ts m → Built ss g m rest → Built (Of p ∷ ss) (sub a g) ts rest
 built_part p ss a g ts m rest parsed built = record { whole = (go (void g) refl, stops (void g) refl, built.whole); spells = (m, parsed.spells, built.spells) }
   where
     go : (v : Bool) → void g ≡ v → AnyRule (rules p) (λ r. Whole a r (cond v rest []))
     go true e = subst (λ (y : List Token). AnyRule (rules p) (λ r. Whole a r y)) (void_spells g m rest e built.spells) parsed.whole
-    go false e = any_map (rules p) (λ r. Whole a r m) (λ r. Whole a r []) (λ r does. whole_end a r m does) parsed.whole
+    go false e = any_map (rules p) (λ r. Whole a r m) (λ r. Whole a r []) (λ r does. whole_before a r m [] (λ cs s. starts-nil cs) does) parsed.whole
 
     stops : (v : Bool) → void g ≡ v → Stops (cond (void a) (first p) []) (cond v rest [])
     stops true e = subst (Stops (cond (void a) (first p) [])) (void_spells g m rest e built.spells) parsed.stop
@@ -61,21 +45,3 @@ parsed_full p r f ts rest rule e built = parsed p r f ts rest rule built (subst 
 -- a part that is left out
 pub parsed_none : (p : Part) (ts : List Token) → RuleOf p [] → Stops (first p) ts → Parsed p nil ts ts
 parsed_none p ts rule stop = parsed p [] nil ts ts rule (built_none ts) stop
-
--- Loops over the items of a row
-
-pub along_start : (X : Type 0) (p : Part) (forest_of : List X → Forest) (start : List Token) → Along X p forest_of start [] start
-along_start X p forest_of start = record { reads = λ others end h. h; faults = λ left h. h }
-
-pub along_step : (X : Type 0) (p : Part) (forest_of : List X → Forest) (start : List Token) (items : List X) (rest : List Token) (item : X) (more : List Token)
-    → ((others : List X) (end : List Token) → Parsed p (forest_of others) more end → Parsed p (forest_of (item ∷ others)) rest end)
-    → ((left : ℕ) → PartFault p more left → PartFault p rest left)
-    → Along X p forest_of start items rest → Along X p forest_of start (items ++ item ∷ []) more
-along_step X p forest_of start items rest item more read fault along = record {
-  reads = λ others end h. subst (λ (v : List X). Parsed p (forest_of v) start end) (sym (append_assoc items (item ∷ []) others)) (along.reads (item ∷ others) end (read others end h));
-  faults = λ left h. along.faults left (fault left h);
-}
-
-pub along_end : (X : Type 0) (p : Part) (forest_of : List X → Forest) (start : List Token) (items : List X) (rest end : List Token)
-    → Along X p forest_of start items rest → Parsed p (forest_of []) rest end → Parsed p (forest_of items) start end
-along_end X p forest_of start items rest end along h = subst (λ (v : List X). Parsed p (forest_of v) start end) (append-nil items) (along.reads [] end h)

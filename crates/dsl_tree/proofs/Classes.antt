@@ -1,6 +1,6 @@
 -- Kinds of tokens by their codes: what a token of some codes holds besides its kind.
-use Rattle.std.proofs.Common.{◌≡◌, ◌⊎◌, ℕ, List, [], ◌∷◌, Bool, true, false, cond, refl, sym, ◌∙◌, ap, subst, inl, inr, ⊎_elim, eqb}
-use Rattle.std.specs.Prelude.{◌==◌, nat_le}
+use Rattle.std.proofs.Common.{◌≡◌, ◌⊎◌, ℕ, List, [], ◌∷◌, ◌++◌, Bool, true, false, cond, map, refl, sym, ap, subst, inl, inr, ⊎_elim, eqb, arith}
+use Rattle.std.specs.Prelude.{◌==◌, nat_le, codes}
 use Rattle.std.specs.Str.{bytes_eq}
 use Rattle.std.proofs.lemmas.Bool.{false≢true, eqb-true}
 use Rattle.std.proofs.lemmas.Slice.Eq.{bytes_eq-Decides}
@@ -10,7 +10,7 @@ use Rattle.dsl_tree.specs.declared.token.MarkKind.{MarkKind}
 use Rattle.dsl_tree.specs.declared.token.MarkKind.TheVariants.{OpenRound, CloseRound, OpenSquare, CloseSquare, Colon, Comma, Dot, TwoDots, Assign, Equal, Differ, Below, AtMost, Above, AtLeast, Arrow, Plus, Dash, Star, Slash, Bang}
 use Rattle.dsl_tree.specs.declared.token.WordKind.{WordKind}
 use Rattle.dsl_tree.specs.declared.token.WordKind.TheVariants.{ImportWord, TypeWord, UnitWord, IsWord, OfWord, EnumWord, StructWord, ActorWord, ActionWord, ScenarioWord, InheritsWord, ExtendWord, ListWord, KeepWord, HardWord, DefaultWord, RemoveDefaultWord, DoWord, SerialWord, ParallelWord, OneOfWord, WaitWord, ElapsedWord, WithWord, ItWord, InWord, RangeWord, AndWord, OrWord, NotWord, TrueWord, FalseWord}
-use Rattle.dsl_tree.specs.Codes.{code, has, si_text, factor_text, offset_text, si_name, factor_name, offset_name, other_name, name_code, small_number, large_number, point_number, number_code, physical_code, text_code, mark_code, word_code}
+use Rattle.dsl_tree.specs.Codes.{code, has, si_text, factor_text, offset_text, si_name, factor_name, offset_name, other_name, name_code, small_number, large_number, point_number, physical_code, text_code, mark_code, word_code}
 use Rattle.dsl_tree.proofs.Tests.{either_of}
 
 -- Classes of kinds that are one but for what they hold; a `Plain` kind is known in full.
@@ -40,29 +40,21 @@ kind_of (Plain kind) v = kind
 
 -- The class of a code
 
-abbrev mark_of : List MarkKind → ℕ → MarkKind
-mark_of [] c = Bang
-mark_of (m ∷ ms) c = cond (mark_code m == c) m (mark_of ms c)
-
-abbrev word_of : List WordKind → ℕ → WordKind
-word_of [] c = FalseWord
-word_of (w ∷ ws) c = cond (word_code w == c) w (word_of ws c)
-
 abbrev marks : List MarkKind
-marks = OpenRound ∷ CloseRound ∷ OpenSquare ∷ CloseSquare ∷ Colon ∷ Comma ∷ Dot ∷ TwoDots ∷ Assign ∷ Equal ∷ Differ ∷ Below ∷ AtMost ∷ Above ∷ AtLeast ∷ Arrow ∷ Plus ∷ Dash ∷ Star ∷ Slash ∷ []
+marks = OpenRound ∷ CloseRound ∷ OpenSquare ∷ CloseSquare ∷ Colon ∷ Comma ∷ Dot ∷ TwoDots ∷ Assign ∷ Equal ∷ Differ ∷ Below ∷ AtMost ∷ Above ∷ AtLeast ∷ Arrow ∷ Plus ∷ Dash ∷ Star ∷ Slash ∷ Bang ∷ []
 
 abbrev words : List WordKind
 words =
     ImportWord ∷ TypeWord ∷ UnitWord ∷ IsWord ∷ OfWord ∷ EnumWord ∷ StructWord ∷ ActorWord ∷ ActionWord ∷ ScenarioWord ∷ InheritsWord ∷ ExtendWord ∷ ListWord ∷ KeepWord ∷ HardWord ∷ DefaultWord
     ∷ RemoveDefaultWord ∷ DoWord ∷ SerialWord ∷ ParallelWord ∷ OneOfWord ∷ WaitWord ∷ ElapsedWord ∷ WithWord ∷ ItWord ∷ InWord ∷ RangeWord ∷ AndWord ∷ OrWord ∷ NotWord ∷ TrueWord ∷ []
 
+abbrev first_with : ℕ → List TokenKind → TokenKind
+first_with c [] = TokenKind.Word FalseWord
+first_with c (k ∷ ks) = cond (code k == c) k (first_with c ks)
+
 abbrev plain_of : ℕ → TokenKind
 plain_of c =
-    cond (c == code TokenKind.Newline) TokenKind.Newline
-    (cond (c == code TokenKind.Indent) TokenKind.Indent
-    (cond (c == code TokenKind.Dedent) TokenKind.Dedent
-    (cond (c == code TokenKind.End) TokenKind.End
-    (cond (nat_le c (mark_code Bang)) (TokenKind.Mark (mark_of marks c)) (TokenKind.Word (word_of words c))))))
+    first_with c (TokenKind.Newline ∷ TokenKind.Indent ∷ TokenKind.Dedent ∷ TokenKind.End ∷ map (λ m. TokenKind.Mark m) marks ++ map (λ w. TokenKind.Word w) words)
 
 -- of a token whose text is held
 abbrev pub seen_class : ℕ → Class
@@ -79,123 +71,52 @@ bare_class c =
     cond (c == si_name) (Plain (TokenKind.Name si_text))
     (cond (c == factor_name) (Plain (TokenKind.Name factor_text)) (cond (c == offset_name) (Plain (TokenKind.Name offset_text)) (seen_class c)))
 
--- a kind of a class
-abbrev Exactly : Class → TokenKind → Type 0
-Exactly x kind = (v : Value x) × (kind_of x v ≡ kind)
+-- what a kind holds as one of a class
+abbrev pub held : (x : Class) → TokenKind → Value x
+held Names (TokenKind.Name text) = text
+held Names _ = codes "x"
+held Numbers (TokenKind.Number digits places) = (digits, places)
+held Numbers _ = (0, 0)
+held Physicals (TokenKind.Physical digits places unit) = (digits, places, unit)
+held Physicals _ = (0, 0, codes "s")
+held Texts (TokenKind.Chars text) = text
+held Texts _ = []
+held LeftOuts (TokenKind.LeftOut word) = word
+held LeftOuts _ = ExcludedWord.CoverWord
+held (Plain kind) _ = tt
 
-mark_kind : (m : MarkKind) → (Exactly (seen_class (mark_code m)) (TokenKind.Mark m)) × (Exactly (bare_class (mark_code m)) (TokenKind.Mark m))
-mark_kind OpenRound = ((tt, refl), (tt, refl))
-mark_kind CloseRound = ((tt, refl), (tt, refl))
-mark_kind OpenSquare = ((tt, refl), (tt, refl))
-mark_kind CloseSquare = ((tt, refl), (tt, refl))
-mark_kind Colon = ((tt, refl), (tt, refl))
-mark_kind Comma = ((tt, refl), (tt, refl))
-mark_kind Dot = ((tt, refl), (tt, refl))
-mark_kind TwoDots = ((tt, refl), (tt, refl))
-mark_kind Assign = ((tt, refl), (tt, refl))
-mark_kind Equal = ((tt, refl), (tt, refl))
-mark_kind Differ = ((tt, refl), (tt, refl))
-mark_kind Below = ((tt, refl), (tt, refl))
-mark_kind AtMost = ((tt, refl), (tt, refl))
-mark_kind Above = ((tt, refl), (tt, refl))
-mark_kind AtLeast = ((tt, refl), (tt, refl))
-mark_kind Arrow = ((tt, refl), (tt, refl))
-mark_kind Plus = ((tt, refl), (tt, refl))
-mark_kind Dash = ((tt, refl), (tt, refl))
-mark_kind Star = ((tt, refl), (tt, refl))
-mark_kind Slash = ((tt, refl), (tt, refl))
-mark_kind Bang = ((tt, refl), (tt, refl))
+abbrev Exactly : TokenKind → ℕ → Type 0
+Exactly kind c = (kind_of (seen_class c) (held (seen_class c) kind) ≡ kind) × (kind_of (bare_class c) (held (bare_class c) kind) ≡ kind)
 
-word_kind : (w : WordKind) → (Exactly (seen_class (word_code w)) (TokenKind.Word w)) × (Exactly (bare_class (word_code w)) (TokenKind.Word w))
-word_kind ImportWord = ((tt, refl), (tt, refl))
-word_kind TypeWord = ((tt, refl), (tt, refl))
-word_kind UnitWord = ((tt, refl), (tt, refl))
-word_kind IsWord = ((tt, refl), (tt, refl))
-word_kind OfWord = ((tt, refl), (tt, refl))
-word_kind EnumWord = ((tt, refl), (tt, refl))
-word_kind StructWord = ((tt, refl), (tt, refl))
-word_kind ActorWord = ((tt, refl), (tt, refl))
-word_kind ActionWord = ((tt, refl), (tt, refl))
-word_kind ScenarioWord = ((tt, refl), (tt, refl))
-word_kind InheritsWord = ((tt, refl), (tt, refl))
-word_kind ExtendWord = ((tt, refl), (tt, refl))
-word_kind ListWord = ((tt, refl), (tt, refl))
-word_kind KeepWord = ((tt, refl), (tt, refl))
-word_kind HardWord = ((tt, refl), (tt, refl))
-word_kind DefaultWord = ((tt, refl), (tt, refl))
-word_kind RemoveDefaultWord = ((tt, refl), (tt, refl))
-word_kind DoWord = ((tt, refl), (tt, refl))
-word_kind SerialWord = ((tt, refl), (tt, refl))
-word_kind ParallelWord = ((tt, refl), (tt, refl))
-word_kind OneOfWord = ((tt, refl), (tt, refl))
-word_kind WaitWord = ((tt, refl), (tt, refl))
-word_kind ElapsedWord = ((tt, refl), (tt, refl))
-word_kind WithWord = ((tt, refl), (tt, refl))
-word_kind ItWord = ((tt, refl), (tt, refl))
-word_kind InWord = ((tt, refl), (tt, refl))
-word_kind RangeWord = ((tt, refl), (tt, refl))
-word_kind AndWord = ((tt, refl), (tt, refl))
-word_kind OrWord = ((tt, refl), (tt, refl))
-word_kind NotWord = ((tt, refl), (tt, refl))
-word_kind TrueWord = ((tt, refl), (tt, refl))
-word_kind FalseWord = ((tt, refl), (tt, refl))
+mark_kind : (m : MarkKind) → Exactly (TokenKind.Mark m) (mark_code m)
+mark_kind m = grind arith
 
-seen_name : (text : List ℕ) → Exactly (seen_class (name_code text)) (TokenKind.Name text)
-seen_name text = go (bytes_eq text si_text) (bytes_eq text factor_text) (bytes_eq text offset_text)
-  where
-    go : (a b c : Bool) → Exactly (seen_class (cond a si_name (cond b factor_name (cond c offset_name other_name)))) (TokenKind.Name text)
-    go true b c = (text, refl)
-    go false true c = (text, refl)
-    go false false true = (text, refl)
-    go false false false = (text, refl)
+word_kind : (w : WordKind) → Exactly (TokenKind.Word w) (word_code w)
+word_kind w = grind arith
 
-same_text : (text other : List ℕ) → bytes_eq text other ≡ true → TokenKind.Name other ≡ TokenKind.Name text
-same_text text other h = ap (λ (t : List ℕ). TokenKind.Name t) (sym ((bytes_eq-Decides text other).0 h))
+one_name : (text : List ℕ) (a b c : Bool) → (a ≡ true → text ≡ si_text) → (b ≡ true → text ≡ factor_text) → (c ≡ true → text ≡ offset_text)
+    → Exactly (TokenKind.Name text) (cond a si_name (cond b factor_name (cond c offset_name other_name)))
+one_name text true b c s f o = (refl, ap TokenKind.Name (sym (s refl)))
+one_name text false true c s f o = (refl, ap TokenKind.Name (sym (f refl)))
+one_name text false false true s f o = (refl, ap TokenKind.Name (sym (o refl)))
+one_name text false false false s f o = (refl, refl)
 
-bare_name : (text : List ℕ) → Exactly (bare_class (name_code text)) (TokenKind.Name text)
-bare_name text = go (bytes_eq text si_text) (bytes_eq text factor_text) (bytes_eq text offset_text) (same_text text si_text) (same_text text factor_text) (same_text text offset_text)
-  where
-    go : (a b c : Bool) → (a ≡ true → TokenKind.Name si_text ≡ TokenKind.Name text) → (b ≡ true → TokenKind.Name factor_text ≡ TokenKind.Name text) → (c ≡ true → TokenKind.Name offset_text ≡ TokenKind.Name text)
-        → Exactly (bare_class (cond a si_name (cond b factor_name (cond c offset_name other_name)))) (TokenKind.Name text)
-    go true b c same same' same'' = (tt, same refl)
-    go false true c same same' same'' = (tt, same' refl)
-    go false false true same same' same'' = (tt, same'' refl)
-    go false false false same same' same'' = (text, refl)
+name_kind : (text : List ℕ) → Exactly (TokenKind.Name text) (name_code text)
+name_kind text =
+    one_name text (bytes_eq text si_text) (bytes_eq text factor_text) (bytes_eq text offset_text)
+    (bytes_eq-Decides text si_text).0 (bytes_eq-Decides text factor_text).0 (bytes_eq-Decides text offset_text).0
 
-number_kind : (digits places : ℕ) → (Exactly (seen_class (number_code digits places)) (TokenKind.Number digits places)) × (Exactly (bare_class (number_code digits places)) (TokenKind.Number digits places))
-number_kind digits places = go (places == 0) (nat_le digits 9)
-  where
-    go : (a b : Bool) → (Exactly (seen_class (cond a (cond b small_number large_number) point_number)) (TokenKind.Number digits places))
-        × (Exactly (bare_class (cond a (cond b small_number large_number) point_number)) (TokenKind.Number digits places))
-    go true true = (((digits, places), refl), ((digits, places), refl))
-    go true false = (((digits, places), refl), ((digits, places), refl))
-    go false b = (((digits, places), refl), ((digits, places), refl))
+one_number : (digits places : ℕ) (a b : Bool) → Exactly (TokenKind.Number digits places) (cond a (cond b small_number large_number) point_number)
+one_number digits places true true = (refl, refl)
+one_number digits places true false = (refl, refl)
+one_number digits places false b = (refl, refl)
 
-seen_kind : (kind : TokenKind) → Exactly (seen_class (code kind)) kind
-seen_kind TokenKind.Newline = (tt, refl)
-seen_kind TokenKind.Indent = (tt, refl)
-seen_kind TokenKind.Dedent = (tt, refl)
-seen_kind TokenKind.End = (tt, refl)
-seen_kind (TokenKind.LeftOut word) = (word, refl)
-seen_kind (TokenKind.Name text) = seen_name text
-seen_kind (TokenKind.Number digits places) = (number_kind digits places).0
-seen_kind (TokenKind.Physical digits places unit) = ((digits, places, unit), refl)
-seen_kind (TokenKind.Chars text) = (text, refl)
-seen_kind (TokenKind.Mark mark) = (mark_kind mark).0
-seen_kind (TokenKind.Word word) = (word_kind word).0
-
-bare_kind : (kind : TokenKind) → Exactly (bare_class (code kind)) kind
-bare_kind TokenKind.Newline = (tt, refl)
-bare_kind TokenKind.Indent = (tt, refl)
-bare_kind TokenKind.Dedent = (tt, refl)
-bare_kind TokenKind.End = (tt, refl)
-bare_kind (TokenKind.LeftOut word) = (word, refl)
-bare_kind (TokenKind.Name text) = bare_name text
-bare_kind (TokenKind.Number digits places) = (number_kind digits places).1
-bare_kind (TokenKind.Physical digits places unit) = ((digits, places, unit), refl)
-bare_kind (TokenKind.Chars text) = (text, refl)
-bare_kind (TokenKind.Mark mark) = (mark_kind mark).1
-bare_kind (TokenKind.Word word) = (word_kind word).1
+pub exactly : (kind : TokenKind) → Exactly kind (code kind)
+exactly (TokenKind.Mark mark) = mark_kind mark
+exactly (TokenKind.Word word) = word_kind word
+exactly (TokenKind.Name text) = name_kind text
+exactly (TokenKind.Number digits places) = one_number digits places (places == 0) (nat_le digits 9)
+exactly _ = (refl, refl)
 
 -- Kinds of one of some classes
 
@@ -227,42 +148,33 @@ classes class (c ∷ cs) = with_class (class c) (classes class cs)
 abbrev Found : List Class → TokenKind → Type 0
 Found xs kind = (v : AnyOf xs) × (kind_any xs v ≡ kind)
 
-found_head : (x : Class) (xs : List Class) (v : Value x) → Found (x ∷ xs) (kind_of x v)
-found_head x [] v = (v, refl)
-found_head x (y ∷ ys) v = (inl v, refl)
+same_is : (x y : Class) → same x y ≡ true → x ≡ y
+same_is x y h = grind arith
 
-found_same : (x y : Class) (ys : List Class) → same x y ≡ true → (v : Value x) → Found (y ∷ ys) (kind_of x v)
-found_same Names Names ys h v = found_head Names ys v
-found_same Numbers Numbers ys h v = found_head Numbers ys v
-found_same _ _ ys h v = absurd (false≢true h)
+found_first : (kind : TokenKind) (x : Class) (xs : List Class) → kind_of x (held x kind) ≡ kind → Found (x ∷ xs) kind
+found_first kind x [] e = (held x kind, e)
+found_first kind x (y ∷ ys) e = (inl (held x kind), e)
 
-found_first : (x : Class) (xs : List Class) (v : Value x) → Found (with_class x xs) (kind_of x v)
-found_first x [] v = (v, refl)
-found_first x (y ∷ ys) v = go (same x y) refl
+found_in : (kind : TokenKind) (x : Class) (xs : List Class) → (kind_of x (held x kind) ≡ kind) ⊎ Found xs kind → Found (with_class x xs) kind
+found_in kind x [] (inl e) = (held x kind, e)
+found_in kind x [] (inr f) = absurd f.0
+found_in kind x (y ∷ ys) one = go (same x y) (same_is x y) one
   where
-    go : (b : Bool) → same x y ≡ b → Found (cond b (y ∷ ys) (x ∷ (y ∷ ys))) (kind_of x v)
-    go true e = found_same x y ys e v
-    go false e = (inl v, refl)
+    go : (b : Bool) → (b ≡ true → x ≡ y) → (kind_of x (held x kind) ≡ kind) ⊎ Found (y ∷ ys) kind → Found (cond b (y ∷ ys) (x ∷ (y ∷ ys))) kind
+    go true is (inl e) = found_first kind y ys (subst (λ (z : Class). kind_of z (held z kind) ≡ kind) (is refl) e)
+    go true is (inr f) = f
+    go false is (inl e) = (inl (held x kind), e)
+    go false is (inr f) = (inr f.0, f.1)
 
-found_later : (x : Class) (xs : List Class) (v : AnyOf xs) → Found (with_class x xs) (kind_any xs v)
-found_later x [] v = absurd v
-found_later x (y ∷ ys) v = go (same x y)
-  where
-    go : (b : Bool) → Found (cond b (y ∷ ys) (x ∷ (y ∷ ys))) (kind_any (y ∷ ys) v)
-    go true = (v, refl)
-    go false = (inr v, refl)
-
-found : (class : ℕ → Class) (kind : TokenKind) → Exactly (class (code kind)) kind → (cs : List ℕ) → has cs (code kind) ≡ true → Found (classes class cs) kind
+found : (class : ℕ → Class) (kind : TokenKind) → kind_of (class (code kind)) (held (class (code kind)) kind) ≡ kind → (cs : List ℕ) → has cs (code kind) ≡ true → Found (classes class cs) kind
 found class kind one [] h = absurd (false≢true h)
 found class kind one (c ∷ cs) h =
-    ⊎_elim
-    (λ e. subst (λ (n : ℕ). Found (with_class (class n) (classes class cs)) kind) (sym (eqb-true c (code kind) e))
-    (let first = found_first (class (code kind)) (classes class cs) one.0 in (first.0, first.1 ∙ one.1)))
-    (λ later. let rest = found class kind one cs later in let last = found_later (class c) (classes class cs) rest.0 in (last.0, last.1 ∙ rest.1))
-    (either_of (eqb c (code kind)) (has cs (code kind)) h)
+    found_in kind (class c) (classes class cs)
+    (⊎_elim (λ e. inl (subst (λ (n : ℕ). kind_of (class n) (held (class n) kind) ≡ kind) (sym (eqb-true c (code kind) e)) one)) (λ later. inr (found class kind one cs later))
+    (either_of (eqb c (code kind)) (has cs (code kind)) h))
 
 pub seen_found : (kind : TokenKind) (cs : List ℕ) → has cs (code kind) ≡ true → Found (classes seen_class cs) kind
-seen_found kind cs h = found seen_class kind (seen_kind kind) cs h
+seen_found kind cs h = found seen_class kind (exactly kind).0 cs h
 
 pub bare_found : (kind : TokenKind) (cs : List ℕ) → has cs (code kind) ≡ true → Found (classes bare_class cs) kind
-bare_found kind cs h = found bare_class kind (bare_kind kind) cs h
+bare_found kind cs h = found bare_class kind (exactly kind).1 cs h

@@ -1,131 +1,170 @@
--- Each forest of the grammar is what some tree is written as.
-use Rattle.std.proofs.Common.{◌≡◌, List, [], ◌∷◌, true, refl, sym, ◌∙◌, ap, ap₂, subst, inl, inr}
+-- Each forest of the grammar is what exactly one tree is written as.
+use Rattle.std.proofs.Common.{◌≡◌, ℕ, List, [], ◌∷◌, Bool, true, refl, sym, ◌∙◌, ap, ap₂, subst, map, ◌&&◌, not, inl, inr}
+use Rattle.std.specs.List.{list_all}
+use Rattle.std.proofs.lemmas.Bool.{eq-eqb}
 use Rattle.dsl_tree.specs.declared.token.TokenKind.{TokenKind}
 use Rattle.dsl_tree.specs.FileTree.{FileTree}
+use Rattle.dsl_tree.specs.Codes.{has}
 use Rattle.dsl_tree.specs.Grammar.{Part, Symbol, Seen, Bare, Of, rules}
 use Rattle.dsl_tree.specs.Forest.{Forest, nil, seen, bare, sub, AnyRule, Follows, IsOf}
 use Rattle.dsl_tree.specs.WrittenFile.{file}
-use Rattle.dsl_tree.proofs.Tests.{is_whole}
-use Rattle.dsl_tree.proofs.Fits.{any_map}
-use Rattle.dsl_tree.proofs.OneTrees.{is_is_whole}
-use Rattle.dsl_tree.proofs.FileReaders.{read_file, file_back}
-use Rattle.dsl_tree.proofs.Classes.{seen_found, bare_found}
-use Rattle.dsl_tree.proofs.Made.{Row, row_forest, Choice, choice_forest, Made, Makes}
-use Rattle.dsl_tree.proofs.MadeExprs.{expr_made, implies_tail_made, or_made, or_tail_made, and_made, and_tail_made, sum_made, sum_tail_made, product_made, product_tail_made, not_made, relation_made, relation_tail_made, minus_made, postfix_made, suffixes_tail_made, suffix_made, primary_made, enum_member_made, bracket_made, listed_tail_made, path_made}
-use Rattle.dsl_tree.proofs.MadePhases.{dotted_names_made, rules_tail_made, rule_made, keep_kind_made, arguments_made, arguments_tail_made, named_tail_made, invocation_rest_made, invocation_arguments_made, invocation_end_made, invocation_part_made, parts_tail_made, phase_made, after_name_made, core_made, composition_made, composition_arguments_made, phases_tail_made, wait_made}
-use Rattle.dsl_tree.proofs.MadeFiles.{file_made, imports_made, import_made, import_rest_made, base_made, optional_dash_made, signed_made, bases_tail_made, unit_tail_made, unit_more_made, factor_tail_made, enum_items_made, enum_item_made, item_number_made, items_tail_made, qualified_name_made, second_name_made, optional_heir_made, heir_condition_made, condition_value_made, body_made, block_made, members_tail_made, member_made, names_tail_made, field_type_made, initial_made, field_end_made, declarations_made, declaration_made, extension_rest_made}
+use Rattle.dsl_tree.proofs.Tests.{any_rule, is_whole, left_of, right_of}
+use Rattle.dsl_tree.proofs.Sets.{both_ways, not_true, or_left, or_right}
+use Rattle.dsl_tree.proofs.EachPart.{each_part}
+use Rattle.dsl_tree.proofs.WholeForests.{is_is_whole}
+use Rattle.dsl_tree.proofs.Classes.{Class, Names, Numbers, Physicals, Texts, LeftOuts, Plain, Value, kind_of, AnyOf, kind_any, classes, seen_class, bare_class, seen_found, bare_found}
+use Rattle.dsl_tree.proofs.PartTrees.{Tree, forest_of, Row, row_forest, Choice, choice_forest, tag, class_tag, tags, may_follow, is_only}
+use Rattle.dsl_tree.proofs.Cuts.{makes, cut}
 
-makes : (p : Part) → Makes p
-makes Part.File choice = file_made choice
-makes Part.Imports choice = imports_made choice
-makes Part.Import choice = import_made choice
-makes Part.ImportRest choice = import_rest_made choice
-makes Part.DottedNames choice = dotted_names_made choice
-makes Part.Declarations choice = declarations_made choice
-makes Part.Declaration choice = declaration_made choice
-makes Part.BasesTail choice = bases_tail_made choice
-makes Part.UnitTail choice = unit_tail_made choice
-makes Part.UnitMore choice = unit_more_made choice
-makes Part.FactorTail choice = factor_tail_made choice
-makes Part.Base choice = base_made choice
-makes Part.OptionalDash choice = optional_dash_made choice
-makes Part.Signed choice = signed_made choice
-makes Part.EnumItems choice = enum_items_made choice
-makes Part.EnumItem choice = enum_item_made choice
-makes Part.ItemNumber choice = item_number_made choice
-makes Part.ItemsTail choice = items_tail_made choice
-makes Part.QualifiedName choice = qualified_name_made choice
-makes Part.SecondName choice = second_name_made choice
-makes Part.OptionalHeir choice = optional_heir_made choice
-makes Part.HeirCondition choice = heir_condition_made choice
-makes Part.ConditionValue choice = condition_value_made choice
-makes Part.EnumMember choice = enum_member_made choice
-makes Part.Body choice = body_made choice
-makes Part.Block choice = block_made choice
-makes Part.ExtensionRest choice = extension_rest_made choice
-makes Part.MembersTail choice = members_tail_made choice
-makes Part.Member choice = member_made choice
-makes Part.NamesTail choice = names_tail_made choice
-makes Part.FieldType choice = field_type_made choice
-makes Part.Initial choice = initial_made choice
-makes Part.FieldEnd choice = field_end_made choice
-makes Part.RulesTail choice = rules_tail_made choice
-makes Part.Rule choice = rule_made choice
-makes Part.KeepKind choice = keep_kind_made choice
-makes Part.Path choice = path_made choice
-makes Part.SuffixesTail choice = suffixes_tail_made choice
-makes Part.Suffix choice = suffix_made choice
-makes Part.Phase choice = phase_made choice
-makes Part.PhaseAfterName choice = after_name_made choice
-makes Part.LabelledPhase choice = core_made choice
-makes Part.Composition choice = composition_made choice
-makes Part.CompositionArguments choice = composition_arguments_made choice
-makes Part.PhasesTail choice = phases_tail_made choice
-makes Part.Wait choice = wait_made choice
-makes Part.InvocationRest choice = invocation_rest_made choice
-makes Part.InvocationArguments choice = invocation_arguments_made choice
-makes Part.InvocationEnd choice = invocation_end_made choice
-makes Part.InvocationPart choice = invocation_part_made choice
-makes Part.PartsTail choice = parts_tail_made choice
-makes Part.Arguments choice = arguments_made choice
-makes Part.ArgumentsTail choice = arguments_tail_made choice
-makes Part.NamedTail choice = named_tail_made choice
-makes Part.Expr choice = expr_made choice
-makes Part.ImpliesTail choice = implies_tail_made choice
-makes Part.Or choice = or_made choice
-makes Part.OrTail choice = or_tail_made choice
-makes Part.And choice = and_made choice
-makes Part.AndTail choice = and_tail_made choice
-makes Part.Not choice = not_made choice
-makes Part.Relation choice = relation_made choice
-makes Part.RelationTail choice = relation_tail_made choice
-makes Part.Sum choice = sum_made choice
-makes Part.SumTail choice = sum_tail_made choice
-makes Part.Product choice = product_made choice
-makes Part.ProductTail choice = product_tail_made choice
-makes Part.Minus choice = minus_made choice
-makes Part.Postfix choice = postfix_made choice
-makes Part.Primary choice = primary_made choice
-makes Part.BracketRest choice = bracket_made choice
-makes Part.ListedTail choice = listed_tail_made choice
+-- Tokens: what one of some classes holds is found in its kind alone, if no two of them have one tag.
 
--- a row of the rule whose forest is f
+kind_tag : (x : Class) (v : Value x) → tag (kind_of x v) ≡ class_tag x
+kind_tag Names v = refl
+kind_tag Numbers v = refl
+kind_tag Physicals v = refl
+kind_tag Texts v = refl
+kind_tag LeftOuts v = refl
+kind_tag (Plain kind) v = refl
+
+has_tag : (xs : List Class) (v : AnyOf xs) → has (map class_tag xs) (tag (kind_any xs v)) ≡ true
+has_tag [] v = absurd v
+has_tag (x ∷ []) v = or_left _ _ (eq-eqb (class_tag x) _ (sym (kind_tag x v)))
+has_tag (x ∷ (y ∷ ys)) (inl v) = or_left _ _ (eq-eqb (class_tag x) _ (sym (kind_tag x v)))
+has_tag (x ∷ (y ∷ ys)) (inr v) = or_right _ _ (has_tag (y ∷ ys) v)
+
+abbrev are_distinct : List ℕ → Bool
+are_distinct [] = true
+are_distinct (t ∷ ts) = not (has ts t) && are_distinct ts
+
+kind_same : (x : Class) (v w : Value x) → kind_of x v ≡ kind_of x w → v ≡ w
+kind_same Names v w e = cc
+kind_same Numbers v w e = let d : v.0 ≡ w.0 = cc in let p : v.1 ≡ w.1 = cc in λ i. (d i, p i)
+kind_same Physicals v w e = let d : v.0 ≡ w.0 = cc in let p : v.1 ≡ w.1 = cc in let u : v.2 ≡ w.2 = cc in λ i. (d i, p i, u i)
+kind_same Texts v w e = cc
+kind_same LeftOuts v w e = cc
+kind_same (Plain kind) v w e = refl
+
+-- two classes with one kind
+tag_twice : (x : Class) (xs : List Class) → are_distinct (map class_tag (x ∷ xs)) ≡ true → (v : Value x) (w : AnyOf xs) → kind_of x v ≡ kind_any xs w → ⊥
+tag_twice x xs d v w e =
+    both_ways (has (map class_tag xs) (class_tag x)) (subst (λ (t : ℕ). has (map class_tag xs) t ≡ true) (sym (ap tag e) ∙ kind_tag x v) (has_tag xs w)) (not_true _ (left_of _ _ d))
+
+any_same : (xs : List Class) → are_distinct (map class_tag xs) ≡ true → (v w : AnyOf xs) → kind_any xs v ≡ kind_any xs w → v ≡ w
+any_same [] d v w e = absurd v
+any_same (x ∷ []) d v w e = kind_same x v w e
+any_same (x ∷ (y ∷ ys)) d (inl v) (inl w) e = ap inl (kind_same x v w e)
+any_same (x ∷ (y ∷ ys)) d (inl v) (inr w) e = absurd (tag_twice x (y ∷ ys) d v w e)
+any_same (x ∷ (y ∷ ys)) d (inr v) (inl w) e = absurd (tag_twice x (y ∷ ys) d w v (sym e))
+any_same (x ∷ (y ∷ ys)) d (inr v) (inr w) e = ap inr (any_same (y ∷ ys) (right_of _ _ d) v w e)
+
+abbrev is_clear : Symbol → Bool
+is_clear (Seen codes) = are_distinct (tags codes)
+is_clear (Bare codes) = are_distinct (map class_tag (classes bare_class codes))
+is_clear (Of p) = true
+
+all_clear : (p : Part) → list_all (list_all is_clear) (rules p) ≡ true
+all_clear p = each_part (λ p. list_all (list_all is_clear) (rules p)) refl p
+
+-- Rules: no other one can be followed
+
+any_may : (f : Forest) (rs : List (List Symbol)) → ((r : List Symbol) → Follows f r → may_follow f r ≡ true) → AnyRule rs (Follows f) → any_rule rs (may_follow f) ≡ true
+any_may f [] sound any = absurd any
+any_may f (r ∷ rs) sound (inl does) = or_left _ _ (sound r does)
+any_may f (r ∷ rs) sound (inr any) = or_right _ _ (any_may f rs sound any)
+
+follows_may : (f : Forest) (ss : List Symbol) → Follows f ss → may_follow f ss ≡ true
+follows_may nil [] h = refl
+follows_may (seen place kind f) (Seen codes ∷ ss) h =
+    let k = seen_found kind codes h.0 in subst (λ (x : TokenKind). has (tags codes) (tag x) ≡ true) k.1 (has_tag (classes seen_class codes) k.0)
+follows_may (bare kind f) (Bare codes ∷ ss) h = h.0
+follows_may (sub a g) (Of p ∷ ss) h = any_may a (rules p) (follows_may a) h.0
+follows_may _ _ h = absurd h
+
+-- the only row of a rule whose forest is f
 abbrev RowFor : Forest → List Symbol → Type 0
-RowFor f ss = (row : Row ss) × (row_forest ss row ≡ f)
+RowFor f ss = (row : Row ss) × (row_forest ss row ≡ f) × ((other : Row ss) → row_forest ss other ≡ f → other ≡ row)
 
-chosen : (rs : List (List Symbol)) (f : Forest) → AnyRule rs (RowFor f) → (choice : Choice rs) × (choice_forest rs choice ≡ f)
-chosen [] f any = absurd any
-chosen (r ∷ []) f (inl row) = row
-chosen (r ∷ []) f (inr none) = absurd none
-chosen (r ∷ (s ∷ rs)) f (inl row) = (inl row.0, row.1)
-chosen (r ∷ (s ∷ rs)) f (inr any) = let later = chosen (s ∷ rs) f any in (inr later.0, later.1)
+-- and of all rules
+abbrev ChoiceFor : Forest → List (List Symbol) → Type 0
+ChoiceFor f rs =
+    (choice : Choice rs) × (choice_forest rs choice ≡ f) × ((other : Choice rs) → choice_forest rs other ≡ f → is_only rs other f ≡ true → other ≡ choice)
 
-made_by : (p : Part) (f : Forest) → AnyRule (rules p) (RowFor f) → Made p f
-made_by p f any = let choice = chosen (rules p) f any in let tree = makes p choice.0 in (tree.0, tree.1 ∙ choice.1)
+chosen : (f : Forest) (rs : List (List Symbol)) → list_all (list_all is_clear) rs ≡ true
+    → ((r : List Symbol) → list_all is_clear r ≡ true → Follows f r → RowFor f r) → AnyRule rs (Follows f) → ChoiceFor f rs
+chosen f [] clear one any = absurd any
+chosen f (r ∷ []) clear one (inl does) = let row = one r (left_of _ _ clear) does in (row.0, row.1, λ other e only. row.2 other e)
+chosen f (r ∷ []) clear one (inr none) = absurd none
+chosen f (r ∷ (s ∷ rs)) clear one (inl does) =
+    let row = one r (left_of _ _ clear) does in (
+      inl row.0,
+      row.1,
+      elim [
+        | inl other ↦ λ e only. ap inl (row.2 other e)
+        | inr other ↦ λ e only. both_ways (may_follow f r) (follows_may f r does) (not_true _ (left_of _ _ only))
+      ],
+    )
+chosen f (r ∷ (s ∷ rs)) clear one (inr any) =
+    let later = chosen f (s ∷ rs) (right_of _ _ clear) one any in (
+      inr later.0,
+      later.1,
+      elim [
+        | inl other ↦ λ e only. both_ways (any_rule (s ∷ rs) (may_follow f)) (any_may f (s ∷ rs) (follows_may f) any) (not_true _ only)
+        | inr other ↦ λ e only. ap inr (later.2 other e (right_of _ _ only))
+      ],
+    )
 
-row_of : (f : Forest) (ss : List Symbol) → Follows f ss → RowFor f ss
-row_of nil [] h = (tt, refl)
-row_of (seen place kind f) (Seen codes ∷ ss) (h, h') =
-    let k = seen_found kind codes h in let rest = row_of f ss h' in
-    (((place, k.0), rest.0), ap₂ (λ (x : TokenKind) (g : Forest). seen place x g) k.1 rest.1)
-row_of (bare kind f) (Bare codes ∷ ss) (h, h') =
-    let k = bare_found kind codes h in let rest = row_of f ss h' in
-    ((k.0, rest.0), ap₂ (λ (x : TokenKind) (g : Forest). bare x g) k.1 rest.1)
-row_of (sub a g) (Of p ∷ ss) (any, h) =
-    let tree = made_by p a (any_map (rules p) (Follows a) (RowFor a) (λ r does. row_of a r does) any) in let rest = row_of g ss h in
-    ((tree.0, rest.0), ap₂ (λ (x y : Forest). sub x y) tree.1 rest.1)
-row_of _ _ h = absurd h
+-- the only tree of a part that is written so
+abbrev pub Sole : Part → Forest → Type 0
+Sole p f = (t : Tree p) × (forest_of p t ≡ f) × ((other : Tree p) → forest_of p other ≡ f → other ≡ t)
 
--- the tree that a forest of a part is written from
-pub made : (p : Part) (f : Forest) → IsOf p f → Made p f
-made p f is = made_by p f (any_map (rules p) (Follows f) (RowFor f) (λ r does. row_of f r does) is)
+sole_by : (p : Part) (f : Forest) → IsOf p f → ChoiceFor f (rules p) → Sole p f
+sole_by p f is choice =
+    let tree = makes p choice.0 in
+    let whole = is_is_whole p f is in (
+      tree.0,
+      tree.1 (subst (λ (g : Forest). is_whole g ≡ true) (sym choice.1) whole) ∙ choice.1,
+      λ other e.
+          let k = cut p other (subst (IsOf p) (sym e) is) (subst (λ (g : Forest). is_whole g ≡ true) (sym e) whole) in
+          sym k.1 ∙ ap (λ (c : Choice (rules p)). (makes p c).0)
+          (choice.2 k.0 (sym ((makes p k.0).1 k.3) ∙ (ap (forest_of p) k.1 ∙ e)) (subst (λ (g : Forest). is_only (rules p) k.0 g ≡ true) e k.2)),
+    )
 
+row_of : (f : Forest) (ss : List Symbol) → list_all is_clear ss ≡ true → Follows f ss → RowFor f ss
+row_of nil [] clear h = (tt, refl, λ other e. refl)
+row_of (seen place kind f) (Seen codes ∷ ss) clear (h, h') =
+    let k = seen_found kind codes h in let rest = row_of f ss (right_of (is_clear (Seen codes)) (list_all is_clear ss) clear) h' in (
+      ((place, k.0), rest.0),
+      ap₂ (seen place) k.1 rest.1,
+      λ other e.
+          let at : other.0.0 ≡ place = cc in
+          let kept : kind_any (classes seen_class codes) other.0.1 ≡ kind = cc in
+          let later : row_forest ss other.1 ≡ f = cc in
+          let same = any_same (classes seen_class codes) (left_of _ _ clear) other.0.1 k.0 (kept ∙ sym k.1) in
+          λ i. ((at i, same i), rest.2 other.1 later i),
+    )
+row_of (bare kind f) (Bare codes ∷ ss) clear (h, h') =
+    let k = bare_found kind codes h in let rest = row_of f ss (right_of (is_clear (Bare codes)) (list_all is_clear ss) clear) h' in (
+      (k.0, rest.0),
+      ap₂ bare k.1 rest.1,
+      λ other e.
+          let kept : kind_any (classes bare_class codes) other.0 ≡ kind = cc in
+          let later : row_forest ss other.1 ≡ f = cc in
+          λ i. (any_same (classes bare_class codes) (left_of _ _ clear) other.0 k.0 (kept ∙ sym k.1) i, rest.2 other.1 later i),
+    )
+row_of (sub a g) (Of p ∷ ss) clear (any, h) =
+    let tree = sole_by p a any (chosen a (rules p) (all_clear p) (λ r c does. row_of a r c does) any) in let rest = row_of g ss clear h in (
+      (tree.0, rest.0),
+      ap₂ sub tree.1 rest.1,
+      λ other e.
+          let first : forest_of p other.0 ≡ a = cc in
+          let later : row_forest ss other.1 ≡ g = cc in
+          λ i. (tree.2 other.0 first i, rest.2 other.1 later i),
+    )
+row_of _ _ clear h = absurd h
+
+pub sole : (p : Part) (f : Forest) → IsOf p f → Sole p f
+sole p f is = sole_by p f is (chosen f (rules p) (all_clear p) (row_of f) is)
+
+-- the tree that a forest of the grammar is written from
 pub tree_of : (f : Forest) → IsOf Part.File f → (t : FileTree) × (file t ≡ f)
-tree_of f is = made Part.File f is
-
--- it is the tree that is read back
-pub file_of : (f : Forest) → IsOf Part.File f → file (read_file f) ≡ f
-file_of f is =
-    let (t, e) = tree_of f is in
-    let whole : is_whole (file t) ≡ true = is_is_whole Part.File (file t) (subst (IsOf Part.File) (sym e) is) in
-    ap (λ (g : Forest). file (read_file g)) (sym e) ∙ (ap file (file_back t whole) ∙ e)
+tree_of f is = let tree = sole Part.File f is in (tree.0, tree.1)

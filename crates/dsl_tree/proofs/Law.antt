@@ -1,5 +1,5 @@
 -- A list of tokens is spelled by one forest of a part at most.
-use Rattle.std.proofs.Common.{◌≡◌, ℕ, ◌≤◌, List, [], ◌∷◌, ◌++◌, Bool, true, false, cond, refl, sym, ◌∙◌, ap, subst, ⊎_elim, ◌&&◌, not, arith}
+use Rattle.std.proofs.Common.{◌≡◌, ℕ, ◌≤◌, List, [], ◌∷◌, Bool, true, false, cond, refl, sym, ◌∙◌, ap, ap₂, subst, ⊎_elim, ◌&&◌, not, arith}
 use Rattle.std.specs.Prelude.{nat_le}
 use Rattle.std.proofs.lemmas.Bool.{leb-true}
 use Rattle.osc_base.specs.declared.fault.Place.{Place}
@@ -13,8 +13,7 @@ use Rattle.dsl_tree.specs.Reading.{starts, Starts, Stops, void, Whole, Parsed}
 use Rattle.dsl_tree.proofs.Tests.{left_of, right_of, either_of, count}
 use Rattle.dsl_tree.proofs.Sets.{two_ways, both_ways, not_true, starts-nil, starts-cons, Starts-subset, Stops-subset, Stops-apart, Stops-left, Stops-right, and_both}
 use Rattle.dsl_tree.proofs.Fits.{Fit, fit_map, any_map, pick, first_goes_on}
-use Rattle.dsl_tree.proofs.Begins.{void_spells, void_empties, void_part, begins}
-use Rattle.dsl_tree.proofs.Seconds.{void_count, seconds_of, least_count}
+use Rattle.dsl_tree.proofs.Begins.{void_spells, void_empties, void_part, begins, void_count, seconds_of, least_count}
 
 -- Whole forests
 
@@ -26,28 +25,32 @@ whole_follows (sub a g) (Of p ∷ ss) z (any, stop, w) =
     (any_map (rules p) (λ r. Whole a r (cond (void g) z [])) (Follows a) (λ r does. whole_follows a r (cond (void g) z []) does) any, whole_follows g ss z w)
 whole_follows _ _ z w = absurd w
 
+-- what is whole before some tokens is so before others, at which all stops that stops at those
+pub whole_before : (f : Forest) (ss : List Symbol) (z y : List Token) → ((cs : List ℕ) → Stops cs z → Stops cs y) → Whole f ss z → Whole f ss y
+whole_before nil [] z y e w = tt
+whole_before (seen place kind f) (Seen codes ∷ ss) z y e (h, w) = (h, whole_before f ss z y e w)
+whole_before (bare kind f) (Bare codes ∷ ss) z y e (h, w) = (h, whole_before f ss z y e w)
+whole_before (sub a g) (Of p ∷ ss) z y e (any, stop, w) = (
+  any_map (rules p) (λ r. Whole a r (cond (void g) z [])) (λ r. Whole a r (cond (void g) y [])) (λ r does. whole_before a r (cond (void g) z []) (cond (void g) y []) (behind (void g)) does) any,
+  behind (void g) (cond (void a) (first p) []) stop,
+  whole_before g ss z y e w,
+)
+  where
+    behind : (v : Bool) (cs : List ℕ) → Stops cs (cond v z []) → Stops cs (cond v y [])
+    behind true cs s = e cs s
+    behind false cs s = s
+whole_before _ _ z y e w = absurd w
+
 -- what stands after a part doesn't go on with it
 stops_behind : (p : Part) (g : Forest) (ss : List Symbol) (z : List Token) → Follows g ss → Stops (stops (Of p ∷ ss)) z → Stops (goes_on p) (cond (void g) z [])
-stops_behind p g ss z h stop = go (void g) refl
-  where
-    go : (v : Bool) → void g ≡ v → Stops (goes_on p) (cond v z [])
-    go true e = Stops-left (goes_on p) (stops ss) z (subst (λ (b : Bool). Stops (cond b (goes_on p ++ stops ss) (stops ss)) z) (void_empties g ss h e) stop)
-    go false e = starts-nil (goes_on p)
+stops_behind p g ss z h stop = grind (arith, void_empties g ss h, Stops-left (goes_on p) (stops ss) z, starts-nil (goes_on p))
 
 pub stops_rest : (p : Part) (ss : List Symbol) (z : List Token) → Stops (stops (Of p ∷ ss)) z → Stops (stops ss) z
-stops_rest p ss z = go (empties ss)
-  where
-    go : (b : Bool) → Stops (cond b (goes_on p ++ stops ss) (stops ss)) z → Stops (stops ss) z
-    go true stop = Stops-right (goes_on p) (stops ss) z stop
-    go false stop = stop
+stops_rest p ss z stop = grind (arith, Stops-right (goes_on p) (stops ss) z)
 
 -- a part that was left empty could not take what stands after it
 stops_void : (p : Part) (a : Forest) (z : List Token) → AnyRule (rules p) (Follows a) → Stops (goes_on p) z → Stops (cond (void a) (first p) []) z
-stops_void p a z any stop = go (void a) refl
-  where
-    go : (v : Bool) → void a ≡ v → Stops (cond v (first p) []) z
-    go true e = Stops-subset (first p) (goes_on p) z (first_goes_on p (void_part p a any e)) stop
-    go false e = refl
+stops_void p a z any stop = grind (arith, void_part p a any, first_goes_on p, Stops-subset (first p) (goes_on p) z)
 
 pub follows_whole : (f : Forest) (ss : List Symbol) (z : List Token) → sound ss ≡ true → Follows f ss → Stops (stops ss) z → Whole f ss z
 follows_whole nil [] z s h stop = tt
@@ -124,73 +127,29 @@ no_two r a ts m two fa sa =
 two_tokens : (r s : List Symbol) (a b : Forest) (ts m n : List Token) → two_apart s r ≡ true → Follows a r → Follows b s → Spells a ts m → Spells b ts n → ⊥
 two_tokens r s a b ts m n h fa fb sa sb = no_two r a ts m (begun_two r s b ts n h fb sb) fa sa
 
+-- after a void forest no other begins
+after_void : (p : Part) (s : List Symbol) (a : Forest) (ts m : List Token) → Fit p s → void a ≡ true → Spells a ts m → Stops (cond (void a) (first p) []) m → Starts (firsts s) ts → ⊥
+after_void p s a ts m fit v sa stop start =
+    both_ways (starts (first p) m) (subst (Starts (first p)) (void_spells a ts m v sa) (Starts-subset (firsts s) (first p) ts fit.begins start)) (subst (λ (c : Bool). Stops (cond c (first p) []) m) v stop)
+
 clash : (p : Part) (r s : List Symbol) (a b : Forest) (ts m n : List Token) → Fit p r → Fit p s → are_told_apart r s ≡ true → Whole a r m → Whole b s n
     → Stops (cond (void a) (first p) []) m → Stops (cond (void b) (first p) []) n → Spells a ts m → Spells b ts n → ⊥
 clash p r s a b ts m n fit fit' tells wa wb stop stop' sa sb =
-    ⊎_elim (λ one. go (void a) (void b) refl refl (left_of (apart (firsts r) (firsts s)) (not (empties r && empties s)) one)
-    (not_true (empties r && empties s) (right_of (apart (firsts r) (firsts s)) (not (empties r && empties s)) one)))
+    let fa : Follows a r = whole_follows a r m wa in
+    let fb : Follows b s = whole_follows b s n wb in
+    ⊎_elim (λ one.
+    ⊎_elim (λ v. ⊎_elim (λ v'. both_ways (empties r && empties s) (and_both (empties r) (empties s) (void_empties a r fa v) (void_empties b s fb v')) (not_true (empties r && empties s) (right_of _ _ one)))
+    (λ (w', start'). after_void p s a ts m fit' v sa stop start') (begins b s ts n fb sb))
+    (λ (w, start). ⊎_elim (λ v'. after_void p r b ts n fit v' sb stop' start)
+    (λ (w', start'). both_ways (starts (firsts s) ts) start' (Stops-apart (firsts r) (firsts s) ts (left_of (apart (firsts r) (firsts s)) _ one) start)) (begins b s ts n fb sb))
+    (begins a r ts m fa sa))
     (λ two. two_tokens r s a b ts m n two fa fb sa sb)
     (either_of (apart (firsts r) (firsts s) && not (empties r && empties s)) (two_apart s r) tells)
-  where
-    fa : Follows a r
-    fa = whole_follows a r m wa
-
-    fb : Follows b s
-    fb = whole_follows b s n wb
-
-    go : (v w : Bool) → void a ≡ v → void b ≡ w → apart (firsts r) (firsts s) ≡ true → (empties r && empties s) ≡ false → ⊥
-    go true true e e' tell blank = both_ways (empties r && empties s) (and_both (empties r) (empties s) (void_empties a r fa e) (void_empties b s fb e')) blank
-    go true false e e' tell blank =
-        ⊎_elim (λ v. both_ways (void b) v e')
-        (λ (v, st). both_ways (starts (first p) m) (subst (Starts (first p)) (void_spells a ts m e sa) (Starts-subset (firsts s) (first p) ts fit'.begins st)) (subst (λ (c : Bool). Stops (cond c (first p) []) m) e stop))
-        (begins b s ts n fb sb)
-    go false true e e' tell blank =
-        ⊎_elim (λ v. both_ways (void a) v e)
-        (λ (v, st). both_ways (starts (first p) n) (subst (Starts (first p)) (void_spells b ts n e' sb) (Starts-subset (firsts r) (first p) ts fit.begins st)) (subst (λ (c : Bool). Stops (cond c (first p) []) n) e' stop'))
-        (begins a r ts m fa sa)
-    go false false e e' tell blank =
-        ⊎_elim (λ v. both_ways (void a) v e)
-        (λ (v, st). ⊎_elim (λ v'. both_ways (void b) v' e') (λ (v', st'). both_ways (starts (firsts s) ts) st' (Stops-apart (firsts r) (firsts s) ts tell st)) (begins b s ts n fb sb))
-        (begins a r ts m fa sa)
 
 -- The law
 
-record SeenLike (codes : List ℕ) (ss : List Symbol) (t : Token) (ts z : List Token) (f : Forest) : Type 0 where
-  rest : Forest
-  is : f ≡ seen t.place t.kind rest
-  whole : Whole rest ss z
-  spells : Spells rest ts z
-
-seen_like : (f : Forest) (codes : List ℕ) (ss : List Symbol) (t : Token) (ts z : List Token) → Whole f (Seen codes ∷ ss) z → Spells f (t ∷ ts) z → SeenLike codes ss t ts z f
-seen_like (seen place kind f) codes ss t ts z (h, w) (p, k, s) = record { rest = f; is = ap (λ (x : Place). seen x kind f) (sym p) ∙ ap (λ (x : TokenKind). seen t.place x f) (sym k); whole = w; spells = s }
-seen_like _ codes ss t ts z w s = absurd w
-
-record BareLike (codes : List ℕ) (ss : List Symbol) (t : Token) (ts z : List Token) (f : Forest) : Type 0 where
-  rest : Forest
-  is : f ≡ bare t.kind rest
-  whole : Whole rest ss z
-  spells : Spells rest ts z
-
-bare_like : (f : Forest) (codes : List ℕ) (ss : List Symbol) (t : Token) (ts z : List Token) → Whole f (Bare codes ∷ ss) z → Spells f (t ∷ ts) z → BareLike codes ss t ts z f
-bare_like (bare kind f) codes ss t ts z (h, w) (k, s) = record { rest = f; is = ap (λ (x : TokenKind). bare x f) (sym k); whole = w; spells = s }
-bare_like _ codes ss t ts z w s = absurd w
-
-record SubLike (p : Part) (ss : List Symbol) (ts z : List Token) (f : Forest) : Type 0 where
-  part : Forest
-  rest : Forest
-  middle : List Token
-  is : f ≡ sub part rest
-  parsed : Parsed p part ts middle
-  whole : Whole rest ss z
-  spells : Spells rest middle z
-
-sub_like : (f : Forest) (p : Part) (ss : List Symbol) (ts z : List Token) → sound (Of p ∷ ss) ≡ true → Whole f (Of p ∷ ss) z → Spells f ts z → SubLike p ss ts z f
-sub_like (sub a g) p ss ts z s (any, stop, w) (m, sa, sg) = record { part = a; rest = g; middle = m; is = refl; parsed = opened p ss a g ts m z s (any, stop, w) sa sg; whole = w; spells = sg }
-sub_like _ p ss ts z s w spells = absurd w
-
-nil_like : (f : Forest) (z : List Token) → Whole f [] z → f ≡ nil
-nil_like nil z w = refl
-nil_like _ z w = absurd w
+same_seen : (p q : Place) (k l : TokenKind) (f g : Forest) → p ≡ q → k ≡ l → f ≡ g → seen p k f ≡ seen q l g
+same_seen p q k l f g e e' e'' = cc
 
 abbrev Same : Forest → Forest → List Token → List Token → Type 0
 Same f f' z z' = (f ≡ f') × (z ≡ z')
@@ -203,24 +162,22 @@ same_part p a b ts m n law pa pb =
     (λ r s fit fit' tells wa wb. absurd (clash p r s b a ts n m fit fit' tells wb wa pb.stop pa.stop pb.spells pa.spells))
 
 pub law : (f f' : Forest) (ss : List Symbol) (ts z z' : List Token) → sound ss ≡ true → Whole f ss z → Whole f' ss z' → Spells f ts z → Spells f' ts z' → Same f f' z z'
-law nil f' [] ts z z' s w w' sp sp' =
-    let e : f' ≡ nil = nil_like f' z' w' in
-    (sym e, sym sp ∙ subst (λ (x : Forest). Spells x ts z') e sp')
-law (seen place kind f) f' (Seen codes ∷ ss) (t ∷ ts) z z' s (h, w) w' (p, k, sp) sp' =
-    let like = seen_like f' codes ss t ts z' w' sp' in
-    let (e, e') = law f like.rest ss ts z z' s w like.whole sp like.spells in
-    (ap (λ (x : Place). seen x kind f) (sym p) ∙ (ap (λ (x : TokenKind). seen t.place x f) (sym k) ∙ (ap (seen t.place t.kind) e ∙ sym like.is)), e')
-law (bare kind f) f' (Bare codes ∷ ss) (t ∷ ts) z z' s (h, w) w' (k, sp) sp' =
-    let like = bare_like f' codes ss t ts z' w' sp' in
-    let (e, e') = law f like.rest ss ts z z' s w like.whole sp like.spells in
-    (ap (λ (x : TokenKind). bare x f) (sym k) ∙ (ap (bare t.kind) e ∙ sym like.is), e')
-law (sub a g) f' (Of p ∷ ss) ts z z' s (any, stop, w) w' (m, sa, sg) sp' =
-    let like = sub_like f' p ss ts z' s w' sp' in
-    let (e, q) = same_part p a like.part ts m like.middle (λ r sr wa wb. law a like.part r ts m like.middle sr wa wb sa like.parsed.spells) (opened p ss a g ts m z s (any, stop, w) sa sg) like.parsed in
-    let (e', q') = law g like.rest ss m z z' (right_of (apart (firsts ss) (goes_on p)) (sound ss) s) w like.whole sg (subst (λ (v : List Token). Spells like.rest v z') (sym q) like.spells) in
-    (ap (λ (x : Forest). sub x g) e ∙ (ap (sub like.part) e' ∙ sym like.is), q')
+law nil nil [] ts z z' s w w' sp sp' = (refl, sym sp ∙ sp')
+law (seen place kind f) (seen place' kind' f') (Seen codes ∷ ss) (t ∷ ts) z z' s (h, w) (h', w') (p, k, sp) (p', k', sp') =
+    let (e, q) = law f f' ss ts z z' s w w' sp sp' in (same_seen place place' kind kind' f f' (sym p ∙ p') (sym k ∙ k') e, q)
+law (bare kind f) (bare kind' f') (Bare codes ∷ ss) (t ∷ ts) z z' s (h, w) (h', w') (k, sp) (k', sp') =
+    let (e, q) = law f f' ss ts z z' s w w' sp sp' in (ap₂ bare (sym k ∙ k') e, q)
+law (sub a g) (sub b g') (Of p ∷ ss) ts z z' s (any, stop, w) (any', stop', w') (m, sa, sg) (m', sb, sg') =
+    let (e, q) =
+    same_part p a b ts m m' (λ r sr wa wb. law a b r ts m m' sr wa wb sa sb) (opened p ss a g ts m z s (any, stop, w) sa sg) (opened p ss b g' ts m' z' s (any', stop', w') sb sg') in
+    let (e', q') = law g g' ss m z z' (right_of (apart (firsts ss) (goes_on p)) (sound ss) s) w w' sg (subst (λ (v : List Token). Spells g' v z') (sym q) sg') in
+    (ap₂ sub e e', q')
 law (seen place kind f) f' (Seen codes ∷ ss) [] z z' s w w' sp sp' = absurd sp
 law (bare kind f) f' (Bare codes ∷ ss) [] z z' s w w' sp sp' = absurd sp
+law nil f' [] ts z z' s w w' sp sp' = absurd w'
+law (seen place kind f) f' (Seen codes ∷ ss) (t ∷ ts) z z' s w w' sp sp' = absurd w'
+law (bare kind f) f' (Bare codes ∷ ss) (t ∷ ts) z z' s w w' sp sp' = absurd w'
+law (sub a g) f' (Of p ∷ ss) ts z z' s w w' sp sp' = absurd w'
 law _ f' _ ts z z' s w w' sp sp' = absurd w
 
 -- of a part

@@ -1,11 +1,10 @@
 -- Lists of codes, and the first tokens that have them.
-use Rattle.std.proofs.Common.{◌≡◌, ◌⊎◌, ℕ, List, [], ◌∷◌, ◌++◌, Bool, true, false, refl, sym, ◌∙◌, ap, subst, inl, inr, ⊎_elim, ◌||◌, ◌&&◌, eqb, not}
+use Rattle.std.proofs.Common.{◌≡◌, ◌⊎◌, ℕ, List, [], ◌∷◌, ◌++◌, Bool, true, false, refl, sym, ◌∙◌, inl, inr, ◌||◌, ◌&&◌, eqb, not, arith}
 use Rattle.std.proofs.lemmas.Bool.{eqb-true, false≢true}
 use Rattle.dsl_tree.specs.declared.token.Token.{Token}
 use Rattle.dsl_tree.specs.Codes.{code, has}
 use Rattle.dsl_tree.specs.Lookahead.{subset, apart}
 use Rattle.dsl_tree.specs.Reading.{starts, Starts, Stops}
-use Rattle.dsl_tree.proofs.Tests.{left_of, right_of, either_of}
 
 pub two_ways : (b : Bool) → (b ≡ true) ⊎ (b ≡ false)
 two_ways true = inl refl
@@ -16,11 +15,7 @@ pub both_ways : {G : Type 0} (b : Bool) → b ≡ true → b ≡ false → G
 both_ways b t f = absurd (false≢true (sym f ∙ t))
 
 pub not_true : (b : Bool) → not b ≡ true → b ≡ false
-not_true true h = sym h
-not_true false h = refl
-
-pub not_false : (b : Bool) → b ≡ false → not b ≡ true
-not_false b h = ap not h
+not_true b h = grind arith
 
 -- a Bool of which truth can't be is false
 pub is_false : (b : Bool) → (b ≡ true → ⊥) → b ≡ false
@@ -28,38 +23,32 @@ is_false true h = absurd (h refl)
 is_false false h = refl
 
 pub or_left : (a b : Bool) → a ≡ true → (a || b) ≡ true
-or_left true b h = refl
-or_left false b h = absurd (false≢true h)
+or_left a b h = grind arith
 
 pub or_right : (a b : Bool) → b ≡ true → (a || b) ≡ true
-or_right true b h = refl
-or_right false b h = h
+or_right a b h = grind arith
 
 pub and_both : (a b : Bool) → a ≡ true → b ≡ true → (a && b) ≡ true
-and_both true b h k = k
-and_both false b h k = absurd (false≢true h)
+and_both a b h k = grind arith
 
 -- from `not a || b`
 pub implied : (a b : Bool) → (not a || b) ≡ true → a ≡ true → b ≡ true
-implied true b h e = h
-implied false b h e = absurd (false≢true e)
+implied a b h e = grind arith
 
 pub has-subset : (xs ys : List ℕ) (k : ℕ) → subset xs ys ≡ true → has xs k ≡ true → has ys k ≡ true
 has-subset [] ys k s h = absurd (false≢true h)
 has-subset (x ∷ xs) ys k s h =
-    ⊎_elim (λ e. subst (λ (v : ℕ). has ys v ≡ true) (eqb-true x k e) (left_of (has ys x) (subset xs ys) s))
-    (λ e. has-subset xs ys k (right_of (has ys x) (subset xs ys) s) e) (either_of (eqb x k) (has xs k) h)
+    grind (arith, has-subset xs ys k, eqb-true x k)
 
 pub has-apart : (xs ys : List ℕ) (k : ℕ) → apart xs ys ≡ true → has xs k ≡ true → has ys k ≡ false
 has-apart [] ys k s h = absurd (false≢true h)
 has-apart (x ∷ xs) ys k s h =
-    ⊎_elim (λ e. subst (λ (v : ℕ). has ys v ≡ false) (eqb-true x k e) (not_true (has ys x) (left_of (not (has ys x)) (apart xs ys) s)))
-    (λ e. has-apart xs ys k (right_of (not (has ys x)) (apart xs ys) s) e) (either_of (eqb x k) (has xs k) h)
+    grind (arith, has-apart xs ys k, eqb-true x k)
 
 pub has-append_left : (xs ys : List ℕ) (k : ℕ) → has xs k ≡ true → has (xs ++ ys) k ≡ true
 has-append_left [] ys k h = absurd (false≢true h)
 has-append_left (x ∷ xs) ys k h =
-    ⊎_elim (λ e. or_left (eqb x k) (has (xs ++ ys) k) e) (λ e. or_right (eqb x k) (has (xs ++ ys) k) (has-append_left xs ys k e)) (either_of (eqb x k) (has xs k) h)
+    grind (arith, has-append_left xs ys k)
 
 pub has-append_right : (xs ys : List ℕ) (k : ℕ) → has ys k ≡ true → has (xs ++ ys) k ≡ true
 has-append_right [] ys k h = h
@@ -74,11 +63,6 @@ starts-cons (c ∷ cs) t ts = refl
 pub starts-nil : (cs : List ℕ) → starts cs [] ≡ false
 starts-nil [] = refl
 starts-nil (c ∷ cs) = refl
-
--- tokens that start are some
-pub some_token : (cs : List ℕ) (ts : List Token) → Starts cs ts → (t : Token) × (others : List Token) × (ts ≡ t ∷ others) × (has cs (code t.kind) ≡ true)
-some_token cs [] h = both_ways (starts cs []) h (starts-nil cs)
-some_token cs (t ∷ ts) h = (t, ts, refl, sym (starts-cons cs t ts) ∙ h)
 
 pub Starts-subset : (xs ys : List ℕ) (ts : List Token) → subset xs ys ≡ true → Starts xs ts → Starts ys ts
 Starts-subset xs ys [] s h = both_ways (starts xs []) h (starts-nil xs)

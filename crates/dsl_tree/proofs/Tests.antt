@@ -1,5 +1,5 @@
 -- Tests that compute, by which a tree that is written out in full is shown to be spelled.
-use Rattle.std.proofs.Common.{◌≡◌, ◌⊎◌, ℕ, ◌+◌, List, [], ◌∷◌, Bool, true, false, refl, inl, inr, ⊎_elim, ◌||◌, ◌&&◌, sym, ◌∙◌}
+use Rattle.std.proofs.Common.{◌≡◌, ◌⊎◌, ℕ, ◌+◌, List, [], ◌∷◌, Bool, true, false, refl, inl, inr, ⊎_elim, ◌||◌, ◌&&◌, sym, ◌∙◌, arith}
 use Rattle.std.proofs.lemmas.Bool.{false≢true}
 use Rattle.osc_base.specs.declared.fault.Place.{Place}
 use Rattle.dsl_tree.specs.declared.token.Token.{Token}
@@ -20,26 +20,14 @@ follows (sub part f) (Of p ∷ rule) = any_rule (rules p) (follows part) && foll
 follows _ _ = false
 
 pub left_of : (a b : Bool) → (a && b) ≡ true → a ≡ true
-left_of true b h = refl
-left_of false b h = h
+left_of a b h = grind arith
 
 pub right_of : (a b : Bool) → (a && b) ≡ true → b ≡ true
-right_of true b h = h
-right_of false true h = refl
-right_of false false h = h
+right_of a b h = grind arith
 
 pub either_of : (a b : Bool) → (a || b) ≡ true → (a ≡ true) ⊎ (b ≡ true)
 either_of true b h = inl refl
 either_of false b h = inr h
-
-is_one_of : (a b : Bool) → (a ≡ true) ⊎ (b ≡ true) → (a || b) ≡ true
-is_one_of true b h = refl
-is_one_of false b (inl h) = absurd (false≢true h)
-is_one_of false b (inr h) = h
-
-are_both : (a b : Bool) → a ≡ true → b ≡ true → (a && b) ≡ true
-are_both true b h k = k
-are_both false b h k = absurd (false≢true h)
 
 AnyRule-any_rule : (rs : List (List Symbol)) (test : List Symbol → Bool) (Does : List Symbol → Type 0) → ((r : List Symbol) → test r ≡ true → Does r) → any_rule rs test ≡ true → AnyRule rs Does
 AnyRule-any_rule [] test Does sound h = absurd (cc)
@@ -93,7 +81,13 @@ Spells-tokens_of place (sub part f) n rest h = (
 )
 Spells-tokens_of place wrong n rest h = absurd (cc)
 
--- The tests fail of nothing that follows.
+is_one_of : (a b : Bool) → (a ≡ true) ⊎ (b ≡ true) → (a || b) ≡ true
+is_one_of true b h = refl
+is_one_of false b (inl h) = absurd (false≢true h)
+is_one_of false b (inr h) = h
+
+are_both : (a b : Bool) → a ≡ true → b ≡ true → (a && b) ≡ true
+are_both a b h k = grind arith
 
 any_rule-AnyRule : (rs : List (List Symbol)) (test : List Symbol → Bool) (Does : List Symbol → Type 0) → ((r : List Symbol) → Does r → test r ≡ true) → AnyRule rs Does → any_rule rs test ≡ true
 any_rule-AnyRule [] test Does sound h = absurd h

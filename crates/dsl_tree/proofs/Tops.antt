@@ -1,23 +1,18 @@
 -- What a parser of whole files proves: from what was read of the part `File`, or from its fault.
-use Rattle.std.proofs.Common.{◌+◌, ◌-◌, length, drop, length-append, ap₂, arith, ◌≡◌, ℕ, List, [], ◌∷◌, ◌++◌, refl, sym, ◌∙◌, ap, subst, append_assoc}
+use Rattle.std.proofs.Common.{◌+◌, ◌-◌, length, drop, length-append, ap₂, arith, ◌≡◌, ℕ, List, [], ◌∷◌, ◌++◌, sym, ◌∙◌, ap, subst, append_assoc}
 use Rattle.std.proofs.Math.Seq.{drop-append_seam}
 use Rattle.osc_base.specs.declared.fault.Fault.{Fault}
-use Rattle.osc_base.specs.declared.fault.Place.{Place}
 use Rattle.dsl_tree.specs.declared.token.Token.{Token}
-use Rattle.dsl_tree.specs.declared.token.TokenKind.{TokenKind}
-use Rattle.dsl_tree.specs.declared.file.File.{File}
-use Rattle.dsl_tree.specs.Views.{file_tree}
 use Rattle.dsl_tree.specs.Grammar.{Part}
-use Rattle.dsl_tree.specs.Forest.{Forest, nil, seen, sub, IsOf, Spells}
+use Rattle.dsl_tree.specs.Forest.{Forest, IsOf, Spells}
 use Rattle.dsl_tree.specs.FileTree.{FileTree}
-use Rattle.dsl_tree.specs.WrittenFile.{file, imports, declarations}
+use Rattle.dsl_tree.specs.WrittenFile.{file}
 use Rattle.dsl_tree.specs.Lookahead.{goes_on}
 use Rattle.dsl_tree.specs.Reading.{Parsed, CanBegin, PartFault}
-use Rattle.dsl_tree.specs.Language.{Spelled, IsViable, FirstFault, Ended, is_end, fault_code}
-use Rattle.dsl_tree.proofs.Sets.{both_ways, starts-nil}
+use Rattle.dsl_tree.specs.Language.{Spelled, IsViable, FirstFault, fault_code}
+use Rattle.dsl_tree.proofs.Sets.{starts-nil}
 use Rattle.dsl_tree.proofs.Law.{part_follows}
-use Rattle.dsl_tree.proofs.Faults.{Consumed, consumed}
-use Rattle.dsl_tree.proofs.OneTrees.{spelled_once, one_file_spelled}
+use Rattle.dsl_tree.proofs.OneTrees.{spelled_once}
 use Rattle.dsl_tree.proofs.Inverse.{tree_of}
 
 -- a file was read
@@ -27,9 +22,6 @@ whole_file t tokens parsed = record { follows = part_follows Part.File (file t) 
 -- its tree is the only one
 pub only_tree : (t : FileTree) (tokens : List Token) → Parsed Part.File (file t) tokens [] → (other : FileTree) → Spelled other tokens → other ≡ t
 only_tree t tokens parsed other spelled = spelled_once other t tokens spelled (whole_file t tokens parsed)
-
-pub only_file : (f : File) (tokens : List Token) → Parsed Part.File (file (file_tree f)) tokens [] → (other : File) → Spelled (file_tree other) tokens → other ≡ f
-only_file f tokens parsed other spelled = one_file_spelled other f tokens spelled (whole_file (file_tree f) tokens parsed)
 
 -- a prefix that some forest begins with is one that some tree begins with
 pub viable_front : (front : List Token) → CanBegin (IsOf Part.File) front → IsViable front
@@ -80,35 +72,3 @@ pub first_fault_at : (tokens : List Token) (left : ℕ) → PartFault Part.File 
 first_fault_at tokens left part fault t others e place code =
     let same : t ≡ part.token = ap (head_or t) (sym e ∙ fault_token Part.File tokens left part) in
     first_fault tokens left part fault (place ∙ ap (λ (u : Token). u.place) same) (code ∙ ap (λ (u : Token). fault_code u.kind) same)
-
--- and no tree is spelled
-pub no_tree : (tokens : List Token) (left : ℕ) → PartFault Part.File tokens left → (tree : FileTree) → Spelled tree tokens → ⊥
-no_tree tokens left part tree spelled = no_further tokens left part tree part.back (subst (Spelled tree) part.split spelled)
-
--- A file goes to the end of its tokens
-
-nothing_behind : (t : Token) (rest : List Token) → Ended (t ∷ rest) → t.kind ≡ TokenKind.End → rest ≡ []
-nothing_behind t [] ended e = refl
-nothing_behind t (u ∷ rest) ended e = both_ways (is_end t.kind) (ap is_end e) ended.0
-
-ended_rest : (used : List Token) (t : Token) (rest : List Token) → Ended (used ++ t ∷ rest) → Ended (t ∷ rest)
-ended_rest [] t rest ended = ended
-ended_rest (u ∷ []) t rest ended = ended.1
-ended_rest (u ∷ (v ∷ used)) t rest ended = ended_rest (v ∷ used) t rest ended.1
-
--- what a forest leaves is ended as its tokens are, if there is any of it
-pub ended_behind : (f : Forest) (tokens : List Token) (t : Token) (rest : List Token) → Ended tokens → Spells f tokens (t ∷ rest) → Ended (t ∷ rest)
-ended_behind f tokens t rest ended spells =
-    let c : Consumed f tokens (t ∷ rest) = consumed f tokens (t ∷ rest) spells in ended_rest c.used t rest (subst Ended c.split ended)
-
-end_token : (place : Place) (f : Forest) (tokens m rest : List Token) → Ended tokens → Spells f tokens m → Spells (seen place TokenKind.End nil) m rest → rest ≡ []
-end_token place f tokens [] rest ended spells none = absurd none
-end_token place f tokens (t ∷ m) rest ended spells (p, k, e) = sym e ∙ nothing_behind t m (ended_behind f tokens t m ended spells) k
-
-pub file_to_end : (t : FileTree) (tokens rest : List Token) → Ended tokens → Spells (file t) tokens rest → rest ≡ []
-file_to_end t tokens rest ended (m, s, (n, s', s'')) = end_token t.end (sub (imports t.imports) (declarations t.decls)) tokens n rest ended (m, s, s') s''
-
--- so a file that was read is one that all the tokens spell
-pub ended_file : (t : FileTree) (tokens rest : List Token) → Ended tokens → Parsed Part.File (file t) tokens rest → Spelled t tokens
-ended_file t tokens rest ended parsed =
-    whole_file t tokens (subst (λ (ts : List Token). Parsed Part.File (file t) tokens ts) (file_to_end t tokens rest ended parsed.spells) parsed)

@@ -1,23 +1,19 @@
 -- What rows are written as, by the lists that they are read into.
-use Rattle.std.proofs.Common.{◌≡◌, ℕ, zero, suc, ◌-◌, ◌≤◌, ◌<◌, List, [], ◌∷◌, Bool, true, false, cond, refl, sym, ◌∙◌, ap, arith}
-use Rattle.std.specs.Prelude.{nat_lt}
-use Rattle.std.proofs.lemmas.Bool.{ltb-true}
+use Rattle.std.proofs.Common.{◌≡◌, ℕ, zero, suc, ◌-◌, ◌≤◌, List, [], ◌∷◌, Bool, cond, refl, sym, ◌∙◌, ap, arith}
+use Rattle.std.proofs.lemmas.Bool.{le-ltb}
+use Rattle.osc_base.specs.declared.fault.Place.{Place}
+use Rattle.dsl_tree.specs.declared.expr.Operator.{Operator}
 use Rattle.dsl_tree.specs.ExprTree.{ExprTree}
+use Rattle.dsl_tree.specs.Views as Views
 use Rattle.dsl_tree.specs.Views.{FurtherTree, SuffixTree, Named, At, grouped, with_suffixes}
 use Rattle.dsl_tree.specs.Forest.{Forest, nil, sub, wrong}
-use Rattle.dsl_tree.specs.Written.{level, lifted, raised, at, next_part, next_name, next_index, written, or_row, and_row, sum_row, product_row, post_row, expr, path, path_front}
+pub use Rattle.dsl_tree.specs.WrittenTails.{further_tail, suffix_tail}
+use Rattle.dsl_tree.specs.Written.{level, lifted, raised, at, written, or_row, and_row, sum_row, product_row, post_row, path, path_row, path_front}
 
 -- Levels
 
-not_below : (n l : ℕ) → l ≤ n → nat_lt n l ≡ false
-not_below n l h = go (nat_lt n l) refl
-  where
-    go : (b : Bool) → nat_lt n l ≡ b → b ≡ false
-    go true e = let lt : n < l = ltb-true n l e in absurd (omega arith)
-    go false e = refl
-
 at_raised : (l : ℕ) (t : ExprTree) (f : Forest) → l ≤ level t → at l t f ≡ raised (level t - l) l f
-at_raised l t f h = ap (λ (b : Bool). cond b wrong (raised (level t - l) l f)) (not_below (level t) l h)
+at_raised l t f h = ap (λ (b : Bool). cond b wrong (raised (level t - l) l f)) (le-ltb (level t) l h)
 
 -- a tree at its own level
 pub at_own : (l : ℕ) (t : ExprTree) (f : Forest) → level t ≡ l → at l t f ≡ f
@@ -30,143 +26,90 @@ at_lower l t f h =
     at_raised l t f (omega arith)
     ∙ (ap (λ (n : ℕ). raised n l f) (let e : level t - l ≡ suc (level t - suc l) = omega arith in e) ∙ ap (lifted l) (sym (at_raised (suc l) t f h)))
 
--- operators and their parts, at the level of the parts
-abbrev pub further_tail : ℕ → List FurtherTree → Forest
-further_tail l [] = nil
-further_tail l (next ∷ rest) = next_part next.place next.operator (at l next.part (written next.part)) (further_tail l rest)
+-- Rows of operators, whose parts stand at the level l
 
-abbrev pub suffix_tail : List SuffixTree → Forest
-suffix_tail [] = nil
-suffix_tail (Named name ∷ rest) = next_name name (suffix_tail rest)
-suffix_tail (At place index ∷ rest) = next_index place (expr index) (suffix_tail rest)
+abbrev Join : Type 0
+Join = Place → Operator → ExprTree → ExprTree → ExprTree
 
-or_grouped : (left : ExprTree) (rest : List FurtherTree) → or_row (grouped ExprTree.Or left rest) nil ≡ or_row left (further_tail 2 rest)
-or_grouped left [] = refl
-or_grouped left (next ∷ rest) = or_grouped (ExprTree.Or next.place next.operator left next.part) rest
+-- what a row is written as by what its left side is, and its level
+abbrev Rows : ℕ → ℕ → Join → (ExprTree → Forest → Forest) → Type 0
+Rows own l join row =
+    (left : ExprTree) (next : FurtherTree) (rest : List FurtherTree)
+    → (written (grouped join left (next ∷ rest)) ≡ row left (further_tail l (next ∷ rest))) × (level (grouped join left (next ∷ rest)) ≡ own)
 
-or_of_row : (left : ExprTree) (next : FurtherTree) (rest : List FurtherTree)
-    → (written (grouped ExprTree.Or left (next ∷ rest)) ≡ or_row (grouped ExprTree.Or left (next ∷ rest)) nil) × (level (grouped ExprTree.Or left (next ∷ rest)) ≡ 1)
-or_of_row left next [] = (refl, refl)
-or_of_row left next (other ∷ rest) = or_of_row (ExprTree.Or next.place next.operator left next.part) other rest
+-- what a row of one operator or more is written as, at its own level and in a place for that level
+abbrev pub OwnRow : ℕ → Join → Type 0
+OwnRow l join =
+    (first : ExprTree) (next : FurtherTree) (rest : List FurtherTree)
+    → written (grouped join (ExprTree.Start first) (next ∷ rest)) ≡ sub (at l first (written first)) (sub (further_tail l (next ∷ rest)) nil)
 
--- a row of one operator or more
-pub or_written : (first : ExprTree) (next : FurtherTree) (rest : List FurtherTree)
-    → at 1 (grouped ExprTree.Or (ExprTree.Start first) (next ∷ rest)) (written (grouped ExprTree.Or (ExprTree.Start first) (next ∷ rest)))
-    ≡ sub (at 2 first (written first)) (sub (further_tail 2 (next ∷ rest)) nil)
-or_written first next rest =
-    at_own 1 (grouped ExprTree.Or (ExprTree.Start first) (next ∷ rest)) (written (grouped ExprTree.Or (ExprTree.Start first) (next ∷ rest))) (or_of_row (ExprTree.Start first) next rest).1
-    ∙ ((or_of_row (ExprTree.Start first) next rest).0 ∙ or_grouped (ExprTree.Start first) (next ∷ rest))
+abbrev pub RowAt : ℕ → ℕ → Join → Type 0
+RowAt own l join =
+    (first : ExprTree) (next : FurtherTree) (rest : List FurtherTree)
+    → at own (grouped join (ExprTree.Start first) (next ∷ rest)) (written (grouped join (ExprTree.Start first) (next ∷ rest)))
+    ≡ sub (at l first (written first)) (sub (further_tail l (next ∷ rest)) nil)
 
-and_grouped : (left : ExprTree) (rest : List FurtherTree) → and_row (grouped ExprTree.And left rest) nil ≡ and_row left (further_tail 3 rest)
-and_grouped left [] = refl
-and_grouped left (next ∷ rest) = and_grouped (ExprTree.And next.place next.operator left next.part) rest
+-- of a tree at its own level
+own_at : (l : ℕ) (t : ExprTree) (f : Forest) → (written t ≡ f) × (level t ≡ l) → at l t (written t) ≡ f
+own_at l t f (e, own) = at_own l t (written t) own ∙ e
 
-and_of_row : (left : ExprTree) (next : FurtherTree) (rest : List FurtherTree)
-    → (written (grouped ExprTree.And left (next ∷ rest)) ≡ and_row (grouped ExprTree.And left (next ∷ rest)) nil) × (level (grouped ExprTree.And left (next ∷ rest)) ≡ 2)
-and_of_row left next [] = (refl, refl)
-and_of_row left next (other ∷ rest) = and_of_row (ExprTree.And next.place next.operator left next.part) other rest
+or_rows : Rows 1 2 ExprTree.Or or_row
+or_rows left next [] = (refl, refl)
+or_rows left next (other ∷ rest) = or_rows (ExprTree.Or next.place next.operator left next.part) other rest
 
--- a row of one operator or more
-pub and_written : (first : ExprTree) (next : FurtherTree) (rest : List FurtherTree)
-    → at 2 (grouped ExprTree.And (ExprTree.Start first) (next ∷ rest)) (written (grouped ExprTree.And (ExprTree.Start first) (next ∷ rest)))
-    ≡ sub (at 3 first (written first)) (sub (further_tail 3 (next ∷ rest)) nil)
-and_written first next rest =
-    at_own 2 (grouped ExprTree.And (ExprTree.Start first) (next ∷ rest)) (written (grouped ExprTree.And (ExprTree.Start first) (next ∷ rest))) (and_of_row (ExprTree.Start first) next rest).1
-    ∙ ((and_of_row (ExprTree.Start first) next rest).0 ∙ and_grouped (ExprTree.Start first) (next ∷ rest))
+pub or_own : OwnRow 2 ExprTree.Or
+or_own first next rest = (or_rows (ExprTree.Start first) next rest).0
 
-sum_grouped : (left : ExprTree) (rest : List FurtherTree) → sum_row (grouped ExprTree.Sum left rest) nil ≡ sum_row left (further_tail 6 rest)
-sum_grouped left [] = refl
-sum_grouped left (next ∷ rest) = sum_grouped (ExprTree.Sum next.place next.operator left next.part) rest
+pub or_written : RowAt 1 2 ExprTree.Or
+or_written first next rest = own_at 1 (grouped ExprTree.Or (ExprTree.Start first) (next ∷ rest)) _ (or_rows (ExprTree.Start first) next rest)
 
-sum_of_row : (left : ExprTree) (next : FurtherTree) (rest : List FurtherTree)
-    → (written (grouped ExprTree.Sum left (next ∷ rest)) ≡ sum_row (grouped ExprTree.Sum left (next ∷ rest)) nil) × (level (grouped ExprTree.Sum left (next ∷ rest)) ≡ 5)
-sum_of_row left next [] = (refl, refl)
-sum_of_row left next (other ∷ rest) = sum_of_row (ExprTree.Sum next.place next.operator left next.part) other rest
+and_rows : Rows 2 3 ExprTree.And and_row
+and_rows left next [] = (refl, refl)
+and_rows left next (other ∷ rest) = and_rows (ExprTree.And next.place next.operator left next.part) other rest
 
--- a row of one operator or more
-pub sum_written : (first : ExprTree) (next : FurtherTree) (rest : List FurtherTree)
-    → at 5 (grouped ExprTree.Sum (ExprTree.Start first) (next ∷ rest)) (written (grouped ExprTree.Sum (ExprTree.Start first) (next ∷ rest)))
-    ≡ sub (at 6 first (written first)) (sub (further_tail 6 (next ∷ rest)) nil)
-sum_written first next rest =
-    at_own 5 (grouped ExprTree.Sum (ExprTree.Start first) (next ∷ rest)) (written (grouped ExprTree.Sum (ExprTree.Start first) (next ∷ rest))) (sum_of_row (ExprTree.Start first) next rest).1
-    ∙ ((sum_of_row (ExprTree.Start first) next rest).0 ∙ sum_grouped (ExprTree.Start first) (next ∷ rest))
+pub and_own : OwnRow 3 ExprTree.And
+and_own first next rest = (and_rows (ExprTree.Start first) next rest).0
 
-product_grouped : (left : ExprTree) (rest : List FurtherTree) → product_row (grouped ExprTree.Product left rest) nil ≡ product_row left (further_tail 7 rest)
-product_grouped left [] = refl
-product_grouped left (next ∷ rest) = product_grouped (ExprTree.Product next.place next.operator left next.part) rest
+pub and_written : RowAt 2 3 ExprTree.And
+and_written first next rest = own_at 2 (grouped ExprTree.And (ExprTree.Start first) (next ∷ rest)) _ (and_rows (ExprTree.Start first) next rest)
 
-product_of_row : (left : ExprTree) (next : FurtherTree) (rest : List FurtherTree)
-    → (written (grouped ExprTree.Product left (next ∷ rest)) ≡ product_row (grouped ExprTree.Product left (next ∷ rest)) nil) × (level (grouped ExprTree.Product left (next ∷ rest)) ≡ 6)
-product_of_row left next [] = (refl, refl)
-product_of_row left next (other ∷ rest) = product_of_row (ExprTree.Product next.place next.operator left next.part) other rest
+sum_rows : Rows 5 6 ExprTree.Sum sum_row
+sum_rows left next [] = (refl, refl)
+sum_rows left next (other ∷ rest) = sum_rows (ExprTree.Sum next.place next.operator left next.part) other rest
 
--- a row of one operator or more
-pub product_written : (first : ExprTree) (next : FurtherTree) (rest : List FurtherTree)
-    → at 6 (grouped ExprTree.Product (ExprTree.Start first) (next ∷ rest)) (written (grouped ExprTree.Product (ExprTree.Start first) (next ∷ rest)))
-    ≡ sub (at 7 first (written first)) (sub (further_tail 7 (next ∷ rest)) nil)
-product_written first next rest =
-    at_own 6 (grouped ExprTree.Product (ExprTree.Start first) (next ∷ rest)) (written (grouped ExprTree.Product (ExprTree.Start first) (next ∷ rest))) (product_of_row (ExprTree.Start first) next rest).1
-    ∙ ((product_of_row (ExprTree.Start first) next rest).0 ∙ product_grouped (ExprTree.Start first) (next ∷ rest))
+pub sum_own : OwnRow 6 ExprTree.Sum
+sum_own first next rest = (sum_rows (ExprTree.Start first) next rest).0
 
--- suffixes, one or more
+pub sum_written : RowAt 5 6 ExprTree.Sum
+sum_written first next rest = own_at 5 (grouped ExprTree.Sum (ExprTree.Start first) (next ∷ rest)) _ (sum_rows (ExprTree.Start first) next rest)
 
-post_grouped : (head : ExprTree) (suffixes : List SuffixTree) → post_row (with_suffixes head suffixes) nil ≡ post_row head (suffix_tail suffixes)
-post_grouped head [] = refl
-post_grouped head (Named name ∷ rest) = post_grouped (ExprTree.Dot head name) rest
-post_grouped head (At place index ∷ rest) = post_grouped (ExprTree.Index place head index) rest
+product_rows : Rows 6 7 ExprTree.Product product_row
+product_rows left next [] = (refl, refl)
+product_rows left next (other ∷ rest) = product_rows (ExprTree.Product next.place next.operator left next.part) other rest
 
-post_of_row : (head : ExprTree) (s : SuffixTree) (rest : List SuffixTree)
-    → (written (with_suffixes head (s ∷ rest)) ≡ post_row (with_suffixes head (s ∷ rest)) nil) × (level (with_suffixes head (s ∷ rest)) ≡ 8)
-post_of_row head (Named name) [] = (refl, refl)
-post_of_row head (At place index) [] = (refl, refl)
-post_of_row head (Named name) (s ∷ rest) = post_of_row (ExprTree.Dot head name) s rest
-post_of_row head (At place index) (s ∷ rest) = post_of_row (ExprTree.Index place head index) s rest
+pub product_own : OwnRow 7 ExprTree.Product
+product_own first next rest = (product_rows (ExprTree.Start first) next rest).0
+
+pub product_written : RowAt 6 7 ExprTree.Product
+product_written first next rest = own_at 6 (grouped ExprTree.Product (ExprTree.Start first) (next ∷ rest)) _ (product_rows (ExprTree.Start first) next rest)
+
+-- Suffixes, one or more
+
+post_rows : (head : ExprTree) (s : SuffixTree) (rest : List SuffixTree)
+    → (written (with_suffixes head (s ∷ rest)) ≡ post_row head (suffix_tail (s ∷ rest))) × (level (with_suffixes head (s ∷ rest)) ≡ 8)
+post_rows head (Named name) [] = (refl, refl)
+post_rows head (At place index) [] = (refl, refl)
+post_rows head (Named name) (s ∷ rest) = post_rows (ExprTree.Dot head name) s rest
+post_rows head (At place index) (s ∷ rest) = post_rows (ExprTree.Index place head index) s rest
+
+pub post_own : (head : ExprTree) (s : SuffixTree) (rest : List SuffixTree)
+    → written (with_suffixes (ExprTree.Start head) (s ∷ rest)) ≡ sub (at 9 head (written head)) (sub (suffix_tail (s ∷ rest)) nil)
+post_own head s rest = (post_rows (ExprTree.Start head) s rest).0
 
 pub post_written : (head : ExprTree) (s : SuffixTree) (rest : List SuffixTree)
     → at 8 (with_suffixes (ExprTree.Start head) (s ∷ rest)) (written (with_suffixes (ExprTree.Start head) (s ∷ rest)))
     ≡ sub (at 9 head (written head)) (sub (suffix_tail (s ∷ rest)) nil)
-post_written head s rest =
-    at_own 8 (with_suffixes (ExprTree.Start head) (s ∷ rest)) (written (with_suffixes (ExprTree.Start head) (s ∷ rest))) (post_of_row (ExprTree.Start head) s rest).1
-    ∙ ((post_of_row (ExprTree.Start head) s rest).0 ∙ post_grouped (ExprTree.Start head) (s ∷ rest))
-
--- a row of one `or` or more, as written at its own level
-pub or_own : (first : ExprTree) (next : FurtherTree) (rest : List FurtherTree)
-    → written (grouped ExprTree.Or (ExprTree.Start first) (next ∷ rest)) ≡ sub (at 2 first (written first)) (sub (further_tail 2 (next ∷ rest)) nil)
-or_own first next rest = (or_of_row (ExprTree.Start first) next rest).0 ∙ or_grouped (ExprTree.Start first) (next ∷ rest)
-
--- a row of one `and` or more, as written at its own level
-pub and_own : (first : ExprTree) (next : FurtherTree) (rest : List FurtherTree)
-    → written (grouped ExprTree.And (ExprTree.Start first) (next ∷ rest)) ≡ sub (at 3 first (written first)) (sub (further_tail 3 (next ∷ rest)) nil)
-and_own first next rest = (and_of_row (ExprTree.Start first) next rest).0 ∙ and_grouped (ExprTree.Start first) (next ∷ rest)
-
--- a row of one sign of a sum or more, as written at its own level
-pub sum_own : (first : ExprTree) (next : FurtherTree) (rest : List FurtherTree)
-    → written (grouped ExprTree.Sum (ExprTree.Start first) (next ∷ rest)) ≡ sub (at 6 first (written first)) (sub (further_tail 6 (next ∷ rest)) nil)
-sum_own first next rest = (sum_of_row (ExprTree.Start first) next rest).0 ∙ sum_grouped (ExprTree.Start first) (next ∷ rest)
-
--- a row of one sign of a product or more, as written at its own level
-pub product_own : (first : ExprTree) (next : FurtherTree) (rest : List FurtherTree)
-    → written (grouped ExprTree.Product (ExprTree.Start first) (next ∷ rest)) ≡ sub (at 7 first (written first)) (sub (further_tail 7 (next ∷ rest)) nil)
-product_own first next rest = (product_of_row (ExprTree.Start first) next rest).0 ∙ product_grouped (ExprTree.Start first) (next ∷ rest)
-
-pub post_own : (head : ExprTree) (s : SuffixTree) (rest : List SuffixTree)
-    → written (with_suffixes (ExprTree.Start head) (s ∷ rest)) ≡ sub (at 9 head (written head)) (sub (suffix_tail (s ∷ rest)) nil)
-post_own head s rest = (post_of_row (ExprTree.Start head) s rest).0 ∙ post_grouped (ExprTree.Start head) (s ∷ rest)
-
-pub or_level : (first : ExprTree) (next : FurtherTree) (rest : List FurtherTree) → level (grouped ExprTree.Or (ExprTree.Start first) (next ∷ rest)) ≡ 1
-or_level first next rest = (or_of_row (ExprTree.Start first) next rest).1
-
-pub and_level : (first : ExprTree) (next : FurtherTree) (rest : List FurtherTree) → level (grouped ExprTree.And (ExprTree.Start first) (next ∷ rest)) ≡ 2
-and_level first next rest = (and_of_row (ExprTree.Start first) next rest).1
-
-pub sum_level : (first : ExprTree) (next : FurtherTree) (rest : List FurtherTree) → level (grouped ExprTree.Sum (ExprTree.Start first) (next ∷ rest)) ≡ 5
-sum_level first next rest = (sum_of_row (ExprTree.Start first) next rest).1
-
-pub product_level : (first : ExprTree) (next : FurtherTree) (rest : List FurtherTree) → level (grouped ExprTree.Product (ExprTree.Start first) (next ∷ rest)) ≡ 6
-product_level first next rest = (product_of_row (ExprTree.Start first) next rest).1
-
-pub post_level : (head : ExprTree) (s : SuffixTree) (rest : List SuffixTree) → level (with_suffixes (ExprTree.Start head) (s ∷ rest)) ≡ 8
-post_level head s rest = (post_of_row (ExprTree.Start head) s rest).1
+post_written head s rest = own_at 8 (with_suffixes (ExprTree.Start head) (s ∷ rest)) _ (post_rows (ExprTree.Start head) s rest)
 
 -- Paths
 
@@ -180,3 +123,8 @@ path_of_row t (Named name) [] = refl
 path_of_row t (At place index) [] = refl
 path_of_row t (Named name) (s ∷ rest) = path_of_row (ExprTree.Dot t name) s rest
 path_of_row t (At place index) (s ∷ rest) = path_of_row (ExprTree.Index place t index) s rest
+
+-- a head of a path, which is written as a path itself, and its suffixes
+pub path_written : (head : ExprTree) (ss : List SuffixTree) → path head ≡ path_row head nil → path (Views.path_row head ss) ≡ path_row head (suffix_tail ss)
+path_written head [] e = e
+path_written head (s ∷ rest) e = path_of_row (ExprTree.Start head) s rest ∙ front_of_row (ExprTree.Start head) (s ∷ rest)

@@ -8,6 +8,7 @@ pub mod Forest
 pub mod Written
 pub mod WrittenPhases
 pub mod WrittenFile
+pub mod WrittenTails
 pub mod Language
 pub mod Examples
 pub mod PartLists

@@ -5,302 +5,139 @@
 use Rattle.std.specs.Prelude.{ℕ, List, [], ◌∷◌, Bool, true, false}
 use Rattle.dsl_tree.specs.Grammar.{Part}
 
+-- the place of a part in the list of all parts, and what the functions below say of it
+pub record Row : Type 0 where
+  pub place : ℕ
+  pub empty : Bool
+  pub first : List ℕ
+  pub goes_on : List ℕ
+  pub second : List ℕ
+
+abbrev row : ℕ → Bool → List ℕ → List ℕ → List ℕ → Row
+row n e f g s = record { place = n; empty = e; first = f; goes_on = g; second = s }
+
+abbrev pub row_of : Part → Row
+row_of Part.File = row 0 false (3 ∷ 50 ∷ 51 ∷ 52 ∷ 55 ∷ 56 ∷ 57 ∷ 58 ∷ 59 ∷ 61 ∷ []) []
+    (3 ∷ 5 ∷ 6 ∷ 7 ∷ 8 ∷ 13 ∷ 50 ∷ 51 ∷ 52 ∷ 55 ∷ 56 ∷ 57 ∷ 58 ∷ 59 ∷ 61 ∷ [])
+row_of Part.Imports = row 1 true (50 ∷ []) (50 ∷ []) (5 ∷ 6 ∷ 7 ∷ 8 ∷ 13 ∷ 50 ∷ [])
+row_of Part.Import = row 2 false (50 ∷ []) [] (5 ∷ 6 ∷ 7 ∷ 8 ∷ 13 ∷ [])
+row_of Part.ImportRest = row 3 false (5 ∷ 6 ∷ 7 ∷ 8 ∷ 13 ∷ []) [] (0 ∷ 26 ∷ [])
+row_of Part.DottedNames = row 4 true (26 ∷ []) (26 ∷ []) (5 ∷ 6 ∷ 7 ∷ 8 ∷ [])
+row_of Part.Declarations = row 5 true (51 ∷ 52 ∷ 55 ∷ 56 ∷ 57 ∷ 58 ∷ 59 ∷ 61 ∷ []) (51 ∷ 52 ∷ 55 ∷ 56 ∷ 57 ∷ 58 ∷ 59 ∷ 61 ∷ [])
+    (5 ∷ 6 ∷ 7 ∷ 8 ∷ 51 ∷ 52 ∷ 55 ∷ 56 ∷ 57 ∷ 58 ∷ 59 ∷ 61 ∷ [])
+row_of Part.Declaration = row 6 false (51 ∷ 52 ∷ 55 ∷ 56 ∷ 57 ∷ 58 ∷ 59 ∷ 61 ∷ []) [] (5 ∷ 6 ∷ 7 ∷ 8 ∷ [])
+row_of Part.BasesTail = row 7 true (25 ∷ []) (25 ∷ []) (5 ∷ 8 ∷ [])
+row_of Part.UnitTail = row 8 false (21 ∷ 25 ∷ []) [] (0 ∷ 5 ∷ 6 ∷ 7 ∷ 8 ∷ [])
+row_of Part.UnitMore = row 9 false (5 ∷ 6 ∷ 7 ∷ 8 ∷ []) [] (21 ∷ 24 ∷ 25 ∷ [])
+row_of Part.FactorTail = row 10 false (21 ∷ 25 ∷ []) [] (0 ∷ 7 ∷ [])
+row_of Part.Base = row 11 false (5 ∷ 8 ∷ []) [] (24 ∷ [])
+row_of Part.OptionalDash = row 12 true (37 ∷ []) (37 ∷ []) []
+row_of Part.Signed = row 13 false (9 ∷ 10 ∷ 11 ∷ 37 ∷ []) [] (9 ∷ 10 ∷ 11 ∷ [])
+row_of Part.EnumItems = row 14 false (22 ∷ []) [] (5 ∷ 6 ∷ 7 ∷ 8 ∷ [])
+row_of Part.EnumItem = row 15 false (5 ∷ 6 ∷ 7 ∷ 8 ∷ []) (28 ∷ []) (28 ∷ [])
+row_of Part.ItemNumber = row 16 true (28 ∷ []) (28 ∷ []) (9 ∷ 10 ∷ [])
+row_of Part.ItemsTail = row 17 true (25 ∷ []) (25 ∷ 28 ∷ []) (5 ∷ 6 ∷ 7 ∷ 8 ∷ [])
+row_of Part.QualifiedName = row 18 false (5 ∷ 6 ∷ 7 ∷ 8 ∷ []) (26 ∷ []) (26 ∷ [])
+row_of Part.SecondName = row 19 true (26 ∷ []) (26 ∷ []) (5 ∷ 6 ∷ 7 ∷ 8 ∷ [])
+row_of Part.OptionalHeir = row 20 true (60 ∷ []) (20 ∷ 26 ∷ 60 ∷ []) (5 ∷ 6 ∷ 7 ∷ 8 ∷ [])
+row_of Part.HeirCondition = row 21 true (20 ∷ []) (20 ∷ []) (5 ∷ 6 ∷ 7 ∷ 8 ∷ [])
+row_of Part.ConditionValue = row 22 false (5 ∷ 6 ∷ 7 ∷ 8 ∷ 80 ∷ 81 ∷ []) (40 ∷ []) (40 ∷ [])
+row_of Part.EnumMember = row 23 true (40 ∷ []) (40 ∷ []) (5 ∷ 6 ∷ 7 ∷ 8 ∷ [])
+row_of Part.Body = row 24 false (0 ∷ 24 ∷ []) [] (0 ∷ [])
+row_of Part.Block = row 25 false (0 ∷ []) [] (1 ∷ [])
+row_of Part.ExtensionRest = row 26 false (0 ∷ 22 ∷ []) [] (0 ∷ 1 ∷ 5 ∷ 6 ∷ 7 ∷ 8 ∷ [])
+row_of Part.MembersTail = row 27 true (5 ∷ 6 ∷ 7 ∷ 8 ∷ 63 ∷ 66 ∷ 67 ∷ []) (5 ∷ 6 ∷ 7 ∷ 8 ∷ 63 ∷ 66 ∷ 67 ∷ [])
+    (5 ∷ 6 ∷ 7 ∷ 8 ∷ 20 ∷ 24 ∷ 25 ∷ 57 ∷ 63 ∷ 66 ∷ 67 ∷ 68 ∷ 69 ∷ 70 ∷ 71 ∷ [])
+row_of Part.Member = row 28 false (5 ∷ 6 ∷ 7 ∷ 8 ∷ 63 ∷ 66 ∷ 67 ∷ []) [] (5 ∷ 6 ∷ 7 ∷ 8 ∷ 20 ∷ 24 ∷ 25 ∷ 57 ∷ 68 ∷ 69 ∷ 70 ∷ 71 ∷ [])
+row_of Part.NamesTail = row 29 true (25 ∷ []) (25 ∷ []) (5 ∷ 6 ∷ 7 ∷ 8 ∷ [])
+row_of Part.FieldType = row 30 false (5 ∷ 6 ∷ 7 ∷ 8 ∷ 62 ∷ []) [] (54 ∷ [])
+row_of Part.Initial = row 31 true (28 ∷ []) (22 ∷ 26 ∷ 28 ∷ 29 ∷ 30 ∷ 31 ∷ 32 ∷ 33 ∷ 34 ∷ 35 ∷ 36 ∷ 37 ∷ 38 ∷ 39 ∷ 40 ∷ 75 ∷ 77 ∷ 78 ∷ [])
+    (5 ∷ 6 ∷ 7 ∷ 8 ∷ 9 ∷ 10 ∷ 11 ∷ 12 ∷ 13 ∷ 20 ∷ 22 ∷ 37 ∷ 57 ∷ 74 ∷ 76 ∷ 79 ∷ 80 ∷ 81 ∷ [])
+row_of Part.FieldEnd = row 32 false (0 ∷ 73 ∷ []) [] (24 ∷ [])
+row_of Part.RulesTail = row 33 true (63 ∷ 66 ∷ []) (63 ∷ 66 ∷ []) (20 ∷ 63 ∷ 66 ∷ [])
+row_of Part.Rule = row 34 false (63 ∷ 66 ∷ []) [] (20 ∷ [])
+row_of Part.KeepKind = row 35 true (64 ∷ 65 ∷ []) (64 ∷ 65 ∷ []) []
+row_of Part.Path = row 36 false (5 ∷ 6 ∷ 7 ∷ 8 ∷ 57 ∷ 74 ∷ []) (22 ∷ 26 ∷ []) (22 ∷ 26 ∷ [])
+row_of Part.SuffixesTail = row 37 true (22 ∷ 26 ∷ []) (22 ∷ 26 ∷ [])
+    (5 ∷ 6 ∷ 7 ∷ 8 ∷ 9 ∷ 10 ∷ 11 ∷ 12 ∷ 13 ∷ 20 ∷ 22 ∷ 26 ∷ 37 ∷ 57 ∷ 74 ∷ 76 ∷ 79 ∷ 80 ∷ 81 ∷ [])
+row_of Part.Suffix = row 38 false (22 ∷ 26 ∷ []) [] (5 ∷ 6 ∷ 7 ∷ 8 ∷ 9 ∷ 10 ∷ 11 ∷ 12 ∷ 13 ∷ 20 ∷ 22 ∷ 37 ∷ 57 ∷ 74 ∷ 76 ∷ 79 ∷ 80 ∷ 81 ∷ [])
+row_of Part.Phase = row 39 false (5 ∷ 6 ∷ 7 ∷ 8 ∷ 57 ∷ 68 ∷ 69 ∷ 70 ∷ 71 ∷ []) [] (20 ∷ 24 ∷ 26 ∷ 72 ∷ [])
+row_of Part.PhaseAfterName = row 40 false (20 ∷ 24 ∷ 26 ∷ []) []
+    (5 ∷ 6 ∷ 7 ∷ 8 ∷ 9 ∷ 10 ∷ 11 ∷ 12 ∷ 13 ∷ 20 ∷ 21 ∷ 22 ∷ 37 ∷ 57 ∷ 68 ∷ 69 ∷ 70 ∷ 71 ∷ 74 ∷ 76 ∷ 79 ∷ 80 ∷ 81 ∷ [])
+row_of Part.LabelledPhase = row 41 false (5 ∷ 6 ∷ 7 ∷ 8 ∷ 57 ∷ 68 ∷ 69 ∷ 70 ∷ 71 ∷ []) [] (20 ∷ 24 ∷ 26 ∷ 72 ∷ [])
+row_of Part.Composition = row 42 false (68 ∷ 69 ∷ 70 ∷ []) [] (20 ∷ 24 ∷ [])
+row_of Part.CompositionArguments = row 43 true (20 ∷ []) (20 ∷ [])
+    (5 ∷ 6 ∷ 7 ∷ 8 ∷ 9 ∷ 10 ∷ 11 ∷ 12 ∷ 13 ∷ 20 ∷ 22 ∷ 37 ∷ 57 ∷ 74 ∷ 76 ∷ 79 ∷ 80 ∷ 81 ∷ [])
+row_of Part.PhasesTail = row 44 true (5 ∷ 6 ∷ 7 ∷ 8 ∷ 57 ∷ 68 ∷ 69 ∷ 70 ∷ 71 ∷ []) (5 ∷ 6 ∷ 7 ∷ 8 ∷ 57 ∷ 68 ∷ 69 ∷ 70 ∷ 71 ∷ [])
+    (5 ∷ 6 ∷ 7 ∷ 8 ∷ 20 ∷ 24 ∷ 26 ∷ 57 ∷ 68 ∷ 69 ∷ 70 ∷ 71 ∷ 72 ∷ [])
+row_of Part.Wait = row 45 false (71 ∷ []) [] (72 ∷ [])
+row_of Part.InvocationRest = row 46 false (20 ∷ 26 ∷ []) []
+    (5 ∷ 6 ∷ 7 ∷ 8 ∷ 9 ∷ 10 ∷ 11 ∷ 12 ∷ 13 ∷ 20 ∷ 21 ∷ 22 ∷ 37 ∷ 57 ∷ 74 ∷ 76 ∷ 79 ∷ 80 ∷ 81 ∷ [])
+row_of Part.InvocationArguments = row 47 false (5 ∷ 6 ∷ 7 ∷ 8 ∷ 9 ∷ 10 ∷ 11 ∷ 12 ∷ 13 ∷ 20 ∷ 21 ∷ 22 ∷ 37 ∷ 57 ∷ 74 ∷ 76 ∷ 79 ∷ 80 ∷ 81 ∷ []) []
+    (5 ∷ 6 ∷ 7 ∷ 8 ∷ 9 ∷ 10 ∷ 11 ∷ 12 ∷ 13 ∷ 20 ∷ 21 ∷ 22 ∷ 24 ∷ 25 ∷ 26 ∷ 29 ∷ 30 ∷ 31 ∷ 32 ∷ 33 ∷ 34 ∷ 35 ∷ 36 ∷ 37 ∷ 38 ∷ 39 ∷ 40 ∷ 57 ∷ 74 ∷ 75 ∷ 76 ∷ 77 ∷ 78 ∷ 79 ∷ 80 ∷ 81 ∷ [])
+row_of Part.InvocationEnd = row 48 false (0 ∷ 73 ∷ []) [] (24 ∷ [])
+row_of Part.InvocationPart = row 49 false (5 ∷ 6 ∷ 7 ∷ 8 ∷ 63 ∷ 66 ∷ []) [] (20 ∷ [])
+row_of Part.PartsTail = row 50 true (5 ∷ 6 ∷ 7 ∷ 8 ∷ 63 ∷ 66 ∷ []) (5 ∷ 6 ∷ 7 ∷ 8 ∷ 63 ∷ 66 ∷ []) (5 ∷ 6 ∷ 7 ∷ 8 ∷ 20 ∷ 63 ∷ 66 ∷ [])
+row_of Part.Arguments = row 51 false (5 ∷ 6 ∷ 7 ∷ 8 ∷ 9 ∷ 10 ∷ 11 ∷ 12 ∷ 13 ∷ 20 ∷ 22 ∷ 37 ∷ 57 ∷ 74 ∷ 76 ∷ 79 ∷ 80 ∷ 81 ∷ []) []
+    (5 ∷ 6 ∷ 7 ∷ 8 ∷ 9 ∷ 10 ∷ 11 ∷ 12 ∷ 13 ∷ 20 ∷ 21 ∷ 22 ∷ 24 ∷ 25 ∷ 26 ∷ 29 ∷ 30 ∷ 31 ∷ 32 ∷ 33 ∷ 34 ∷ 35 ∷ 36 ∷ 37 ∷ 38 ∷ 39 ∷ 40 ∷ 57 ∷ 74 ∷ 75 ∷ 76 ∷ 77 ∷ 78 ∷ 79 ∷ 80 ∷ 81 ∷ [])
+row_of Part.ArgumentsTail = row 52 false (21 ∷ 25 ∷ []) [] (5 ∷ 6 ∷ 7 ∷ 8 ∷ 9 ∷ 10 ∷ 11 ∷ 12 ∷ 13 ∷ 20 ∷ 22 ∷ 37 ∷ 57 ∷ 74 ∷ 76 ∷ 79 ∷ 80 ∷ 81 ∷ [])
+row_of Part.NamedTail = row 53 false (21 ∷ 25 ∷ []) [] (5 ∷ 6 ∷ 7 ∷ 8 ∷ [])
+row_of Part.Expr = row 54 false (5 ∷ 6 ∷ 7 ∷ 8 ∷ 9 ∷ 10 ∷ 11 ∷ 12 ∷ 13 ∷ 20 ∷ 22 ∷ 37 ∷ 57 ∷ 74 ∷ 76 ∷ 79 ∷ 80 ∷ 81 ∷ [])
+    (22 ∷ 26 ∷ 29 ∷ 30 ∷ 31 ∷ 32 ∷ 33 ∷ 34 ∷ 35 ∷ 36 ∷ 37 ∷ 38 ∷ 39 ∷ 40 ∷ 75 ∷ 77 ∷ 78 ∷ [])
+    (5 ∷ 6 ∷ 7 ∷ 8 ∷ 9 ∷ 10 ∷ 11 ∷ 12 ∷ 13 ∷ 20 ∷ 22 ∷ 26 ∷ 29 ∷ 30 ∷ 31 ∷ 32 ∷ 33 ∷ 34 ∷ 35 ∷ 36 ∷ 37 ∷ 38 ∷ 39 ∷ 40 ∷ 57 ∷ 74 ∷ 75 ∷ 76 ∷ 77 ∷ 78 ∷ 79 ∷ 80 ∷ 81 ∷ [])
+row_of Part.ImpliesTail = row 55 true (35 ∷ []) (22 ∷ 26 ∷ 29 ∷ 30 ∷ 31 ∷ 32 ∷ 33 ∷ 34 ∷ 35 ∷ 36 ∷ 37 ∷ 38 ∷ 39 ∷ 40 ∷ 75 ∷ 77 ∷ 78 ∷ [])
+    (5 ∷ 6 ∷ 7 ∷ 8 ∷ 9 ∷ 10 ∷ 11 ∷ 12 ∷ 13 ∷ 20 ∷ 22 ∷ 37 ∷ 57 ∷ 74 ∷ 76 ∷ 79 ∷ 80 ∷ 81 ∷ [])
+row_of Part.Or = row 56 false (5 ∷ 6 ∷ 7 ∷ 8 ∷ 9 ∷ 10 ∷ 11 ∷ 12 ∷ 13 ∷ 20 ∷ 22 ∷ 37 ∷ 57 ∷ 74 ∷ 76 ∷ 79 ∷ 80 ∷ 81 ∷ [])
+    (22 ∷ 26 ∷ 29 ∷ 30 ∷ 31 ∷ 32 ∷ 33 ∷ 34 ∷ 36 ∷ 37 ∷ 38 ∷ 39 ∷ 40 ∷ 75 ∷ 77 ∷ 78 ∷ [])
+    (5 ∷ 6 ∷ 7 ∷ 8 ∷ 9 ∷ 10 ∷ 11 ∷ 12 ∷ 13 ∷ 20 ∷ 22 ∷ 26 ∷ 29 ∷ 30 ∷ 31 ∷ 32 ∷ 33 ∷ 34 ∷ 36 ∷ 37 ∷ 38 ∷ 39 ∷ 40 ∷ 57 ∷ 74 ∷ 75 ∷ 76 ∷ 77 ∷ 78 ∷ 79 ∷ 80 ∷ 81 ∷ [])
+row_of Part.OrTail = row 57 true (78 ∷ []) (22 ∷ 26 ∷ 29 ∷ 30 ∷ 31 ∷ 32 ∷ 33 ∷ 34 ∷ 36 ∷ 37 ∷ 38 ∷ 39 ∷ 40 ∷ 75 ∷ 77 ∷ 78 ∷ [])
+    (5 ∷ 6 ∷ 7 ∷ 8 ∷ 9 ∷ 10 ∷ 11 ∷ 12 ∷ 13 ∷ 20 ∷ 22 ∷ 37 ∷ 57 ∷ 74 ∷ 76 ∷ 79 ∷ 80 ∷ 81 ∷ [])
+row_of Part.And = row 58 false (5 ∷ 6 ∷ 7 ∷ 8 ∷ 9 ∷ 10 ∷ 11 ∷ 12 ∷ 13 ∷ 20 ∷ 22 ∷ 37 ∷ 57 ∷ 74 ∷ 76 ∷ 79 ∷ 80 ∷ 81 ∷ [])
+    (22 ∷ 26 ∷ 29 ∷ 30 ∷ 31 ∷ 32 ∷ 33 ∷ 34 ∷ 36 ∷ 37 ∷ 38 ∷ 39 ∷ 40 ∷ 75 ∷ 77 ∷ [])
+    (5 ∷ 6 ∷ 7 ∷ 8 ∷ 9 ∷ 10 ∷ 11 ∷ 12 ∷ 13 ∷ 20 ∷ 22 ∷ 26 ∷ 29 ∷ 30 ∷ 31 ∷ 32 ∷ 33 ∷ 34 ∷ 36 ∷ 37 ∷ 38 ∷ 39 ∷ 40 ∷ 57 ∷ 74 ∷ 75 ∷ 76 ∷ 77 ∷ 79 ∷ 80 ∷ 81 ∷ [])
+row_of Part.AndTail = row 59 true (77 ∷ []) (22 ∷ 26 ∷ 29 ∷ 30 ∷ 31 ∷ 32 ∷ 33 ∷ 34 ∷ 36 ∷ 37 ∷ 38 ∷ 39 ∷ 40 ∷ 75 ∷ 77 ∷ [])
+    (5 ∷ 6 ∷ 7 ∷ 8 ∷ 9 ∷ 10 ∷ 11 ∷ 12 ∷ 13 ∷ 20 ∷ 22 ∷ 37 ∷ 57 ∷ 74 ∷ 76 ∷ 79 ∷ 80 ∷ 81 ∷ [])
+row_of Part.Not = row 60 false (5 ∷ 6 ∷ 7 ∷ 8 ∷ 9 ∷ 10 ∷ 11 ∷ 12 ∷ 13 ∷ 20 ∷ 22 ∷ 37 ∷ 57 ∷ 74 ∷ 76 ∷ 79 ∷ 80 ∷ 81 ∷ [])
+    (22 ∷ 26 ∷ 29 ∷ 30 ∷ 31 ∷ 32 ∷ 33 ∷ 34 ∷ 36 ∷ 37 ∷ 38 ∷ 39 ∷ 40 ∷ 75 ∷ [])
+    (5 ∷ 6 ∷ 7 ∷ 8 ∷ 9 ∷ 10 ∷ 11 ∷ 12 ∷ 13 ∷ 20 ∷ 22 ∷ 26 ∷ 29 ∷ 30 ∷ 31 ∷ 32 ∷ 33 ∷ 34 ∷ 36 ∷ 37 ∷ 38 ∷ 39 ∷ 40 ∷ 57 ∷ 74 ∷ 75 ∷ 76 ∷ 79 ∷ 80 ∷ 81 ∷ [])
+row_of Part.Relation = row 61 false (5 ∷ 6 ∷ 7 ∷ 8 ∷ 9 ∷ 10 ∷ 11 ∷ 12 ∷ 13 ∷ 20 ∷ 22 ∷ 37 ∷ 57 ∷ 74 ∷ 76 ∷ 80 ∷ 81 ∷ [])
+    (22 ∷ 26 ∷ 29 ∷ 30 ∷ 31 ∷ 32 ∷ 33 ∷ 34 ∷ 36 ∷ 37 ∷ 38 ∷ 39 ∷ 40 ∷ 75 ∷ [])
+    (5 ∷ 6 ∷ 7 ∷ 8 ∷ 9 ∷ 10 ∷ 11 ∷ 12 ∷ 13 ∷ 20 ∷ 22 ∷ 26 ∷ 29 ∷ 30 ∷ 31 ∷ 32 ∷ 33 ∷ 34 ∷ 36 ∷ 37 ∷ 38 ∷ 39 ∷ 40 ∷ 57 ∷ 74 ∷ 75 ∷ 76 ∷ 79 ∷ 80 ∷ 81 ∷ [])
+row_of Part.RelationTail = row 62 true (29 ∷ 30 ∷ 31 ∷ 32 ∷ 33 ∷ 34 ∷ 75 ∷ [])
+    (22 ∷ 26 ∷ 29 ∷ 30 ∷ 31 ∷ 32 ∷ 33 ∷ 34 ∷ 36 ∷ 37 ∷ 38 ∷ 39 ∷ 40 ∷ 75 ∷ [])
+    (5 ∷ 6 ∷ 7 ∷ 8 ∷ 9 ∷ 10 ∷ 11 ∷ 12 ∷ 13 ∷ 20 ∷ 22 ∷ 37 ∷ 57 ∷ 74 ∷ 76 ∷ 80 ∷ 81 ∷ [])
+row_of Part.Sum = row 63 false (5 ∷ 6 ∷ 7 ∷ 8 ∷ 9 ∷ 10 ∷ 11 ∷ 12 ∷ 13 ∷ 20 ∷ 22 ∷ 37 ∷ 57 ∷ 74 ∷ 76 ∷ 80 ∷ 81 ∷ [])
+    (22 ∷ 26 ∷ 36 ∷ 37 ∷ 38 ∷ 39 ∷ 40 ∷ [])
+    (5 ∷ 6 ∷ 7 ∷ 8 ∷ 9 ∷ 10 ∷ 11 ∷ 12 ∷ 13 ∷ 20 ∷ 22 ∷ 26 ∷ 36 ∷ 37 ∷ 38 ∷ 39 ∷ 40 ∷ 57 ∷ 74 ∷ 76 ∷ 79 ∷ 80 ∷ 81 ∷ [])
+row_of Part.SumTail = row 64 true (36 ∷ 37 ∷ []) (22 ∷ 26 ∷ 36 ∷ 37 ∷ 38 ∷ 39 ∷ 40 ∷ [])
+    (5 ∷ 6 ∷ 7 ∷ 8 ∷ 9 ∷ 10 ∷ 11 ∷ 12 ∷ 13 ∷ 20 ∷ 22 ∷ 37 ∷ 57 ∷ 74 ∷ 76 ∷ 80 ∷ 81 ∷ [])
+row_of Part.Product = row 65 false (5 ∷ 6 ∷ 7 ∷ 8 ∷ 9 ∷ 10 ∷ 11 ∷ 12 ∷ 13 ∷ 20 ∷ 22 ∷ 37 ∷ 57 ∷ 74 ∷ 76 ∷ 80 ∷ 81 ∷ []) (22 ∷ 26 ∷ 38 ∷ 39 ∷ 40 ∷ [])
+    (5 ∷ 6 ∷ 7 ∷ 8 ∷ 9 ∷ 10 ∷ 11 ∷ 12 ∷ 13 ∷ 20 ∷ 22 ∷ 26 ∷ 37 ∷ 38 ∷ 39 ∷ 40 ∷ 57 ∷ 74 ∷ 76 ∷ 79 ∷ 80 ∷ 81 ∷ [])
+row_of Part.ProductTail = row 66 true (38 ∷ 39 ∷ []) (22 ∷ 26 ∷ 38 ∷ 39 ∷ 40 ∷ [])
+    (5 ∷ 6 ∷ 7 ∷ 8 ∷ 9 ∷ 10 ∷ 11 ∷ 12 ∷ 13 ∷ 20 ∷ 22 ∷ 37 ∷ 57 ∷ 74 ∷ 76 ∷ 80 ∷ 81 ∷ [])
+row_of Part.Minus = row 67 false (5 ∷ 6 ∷ 7 ∷ 8 ∷ 9 ∷ 10 ∷ 11 ∷ 12 ∷ 13 ∷ 20 ∷ 22 ∷ 37 ∷ 57 ∷ 74 ∷ 76 ∷ 80 ∷ 81 ∷ []) (22 ∷ 26 ∷ 40 ∷ [])
+    (5 ∷ 6 ∷ 7 ∷ 8 ∷ 9 ∷ 10 ∷ 11 ∷ 12 ∷ 13 ∷ 20 ∷ 22 ∷ 26 ∷ 37 ∷ 40 ∷ 57 ∷ 74 ∷ 76 ∷ 79 ∷ 80 ∷ 81 ∷ [])
+row_of Part.Postfix = row 68 false (5 ∷ 6 ∷ 7 ∷ 8 ∷ 9 ∷ 10 ∷ 11 ∷ 12 ∷ 13 ∷ 20 ∷ 22 ∷ 57 ∷ 74 ∷ 76 ∷ 80 ∷ 81 ∷ []) (22 ∷ 26 ∷ 40 ∷ [])
+    (5 ∷ 6 ∷ 7 ∷ 8 ∷ 9 ∷ 10 ∷ 11 ∷ 12 ∷ 13 ∷ 20 ∷ 22 ∷ 26 ∷ 37 ∷ 40 ∷ 57 ∷ 74 ∷ 76 ∷ 79 ∷ 80 ∷ 81 ∷ [])
+row_of Part.Primary = row 69 false (5 ∷ 6 ∷ 7 ∷ 8 ∷ 9 ∷ 10 ∷ 11 ∷ 12 ∷ 13 ∷ 20 ∷ 22 ∷ 57 ∷ 74 ∷ 76 ∷ 80 ∷ 81 ∷ []) (40 ∷ [])
+    (5 ∷ 6 ∷ 7 ∷ 8 ∷ 9 ∷ 10 ∷ 11 ∷ 12 ∷ 13 ∷ 20 ∷ 22 ∷ 37 ∷ 40 ∷ 57 ∷ 74 ∷ 76 ∷ 79 ∷ 80 ∷ 81 ∷ [])
+row_of Part.BracketRest = row 70 false (23 ∷ 25 ∷ 27 ∷ []) []
+    (5 ∷ 6 ∷ 7 ∷ 8 ∷ 9 ∷ 10 ∷ 11 ∷ 12 ∷ 13 ∷ 20 ∷ 22 ∷ 23 ∷ 37 ∷ 57 ∷ 74 ∷ 76 ∷ 79 ∷ 80 ∷ 81 ∷ [])
+row_of Part.ListedTail = row 71 true (25 ∷ []) (22 ∷ 25 ∷ 26 ∷ 29 ∷ 30 ∷ 31 ∷ 32 ∷ 33 ∷ 34 ∷ 35 ∷ 36 ∷ 37 ∷ 38 ∷ 39 ∷ 40 ∷ 75 ∷ 77 ∷ 78 ∷ [])
+    (5 ∷ 6 ∷ 7 ∷ 8 ∷ 9 ∷ 10 ∷ 11 ∷ 12 ∷ 13 ∷ 20 ∷ 22 ∷ 37 ∷ 57 ∷ 74 ∷ 76 ∷ 79 ∷ 80 ∷ 81 ∷ [])
+
 -- the codes of the first token of a part
 abbrev pub first : Part → List ℕ
-first Part.File = 3 ∷ 50 ∷ 51 ∷ 52 ∷ 55 ∷ 56 ∷ 57 ∷ 58 ∷ 59 ∷ 61 ∷ []
-first Part.Imports = 50 ∷ []
-first Part.Import = 50 ∷ []
-first Part.ImportRest = 5 ∷ 6 ∷ 7 ∷ 8 ∷ 13 ∷ []
-first Part.DottedNames = 26 ∷ []
-first Part.Declarations = 51 ∷ 52 ∷ 55 ∷ 56 ∷ 57 ∷ 58 ∷ 59 ∷ 61 ∷ []
-first Part.Declaration = 51 ∷ 52 ∷ 55 ∷ 56 ∷ 57 ∷ 58 ∷ 59 ∷ 61 ∷ []
-first Part.BasesTail = 25 ∷ []
-first Part.UnitTail = 21 ∷ 25 ∷ []
-first Part.UnitMore = 5 ∷ 6 ∷ 7 ∷ 8 ∷ []
-first Part.FactorTail = 21 ∷ 25 ∷ []
-first Part.Base = 5 ∷ 8 ∷ []
-first Part.OptionalDash = 37 ∷ []
-first Part.Signed = 9 ∷ 10 ∷ 11 ∷ 37 ∷ []
-first Part.EnumItems = 22 ∷ []
-first Part.EnumItem = 5 ∷ 6 ∷ 7 ∷ 8 ∷ []
-first Part.ItemNumber = 28 ∷ []
-first Part.ItemsTail = 25 ∷ []
-first Part.QualifiedName = 5 ∷ 6 ∷ 7 ∷ 8 ∷ []
-first Part.SecondName = 26 ∷ []
-first Part.OptionalHeir = 60 ∷ []
-first Part.HeirCondition = 20 ∷ []
-first Part.ConditionValue = 5 ∷ 6 ∷ 7 ∷ 8 ∷ 80 ∷ 81 ∷ []
-first Part.EnumMember = 40 ∷ []
-first Part.Body = 0 ∷ 24 ∷ []
-first Part.Block = 0 ∷ []
-first Part.ExtensionRest = 0 ∷ 22 ∷ []
-first Part.MembersTail = 5 ∷ 6 ∷ 7 ∷ 8 ∷ 63 ∷ 66 ∷ 67 ∷ []
-first Part.Member = 5 ∷ 6 ∷ 7 ∷ 8 ∷ 63 ∷ 66 ∷ 67 ∷ []
-first Part.NamesTail = 25 ∷ []
-first Part.FieldType = 5 ∷ 6 ∷ 7 ∷ 8 ∷ 62 ∷ []
-first Part.Initial = 28 ∷ []
-first Part.FieldEnd = 0 ∷ 73 ∷ []
-first Part.RulesTail = 63 ∷ 66 ∷ []
-first Part.Rule = 63 ∷ 66 ∷ []
-first Part.KeepKind = 64 ∷ 65 ∷ []
-first Part.Path = 5 ∷ 6 ∷ 7 ∷ 8 ∷ 57 ∷ 74 ∷ []
-first Part.SuffixesTail = 22 ∷ 26 ∷ []
-first Part.Suffix = 22 ∷ 26 ∷ []
-first Part.Phase = 5 ∷ 6 ∷ 7 ∷ 8 ∷ 57 ∷ 68 ∷ 69 ∷ 70 ∷ 71 ∷ []
-first Part.PhaseAfterName = 20 ∷ 24 ∷ 26 ∷ []
-first Part.LabelledPhase = 5 ∷ 6 ∷ 7 ∷ 8 ∷ 57 ∷ 68 ∷ 69 ∷ 70 ∷ 71 ∷ []
-first Part.Composition = 68 ∷ 69 ∷ 70 ∷ []
-first Part.CompositionArguments = 20 ∷ []
-first Part.PhasesTail = 5 ∷ 6 ∷ 7 ∷ 8 ∷ 57 ∷ 68 ∷ 69 ∷ 70 ∷ 71 ∷ []
-first Part.Wait = 71 ∷ []
-first Part.InvocationRest = 20 ∷ 26 ∷ []
-first Part.InvocationArguments = 5 ∷ 6 ∷ 7 ∷ 8 ∷ 9 ∷ 10 ∷ 11 ∷ 12 ∷ 13 ∷ 20 ∷ 21 ∷ 22 ∷ 37 ∷ 57 ∷ 74 ∷ 76 ∷ 79 ∷ 80 ∷ 81 ∷ []
-first Part.InvocationEnd = 0 ∷ 73 ∷ []
-first Part.InvocationPart = 5 ∷ 6 ∷ 7 ∷ 8 ∷ 63 ∷ 66 ∷ []
-first Part.PartsTail = 5 ∷ 6 ∷ 7 ∷ 8 ∷ 63 ∷ 66 ∷ []
-first Part.Arguments = 5 ∷ 6 ∷ 7 ∷ 8 ∷ 9 ∷ 10 ∷ 11 ∷ 12 ∷ 13 ∷ 20 ∷ 22 ∷ 37 ∷ 57 ∷ 74 ∷ 76 ∷ 79 ∷ 80 ∷ 81 ∷ []
-first Part.ArgumentsTail = 21 ∷ 25 ∷ []
-first Part.NamedTail = 21 ∷ 25 ∷ []
-first Part.Expr = 5 ∷ 6 ∷ 7 ∷ 8 ∷ 9 ∷ 10 ∷ 11 ∷ 12 ∷ 13 ∷ 20 ∷ 22 ∷ 37 ∷ 57 ∷ 74 ∷ 76 ∷ 79 ∷ 80 ∷ 81 ∷ []
-first Part.ImpliesTail = 35 ∷ []
-first Part.Or = 5 ∷ 6 ∷ 7 ∷ 8 ∷ 9 ∷ 10 ∷ 11 ∷ 12 ∷ 13 ∷ 20 ∷ 22 ∷ 37 ∷ 57 ∷ 74 ∷ 76 ∷ 79 ∷ 80 ∷ 81 ∷ []
-first Part.OrTail = 78 ∷ []
-first Part.And = 5 ∷ 6 ∷ 7 ∷ 8 ∷ 9 ∷ 10 ∷ 11 ∷ 12 ∷ 13 ∷ 20 ∷ 22 ∷ 37 ∷ 57 ∷ 74 ∷ 76 ∷ 79 ∷ 80 ∷ 81 ∷ []
-first Part.AndTail = 77 ∷ []
-first Part.Not = 5 ∷ 6 ∷ 7 ∷ 8 ∷ 9 ∷ 10 ∷ 11 ∷ 12 ∷ 13 ∷ 20 ∷ 22 ∷ 37 ∷ 57 ∷ 74 ∷ 76 ∷ 79 ∷ 80 ∷ 81 ∷ []
-first Part.Relation = 5 ∷ 6 ∷ 7 ∷ 8 ∷ 9 ∷ 10 ∷ 11 ∷ 12 ∷ 13 ∷ 20 ∷ 22 ∷ 37 ∷ 57 ∷ 74 ∷ 76 ∷ 80 ∷ 81 ∷ []
-first Part.RelationTail = 29 ∷ 30 ∷ 31 ∷ 32 ∷ 33 ∷ 34 ∷ 75 ∷ []
-first Part.Sum = 5 ∷ 6 ∷ 7 ∷ 8 ∷ 9 ∷ 10 ∷ 11 ∷ 12 ∷ 13 ∷ 20 ∷ 22 ∷ 37 ∷ 57 ∷ 74 ∷ 76 ∷ 80 ∷ 81 ∷ []
-first Part.SumTail = 36 ∷ 37 ∷ []
-first Part.Product = 5 ∷ 6 ∷ 7 ∷ 8 ∷ 9 ∷ 10 ∷ 11 ∷ 12 ∷ 13 ∷ 20 ∷ 22 ∷ 37 ∷ 57 ∷ 74 ∷ 76 ∷ 80 ∷ 81 ∷ []
-first Part.ProductTail = 38 ∷ 39 ∷ []
-first Part.Minus = 5 ∷ 6 ∷ 7 ∷ 8 ∷ 9 ∷ 10 ∷ 11 ∷ 12 ∷ 13 ∷ 20 ∷ 22 ∷ 37 ∷ 57 ∷ 74 ∷ 76 ∷ 80 ∷ 81 ∷ []
-first Part.Postfix = 5 ∷ 6 ∷ 7 ∷ 8 ∷ 9 ∷ 10 ∷ 11 ∷ 12 ∷ 13 ∷ 20 ∷ 22 ∷ 57 ∷ 74 ∷ 76 ∷ 80 ∷ 81 ∷ []
-first Part.Primary = 5 ∷ 6 ∷ 7 ∷ 8 ∷ 9 ∷ 10 ∷ 11 ∷ 12 ∷ 13 ∷ 20 ∷ 22 ∷ 57 ∷ 74 ∷ 76 ∷ 80 ∷ 81 ∷ []
-first Part.BracketRest = 23 ∷ 25 ∷ 27 ∷ []
-first Part.ListedTail = 25 ∷ []
+first p = (row_of p).first
 
 -- whether a part may be written as nothing
 abbrev pub empty : Part → Bool
-empty Part.File = false
-empty Part.Imports = true
-empty Part.Import = false
-empty Part.ImportRest = false
-empty Part.DottedNames = true
-empty Part.Declarations = true
-empty Part.Declaration = false
-empty Part.BasesTail = true
-empty Part.UnitTail = false
-empty Part.UnitMore = false
-empty Part.FactorTail = false
-empty Part.Base = false
-empty Part.OptionalDash = true
-empty Part.Signed = false
-empty Part.EnumItems = false
-empty Part.EnumItem = false
-empty Part.ItemNumber = true
-empty Part.ItemsTail = true
-empty Part.QualifiedName = false
-empty Part.SecondName = true
-empty Part.OptionalHeir = true
-empty Part.HeirCondition = true
-empty Part.ConditionValue = false
-empty Part.EnumMember = true
-empty Part.Body = false
-empty Part.Block = false
-empty Part.ExtensionRest = false
-empty Part.MembersTail = true
-empty Part.Member = false
-empty Part.NamesTail = true
-empty Part.FieldType = false
-empty Part.Initial = true
-empty Part.FieldEnd = false
-empty Part.RulesTail = true
-empty Part.Rule = false
-empty Part.KeepKind = true
-empty Part.Path = false
-empty Part.SuffixesTail = true
-empty Part.Suffix = false
-empty Part.Phase = false
-empty Part.PhaseAfterName = false
-empty Part.LabelledPhase = false
-empty Part.Composition = false
-empty Part.CompositionArguments = true
-empty Part.PhasesTail = true
-empty Part.Wait = false
-empty Part.InvocationRest = false
-empty Part.InvocationArguments = false
-empty Part.InvocationEnd = false
-empty Part.InvocationPart = false
-empty Part.PartsTail = true
-empty Part.Arguments = false
-empty Part.ArgumentsTail = false
-empty Part.NamedTail = false
-empty Part.Expr = false
-empty Part.ImpliesTail = true
-empty Part.Or = false
-empty Part.OrTail = true
-empty Part.And = false
-empty Part.AndTail = true
-empty Part.Not = false
-empty Part.Relation = false
-empty Part.RelationTail = true
-empty Part.Sum = false
-empty Part.SumTail = true
-empty Part.Product = false
-empty Part.ProductTail = true
-empty Part.Minus = false
-empty Part.Postfix = false
-empty Part.Primary = false
-empty Part.BracketRest = false
-empty Part.ListedTail = true
+empty p = (row_of p).empty
 
 -- the codes with which a longer part goes on at the end of a whole one
 abbrev pub goes_on : Part → List ℕ
-goes_on Part.File = []
-goes_on Part.Imports = 50 ∷ []
-goes_on Part.Import = []
-goes_on Part.ImportRest = []
-goes_on Part.DottedNames = 26 ∷ []
-goes_on Part.Declarations = 51 ∷ 52 ∷ 55 ∷ 56 ∷ 57 ∷ 58 ∷ 59 ∷ 61 ∷ []
-goes_on Part.Declaration = []
-goes_on Part.BasesTail = 25 ∷ []
-goes_on Part.UnitTail = []
-goes_on Part.UnitMore = []
-goes_on Part.FactorTail = []
-goes_on Part.Base = []
-goes_on Part.OptionalDash = 37 ∷ []
-goes_on Part.Signed = []
-goes_on Part.EnumItems = []
-goes_on Part.EnumItem = 28 ∷ []
-goes_on Part.ItemNumber = 28 ∷ []
-goes_on Part.ItemsTail = 25 ∷ 28 ∷ []
-goes_on Part.QualifiedName = 26 ∷ []
-goes_on Part.SecondName = 26 ∷ []
-goes_on Part.OptionalHeir = 20 ∷ 26 ∷ 60 ∷ []
-goes_on Part.HeirCondition = 20 ∷ []
-goes_on Part.ConditionValue = 40 ∷ []
-goes_on Part.EnumMember = 40 ∷ []
-goes_on Part.Body = []
-goes_on Part.Block = []
-goes_on Part.ExtensionRest = []
-goes_on Part.MembersTail = 5 ∷ 6 ∷ 7 ∷ 8 ∷ 63 ∷ 66 ∷ 67 ∷ []
-goes_on Part.Member = []
-goes_on Part.NamesTail = 25 ∷ []
-goes_on Part.FieldType = []
-goes_on Part.Initial = 22 ∷ 26 ∷ 28 ∷ 29 ∷ 30 ∷ 31 ∷ 32 ∷ 33 ∷ 34 ∷ 35 ∷ 36 ∷ 37 ∷ 38 ∷ 39 ∷ 40 ∷ 75 ∷ 77 ∷ 78 ∷ []
-goes_on Part.FieldEnd = []
-goes_on Part.RulesTail = 63 ∷ 66 ∷ []
-goes_on Part.Rule = []
-goes_on Part.KeepKind = 64 ∷ 65 ∷ []
-goes_on Part.Path = 22 ∷ 26 ∷ []
-goes_on Part.SuffixesTail = 22 ∷ 26 ∷ []
-goes_on Part.Suffix = []
-goes_on Part.Phase = []
-goes_on Part.PhaseAfterName = []
-goes_on Part.LabelledPhase = []
-goes_on Part.Composition = []
-goes_on Part.CompositionArguments = 20 ∷ []
-goes_on Part.PhasesTail = 5 ∷ 6 ∷ 7 ∷ 8 ∷ 57 ∷ 68 ∷ 69 ∷ 70 ∷ 71 ∷ []
-goes_on Part.Wait = []
-goes_on Part.InvocationRest = []
-goes_on Part.InvocationArguments = []
-goes_on Part.InvocationEnd = []
-goes_on Part.InvocationPart = []
-goes_on Part.PartsTail = 5 ∷ 6 ∷ 7 ∷ 8 ∷ 63 ∷ 66 ∷ []
-goes_on Part.Arguments = []
-goes_on Part.ArgumentsTail = []
-goes_on Part.NamedTail = []
-goes_on Part.Expr = 22 ∷ 26 ∷ 29 ∷ 30 ∷ 31 ∷ 32 ∷ 33 ∷ 34 ∷ 35 ∷ 36 ∷ 37 ∷ 38 ∷ 39 ∷ 40 ∷ 75 ∷ 77 ∷ 78 ∷ []
-goes_on Part.ImpliesTail = 22 ∷ 26 ∷ 29 ∷ 30 ∷ 31 ∷ 32 ∷ 33 ∷ 34 ∷ 35 ∷ 36 ∷ 37 ∷ 38 ∷ 39 ∷ 40 ∷ 75 ∷ 77 ∷ 78 ∷ []
-goes_on Part.Or = 22 ∷ 26 ∷ 29 ∷ 30 ∷ 31 ∷ 32 ∷ 33 ∷ 34 ∷ 36 ∷ 37 ∷ 38 ∷ 39 ∷ 40 ∷ 75 ∷ 77 ∷ 78 ∷ []
-goes_on Part.OrTail = 22 ∷ 26 ∷ 29 ∷ 30 ∷ 31 ∷ 32 ∷ 33 ∷ 34 ∷ 36 ∷ 37 ∷ 38 ∷ 39 ∷ 40 ∷ 75 ∷ 77 ∷ 78 ∷ []
-goes_on Part.And = 22 ∷ 26 ∷ 29 ∷ 30 ∷ 31 ∷ 32 ∷ 33 ∷ 34 ∷ 36 ∷ 37 ∷ 38 ∷ 39 ∷ 40 ∷ 75 ∷ 77 ∷ []
-goes_on Part.AndTail = 22 ∷ 26 ∷ 29 ∷ 30 ∷ 31 ∷ 32 ∷ 33 ∷ 34 ∷ 36 ∷ 37 ∷ 38 ∷ 39 ∷ 40 ∷ 75 ∷ 77 ∷ []
-goes_on Part.Not = 22 ∷ 26 ∷ 29 ∷ 30 ∷ 31 ∷ 32 ∷ 33 ∷ 34 ∷ 36 ∷ 37 ∷ 38 ∷ 39 ∷ 40 ∷ 75 ∷ []
-goes_on Part.Relation = 22 ∷ 26 ∷ 29 ∷ 30 ∷ 31 ∷ 32 ∷ 33 ∷ 34 ∷ 36 ∷ 37 ∷ 38 ∷ 39 ∷ 40 ∷ 75 ∷ []
-goes_on Part.RelationTail = 22 ∷ 26 ∷ 29 ∷ 30 ∷ 31 ∷ 32 ∷ 33 ∷ 34 ∷ 36 ∷ 37 ∷ 38 ∷ 39 ∷ 40 ∷ 75 ∷ []
-goes_on Part.Sum = 22 ∷ 26 ∷ 36 ∷ 37 ∷ 38 ∷ 39 ∷ 40 ∷ []
-goes_on Part.SumTail = 22 ∷ 26 ∷ 36 ∷ 37 ∷ 38 ∷ 39 ∷ 40 ∷ []
-goes_on Part.Product = 22 ∷ 26 ∷ 38 ∷ 39 ∷ 40 ∷ []
-goes_on Part.ProductTail = 22 ∷ 26 ∷ 38 ∷ 39 ∷ 40 ∷ []
-goes_on Part.Minus = 22 ∷ 26 ∷ 40 ∷ []
-goes_on Part.Postfix = 22 ∷ 26 ∷ 40 ∷ []
-goes_on Part.Primary = 40 ∷ []
-goes_on Part.BracketRest = []
-goes_on Part.ListedTail = 22 ∷ 25 ∷ 26 ∷ 29 ∷ 30 ∷ 31 ∷ 32 ∷ 33 ∷ 34 ∷ 35 ∷ 36 ∷ 37 ∷ 38 ∷ 39 ∷ 40 ∷ 75 ∷ 77 ∷ 78 ∷ []
+goes_on p = (row_of p).goes_on
 
 -- the codes of the second token of a part
 abbrev pub second : Part → List ℕ
-second Part.File = 3 ∷ 5 ∷ 6 ∷ 7 ∷ 8 ∷ 13 ∷ 50 ∷ 51 ∷ 52 ∷ 55 ∷ 56 ∷ 57 ∷ 58 ∷ 59 ∷ 61 ∷ []
-second Part.Imports = 5 ∷ 6 ∷ 7 ∷ 8 ∷ 13 ∷ 50 ∷ []
-second Part.Import = 5 ∷ 6 ∷ 7 ∷ 8 ∷ 13 ∷ []
-second Part.ImportRest = 0 ∷ 26 ∷ []
-second Part.DottedNames = 5 ∷ 6 ∷ 7 ∷ 8 ∷ []
-second Part.Declarations = 5 ∷ 6 ∷ 7 ∷ 8 ∷ 51 ∷ 52 ∷ 55 ∷ 56 ∷ 57 ∷ 58 ∷ 59 ∷ 61 ∷ []
-second Part.Declaration = 5 ∷ 6 ∷ 7 ∷ 8 ∷ []
-second Part.BasesTail = 5 ∷ 8 ∷ []
-second Part.UnitTail = 0 ∷ 5 ∷ 6 ∷ 7 ∷ 8 ∷ []
-second Part.UnitMore = 21 ∷ 24 ∷ 25 ∷ []
-second Part.FactorTail = 0 ∷ 7 ∷ []
-second Part.Base = 24 ∷ []
-second Part.OptionalDash = []
-second Part.Signed = 9 ∷ 10 ∷ 11 ∷ []
-second Part.EnumItems = 5 ∷ 6 ∷ 7 ∷ 8 ∷ []
-second Part.EnumItem = 28 ∷ []
-second Part.ItemNumber = 9 ∷ 10 ∷ []
-second Part.ItemsTail = 5 ∷ 6 ∷ 7 ∷ 8 ∷ []
-second Part.QualifiedName = 26 ∷ []
-second Part.SecondName = 5 ∷ 6 ∷ 7 ∷ 8 ∷ []
-second Part.OptionalHeir = 5 ∷ 6 ∷ 7 ∷ 8 ∷ []
-second Part.HeirCondition = 5 ∷ 6 ∷ 7 ∷ 8 ∷ []
-second Part.ConditionValue = 40 ∷ []
-second Part.EnumMember = 5 ∷ 6 ∷ 7 ∷ 8 ∷ []
-second Part.Body = 0 ∷ []
-second Part.Block = 1 ∷ []
-second Part.ExtensionRest = 0 ∷ 1 ∷ 5 ∷ 6 ∷ 7 ∷ 8 ∷ []
-second Part.MembersTail = 5 ∷ 6 ∷ 7 ∷ 8 ∷ 20 ∷ 24 ∷ 25 ∷ 57 ∷ 63 ∷ 66 ∷ 67 ∷ 68 ∷ 69 ∷ 70 ∷ 71 ∷ []
-second Part.Member = 5 ∷ 6 ∷ 7 ∷ 8 ∷ 20 ∷ 24 ∷ 25 ∷ 57 ∷ 68 ∷ 69 ∷ 70 ∷ 71 ∷ []
-second Part.NamesTail = 5 ∷ 6 ∷ 7 ∷ 8 ∷ []
-second Part.FieldType = 54 ∷ []
-second Part.Initial = 5 ∷ 6 ∷ 7 ∷ 8 ∷ 9 ∷ 10 ∷ 11 ∷ 12 ∷ 13 ∷ 20 ∷ 22 ∷ 37 ∷ 57 ∷ 74 ∷ 76 ∷ 79 ∷ 80 ∷ 81 ∷ []
-second Part.FieldEnd = 24 ∷ []
-second Part.RulesTail = 20 ∷ 63 ∷ 66 ∷ []
-second Part.Rule = 20 ∷ []
-second Part.KeepKind = []
-second Part.Path = 22 ∷ 26 ∷ []
-second Part.SuffixesTail = 5 ∷ 6 ∷ 7 ∷ 8 ∷ 9 ∷ 10 ∷ 11 ∷ 12 ∷ 13 ∷ 20 ∷ 22 ∷ 26 ∷ 37 ∷ 57 ∷ 74 ∷ 76 ∷ 79 ∷ 80 ∷ 81 ∷ []
-second Part.Suffix = 5 ∷ 6 ∷ 7 ∷ 8 ∷ 9 ∷ 10 ∷ 11 ∷ 12 ∷ 13 ∷ 20 ∷ 22 ∷ 37 ∷ 57 ∷ 74 ∷ 76 ∷ 79 ∷ 80 ∷ 81 ∷ []
-second Part.Phase = 20 ∷ 24 ∷ 26 ∷ 72 ∷ []
-second Part.PhaseAfterName = 5 ∷ 6 ∷ 7 ∷ 8 ∷ 9 ∷ 10 ∷ 11 ∷ 12 ∷ 13 ∷ 20 ∷ 21 ∷ 22 ∷ 37 ∷ 57 ∷ 68 ∷ 69 ∷ 70 ∷ 71 ∷ 74 ∷ 76 ∷ 79 ∷ 80 ∷ 81 ∷ []
-second Part.LabelledPhase = 20 ∷ 24 ∷ 26 ∷ 72 ∷ []
-second Part.Composition = 20 ∷ 24 ∷ []
-second Part.CompositionArguments = 5 ∷ 6 ∷ 7 ∷ 8 ∷ 9 ∷ 10 ∷ 11 ∷ 12 ∷ 13 ∷ 20 ∷ 22 ∷ 37 ∷ 57 ∷ 74 ∷ 76 ∷ 79 ∷ 80 ∷ 81 ∷ []
-second Part.PhasesTail = 5 ∷ 6 ∷ 7 ∷ 8 ∷ 20 ∷ 24 ∷ 26 ∷ 57 ∷ 68 ∷ 69 ∷ 70 ∷ 71 ∷ 72 ∷ []
-second Part.Wait = 72 ∷ []
-second Part.InvocationRest = 5 ∷ 6 ∷ 7 ∷ 8 ∷ 9 ∷ 10 ∷ 11 ∷ 12 ∷ 13 ∷ 20 ∷ 21 ∷ 22 ∷ 37 ∷ 57 ∷ 74 ∷ 76 ∷ 79 ∷ 80 ∷ 81 ∷ []
-second Part.InvocationArguments = 5 ∷ 6 ∷ 7 ∷ 8 ∷ 9 ∷ 10 ∷ 11 ∷ 12 ∷ 13 ∷ 20 ∷ 21 ∷ 22 ∷ 24 ∷ 25 ∷ 26 ∷ 29 ∷ 30 ∷ 31 ∷ 32 ∷ 33 ∷ 34 ∷ 35 ∷ 36 ∷ 37 ∷ 38 ∷ 39 ∷ 40 ∷ 57 ∷ 74 ∷ 75 ∷ 76 ∷ 77 ∷ 78 ∷ 79 ∷ 80 ∷ 81 ∷ []
-second Part.InvocationEnd = 24 ∷ []
-second Part.InvocationPart = 20 ∷ []
-second Part.PartsTail = 5 ∷ 6 ∷ 7 ∷ 8 ∷ 20 ∷ 63 ∷ 66 ∷ []
-second Part.Arguments = 5 ∷ 6 ∷ 7 ∷ 8 ∷ 9 ∷ 10 ∷ 11 ∷ 12 ∷ 13 ∷ 20 ∷ 21 ∷ 22 ∷ 24 ∷ 25 ∷ 26 ∷ 29 ∷ 30 ∷ 31 ∷ 32 ∷ 33 ∷ 34 ∷ 35 ∷ 36 ∷ 37 ∷ 38 ∷ 39 ∷ 40 ∷ 57 ∷ 74 ∷ 75 ∷ 76 ∷ 77 ∷ 78 ∷ 79 ∷ 80 ∷ 81 ∷ []
-second Part.ArgumentsTail = 5 ∷ 6 ∷ 7 ∷ 8 ∷ 9 ∷ 10 ∷ 11 ∷ 12 ∷ 13 ∷ 20 ∷ 22 ∷ 37 ∷ 57 ∷ 74 ∷ 76 ∷ 79 ∷ 80 ∷ 81 ∷ []
-second Part.NamedTail = 5 ∷ 6 ∷ 7 ∷ 8 ∷ []
-second Part.Expr = 5 ∷ 6 ∷ 7 ∷ 8 ∷ 9 ∷ 10 ∷ 11 ∷ 12 ∷ 13 ∷ 20 ∷ 22 ∷ 26 ∷ 29 ∷ 30 ∷ 31 ∷ 32 ∷ 33 ∷ 34 ∷ 35 ∷ 36 ∷ 37 ∷ 38 ∷ 39 ∷ 40 ∷ 57 ∷ 74 ∷ 75 ∷ 76 ∷ 77 ∷ 78 ∷ 79 ∷ 80 ∷ 81 ∷ []
-second Part.ImpliesTail = 5 ∷ 6 ∷ 7 ∷ 8 ∷ 9 ∷ 10 ∷ 11 ∷ 12 ∷ 13 ∷ 20 ∷ 22 ∷ 37 ∷ 57 ∷ 74 ∷ 76 ∷ 79 ∷ 80 ∷ 81 ∷ []
-second Part.Or = 5 ∷ 6 ∷ 7 ∷ 8 ∷ 9 ∷ 10 ∷ 11 ∷ 12 ∷ 13 ∷ 20 ∷ 22 ∷ 26 ∷ 29 ∷ 30 ∷ 31 ∷ 32 ∷ 33 ∷ 34 ∷ 36 ∷ 37 ∷ 38 ∷ 39 ∷ 40 ∷ 57 ∷ 74 ∷ 75 ∷ 76 ∷ 77 ∷ 78 ∷ 79 ∷ 80 ∷ 81 ∷ []
-second Part.OrTail = 5 ∷ 6 ∷ 7 ∷ 8 ∷ 9 ∷ 10 ∷ 11 ∷ 12 ∷ 13 ∷ 20 ∷ 22 ∷ 37 ∷ 57 ∷ 74 ∷ 76 ∷ 79 ∷ 80 ∷ 81 ∷ []
-second Part.And = 5 ∷ 6 ∷ 7 ∷ 8 ∷ 9 ∷ 10 ∷ 11 ∷ 12 ∷ 13 ∷ 20 ∷ 22 ∷ 26 ∷ 29 ∷ 30 ∷ 31 ∷ 32 ∷ 33 ∷ 34 ∷ 36 ∷ 37 ∷ 38 ∷ 39 ∷ 40 ∷ 57 ∷ 74 ∷ 75 ∷ 76 ∷ 77 ∷ 79 ∷ 80 ∷ 81 ∷ []
-second Part.AndTail = 5 ∷ 6 ∷ 7 ∷ 8 ∷ 9 ∷ 10 ∷ 11 ∷ 12 ∷ 13 ∷ 20 ∷ 22 ∷ 37 ∷ 57 ∷ 74 ∷ 76 ∷ 79 ∷ 80 ∷ 81 ∷ []
-second Part.Not = 5 ∷ 6 ∷ 7 ∷ 8 ∷ 9 ∷ 10 ∷ 11 ∷ 12 ∷ 13 ∷ 20 ∷ 22 ∷ 26 ∷ 29 ∷ 30 ∷ 31 ∷ 32 ∷ 33 ∷ 34 ∷ 36 ∷ 37 ∷ 38 ∷ 39 ∷ 40 ∷ 57 ∷ 74 ∷ 75 ∷ 76 ∷ 79 ∷ 80 ∷ 81 ∷ []
-second Part.Relation = 5 ∷ 6 ∷ 7 ∷ 8 ∷ 9 ∷ 10 ∷ 11 ∷ 12 ∷ 13 ∷ 20 ∷ 22 ∷ 26 ∷ 29 ∷ 30 ∷ 31 ∷ 32 ∷ 33 ∷ 34 ∷ 36 ∷ 37 ∷ 38 ∷ 39 ∷ 40 ∷ 57 ∷ 74 ∷ 75 ∷ 76 ∷ 79 ∷ 80 ∷ 81 ∷ []
-second Part.RelationTail = 5 ∷ 6 ∷ 7 ∷ 8 ∷ 9 ∷ 10 ∷ 11 ∷ 12 ∷ 13 ∷ 20 ∷ 22 ∷ 37 ∷ 57 ∷ 74 ∷ 76 ∷ 80 ∷ 81 ∷ []
-second Part.Sum = 5 ∷ 6 ∷ 7 ∷ 8 ∷ 9 ∷ 10 ∷ 11 ∷ 12 ∷ 13 ∷ 20 ∷ 22 ∷ 26 ∷ 36 ∷ 37 ∷ 38 ∷ 39 ∷ 40 ∷ 57 ∷ 74 ∷ 76 ∷ 79 ∷ 80 ∷ 81 ∷ []
-second Part.SumTail = 5 ∷ 6 ∷ 7 ∷ 8 ∷ 9 ∷ 10 ∷ 11 ∷ 12 ∷ 13 ∷ 20 ∷ 22 ∷ 37 ∷ 57 ∷ 74 ∷ 76 ∷ 80 ∷ 81 ∷ []
-second Part.Product = 5 ∷ 6 ∷ 7 ∷ 8 ∷ 9 ∷ 10 ∷ 11 ∷ 12 ∷ 13 ∷ 20 ∷ 22 ∷ 26 ∷ 37 ∷ 38 ∷ 39 ∷ 40 ∷ 57 ∷ 74 ∷ 76 ∷ 79 ∷ 80 ∷ 81 ∷ []
-second Part.ProductTail = 5 ∷ 6 ∷ 7 ∷ 8 ∷ 9 ∷ 10 ∷ 11 ∷ 12 ∷ 13 ∷ 20 ∷ 22 ∷ 37 ∷ 57 ∷ 74 ∷ 76 ∷ 80 ∷ 81 ∷ []
-second Part.Minus = 5 ∷ 6 ∷ 7 ∷ 8 ∷ 9 ∷ 10 ∷ 11 ∷ 12 ∷ 13 ∷ 20 ∷ 22 ∷ 26 ∷ 37 ∷ 40 ∷ 57 ∷ 74 ∷ 76 ∷ 79 ∷ 80 ∷ 81 ∷ []
-second Part.Postfix = 5 ∷ 6 ∷ 7 ∷ 8 ∷ 9 ∷ 10 ∷ 11 ∷ 12 ∷ 13 ∷ 20 ∷ 22 ∷ 26 ∷ 37 ∷ 40 ∷ 57 ∷ 74 ∷ 76 ∷ 79 ∷ 80 ∷ 81 ∷ []
-second Part.Primary = 5 ∷ 6 ∷ 7 ∷ 8 ∷ 9 ∷ 10 ∷ 11 ∷ 12 ∷ 13 ∷ 20 ∷ 22 ∷ 37 ∷ 40 ∷ 57 ∷ 74 ∷ 76 ∷ 79 ∷ 80 ∷ 81 ∷ []
-second Part.BracketRest = 5 ∷ 6 ∷ 7 ∷ 8 ∷ 9 ∷ 10 ∷ 11 ∷ 12 ∷ 13 ∷ 20 ∷ 22 ∷ 23 ∷ 37 ∷ 57 ∷ 74 ∷ 76 ∷ 79 ∷ 80 ∷ 81 ∷ []
-second Part.ListedTail = 5 ∷ 6 ∷ 7 ∷ 8 ∷ 9 ∷ 10 ∷ 11 ∷ 12 ∷ 13 ∷ 20 ∷ 22 ∷ 37 ∷ 57 ∷ 74 ∷ 76 ∷ 79 ∷ 80 ∷ 81 ∷ []
+second p = (row_of p).second

@@ -1,11 +1,6 @@
 use Rattle.std.proofs.Common.{◌≡◌, ◌≢◌, Err, refl, sym, ◌∙◌, arith}
-use Rattle.osc_base.specs.declared.stop.Stop.TheVariants.{Memory}
-use Rattle.dsl_tree.specs.Grammar.{Part}
-use Rattle.dsl_parser.specs.Descent.{read}
-use Rattle.dsl_parser.specs.Levels.{item_level, tail_of, tail_part, suffixes_of}
-use Rattle.dsl_parser.proofs.ExprSteps.{tail_grows, operator_stops, operators_end, list_grows, list_stops, list_ends}
-use Rattle.dsl_parser.proofs.Loops.{step, finish, whole, raise, raise_gives}
-use Rattle.dsl_parser.proofs.RowSteps.{optional_none, part_grows, part_stops}
+use Rattle.dsl_parser.specs.Words.{Memory, Part, read, item_level, tail_of, tail_part, suffixes_of}
+use Rattle.dsl_parser.proofs.{ExprSteps.tail_grows, ExprSteps.operator_stops, ExprSteps.operators_end, ExprSteps.list_grows, ExprSteps.list_stops, ExprSteps.list_ends, Loops.step, Loops.finish, Loops.whole, Loops.raise, Loops.raise_gives, RowSteps.optional_none, RowSteps.part_grows, RowSteps.part_stops}
 use Rattle.dsl_parser.proofs.expressions.+expressions.Goals as goal
 
 pub tail-returns-in_err-part-clause-gives : goal.tail-returns-in_err-part-clause-gives

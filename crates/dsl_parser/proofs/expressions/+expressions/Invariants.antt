@@ -1,11 +1,14 @@
-use Rattle.std.proofs.Common.{◌*◌, ◌+◌, ◌≤◌, [], ◌∷◌, length}
-use Rattle.dsl_tree.specs.Grammar.{Part}
-use Rattle.dsl_parser.specs.Levels.{item_level, items_of, suffixes_of, tail_of, tail_part}
+use Rattle.std.proofs.Common.{ℕ, ◌*◌, ◌+◌, ◌≤◌, [], ◌∷◌, length}
+use Rattle.dsl_parser.specs.Words.{Part, item_level, items_of, suffixes_of, tail_of, tail_part, RowLevel, OrRow, AndRow, SumRow, ProductRow}
 use Rattle.dsl_parser.proofs.Loops.{Along}
-use Rattle.dsl_parser.proofs.Ranks.{rank}
 use Rattle.dsl_parser.proofs.expressions.+expressions.Given as goal
 
--- Each reader calls only others of a lower rank before it has read a token.
+-- Each reader calls only others of a lower rank before it has read a token. Here is the rank of an item of a row.
+abbrev pub rank : RowLevel → ℕ
+rank OrRow = 17
+rank AndRow = 15
+rank SumRow = 11
+rank ProductRow = 9
 
 abbrev pub decreases-expression : goal.decreases-expression
 decreases-expression l = 24 * length l.tokens.now + 20

@@ -1,6 +1,5 @@
 use Rattle.std.proofs.Common.{length}
-use Rattle.dsl_tree.specs.Grammar.{Part}
-use Rattle.dsl_tree.specs.WrittenPhases.{dotted_names}
+use Rattle.dsl_parser.specs.Words.{Part, dotted_names}
 use Rattle.dsl_parser.proofs.Loops.{Along}
 use Rattle.dsl_parser.proofs.imports.dotted_names.Given as goal
 

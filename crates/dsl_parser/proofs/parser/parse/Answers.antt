@@ -1,8 +1,6 @@
 use Rattle.std.proofs.Common.{List, ◌∙◌, subst}
-use Rattle.dsl_tree.specs.declared.token.Token.{Token}
-use Rattle.dsl_tree.specs.Language.{FirstFault}
-use Rattle.dsl_tree.proofs.OneTrees.{no_tree_at_fault}
-use Rattle.dsl_tree.proofs.Tops.{whole_file, only_tree}
+use Rattle.dsl_parser.specs.Words.{Token, FirstFault}
+use Rattle.dsl_tree.proofs.{OneTrees.no_tree_at_fault, Tops.whole_file, Tops.only_tree}
 use Rattle.dsl_parser.proofs.Wholes.{file_fault, file_parsed}
 use Rattle.dsl_parser.proofs.parser.parse.Goals as goal
 

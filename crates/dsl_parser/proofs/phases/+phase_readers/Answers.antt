@@ -1,15 +1,7 @@
 use Rattle.std.proofs.Common.{◌≡◌, ◌≢◌, Err, refl, sym, ◌∙◌, arith}
-use Rattle.osc_base.specs.declared.stop.Stop.TheVariants.{Memory}
-use Rattle.dsl_tree.specs.declared.phases.Phase.{Phase}
-use Rattle.dsl_tree.specs.Forest.{Forest}
-use Rattle.dsl_tree.specs.Grammar.{Part}
-use Rattle.dsl_tree.specs.Views.{phase_tree}
+use Rattle.dsl_parser.specs.Words.{Memory, Phase, Forest, Part, phase_tree, read, phases_rest}
 use Rattle.dsl_tree.specs.WrittenPhases as written
-use Rattle.dsl_parser.specs.Descent.{read}
-use Rattle.dsl_parser.specs.Phases.{phases_rest}
-use Rattle.dsl_parser.proofs.Loops.{step, finish, raise, raise_gives}
-use Rattle.dsl_parser.proofs.PhaseSteps.{block_stops, composed_read, composition_stops, phases_stop}
-use Rattle.dsl_parser.proofs.RowSteps.{optional_none, part_grows, part_stops}
+use Rattle.dsl_parser.proofs.{Loops.step, Loops.finish, Loops.raise, Loops.raise_gives, StartForms.block_stops, StartForms.composed_read, StartForms.composition_stops, RowSteps.optional_none, RowSteps.part_grows, RowSteps.part_stops}
 use Rattle.dsl_parser.proofs.phases.+phase_readers.Goals as goal
 
 abbrev seen_phase : Phase → Forest
@@ -19,18 +11,13 @@ pub phase-returns-in_err-head : goal.phase-returns-in_err-head
 phase-returns-in_err-head t c =
     raise_gives seen_phase (read Part.Phase c.args.tokens.now) _ _ _ c.from_residual-in_err-head.ensures (composition_stops _ _ _ _ (rw c.in-Composition.is at c.in_ok-phase.ensures) c.in_err-head.ensures)
 
-pub phase-returns-in_err-opened : goal.phase-returns-in_err-opened
-phase-returns-in_err-opened t c =
-    raise_gives seen_phase (read Part.Phase c.args.tokens.now) _ _ _ c.from_residual-in_err-opened.ensures
-    (composition_stops _ _ _ _ (rw c.in-Composition.is at c.in_ok-phase.ensures) (block_stops _ _ _ _ c.in_ok-head.ensures c.in_err-opened.ensures))
-
 pub phase-returns-in_err-members : goal.phase-returns-in_err-members
 phase-returns-in_err-members t c =
     raise_gives seen_phase (read Part.Phase c.args.tokens.now) _ _ _ c.from_residual-in_err-members.ensures
-    (composition_stops _ _ _ _ (rw c.in-Composition.is at c.in_ok-phase.ensures) (block_stops _ _ _ _ c.in_ok-head.ensures (phases_stop _ _ _ c.in_ok-opened.ensures c.in_err-members.ensures)))
+    (composition_stops _ _ _ _ (rw c.in-Composition.is at c.in_ok-phase.ensures) (block_stops _ _ _ _ c.in_ok-head.ensures c.in_err-members.ensures))
 
 pub phase-returns : goal.phase-returns
-phase-returns t c = composed_read _ _ _ _ _ _ _ _ _ (rw c.in-Composition.is at c.in_ok-phase.ensures) c.in_ok-head.ensures c.in_ok-opened.ensures c.in_ok-members.ensures c.composed.ensures
+phase-returns t c = composed_read _ _ _ _ _ _ _ _ (rw c.in-Composition.is at c.in_ok-phase.ensures) c.in_ok-head.ensures c.in_ok-members.ensures c.composed.ensures
 
 pub phases_from-returns-in_err-item-clause-err : goal.phases_from-returns-in_err-item-clause-err
 phases_from-returns-in_err-item-clause-err t c =

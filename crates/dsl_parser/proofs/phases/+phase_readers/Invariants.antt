@@ -1,6 +1,5 @@
 use Rattle.std.proofs.Common.{◌*◌, ◌+◌, ◌≤◌, [], ◌∷◌, length}
-use Rattle.dsl_tree.specs.Grammar.{Part}
-use Rattle.dsl_parser.specs.Phases.{phases_rest}
+use Rattle.dsl_parser.specs.Words.{Part, phases_rest}
 use Rattle.dsl_parser.proofs.Loops.{Along}
 use Rattle.dsl_parser.proofs.phases.+phase_readers.Given as goal
 

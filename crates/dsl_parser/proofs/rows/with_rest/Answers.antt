@@ -1,6 +1,5 @@
 use Rattle.std.proofs.Common.{◌≡◌, ◌≢◌, Err}
-use Rattle.osc_base.specs.declared.stop.Stop.TheVariants.{Memory}
-use Rattle.dsl_parser.specs.Descent.{read}
+use Rattle.dsl_parser.specs.Words.{Memory, read}
 use Rattle.dsl_parser.proofs.Loops.{start, step, finish, stop, raise}
 use Rattle.dsl_parser.proofs.rows.with_rest.Goals as goal
 

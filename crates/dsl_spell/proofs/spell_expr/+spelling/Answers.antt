@@ -1,7 +1,6 @@
 use Rattle.std.proofs.Common.{OnOk, map, refl, subst}
 use Rattle.std.proofs.lemmas.Result.{on_ok_weaker}
-use Rattle.dsl_tree.specs.Views.{expr_tree, suffix_tree, further_tree}
-use Rattle.dsl_spell.specs.Writing.{Writes, Fills, Joins}
+use Rattle.dsl_spell.specs.Writing.{expr_tree, suffix_tree, further_tree, Writes, Fills, Joins}
 use Rattle.dsl_spell.proofs.Places.{one_more, all_done, furthers, suffixes, items, fills, further_steps, item_steps, listed_writes, operators_write, suffixes_write}
 use Rattle.dsl_spell.proofs.spell_expr.+spelling.Goals as goal
 

@@ -1,7 +1,6 @@
 use Rattle.std.proofs.Common.{subst}
 use Rattle.std.proofs.lemmas.Result.{on_ok_weaker}
-use Rattle.dsl_tree.specs.WrittenFile.{base, bases_tail, unit_end}
-use Rattle.dsl_spell.specs.Writing.{Writes, comma_row}
+use Rattle.dsl_spell.specs.Writing.{base, bases_tail, unit_end, Writes, comma_row}
 use Rattle.dsl_spell.proofs.Places.{bases_write}
 use Rattle.dsl_spell.proofs.spell_file.push_unit_bases.Goals as goal
 

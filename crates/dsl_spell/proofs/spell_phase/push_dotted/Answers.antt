@@ -1,5 +1,5 @@
 use Rattle.std.proofs.Common.{refl}
-use Rattle.dsl_tree.specs.WrittenPhases.{dotted_names}
+use Rattle.dsl_spell.specs.Writing.{dotted_names}
 use Rattle.dsl_spell.proofs.Places.{one_more, all_done, dotted_steps}
 use Rattle.dsl_spell.proofs.spell_phase.push_dotted.Goals as goal
 

@@ -1,4 +1,4 @@
-use Rattle.dsl_tree.specs.WrittenPhases.{dotted_names}
+use Rattle.dsl_spell.specs.Writing.{dotted_names}
 use Rattle.dsl_spell.proofs.Places.{Left}
 use Rattle.dsl_spell.proofs.spell_phase.push_dotted.Given as goal
 

@@ -1,7 +1,6 @@
 use Rattle.std.proofs.Common.{OnOk, map, subst}
 use Rattle.std.proofs.lemmas.Result.{on_ok_weaker}
-use Rattle.dsl_tree.specs.Views.{suffix_tree}
-use Rattle.dsl_spell.specs.Writing.{Writes, suffix_tail}
+use Rattle.dsl_spell.specs.Writing.{suffix_tree, Writes, suffix_tail}
 use Rattle.dsl_spell.proofs.Places.{path_writes}
 use Rattle.dsl_spell.proofs.spell_phase.push_path.Goals as goal
 

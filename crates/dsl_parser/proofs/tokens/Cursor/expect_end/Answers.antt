@@ -1,5 +1,5 @@
 use Rattle.std.proofs.Common.{subst}
-use Rattle.dsl_tree.specs.Language.{Ended}
+use Rattle.dsl_parser.specs.Words.{Ended}
 use Rattle.dsl_parser.proofs.Lengths.{end_taken}
 use Rattle.dsl_parser.proofs.tokens.Cursor.expect_end.Goals as goal
 
