@@ -1,5 +1,5 @@
 -- What expressions are written as, by what their parts are.
-use Rattle.std.proofs.Common.{◌≡◌, ℕ, zero, suc, ◌+◌, ◌-◌, ◌≤◌, List, [], ◌∷◌, length, map, Bool, true, false, cond, Some, refl, sym, ◌∙◌, ap, subst, inl, inr, arith}
+use Rattle.std.proofs.Common.{◌≡◌, ℕ, zero, suc, ◌+◌, ◌-◌, ◌≤◌, List, [], ◌∷◌, length, map, Bool, true, false, cond, Some, refl, sym, ◌∙◌, ap, inl, inr, arith}
 use Rattle.std.proofs.lemmas.Bool.{ltb-false, false≢true}
 use Rattle.std.proofs.lemmas.Option.{none-some, same_Some}
 use Rattle.dsl_parser.specs.Words.{nat_lt, slice_get, Place, Ident, Expr, Further, Suffix, RelationSign, MarkKind, WordKind, Token, ExprTree, FurtherTree, SuffixTree, grouped, with_suffixes, named_row, indexed_row, expr_tree, suffix_tree, further_tree, Part, Symbol, rules, Forest, nil, seen, sub, wrong, AnyRule, level, lifted, raised, written, operator_kind, sign_kind, next_part, mark, mark_at, word_at, ident, expr, listed_tail, Whole, Parsed, RowLevel, at_level, row_level, item_level, tail_of, suffix_forest, suffix_of, suffixes_of, is_named, ends_named, items_of, row_node, post_node}

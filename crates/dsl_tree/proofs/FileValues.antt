@@ -37,9 +37,8 @@ use Rattle.dsl_tree.specs.WrittenFile.{imports, initial, field_end, field_type, 
 use Rattle.dsl_tree.specs.Views as Views
 use Rattle.dsl_tree.specs.Views.{SuffixTree, Named, At, with_suffixes, expr_tree, suffix_tree, head_tree, path_tree, rule_tree, argument_tree, part_tree, phase_tree, comp_tree, field_tree, member_tree, compound_tree, declaration_tree, file_tree}
 use Rattle.dsl_tree.proofs.Tests.{is_whole, left_of, right_of}
-use Rattle.dsl_tree.proofs.ReadBack.{path_head_whole, front_whole}
+use Rattle.dsl_tree.proofs.WholeForests.{path_head_whole, front_whole, head_whole, label_whole}
 use Rattle.dsl_tree.proofs.WrittenRows.{suffix_tail, front_of_row, path_of_row}
-use Rattle.dsl_tree.proofs.WholeForests.{head_whole, label_whole}
 use Rattle.dsl_tree.proofs.Seen.{seen_dot_suffix}
 use Rattle.dsl_tree.proofs.SeenPhases.{seen_comp, seen_invoke, seen_wait}
 use Rattle.dsl_tree.proofs.Values.{Such, value_of, suffix_value, suffix_whole, suffix_parts, suffix_back, expr_back, expr_tree_back, index_seen}

@@ -13,7 +13,6 @@ pub mod Shortest
 pub mod Faults
 pub mod RuleFaults
 pub mod Build
-pub mod ReadBack
 pub mod OneTrees
 pub mod Leaves
 pub mod WholeForests

@@ -16,9 +16,8 @@ use Rattle.dsl_tree.specs.Written.{at, written, or_row, and_row, sum_row, produc
 use Rattle.dsl_tree.specs.Views as Views
 use Rattle.dsl_tree.specs.Views.{SuffixTree, FurtherTree, Named, At, grouped, with_suffixes, named_row, indexed_row, expr_tree, suffix_tree, further_tree}
 use Rattle.dsl_tree.proofs.Tests.{is_whole, left_of, right_of}
-use Rattle.dsl_tree.proofs.WholeForests.{whole_at}
+use Rattle.dsl_tree.proofs.WholeForests.{whole_at, or_whole, and_whole, sum_whole, product_whole, post_whole}
 use Rattle.dsl_tree.proofs.WrittenRows.{further_tail, suffix_tail, or_own, and_own, sum_own, product_own, post_own}
-use Rattle.dsl_tree.proofs.ReadBack.{or_whole, and_whole, sum_whole, product_whole, post_whole}
 use Rattle.dsl_tree.proofs.Seen.{seen_implies, seen_or, seen_and, seen_not, seen_relation, seen_sum, seen_product, seen_minus, seen_dot, seen_index, seen_number, seen_physical, seen_chars, seen_truth, seen_it, seen_actor, seen_name, seen_enum_name, seen_group, seen_span, seen_listed, seen_range_call, seen_dot_suffix, seen_index_suffix, seen_further}
 
 -- Values

@@ -87,9 +87,3 @@ pub record RowFault (rule : List Symbol) (tokens : List Token) (left : ℕ) : Ty
   pub count : left ≡ length (token ∷ back)
   pub viable : CanBegin (λ f. Follows f rule) front
   pub dead : (f : Forest) (others rest : List Token) → Follows f rule → Stops (stops rule) rest → Spells f (front ++ token ∷ others) rest → ⊥
-
--- The invariant of a loop that reads the items of a row, whose tail is the part p: what is read of the
--- rest is read of the whole, with these items before it, and so is a fault.
-pub record Along (X : Type 0) (p : Part) (forest_of : List X → Forest) (start : List Token) (items : List X) (rest : List Token) : Type 0 where
-  pub reads : (others : List X) (end : List Token) → Parsed p (forest_of others) rest end → Parsed p (forest_of (items ++ others)) start end
-  pub faults : (left : ℕ) → PartFault p rest left → PartFault p start left

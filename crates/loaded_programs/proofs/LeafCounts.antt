@@ -8,8 +8,7 @@ use Rattle.dsl_tree.specs.ExprTree.{ExprTree, Implies, Or, And, Not, Relation, S
 use Rattle.dsl_tree.specs.Forest.{Forest, nil, seen, bare, sub, wrong, Spells}
 use Rattle.dsl_tree.specs.Written.{level, lifted, raised, at, next_part, next_name, next_index, written, or_row, and_row, sum_row, product_row, post_row, listed_tail, expr, path_row, path_front, path}
 use Rattle.dsl_tree.proofs.Tests.{is_whole, left_of, right_of}
-use Rattle.dsl_tree.proofs.WholeForests.{whole_at}
-use Rattle.dsl_tree.proofs.ReadBack.{or_whole, and_whole, sum_whole, product_whole, post_whole, front_whole}
+use Rattle.dsl_tree.proofs.WholeForests.{whole_at, or_whole, and_whole, sum_whole, product_whole, post_whole, front_whole}
 
 -- what a number, a string and a name weigh
 pub record Measure : Type 0 where
