@@ -1,5 +1,6 @@
 -- What `parse` says of tokens that spell no tree.
-use Rattle.dsl_parser.specs.Terms.{◌≡◌, List, [], ◌∷◌, ◌++◌, Fault, Token, IsViable, fault_code}
+use Rattle.std.specs.Prelude.{◌≡◌, ◌∷◌, ◌++◌}
+use Rattle.dsl_parser.specs.Terms.{List, [], Fault, Token, IsViable, fault_code}
 
 -- `FirstFault` of dsl_tree has two halves. The first: the spelling of some tree begins with the
 -- tokens before the fault.

@@ -1,5 +1,6 @@
 -- What the readers of one argument ensure.
-use Rattle.dsl_parser.specs.Terms.{◌≡◌, ◌≢◌, ◌<◌, ℕ, List, [], ◌∷◌, length, map, true, false, Bool, Result, Ok, Err, Stop, Memory, Token, MarkKind, Argument, Part, Forest, nil, sub, argument_tree, mark}
+use Rattle.std.specs.Prelude.{◌≡◌, ◌≢◌, ◌<◌, ◌∷◌}
+use Rattle.dsl_parser.specs.Terms.{ℕ, List, [], length, map, true, false, Bool, Result, Ok, Err, Stop, Memory, Token, MarkKind, Argument, Part, Forest, nil, sub, argument_tree, mark}
 use Rattle.dsl_tree.specs.WrittenPhases as written
 use Rattle.dsl_parser.specs.Descent.{read, in_row, named_argument}
 

@@ -1,5 +1,6 @@
 -- What a cursor shows: the tokens that are left.
-use Rattle.dsl_parser.specs.Terms.{ℕ, List, [], ◌∷◌, Place, Digits, Ident, Token, TokenKind, code, si_text, factor_text, offset_text, si_name, other_name, small_number, large_number, point_number, Ended}
+use Rattle.std.specs.Prelude.{◌∷◌}
+use Rattle.dsl_parser.specs.Terms.{ℕ, List, [], Place, Digits, Ident, Token, TokenKind, code, si_text, factor_text, offset_text, si_name, other_name, small_number, large_number, point_number, Ended}
 use Rattle.dsl_parser.specs.declared.{tokens.Cursor.TheInside.Inside, signs.Sign.Sign}
 
 abbrev pub left_of : Inside → List Token

@@ -1,6 +1,7 @@
 -- How a reader goes down the grammar: one token chooses the rule of a part, or two at the beginning of arguments, and
 -- the rule's symbols are read one after another.
-use Rattle.dsl_parser.specs.Terms.{◌≡◌, ◌≢◌, ℕ, zero, suc, ◌+◌, List, [], ◌∷◌, length, Bool, true, false, cond, ◌&&◌, Option, Some, None, Result, Ok, Err, Stop, At, Memory, Token, MarkKind, code, has, mark_code, si_name, factor_name, offset_name, other_name, Part, Symbol, Seen, Bare, Of, rules, name, Forest, nil, seen, bare, sub, first, firsts, empty, starts}
+use Rattle.std.specs.Prelude.{◌≡◌, ◌≢◌, ◌+◌, ◌∷◌, ◌&&◌}
+use Rattle.dsl_parser.specs.Terms.{ℕ, zero, suc, List, [], length, Bool, true, false, cond, Option, Some, None, Result, Ok, Err, Stop, At, Memory, Token, MarkKind, code, has, mark_code, si_name, factor_name, offset_name, other_name, Part, Symbol, Seen, Bare, Of, rules, name, Forest, nil, seen, bare, sub, first, firsts, empty, starts}
 use Rattle.dsl_tree.specs.Grammar.{mark}
 
 -- A forest and the tokens after it; or the token at which no reading goes on, by the number of tokens from it to the

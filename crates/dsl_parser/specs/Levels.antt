@@ -1,6 +1,7 @@
 -- The levels of expressions: `Expr` 0, `Or` 1, `And` 2, `Not` 3, `Relation` 4, `Sum` 5, `Product` 6,
 -- `Minus` 7, `Postfix` 8 and `Primary` 9.
-use Rattle.dsl_parser.specs.Terms.{ℕ, Bool, true, false, List, [], ◌∷◌, Expr, Further, Suffix, MarkKind, ActorWord, FalseWord, ItWord, RangeWord, TrueWord, mark_code, word_code, Part, Forest, nil, seen, sub, first, SuffixTree, Named, expr_tree, suffix_tree, written, operator_kind, mark, mark_at, ident, expr, cond, map}
+use Rattle.std.specs.Prelude.{◌∷◌}
+use Rattle.dsl_parser.specs.Terms.{ℕ, Bool, true, false, List, [], Expr, Further, Suffix, MarkKind, ActorWord, FalseWord, ItWord, RangeWord, TrueWord, mark_code, word_code, Part, Forest, nil, seen, sub, first, SuffixTree, Named, expr_tree, suffix_tree, written, operator_kind, mark, mark_at, ident, expr, cond, map}
 use Rattle.dsl_tree.specs.declared.expr.Expr.TheViews
 use Rattle.dsl_tree.specs.Views.{At}
 use Rattle.dsl_tree.specs.Written.{at}

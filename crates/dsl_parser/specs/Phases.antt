@@ -1,6 +1,7 @@
 -- What the readers of phases ensure. A phase that has no block of phases is read whole; of a
 -- composition first what stands before its block.
-use Rattle.dsl_parser.specs.Terms.{◌≡◌, ◌≢◌, ◌<◌, ◌≤◌, ℕ, List, [], ◌∷◌, ◌++◌, length, map, Result, Ok, Err, Place, Stop, Memory, Token, TokenKind, MarkKind, ActorWord, SerialWord, ParallelWord, OneOfWord, Ident, CompKind, InvokeHead, Phase, row_of, word_code, Part, Forest, nil, seen, bare, sub, phase_tree, argument_tree}
+use Rattle.std.specs.Prelude.{◌≡◌, ◌≢◌, ◌<◌, ◌≤◌, ◌∷◌, ◌++◌}
+use Rattle.dsl_parser.specs.Terms.{ℕ, List, [], length, map, Result, Ok, Err, Place, Stop, Memory, Token, TokenKind, MarkKind, ActorWord, SerialWord, ParallelWord, OneOfWord, Ident, CompKind, InvokeHead, Phase, row_of, word_code, Part, Forest, nil, seen, bare, sub, phase_tree, argument_tree}
 use Rattle.dsl_tree.specs.Written as written
 use Rattle.dsl_tree.specs.WrittenPhases as phases
 use Rattle.dsl_parser.specs.Cursor.{at, name_token}

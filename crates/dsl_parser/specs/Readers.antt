@@ -1,5 +1,6 @@
 -- What parts are written as that the trees have no type of their own for.
-use Rattle.dsl_parser.specs.Terms.{ℕ, List, [], ◌∷◌, ◌++◌, Option, Some, None, Ident, PathHead, Token, TokenKind, MarkKind, ItWord, ActorWord, word_code, physical_code, text_code, Forest, nil, mark, ident}
+use Rattle.std.specs.Prelude.{◌∷◌, ◌++◌}
+use Rattle.dsl_parser.specs.Terms.{ℕ, List, [], Option, Some, None, Ident, PathHead, Token, TokenKind, MarkKind, ItWord, ActorWord, word_code, physical_code, text_code, Forest, nil, mark, ident}
 use Rattle.dsl_parser.specs.Cursor.{at, name_token, numbers}
 use Rattle.dsl_parser.specs.Descent.{names}
 

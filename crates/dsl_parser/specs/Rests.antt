@@ -1,5 +1,6 @@
 -- What is left of rules after their beginning, and what this is written as.
-use Rattle.dsl_parser.specs.Terms.{ℕ, zero, suc, List, [], ◌∷◌, drop, Option, Some, None, Place, Signed, MarkKind, WordKind, TypeWord, UnitWord, StructWord, ActorWord, ActionWord, ScenarioWord, word_code, si_text, Part, Symbol, rules, Forest, nil, sub, wrong, known_name, signed, bases_end, factor_tail, unit_end, ◌≡◌, ◌≢◌, ◌<◌, length, Result, Ok, Err, Stop, Memory, Token, BasePart, factor_text, mark, base, offset_end, unit_tail}
+use Rattle.std.specs.Prelude.{◌∷◌, ◌≡◌, ◌≢◌, ◌<◌}
+use Rattle.dsl_parser.specs.Terms.{ℕ, zero, suc, List, [], drop, Option, Some, None, Place, Signed, MarkKind, WordKind, TypeWord, UnitWord, StructWord, ActorWord, ActionWord, ScenarioWord, word_code, si_text, Part, Symbol, rules, Forest, nil, sub, wrong, known_name, signed, bases_end, factor_tail, unit_end, length, Result, Ok, Err, Stop, Memory, Token, BasePart, factor_text, mark, base, offset_end, unit_tail}
 use Rattle.dsl_tree.specs.Written as written
 use Rattle.dsl_tree.specs.WrittenFile as file
 use Rattle.dsl_parser.specs.Descent.{read}

@@ -1,5 +1,6 @@
 -- What readers of rows of items ensure.
-use Rattle.dsl_parser.specs.Terms.{◌≡◌, ◌≢◌, ◌<◌, ℕ, List, [], ◌∷◌, ◌++◌, length, true, false, Option, Some, None, Result, Ok, Err, Stop, Memory, Token, Part, Of, rules, Forest, nil, wrong, sub, empty, opened, block_end}
+use Rattle.std.specs.Prelude.{◌≡◌, ◌≢◌, ◌<◌, ◌∷◌, ◌++◌}
+use Rattle.dsl_parser.specs.Terms.{ℕ, List, [], length, true, false, Option, Some, None, Result, Ok, Err, Stop, Memory, Token, Part, Of, rules, Forest, nil, wrong, sub, empty, opened, block_end}
 use Rattle.dsl_parser.specs.Descent.{read, is_arguments, optional}
 
 -- What is left of a row is the part p. One more item was read, and what is left after it is again p.

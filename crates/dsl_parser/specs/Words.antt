@@ -1,5 +1,5 @@
 -- The words of the definitions, for contracts and proofs, in one place.
-pub use Rattle.dsl_parser.specs.Terms.{ActorWord, AnyRule, Argument, At, Bare, BasePart, Built, CanBegin, CompoundDecl, CompoundKind, Digits, Ended, Err, Expr, ExprTree, Fault, File, FileTree, FirstFault, Follows, Forest, Further, FurtherTree, Heir, Ident, IfErr, IfNone, IfOk, IfSome, Import, InvokeHead, InvokePart, IsErr, IsErrAnd, List, MarkKind, Member, Memory, NotTaken, Of, Ok, OnStop, Operator, Parsed, Part, PartFault, PathHead, Phase, PhaseTree, Place, QName, RelationSign, RowFault, RuleDecl, Seen, Spelled, Spells, Starts, Stop, Stops, Suffix, SuffixTree, Symbol, Taken, Token, TokenKind, Whole, WordKind, [], argument_tree, bare, body, code, compound_heading, compound_tree, declaration_tree, dedent, digits, dotted_names, drop, empties, empty, expr, expr_tree, factor_text, false, fault_code, field_end, field_tree, file, file_tree, first, firsts, further_tree, grouped, has, head_tree, ident, indent, indexed_row, initial, length, level, lifted, listed_tail, map, mark, mark_at, mark_code, max, member_tree, name_code, named_row, nat_lt, newline, next_part, nil, offset_text, operator_kind, option_map, optional_heir, part_tree, path, path_row, path_tree, phase_tree, physical_code, qualified_name, raised, refl, row_of, rule_tree, rules, seen, si_text, sign_kind, slice_get, small_number, sound, starts, sub, subset, suffix_tree, text_code, true, unit_end, unit_tail, void, with_suffixes, word, word_at, word_code, written, wrong, ◌<◌, ◌∷◌, ◌≡◌, ◌≢◌, ◌≤◌}
+pub use Rattle.dsl_parser.specs.Terms.{ActorWord, AnyRule, Argument, At, Bare, BasePart, Built, CanBegin, CompoundDecl, CompoundKind, Digits, Ended, Err, Expr, ExprTree, Fault, File, FileTree, FirstFault, Follows, Forest, Further, FurtherTree, Heir, Ident, IfErr, IfNone, IfOk, IfSome, Import, InvokeHead, InvokePart, IsErr, IsErrAnd, List, MarkKind, Member, Memory, NotTaken, Of, Ok, OnStop, Operator, Parsed, Part, PartFault, PathHead, Phase, PhaseTree, Place, QName, RelationSign, RowFault, RuleDecl, Seen, Spelled, Spells, Starts, Stop, Stops, Suffix, SuffixTree, Symbol, Taken, Token, TokenKind, Whole, WordKind, [], argument_tree, bare, body, code, compound_heading, compound_tree, declaration_tree, dedent, digits, dotted_names, drop, empties, empty, expr, expr_tree, factor_text, false, fault_code, field_end, field_tree, file, file_tree, first, firsts, further_tree, grouped, has, head_tree, ident, indent, indexed_row, initial, length, level, lifted, listed_tail, map, mark, mark_at, mark_code, max, member_tree, name_code, named_row, nat_lt, newline, next_part, nil, offset_text, operator_kind, option_map, optional_heir, part_tree, path, path_row, path_tree, phase_tree, physical_code, qualified_name, raised, refl, row_of, rule_tree, rules, seen, si_text, sign_kind, slice_get, small_number, sound, starts, sub, subset, suffix_tree, text_code, true, unit_end, unit_tail, void, with_suffixes, word, word_at, word_code, written, wrong}
 pub use Rattle.dsl_parser.specs.Answers.{HasDeadToken, HasViableFront}
 pub use Rattle.dsl_parser.specs.Arguments.{HasMore, IsNamed, IsPlain, arguments_of}
 pub use Rattle.dsl_parser.specs.Cursor.{at, name_token, kind_of, numbers, sign_codes, base_names, number_token, physical_token, text_token, whole_numbers}

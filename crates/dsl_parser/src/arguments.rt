@@ -1,6 +1,7 @@
 //! Arguments.
 
-ghost use Rattle.dsl_parser.specs.Words.{◌≡◌, ◌<◌, length, map, true, false, IfOk, Part, argument_tree, read, begins_label as has_label, Gives, HasMore, IsPlain, IsNamed, IsNext};
+ghost use Rattle.std.specs.Prelude.{◌≡◌, ◌<◌};
+ghost use Rattle.dsl_parser.specs.Words.{length, map, true, false, IfOk, Part, argument_tree, read, begins_label as has_label, Gives, HasMore, IsPlain, IsNamed, IsNext};
 ghost use Rattle.dsl_tree.specs.WrittenPhases as written;
 
 use crate::expressions::expr;

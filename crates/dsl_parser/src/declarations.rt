@@ -1,6 +1,7 @@
 //! Declarations and extensions.
 
-ghost use Rattle.dsl_parser.specs.Words.{◌≡◌, map, true, false, refl, IfOk, Part, compound_tree, declaration_tree, take, read, in_row, Gives, is_plain, compound_token, written_extension, plain_codes, owned_codes, rule_at, starts, first, unit_codes, IsNext};
+ghost use Rattle.std.specs.Prelude.{◌≡◌};
+ghost use Rattle.dsl_parser.specs.Words.{map, true, false, refl, IfOk, Part, compound_tree, declaration_tree, take, read, in_row, Gives, is_plain, compound_token, written_extension, plain_codes, owned_codes, rule_at, starts, first, unit_codes, IsNext};
 ghost use Rattle.dsl_tree.specs.WrittenFile as written;
 
 use crate::members::{body, members};

@@ -3,7 +3,8 @@
 //! Each part of the grammar has its reader; those of the four rows of operators are one, by the level
 //! of the row. What stands in a row is read by a loop, so that calls nest only as brackets do.
 
-ghost use Rattle.dsl_parser.specs.Words.{◌≡◌, ◌≢◌, ◌<◌, ◌≤◌, [], ◌∷◌, length, Err, IfOk, IfErr, Memory, MarkKind, nil, sub, Part, first, starts, expr_tree, read, in_row, Gives, at_level, row_part, row_level, item_part, item_level, tail_part, tail_of, suffix_of, suffixes_of, items_of, rule_at, IsRow};
+ghost use Rattle.std.specs.Prelude.{◌≡◌, ◌≢◌, ◌<◌, ◌≤◌, ◌∷◌};
+ghost use Rattle.dsl_parser.specs.Words.{[], length, Err, IfOk, IfErr, Memory, MarkKind, nil, sub, Part, first, starts, expr_tree, read, in_row, Gives, at_level, row_part, row_level, item_part, item_level, tail_part, tail_of, suffix_of, suffixes_of, items_of, rule_at, IsRow};
 ghost use Rattle.dsl_tree.specs.Written as written;
 ghost use Rattle.dsl_parser.specs.Levels as level;
 

@@ -1,6 +1,7 @@
 //! Imports.
 
-ghost use Rattle.dsl_parser.specs.Words.{◌≡◌, ◌≢◌, refl, Err, IfOk, IfErr, Memory, Import, Part, dotted_names, read, in_row, Gives, rule_at, IsNext, IsRow};
+ghost use Rattle.std.specs.Prelude.{◌≡◌, ◌≢◌};
+ghost use Rattle.dsl_parser.specs.Words.{refl, Err, IfOk, IfErr, Memory, Import, Part, dotted_names, read, in_row, Gives, rule_at, IsNext, IsRow};
 ghost use Rattle.dsl_tree.specs.WrittenFile as written;
 
 use crate::rows::{Item, items, row_of};

@@ -1,6 +1,7 @@
 //! Invocations after their head: arguments, and the block of rules and modifiers.
 
-ghost use Rattle.dsl_parser.specs.Words.{◌≡◌, map, refl, Part, argument_tree, part_tree, read, in_row, Gives, rule_at};
+ghost use Rattle.std.specs.Prelude.{◌≡◌};
+ghost use Rattle.dsl_parser.specs.Words.{map, refl, Part, argument_tree, part_tree, read, in_row, Gives, rule_at};
 ghost use Rattle.dsl_tree.specs.WrittenPhases as written;
 
 use crate::arguments::arguments;

@@ -1,6 +1,7 @@
 //! The rows of operators, by their level, and rows of suffixes.
 
-ghost use Rattle.dsl_parser.specs.Words.{◌≡◌, true, false, IfSome, IfNone, TokenKind, code, has, mark_code, Part, first, starts, operator_kind, sign_kind, at, Tries, operators, row_node, post_node, suffix_tree, is_named, ends_named, map};
+ghost use Rattle.std.specs.Prelude.{◌≡◌};
+ghost use Rattle.dsl_parser.specs.Words.{true, false, IfSome, IfNone, TokenKind, code, has, mark_code, Part, first, starts, operator_kind, sign_kind, at, Tries, operators, row_node, post_node, suffix_tree, is_named, ends_named, map};
 
 use crate::signs::Sign::{Mark, Word};
 use crate::tokens::Cursor;

@@ -1,6 +1,7 @@
 //! Members of types, and their blocks.
 
-ghost use Rattle.dsl_parser.specs.Words.{◌≡◌, ◌<◌, length, map, refl, IfOk, Part, field_tree, member_tree, read, in_row, Gives, written_field_rest, rule_at, rest_at, ◌∷◌, drop, IsNext};
+ghost use Rattle.std.specs.Prelude.{◌≡◌, ◌<◌, ◌∷◌};
+ghost use Rattle.dsl_parser.specs.Words.{length, map, refl, IfOk, Part, field_tree, member_tree, read, in_row, Gives, written_field_rest, rule_at, rest_at, drop, IsNext};
 ghost use Rattle.dsl_tree.specs.WrittenFile as written;
 
 use crate::phases::phase;

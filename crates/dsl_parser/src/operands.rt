@@ -1,6 +1,7 @@
 //! Operands of a token or two.
 
-ghost use Rattle.dsl_parser.specs.Words.{◌≡◌, [], ◌∷◌, true, false, IfSome, IfNone, code, has, nil, seen, sub, Part, starts, ident, read, in_row, Gives, at_level, bracket_codes, truth_codes, value_codes, enum_member as member_forest, rule_at};
+ghost use Rattle.std.specs.Prelude.{◌≡◌, ◌∷◌};
+ghost use Rattle.dsl_parser.specs.Words.{[], true, false, IfSome, IfNone, code, has, nil, seen, sub, Part, starts, ident, read, in_row, Gives, at_level, bracket_codes, truth_codes, value_codes, enum_member as member_forest, rule_at};
 
 use crate::signs::Sign::Mark;
 use crate::stop::Stop;

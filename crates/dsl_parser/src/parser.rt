@@ -1,4 +1,5 @@
-ghost use Rattle.dsl_parser.specs.Words.{◌≡◌, IfOk, IfErr, FileTree, Part, PartFault, file_tree, Ended, Spelled, FirstFault, fault_code, OnStop, HasViableFront, HasDeadToken, ◌≢◌, [], Ok, Err, Memory, read, file as file_forest};
+ghost use Rattle.std.specs.Prelude.{◌≡◌, ◌≢◌};
+ghost use Rattle.dsl_parser.specs.Words.{IfOk, IfErr, FileTree, Part, PartFault, file_tree, Ended, Spelled, FirstFault, fault_code, OnStop, HasViableFront, HasDeadToken, [], Ok, Err, Memory, read, file as file_forest};
 
 use crate::declarations::declarations;
 use crate::imports::imports;

@@ -1,6 +1,7 @@
 //! Phases of a behaviour. They nest in the blocks of compositions.
 
-ghost use Rattle.dsl_parser.specs.Words.{◌≡◌, ◌≢◌, [], ◌∷◌, map, Err, IfOk, IfErr, Memory, Part, PhaseTree, row_of, starts, phase_tree, expr_tree, argument_tree, part_tree, take, read, in_row, Gives, composition_codes, composition_token, core_of, behind_label, behind_name, invoke_codes, invoke_token, label_rest, name_rest, phases_rest, IsStarted, IsHeaded, rest_at, IsRow, first};
+ghost use Rattle.std.specs.Prelude.{◌≡◌, ◌≢◌, ◌∷◌};
+ghost use Rattle.dsl_parser.specs.Words.{[], map, Err, IfOk, IfErr, Memory, Part, PhaseTree, row_of, starts, phase_tree, expr_tree, argument_tree, part_tree, take, read, in_row, Gives, composition_codes, composition_token, core_of, behind_label, behind_name, invoke_codes, invoke_token, label_rest, name_rest, phases_rest, IsStarted, IsHeaded, rest_at, IsRow, first};
 ghost use Rattle.dsl_tree.specs.WrittenPhases as written;
 
 use crate::expressions::expr;

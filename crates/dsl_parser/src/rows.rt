@@ -1,6 +1,7 @@
 //! Rows of items.
 
-ghost use Rattle.dsl_parser.specs.Words.{◌≡◌, ◌≢◌, ◌<◌, [], ◌∷◌, List, length, drop, Err, IfOk, IfErr, Memory, Part, Of, newline, indent, dedent, Forest, first, starts, read, in_row, Gives, IsNext, IsRow, in_block, IsItemRow};
+ghost use Rattle.std.specs.Prelude.{◌≡◌, ◌≢◌, ◌<◌, ◌∷◌};
+ghost use Rattle.dsl_parser.specs.Words.{[], List, length, drop, Err, IfOk, IfErr, Memory, Part, Of, newline, indent, dedent, Forest, first, starts, read, in_row, Gives, IsNext, IsRow, in_block, IsItemRow};
 
 use crate::signs::Sign;
 use crate::stop::Stop;

@@ -1,6 +1,7 @@
 //! Rules: `keep` and `remove_default`.
 
-ghost use Rattle.dsl_parser.specs.Words.{◌≡◌, map, option_map, refl, Ok, Part, expr_tree, rule_tree, initial, field_end, read, in_row, Gives, rule_at, path as path_forest, path_tree, take, head_token, head_codes};
+ghost use Rattle.std.specs.Prelude.{◌≡◌};
+ghost use Rattle.dsl_parser.specs.Words.{map, option_map, refl, Ok, Part, expr_tree, rule_tree, initial, field_end, read, in_row, Gives, rule_at, path as path_forest, path_tree, take, head_token, head_codes};
 ghost use Rattle.dsl_tree.specs.WrittenPhases as written;
 
 use crate::expressions::{expr, suffixes};

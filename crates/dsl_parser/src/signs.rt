@@ -1,6 +1,7 @@
 //! The tokens that are one kind each: marks, words, the names that the grammar knows, and the layout.
 
-ghost use Rattle.dsl_parser.specs.Words.{◌≡◌, [], ◌∷◌, true, TokenKind, code, has, mark_code, word_code, name_code, si_text, factor_text, offset_text, kind_of, sign_codes};
+ghost use Rattle.std.specs.Prelude.{◌≡◌, ◌∷◌};
+ghost use Rattle.dsl_parser.specs.Words.{[], true, TokenKind, code, has, mark_code, word_code, name_code, si_text, factor_text, offset_text, kind_of, sign_codes};
 
 use dsl_tree::{MarkKind, TokenKind, WordKind};
 

@@ -2,7 +2,8 @@
 //!
 //! If the first token is another one, `take..` returns none, and `expect..` a stop.
 
-ghost use Rattle.dsl_parser.specs.Words.{◌≡◌, [], ◌∷◌, length, false, Stop, TokenKind, code, small_number, text_code, physical_code, starts, Ended, take, names, Gives, Tries, at, kind_of, sign_codes, name_token, number_token, numbers, whole_numbers, base_names, text_token, physical_token};
+ghost use Rattle.std.specs.Prelude.{◌≡◌, ◌∷◌};
+ghost use Rattle.dsl_parser.specs.Words.{[], length, false, Stop, TokenKind, code, small_number, text_code, physical_code, starts, Ended, take, names, Gives, Tries, at, kind_of, sign_codes, name_token, number_token, numbers, whole_numbers, base_names, text_token, physical_token};
 
 use crate::signs::{Sign, is_sign};
 use crate::stop::Stop;

@@ -1,6 +1,7 @@
 //! Declarations of physical types and units.
 
-ghost use Rattle.dsl_parser.specs.Words.{◌≡◌, ◌≢◌, [], ◌∷◌, Ok, Err, IfOk, IfErr, Memory, Part, nil, sub, digits, read, in_row, Gives, optional_dash, rule_at, rest_at, IsNext, IsRow, IsUnitNext, IsUnitMore, written_tail};
+ghost use Rattle.std.specs.Prelude.{◌≡◌, ◌≢◌, ◌∷◌};
+ghost use Rattle.dsl_parser.specs.Words.{[], Ok, Err, IfOk, IfErr, Memory, Part, nil, sub, digits, read, in_row, Gives, optional_dash, rule_at, rest_at, IsNext, IsRow, IsUnitNext, IsUnitMore, written_tail};
 ghost use Rattle.dsl_tree.specs.WrittenFile as written;
 ghost use Rattle.dsl_parser.specs.Rests as rest;
 

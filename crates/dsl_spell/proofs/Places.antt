@@ -1,8 +1,8 @@
 -- What is written of an expression in its place, and of rows.
-use Rattle.std.proofs.Common.{◌≡◌, ◌⊎◌, inl, inr, ℕ, zero, suc, ◌-◌, ◌+◌, ◌<◌, ◌≤◌, length, drop, get_or, List, [], ◌∷◌, Bool, true, false, cond, map, refl, sym, ◌∙◌, ap, subst, Option, Some, None}
+use Rattle.std.proofs.Common.{◌==◌, ◌||◌, ◌≡◌, ◌⊎◌, inl, inr, ℕ, zero, suc, ◌-◌, ◌+◌, ◌<◌, ◌≤◌, length, drop, get_or, List, [], ◌∷◌, Bool, true, false, cond, map, refl, sym, ◌∙◌, ap, subst, Option, Some, None}
 use Rattle.std.proofs.lemmas.List.{drop_more}
 use Rattle.std.proofs.Math.ListN.{drop_of_length-le}
-use Rattle.dsl_spell.specs.Writing.{nat_lt, ◌==◌, ◌||◌, Place, TokenKind, MarkKind, Expr, Operator, Suffix, Further, ExprTree, row_of, FurtherTree, SuffixTree, Named, At, grouped, with_suffixes, named_row, indexed_row, expr_tree, suffix_tree, further_tree, path_row, head_tree, argument_tree, phase_tree, Forest, nil, sub, wrong, operator_kind, level, raised, at, next_part, next_name, next_index, written, listed, listed_tail, expr, mark, path, Ident, PathHead, Argument, Phase, ArgumentTree, dotted_names, named_tail, arguments, arguments_tail, invocation_arguments, phase, block_phases, phases_tail, BasePart, base, bases_tail, unit_tail, unit_bases, Writer, put, wrote, Whole, Writes, Fills, Joins, Steps, further_tail, suffix_tail, label_of, argument_of, comma_row}
+use Rattle.dsl_spell.specs.Writing.{nat_lt, Place, TokenKind, MarkKind, Expr, Operator, Suffix, Further, ExprTree, row_of, FurtherTree, SuffixTree, Named, At, grouped, with_suffixes, named_row, indexed_row, expr_tree, suffix_tree, further_tree, path_row, head_tree, argument_tree, phase_tree, Forest, nil, sub, wrong, operator_kind, level, raised, at, next_part, next_name, next_index, written, listed, listed_tail, expr, mark, path, Ident, PathHead, Argument, Phase, ArgumentTree, dotted_names, named_tail, arguments, arguments_tail, invocation_arguments, phase, block_phases, phases_tail, BasePart, base, bases_tail, unit_tail, unit_bases, Writer, put, wrote, Whole, Writes, Fills, Joins, Steps, further_tail, suffix_tail, label_of, argument_of, comma_row}
 use Rattle.dsl_tree.proofs.{Seen.seen_or, Seen.seen_and, Seen.seen_sum, Seen.seen_product, Seen.seen_dot, Seen.seen_index, Seen.seen_further, WrittenRows.or_own, WrittenRows.and_own, WrittenRows.sum_own, WrittenRows.product_own, WrittenRows.post_own, WrittenRows.path_of_row, WrittenRows.front_of_row}
 use Rattle.dsl_tree.specs.PhaseTree.{row_of as phase_row}
 use Rattle.dsl_tree.specs.declared.expr.Expr.TheViews

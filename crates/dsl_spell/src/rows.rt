@@ -1,4 +1,5 @@
-ghost use Rattle.dsl_spell.specs.Writing.{◌≡◌, [], List, OnOk, Forest, nil, Writes, Steps, comma_row, with_rows};
+ghost use Rattle.std.specs.Prelude.{◌≡◌};
+ghost use Rattle.dsl_spell.specs.Writing.{[], List, OnOk, Forest, nil, Writes, Steps, comma_row, with_rows};
 
 use crate::writer::{Writer, bare, bare_word, closed, line_end, opened};
 use dsl_tree::{MarkKind, WordKind};

@@ -1,4 +1,5 @@
-ghost use Rattle.dsl_spell.specs.Writing.{◌≡◌, map, OnOk, row_of, nil, operator_kind, sign_kind, truth_word, written, listed, mark as bare_mark, ident, expr_tree, suffix_tree, further_tree, put, wrote, Writes, Fills, Joins, Steps, suffix_tail};
+ghost use Rattle.std.specs.Prelude.{◌≡◌};
+ghost use Rattle.dsl_spell.specs.Writing.{map, OnOk, row_of, nil, operator_kind, sign_kind, truth_word, written, listed, mark as bare_mark, ident, expr_tree, suffix_tree, further_tree, put, wrote, Writes, Fills, Joins, Steps, suffix_tail};
 
 use crate::writer::{Writer, bare, digits, mark, name, push, word};
 use dsl_tree::{

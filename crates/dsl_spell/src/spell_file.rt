@@ -1,4 +1,5 @@
-ghost use Rattle.dsl_spell.specs.Writing.{◌≡◌, [], map, option_map, refl, OnOk, Import, nil, ident, imports, signed, base, bases_tail, type_declaration, unit_end, unit_bases, unit_declaration, enum_item, items_tail, enum_items, enum_declaration, qualified_name, optional_heir, names_tail, field_type, initial, field, member, members_tail, block, body, compound_heading, declaration, declarations, expr_tree, field_tree, member_tree, compound_tree, more_tree, declaration_tree, DeclarationTree, put, wrote, Writes};
+ghost use Rattle.std.specs.Prelude.{◌≡◌};
+ghost use Rattle.dsl_spell.specs.Writing.{[], map, option_map, refl, OnOk, Import, nil, ident, imports, signed, base, bases_tail, type_declaration, unit_end, unit_bases, unit_declaration, enum_item, items_tail, enum_items, enum_declaration, qualified_name, optional_heir, names_tail, field_type, initial, field, member, members_tail, block, body, compound_heading, declaration, declarations, expr_tree, field_tree, member_tree, compound_tree, more_tree, declaration_tree, DeclarationTree, put, wrote, Writes};
 
 use crate::rows::{Item, Next, push_commas, push_rest, push_with};
 use crate::spell_expr::{chars, enum_name, push_expr, truth};

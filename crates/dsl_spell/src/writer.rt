@@ -1,4 +1,5 @@
-ghost use Rattle.dsl_spell.specs.Writing.{◌≡◌, OnOk, put};
+ghost use Rattle.std.specs.Prelude.{◌≡◌};
+ghost use Rattle.dsl_spell.specs.Writing.{OnOk, put};
 
 use dsl_tree::{Digits, Ident, MarkKind, Token, TokenKind, Tokens, WordKind};
 use osc_base::{Place, Text};
