@@ -4,6 +4,7 @@ pub mod Tables
 pub mod Fitting
 pub mod Fronts
 pub mod Numbers
+pub mod DecimalParts
 pub mod Stamps
 pub mod Cutting
 pub mod Opened

@@ -6,7 +6,7 @@ ghost use Rattle.dsl_lexer.specs.Kinds as kinds_of;
 ghost use Rattle.dsl_lexer.specs.Room.{HasRoom};
 ghost use Rattle.dsl_lexer.specs.Steps as steps;
 ghost use Rattle.dsl_lexer.specs.Progress.{CanTake, CanTakeFront, Valid, Reached, Gives, GivesStop};
-ghost use Rattle.dsl_lexer.specs.Laws.{OneList, CutOrFault, CutOrFirstFault, OneFault, EndIsLast, OpenedLaw, CharsLaw};
+ghost use Rattle.dsl_lexer.specs.Laws.{OneList, CutOrFault, CutOrFirstFault, OneFault, EndIsLast, OpenedLaw, CharsLaw, DecimalLaw, HexadecimalLaw};
 ghost use Rattle.osc_base.specs.Stops.{OnStop};
 ghost use Rattle.dsl_lexer.specs.SourceTokens.{TokensCut, IsFirstFault, IsUncut, EndsOnce};
 
@@ -250,7 +250,8 @@ pub fn lex(alloc: Global, file: u32, bytes: &[u8]) -> Result<Tokens, LexStop>
 }
 
 /// At most one token list cuts some bytes. If one does, there is no fault. If none does, there is a first fault, and at
-/// most one. END is the last token. The list of the opened widths and the text of a string are what they are said to be.
+/// most one. END is the last token. The list of the opened widths, the text of a string and the parts of a number are what they are
+/// said to be.
 pub fn laws()
     ensures one_list { OneList }
     ensures cut_or_fault { CutOrFault }
@@ -259,4 +260,6 @@ pub fn laws()
     ensures end_is_last { EndIsLast }
     ensures opened_widths { OpenedLaw }
     ensures chars { CharsLaw }
+    ensures decimal { DecimalLaw }
+    ensures hexadecimal { HexadecimalLaw }
 {}

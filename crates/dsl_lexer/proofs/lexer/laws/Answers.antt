@@ -1,5 +1,6 @@
 use Rattle.dsl_lexer.proofs.LawProofs as laws
 use Rattle.dsl_lexer.proofs.Inside.{chars_law}
+use Rattle.dsl_lexer.proofs.DecimalParts.{decimal_law, hexadecimal_law}
 use Rattle.dsl_lexer.proofs.Total.{cut_or_first_fault}
 use Rattle.dsl_lexer.proofs.lexer.laws.Goals as goal
 
@@ -23,3 +24,9 @@ returns-clause-chars c = chars_law
 
 pub returns-clause-cut_or_first_fault : goal.returns-clause-cut_or_first_fault
 returns-clause-cut_or_first_fault c = cut_or_first_fault
+
+pub returns-clause-decimal : goal.returns-clause-decimal
+returns-clause-decimal c = decimal_law
+
+pub returns-clause-hexadecimal : goal.returns-clause-hexadecimal
+returns-clause-hexadecimal c = hexadecimal_law
