@@ -10,6 +10,7 @@ pub use Rattle.dsl_tree.specs.PhaseTree.{ArgumentTree}
 pub use Rattle.dsl_tree.specs.Views.{expr_tree, suffix_tree, further_tree, At, FurtherTree, Named, SuffixTree, argument_tree, file_tree, head_tree, phase_tree, comp_tree, compound_tree, declaration_tree, field_tree, grouped, indexed_row, member_tree, more_tree, named_row, part_tree, path_row, path_tree, phase_step, rule_tree, with_suffixes}
 pub use Rattle.dsl_tree.specs.Written.{ident, mark, written, at, expr, listed, next_index, next_name, next_part, operator_kind, path, level, listed_tail, raised, sign_kind, truth_word}
 pub use Rattle.dsl_tree.specs.WrittenFile.{base, bases_tail, file, unit_bases, unit_end, block, body, compound_heading, declaration, declarations, enum_declaration, enum_item, enum_items, field, field_type, imports, initial, items_tail, member, members_tail, names_tail, optional_heir, qualified_name, signed, type_declaration, unit_declaration, unit_tail}
+pub use Rattle.dsl_tree.specs.WrittenTails.{further_tail, suffix_tail}
 pub use Rattle.dsl_tree.specs.WrittenPhases.{dotted_names, block_phases, invocation_arguments, phase, arguments, arguments_tail, block_end, composition_arguments, invocation_rest, modifier, named_tail, newline, parts_tail, phases_tail, rule, rules_tail, with_block}
 pub use Rattle.dsl_tree.specs.declared.expr.{Expr.Expr, Further.Further, Operator.Operator, Suffix.Suffix}
 pub use Rattle.dsl_tree.specs.declared.file.{File.File, Import.Import}
@@ -48,18 +49,9 @@ Writes w f v = Whole f → v ≡ wrote w f
 abbrev pub Fills : Writer → ExprTree → Writer → Type 0
 Fills w t v = (l : ℕ) → Writes w (at l t (written t)) v
 
--- operators and their parts, in places for parts of any level
-abbrev pub further_tail : ℕ → List FurtherTree → Forest
-further_tail l [] = nil
-further_tail l (next ∷ rest) = next_part next.place next.operator (at l next.part (written next.part)) (further_tail l rest)
-
+-- so are operators and their parts
 abbrev pub Joins : Writer → List FurtherTree → Writer → Type 0
 Joins w rest v = (l : ℕ) → Writes w (further_tail l rest) v
-
-abbrev pub suffix_tail : List SuffixTree → Forest
-suffix_tail [] = nil
-suffix_tail (Named name ∷ rest) = next_name name (suffix_tail rest)
-suffix_tail (At place index ∷ rest) = next_index place (expr index) (suffix_tail rest)
 
 -- what is written before the rest of a row
 abbrev pub Steps : {X : Type 0} → (List X → Forest) → X → Writer → Writer → Type 0

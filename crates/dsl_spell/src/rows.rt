@@ -1,7 +1,7 @@
 ghost use Rattle.std.specs.Prelude.{◌≡◌};
 ghost use Rattle.dsl_spell.specs.Writing.{[], List, OnOk, Forest, nil, Writes, Steps, comma_row, with_rows};
 
-use crate::writer::{Writer, bare, bare_word, closed, line_end, opened};
+use crate::writer::Writer;
 use dsl_tree::{MarkKind, WordKind};
 use std::alloc::AllocError;
 
@@ -52,13 +52,13 @@ pub(crate) fn push_with<T: Next>(w: &mut Writer, items: &[T]) -> Result<(), Allo
     ensures { OnOk result (Writes w.old (with_rows T.tail items.now) w.new) }
 {
     match items {
-        [] => line_end(w),
+        [] => w.line_end(),
         [_, ..] => {
-            bare_word(w, WordKind::WithWord)?;
-            bare(w, MarkKind::Colon)?;
-            opened(w)?;
+            w.bare_word(WordKind::WithWord)?;
+            w.bare_mark(MarkKind::Colon)?;
+            w.begin_block()?;
             push_rest(w, items)?;
-            closed(w)
+            w.end_block()
         }
     }
 }

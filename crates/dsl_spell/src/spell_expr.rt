@@ -1,11 +1,10 @@
 ghost use Rattle.std.specs.Prelude.{◌≡◌};
-ghost use Rattle.dsl_spell.specs.Writing.{map, OnOk, row_of, nil, operator_kind, sign_kind, truth_word, written, listed, mark as bare_mark, ident, expr_tree, suffix_tree, further_tree, put, wrote, Writes, Fills, Joins, Steps, suffix_tail};
+ghost use Rattle.dsl_spell.specs.Writing.{map, OnOk, row_of, nil, operator_kind, sign_kind, written, listed, mark, ident, expr_tree, suffix_tree, further_tree, wrote, Writes, Fills, Joins, Steps, suffix_tail};
 
-use crate::writer::{Writer, bare, digits, mark, name, push, word};
+use crate::writer::Writer;
 use dsl_tree::{
     Digits, Expr, Further, Ident, MarkKind, Operator, RelationSign, Suffix, TokenKind, WordKind,
 };
-use osc_base::{Place, Text};
 use std::alloc::AllocError;
 
 fn kind_of_operator(operator: Operator) -> TokenKind
@@ -35,40 +34,12 @@ fn kind_of_sign(sign: RelationSign) -> TokenKind
     }
 }
 
-fn physical(w: &mut Writer, number: &Digits, unit: &Text) -> Result<(), AllocError>
-    ensures { OnOk result (w.new ≡ put w.old number.now.place (TokenKind.Physical number.now.digits number.now.places unit.now)) }
-{
-    let kind = TokenKind::Physical {
-        digits: number.digits,
-        places: number.places,
-        unit: Text::copy(w.alloc, unit.as_str())?,
-    };
-    push(w, number.place, kind)
-}
-
-pub(crate) fn chars(w: &mut Writer, place: Place, text: &Text) -> Result<(), AllocError>
-    ensures { OnOk result (w.new ≡ put w.old place (TokenKind.Chars text.now)) }
-{
-    let text = Text::copy(w.alloc, text.as_str())?;
-    push(w, place, TokenKind::Chars(text))
-}
-
-pub(crate) fn truth(w: &mut Writer, place: Place, value: bool) -> Result<(), AllocError>
-    ensures { OnOk result (w.new ≡ put w.old place (TokenKind.Word (truth_word value))) }
-{
-    if value {
-        word(w, place, WordKind::TrueWord)
-    } else {
-        word(w, place, WordKind::FalseWord)
-    }
-}
-
 pub(crate) fn enum_name(w: &mut Writer, of: &Ident, member: &Ident) -> Result<(), AllocError>
-    ensures { OnOk result (w.new ≡ wrote w.old (ident of.now (bare_mark MarkKind.Bang (ident member.now nil)))) }
+    ensures { OnOk result (w.new ≡ wrote w.old (ident of.now (mark MarkKind.Bang (ident member.now nil)))) }
 {
-    name(w, of)?;
-    bare(w, MarkKind::Bang)?;
-    name(w, member)
+    w.name(of)?;
+    w.bare_mark(MarkKind::Bang)?;
+    w.name(member)
 }
 
 /// An expression.
@@ -86,7 +57,7 @@ fn push_node(w: &mut Writer, tree: &Expr) -> Result<(), AllocError>
     match tree {
         Expr::Implies { place, left, right } => {
             push_expr(w, left.get())?;
-            mark(w, *place, MarkKind::Arrow)?;
+            w.mark(*place, MarkKind::Arrow)?;
             push_expr(w, right.get())
         }
         Expr::Or { first, rest }
@@ -97,7 +68,7 @@ fn push_node(w: &mut Writer, tree: &Expr) -> Result<(), AllocError>
             push_further(w, rest.as_slice())
         }
         Expr::Not { place, part } => {
-            word(w, *place, WordKind::NotWord)?;
+            w.word(*place, WordKind::NotWord)?;
             push_expr(w, part.get())
         }
         Expr::Relation {
@@ -107,48 +78,48 @@ fn push_node(w: &mut Writer, tree: &Expr) -> Result<(), AllocError>
             right,
         } => {
             push_expr(w, left.get())?;
-            push(w, *place, kind_of_sign(*sign))?;
+            w.push(*place, kind_of_sign(*sign))?;
             push_expr(w, right.get())
         }
         Expr::Minus { place, part } => {
-            mark(w, *place, MarkKind::Dash)?;
+            w.mark(*place, MarkKind::Dash)?;
             push_expr(w, part.get())
         }
         Expr::Dot { head, suffixes } | Expr::Index { head, suffixes } => {
             push_expr(w, head.get())?;
             push_suffixes(w, suffixes.as_slice())
         }
-        Expr::Number(number) => digits(w, number),
-        Expr::Physical { number, unit } => physical(w, number, unit),
-        Expr::Chars { place, text } => chars(w, *place, text),
-        Expr::Truth { place, value } => truth(w, *place, *value),
-        Expr::It(place) => word(w, *place, WordKind::ItWord),
-        Expr::Actor(place) => word(w, *place, WordKind::ActorWord),
-        Expr::Name(text) => name(w, text),
+        Expr::Number(number) => w.digits(number),
+        Expr::Physical { number, unit } => w.physical(number, unit),
+        Expr::Chars { place, text } => w.chars(*place, text),
+        Expr::Truth { place, value } => w.truth(*place, *value),
+        Expr::It(place) => w.word(*place, WordKind::ItWord),
+        Expr::Actor(place) => w.word(*place, WordKind::ActorWord),
+        Expr::Name(text) => w.name(text),
         Expr::EnumName { of, member } => enum_name(w, of, member),
         Expr::Group { place, inner } => {
-            mark(w, *place, MarkKind::OpenRound)?;
+            w.mark(*place, MarkKind::OpenRound)?;
             push_expr(w, inner.get())?;
-            bare(w, MarkKind::CloseRound)
+            w.bare_mark(MarkKind::CloseRound)
         }
         Expr::Span { place, low, high } => {
-            mark(w, *place, MarkKind::OpenSquare)?;
+            w.mark(*place, MarkKind::OpenSquare)?;
             push_expr(w, low.get())?;
-            bare(w, MarkKind::TwoDots)?;
+            w.bare_mark(MarkKind::TwoDots)?;
             push_expr(w, high.get())?;
-            bare(w, MarkKind::CloseSquare)
+            w.bare_mark(MarkKind::CloseSquare)
         }
         Expr::Listed { place, items } => {
-            mark(w, *place, MarkKind::OpenSquare)?;
+            w.mark(*place, MarkKind::OpenSquare)?;
             push_items(w, items.as_slice())
         }
         Expr::RangeCall { place, low, high } => {
-            word(w, *place, WordKind::RangeWord)?;
-            bare(w, MarkKind::OpenRound)?;
+            w.word(*place, WordKind::RangeWord)?;
+            w.bare_mark(MarkKind::OpenRound)?;
             push_expr(w, low.get())?;
-            bare(w, MarkKind::Comma)?;
+            w.bare_mark(MarkKind::Comma)?;
             push_expr(w, high.get())?;
-            bare(w, MarkKind::CloseRound)
+            w.bare_mark(MarkKind::CloseRound)
         }
     }
 }
@@ -158,7 +129,7 @@ fn push_further(w: &mut Writer, rest: &[Further]) -> Result<(), AllocError>
     ensures { OnOk result (Joins w.old (map further_tree rest.now) w.new) }
 {
     'parts: for next in rest {
-        push(w, next.place, kind_of_operator(next.operator))?;
+        w.push(next.place, kind_of_operator(next.operator))?;
         push_expr(w, &next.part)?;
     }
     Ok(())
@@ -180,13 +151,13 @@ fn push_suffix(w: &mut Writer, suffix: &Suffix) -> Result<(), AllocError>
 {
     match suffix {
         Suffix::Dot(text) => {
-            bare(w, MarkKind::Dot)?;
-            name(w, text)
+            w.bare_mark(MarkKind::Dot)?;
+            w.name(text)
         }
         Suffix::Index { place, index } => {
-            mark(w, *place, MarkKind::OpenSquare)?;
+            w.mark(*place, MarkKind::OpenSquare)?;
             push_expr(w, index)?;
-            bare(w, MarkKind::CloseSquare)
+            w.bare_mark(MarkKind::CloseSquare)
         }
     }
 }
@@ -201,10 +172,10 @@ fn push_items(w: &mut Writer, items: &[Expr]) -> Result<(), AllocError>
         Some((first, others)) => {
             push_expr(w, first)?;
             'others: for item in others {
-                bare(w, MarkKind::Comma)?;
+                w.bare_mark(MarkKind::Comma)?;
                 push_expr(w, item)?;
             }
-            bare(w, MarkKind::CloseSquare)
+            w.bare_mark(MarkKind::CloseSquare)
         }
     }
 }

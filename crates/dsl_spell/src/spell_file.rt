@@ -1,12 +1,10 @@
 ghost use Rattle.std.specs.Prelude.{◌≡◌};
-ghost use Rattle.dsl_spell.specs.Writing.{[], map, option_map, refl, OnOk, Import, nil, ident, imports, signed, base, bases_tail, type_declaration, unit_end, unit_bases, unit_declaration, enum_item, items_tail, enum_items, enum_declaration, qualified_name, optional_heir, names_tail, field_type, initial, field, member, members_tail, block, body, compound_heading, declaration, declarations, expr_tree, field_tree, member_tree, compound_tree, more_tree, declaration_tree, DeclarationTree, put, wrote, Writes};
+ghost use Rattle.dsl_spell.specs.Writing.{[], map, option_map, refl, OnOk, Import, nil, ident, imports, signed, base, bases_tail, type_declaration, unit_end, unit_bases, unit_declaration, enum_item, items_tail, enum_items, enum_declaration, qualified_name, optional_heir, names_tail, field_type, initial, field, member, members_tail, block, body, compound_heading, declaration, declarations, expr_tree, field_tree, member_tree, compound_tree, more_tree, declaration_tree, DeclarationTree, wrote, Writes};
 
 use crate::rows::{Item, Next, push_commas, push_rest, push_with};
-use crate::spell_expr::{chars, enum_name, push_expr, truth};
+use crate::spell_expr::{enum_name, push_expr};
 use crate::spell_phase::{push_dotted, push_phase, push_rule};
-use crate::writer::{
-    Writer, bare, bare_word, closed, digits, line_end, mark, name, opened, push, word,
-};
+use crate::writer::Writer;
 use dsl_tree::{
     BasePart, CompoundDecl, CompoundKind, ConditionValue, Declaration, EnumDecl, EnumExtension,
     EnumItem, Expr, FieldDecl, Heir, Ident, Import, MarkKind, Member, MemberExtension,
@@ -23,18 +21,18 @@ impl Next for Import {
     ghost ends = { refl };
 
     fn next(&self, w: &mut Writer) -> Result<(), AllocError> {
-        bare_word(w, WordKind::ImportWord)?;
+        w.bare_word(WordKind::ImportWord)?;
         match self {
             Import::Named { place, name } => {
-                chars(w, *place, name)?;
-                line_end(w)
+                w.chars(*place, name)?;
+                w.line_end()
             }
             Import::Dotted { names } => match names.as_slice().split_first() {
                 None => Ok(()),
                 Some((first, others)) => {
-                    name(w, first)?;
+                    w.name(first)?;
                     push_dotted(w, others)?;
-                    line_end(w)
+                    w.line_end()
                 }
             },
         }
@@ -47,9 +45,9 @@ fn push_signed(w: &mut Writer, number: &Signed) -> Result<(), AllocError>
     ensures { OnOk result (Writes w.old (signed number.now) w.new) }
 {
     if number.minus {
-        mark(w, number.place, MarkKind::Dash)?;
+        w.mark(number.place, MarkKind::Dash)?;
     }
-    digits(w, &number.number)
+    w.digits(&number.number)
 }
 
 impl Next for BasePart {
@@ -58,7 +56,7 @@ impl Next for BasePart {
     ghost ends = { refl };
 
     fn next(&self, w: &mut Writer) -> Result<(), AllocError> {
-        bare(w, MarkKind::Comma)?;
+        w.bare_mark(MarkKind::Comma)?;
         self.item(w)
     }
 }
@@ -67,51 +65,42 @@ impl Item for BasePart {
     ghost item = { base };
 
     fn item(&self, w: &mut Writer) -> Result<(), AllocError> {
-        name(w, &self.name)?;
-        bare(w, MarkKind::Colon)?;
+        w.name(&self.name)?;
+        w.bare_mark(MarkKind::Colon)?;
         push_signed(w, &self.exponent)
     }
-}
-
-/// A name whose place the tree doesn't hold.
-fn known(w: &mut Writer, text: &str) -> Result<(), AllocError>
-    ensures { OnOk result (w.new ≡ put w.old w.old.at (TokenKind.Name text.now)) }
-{
-    let kind = TokenKind::Name(Text::copy(w.alloc, text)?);
-    let at = w.at;
-    push(w, at, kind)
 }
 
 fn push_type(w: &mut Writer, decl: &PhysicalDecl) -> Result<(), AllocError>
     ensures { OnOk result (Writes w.old (type_declaration decl.now) w.new) }
 {
-    word(w, decl.place, WordKind::TypeWord)?;
-    name(w, &decl.name)?;
-    bare_word(w, WordKind::IsWord)?;
-    known(w, "SI")?;
-    bare(w, MarkKind::OpenRound)?;
+    w.word(decl.place, WordKind::TypeWord)?;
+    w.name(&decl.name)?;
+    w.bare_word(WordKind::IsWord)?;
+    w.bare_name("SI")?;
+    w.bare_mark(MarkKind::OpenRound)?;
     push_commas(w, decl.bases.as_slice())?;
-    bare(w, MarkKind::CloseRound)?;
-    line_end(w)
+    w.bare_mark(MarkKind::CloseRound)?;
+    w.line_end()
 }
 
 fn push_unit_end(w: &mut Writer, decl: &UnitDecl) -> Result<(), AllocError>
     ensures { OnOk result (Writes w.old (unit_end decl.now.factor decl.now.offset) w.new) }
 {
     if let Some(number) = &decl.factor {
-        bare(w, MarkKind::Comma)?;
-        known(w, "factor")?;
-        bare(w, MarkKind::Colon)?;
+        w.bare_mark(MarkKind::Comma)?;
+        w.bare_name("factor")?;
+        w.bare_mark(MarkKind::Colon)?;
         push_signed(w, number)?;
     }
     if let Some(number) = &decl.offset {
-        bare(w, MarkKind::Comma)?;
-        known(w, "offset")?;
-        bare(w, MarkKind::Colon)?;
+        w.bare_mark(MarkKind::Comma)?;
+        w.bare_name("offset")?;
+        w.bare_mark(MarkKind::Colon)?;
         push_signed(w, number)?;
     }
-    bare(w, MarkKind::CloseRound)?;
-    line_end(w)
+    w.bare_mark(MarkKind::CloseRound)?;
+    w.line_end()
 }
 
 fn push_unit_bases(w: &mut Writer, decl: &UnitDecl) -> Result<(), AllocError>
@@ -124,13 +113,13 @@ fn push_unit_bases(w: &mut Writer, decl: &UnitDecl) -> Result<(), AllocError>
 fn push_unit(w: &mut Writer, decl: &UnitDecl) -> Result<(), AllocError>
     ensures { OnOk result (Writes w.old (unit_declaration decl.now) w.new) }
 {
-    word(w, decl.place, WordKind::UnitWord)?;
-    name(w, &decl.name)?;
-    bare_word(w, WordKind::OfWord)?;
-    name(w, &decl.of)?;
-    bare_word(w, WordKind::IsWord)?;
-    known(w, "SI")?;
-    bare(w, MarkKind::OpenRound)?;
+    w.word(decl.place, WordKind::UnitWord)?;
+    w.name(&decl.name)?;
+    w.bare_word(WordKind::OfWord)?;
+    w.name(&decl.of)?;
+    w.bare_word(WordKind::IsWord)?;
+    w.bare_name("SI")?;
+    w.bare_mark(MarkKind::OpenRound)?;
     push_unit_bases(w, decl)
 }
 
@@ -142,7 +131,7 @@ impl Next for EnumItem {
     ghost ends = { refl };
 
     fn next(&self, w: &mut Writer) -> Result<(), AllocError> {
-        bare(w, MarkKind::Comma)?;
+        w.bare_mark(MarkKind::Comma)?;
         self.item(w)
     }
 }
@@ -151,10 +140,10 @@ impl Item for EnumItem {
     ghost item = { enum_item };
 
     fn item(&self, w: &mut Writer) -> Result<(), AllocError> {
-        name(w, &self.name)?;
+        w.name(&self.name)?;
         if let Some(number) = &self.number {
-            bare(w, MarkKind::Assign)?;
-            digits(w, number)?;
+            w.bare_mark(MarkKind::Assign)?;
+            w.digits(number)?;
         }
         Ok(())
     }
@@ -163,19 +152,19 @@ impl Item for EnumItem {
 fn push_items(w: &mut Writer, items: &[EnumItem]) -> Result<(), AllocError>
     ensures { OnOk result (Writes w.old (enum_items items.now) w.new) }
 {
-    bare(w, MarkKind::OpenSquare)?;
+    w.bare_mark(MarkKind::OpenSquare)?;
     push_commas(w, items)?;
-    bare(w, MarkKind::CloseSquare)
+    w.bare_mark(MarkKind::CloseSquare)
 }
 
 fn push_enum(w: &mut Writer, decl: &EnumDecl) -> Result<(), AllocError>
     ensures { OnOk result (Writes w.old (enum_declaration decl.now) w.new) }
 {
-    word(w, decl.place, WordKind::EnumWord)?;
-    name(w, &decl.name)?;
-    bare(w, MarkKind::Colon)?;
+    w.word(decl.place, WordKind::EnumWord)?;
+    w.name(&decl.name)?;
+    w.bare_mark(MarkKind::Colon)?;
     push_items(w, decl.items.as_slice())?;
-    line_end(w)
+    w.line_end()
 }
 
 // Headings
@@ -183,10 +172,10 @@ fn push_enum(w: &mut Writer, decl: &EnumDecl) -> Result<(), AllocError>
 fn push_qualified(w: &mut Writer, text: &QName) -> Result<(), AllocError>
     ensures { OnOk result (w.new ≡ wrote w.old (qualified_name text.now)) }
 {
-    name(w, &text.first)?;
+    w.name(&text.first)?;
     if let Some(second) = &text.second {
-        bare(w, MarkKind::Dot)?;
-        name(w, second)?;
+        w.bare_mark(MarkKind::Dot)?;
+        w.name(second)?;
     }
     Ok(())
 }
@@ -195,18 +184,18 @@ fn push_heir(w: &mut Writer, heir: &Option<Heir>) -> Result<(), AllocError>
     ensures { OnOk result (w.new ≡ wrote w.old (optional_heir heir.now)) }
 {
     let Some(heir) = heir else { return Ok(()) };
-    bare_word(w, WordKind::InheritsWord)?;
+    w.bare_word(WordKind::InheritsWord)?;
     push_qualified(w, &heir.base)?;
     if let Some(condition) = &heir.condition {
-        bare(w, MarkKind::OpenRound)?;
-        name(w, &condition.field)?;
-        bare(w, MarkKind::Equal)?;
+        w.bare_mark(MarkKind::OpenRound)?;
+        w.name(&condition.field)?;
+        w.bare_mark(MarkKind::Equal)?;
         match &condition.value {
-            ConditionValue::Truth { place, value } => truth(w, *place, *value)?,
-            ConditionValue::Name(text) => name(w, text)?,
+            ConditionValue::Truth { place, value } => w.truth(*place, *value)?,
+            ConditionValue::Name(text) => w.name(text)?,
             ConditionValue::EnumName { of, member } => enum_name(w, of, member)?,
         }
-        bare(w, MarkKind::CloseRound)?;
+        w.bare_mark(MarkKind::CloseRound)?;
     }
     Ok(())
 }
@@ -219,8 +208,8 @@ impl Next for Ident {
     ghost ends = { refl };
 
     fn next(&self, w: &mut Writer) -> Result<(), AllocError> {
-        bare(w, MarkKind::Comma)?;
-        name(w, self)
+        w.bare_mark(MarkKind::Comma)?;
+        w.name(self)
     }
 }
 
@@ -228,7 +217,7 @@ impl Item for Ident {
     ghost item = { λ n. ident n nil };
 
     fn item(&self, w: &mut Writer) -> Result<(), AllocError> {
-        name(w, self)
+        w.name(self)
     }
 }
 
@@ -236,7 +225,7 @@ fn push_field(w: &mut Writer, tree: &FieldDecl) -> Result<(), AllocError>
     ensures { OnOk result (Writes w.old (field tree.now.names (field_tree tree.now)) w.new) }
 {
     push_commas(w, tree.names.as_slice())?;
-    bare(w, MarkKind::Colon)?;
+    w.bare_mark(MarkKind::Colon)?;
     push_field_type(w, tree)?;
     push_initial(w, &tree.initial)?;
     push_with(w, tree.rules.as_slice())
@@ -246,17 +235,17 @@ fn push_field_type(w: &mut Writer, tree: &FieldDecl) -> Result<(), AllocError>
     ensures { OnOk result (w.new ≡ wrote w.old (field_type tree.now.list tree.now.of)) }
 {
     if let Some(place) = &tree.list {
-        word(w, *place, WordKind::ListWord)?;
-        bare_word(w, WordKind::OfWord)?;
+        w.word(*place, WordKind::ListWord)?;
+        w.bare_word(WordKind::OfWord)?;
     }
-    name(w, &tree.of)
+    w.name(&tree.of)
 }
 
 fn push_initial(w: &mut Writer, value: &Option<Expr>) -> Result<(), AllocError>
     ensures { OnOk result (Writes w.old (initial (option_map expr_tree value.now)) w.new) }
 {
     if let Some(value) = value {
-        bare(w, MarkKind::Assign)?;
+        w.bare_mark(MarkKind::Assign)?;
         push_expr(w, value)?;
     }
     Ok(())
@@ -272,7 +261,7 @@ impl Next for Member {
             Member::Field(field) => push_field(w, field),
             Member::Rule(rule) => push_rule(w, rule),
             Member::Do { place, phase } => {
-                word(w, *place, WordKind::DoWord)?;
+                w.word(*place, WordKind::DoWord)?;
                 push_phase(w, phase)
             }
         }
@@ -282,18 +271,18 @@ impl Next for Member {
 fn push_block(w: &mut Writer, members: &[Member]) -> Result<(), AllocError>
     ensures { OnOk result (Writes w.old (block (map member_tree members.now)) w.new) }
 {
-    opened(w)?;
+    w.begin_block()?;
     push_rest(w, members)?;
-    closed(w)
+    w.end_block()
 }
 
 fn push_body(w: &mut Writer, members: &[Member]) -> Result<(), AllocError>
     ensures { OnOk result (Writes w.old (body (map member_tree members.now)) w.new) }
 {
     match members {
-        [] => line_end(w),
+        [] => w.line_end(),
         [_, ..] => {
-            bare(w, MarkKind::Colon)?;
+            w.bare_mark(MarkKind::Colon)?;
             push_block(w, members)
         }
     }
@@ -310,7 +299,7 @@ fn push_compound(w: &mut Writer, compound: &CompoundDecl) -> Result<(), AllocErr
         CompoundKind::Action => WordKind::ActionWord,
         CompoundKind::Scenario => WordKind::ScenarioWord,
     };
-    word(w, compound.place, kind)?;
+    w.word(compound.place, kind)?;
     push_qualified(w, &compound.name)?;
     push_heir(w, &compound.heir)?;
     push_body(w, compound.members.as_slice())
@@ -319,20 +308,20 @@ fn push_compound(w: &mut Writer, compound: &CompoundDecl) -> Result<(), AllocErr
 fn push_more(w: &mut Writer, more: &MemberExtension) -> Result<(), AllocError>
     ensures { OnOk result (Writes w.old (declaration (DeclarationTree.MemberExtension (more_tree more.now))) w.new) }
 {
-    word(w, more.place, WordKind::ExtendWord)?;
+    w.word(more.place, WordKind::ExtendWord)?;
     push_qualified(w, &more.name)?;
-    bare(w, MarkKind::Colon)?;
+    w.bare_mark(MarkKind::Colon)?;
     push_block(w, more.members.as_slice())
 }
 
 fn push_more_items(w: &mut Writer, more: &EnumExtension) -> Result<(), AllocError>
     ensures { OnOk result (Writes w.old (declaration (DeclarationTree.EnumExtension more.now)) w.new) }
 {
-    word(w, more.place, WordKind::ExtendWord)?;
+    w.word(more.place, WordKind::ExtendWord)?;
     push_qualified(w, &more.name)?;
-    bare(w, MarkKind::Colon)?;
+    w.bare_mark(MarkKind::Colon)?;
     push_items(w, more.items.as_slice())?;
-    line_end(w)
+    w.line_end()
 }
 
 impl Next for Declaration {

@@ -5,7 +5,7 @@ ghost use Rattle.dsl_tree.specs.PhaseTree.{row_of};
 
 use crate::rows::{Next, push_with};
 use crate::spell_expr::{push_expr, push_suffixes};
-use crate::writer::{Writer, bare, bare_word, closed, line_end, name, opened, word};
+use crate::writer::Writer;
 use dsl_tree::{
     Argument, CompKind, CompNode, Ident, InvokeHead, InvokeNode, InvokePart, KeepKind, MarkKind,
     PathHead, PathNode, Phase, RuleDecl, WaitNode, WordKind,
@@ -16,9 +16,9 @@ fn push_path_head(w: &mut Writer, head: &PathHead) -> Result<(), AllocError>
     ensures { OnOk result (Writes w.old (path_row (head_tree head.now) nil) w.new) }
 {
     match head {
-        PathHead::Name(text) => name(w, text),
-        PathHead::It(place) => word(w, *place, WordKind::ItWord),
-        PathHead::Actor(place) => word(w, *place, WordKind::ActorWord),
+        PathHead::Name(text) => w.name(text),
+        PathHead::It(place) => w.word(*place, WordKind::ItWord),
+        PathHead::Actor(place) => w.word(*place, WordKind::ActorWord),
     }
 }
 
@@ -34,23 +34,23 @@ pub(crate) fn push_rule(w: &mut Writer, tree: &RuleDecl) -> Result<(), AllocErro
 {
     match tree {
         RuleDecl::Keep { place, kind, expr } => {
-            word(w, *place, WordKind::KeepWord)?;
-            bare(w, MarkKind::OpenRound)?;
+            w.word(*place, WordKind::KeepWord)?;
+            w.bare_mark(MarkKind::OpenRound)?;
             match kind {
                 KeepKind::Plain => (),
-                KeepKind::Hard => bare_word(w, WordKind::HardWord)?,
-                KeepKind::Default => bare_word(w, WordKind::DefaultWord)?,
+                KeepKind::Hard => w.bare_word(WordKind::HardWord)?,
+                KeepKind::Default => w.bare_word(WordKind::DefaultWord)?,
             }
             push_expr(w, expr)?;
         }
         RuleDecl::Remove { place, path } => {
-            word(w, *place, WordKind::RemoveDefaultWord)?;
-            bare(w, MarkKind::OpenRound)?;
+            w.word(*place, WordKind::RemoveDefaultWord)?;
+            w.bare_mark(MarkKind::OpenRound)?;
             push_path(w, path)?;
         }
     }
-    bare(w, MarkKind::CloseRound)?;
-    line_end(w)
+    w.bare_mark(MarkKind::CloseRound)?;
+    w.line_end()
 }
 
 impl Next for RuleDecl {
@@ -68,8 +68,8 @@ fn push_label(w: &mut Writer, label: &Option<Ident>) -> Result<(), AllocError>
     ensures { OnOk result (w.new ≡ wrote w.old (label_of label.now)) }
 {
     if let Some(text) = label {
-        name(w, text)?;
-        bare(w, MarkKind::Colon)?;
+        w.name(text)?;
+        w.bare_mark(MarkKind::Colon)?;
     }
     Ok(())
 }
@@ -86,14 +86,14 @@ fn push_arguments(w: &mut Writer, arguments: &[Argument]) -> Result<(), AllocErr
     ensures { OnOk result (Writes w.old (invocation_arguments (map argument_tree arguments.now)) w.new) }
 {
     match arguments.split_first() {
-        None => bare(w, MarkKind::CloseRound),
+        None => w.bare_mark(MarkKind::CloseRound),
         Some((first, others)) => {
             push_argument(w, first)?;
             'others: for argument in others {
-                bare(w, MarkKind::Comma)?;
+                w.bare_mark(MarkKind::Comma)?;
                 push_argument(w, argument)?;
             }
-            bare(w, MarkKind::CloseRound)
+            w.bare_mark(MarkKind::CloseRound)
         }
     }
 }
@@ -103,7 +103,7 @@ fn push_brackets(w: &mut Writer, arguments: &[Argument]) -> Result<(), AllocErro
     ensures { OnOk result (Writes w.old (composition_arguments (map argument_tree arguments.now)) w.new) }
 {
     if let [_, ..] = arguments {
-        bare(w, MarkKind::OpenRound)?;
+        w.bare_mark(MarkKind::OpenRound)?;
         push_arguments(w, arguments)?;
     }
     Ok(())
@@ -118,10 +118,10 @@ impl Next for InvokePart {
         match self {
             InvokePart::Rule(rule) => push_rule(w, rule),
             InvokePart::Modifier(modifier) => {
-                name(w, &modifier.name)?;
-                bare(w, MarkKind::OpenRound)?;
+                w.name(&modifier.name)?;
+                w.bare_mark(MarkKind::OpenRound)?;
                 push_arguments(w, modifier.arguments.as_slice())?;
-                line_end(w)
+                w.line_end()
             }
         }
     }
@@ -131,8 +131,8 @@ pub(crate) fn push_dotted(w: &mut Writer, names: &[Ident]) -> Result<(), AllocEr
     ensures { OnOk result (Writes w.old (dotted_names names.now) w.new) }
 {
     'names: for text in names {
-        bare(w, MarkKind::Dot)?;
-        name(w, text)?;
+        w.bare_mark(MarkKind::Dot)?;
+        w.name(text)?;
     }
     Ok(())
 }
@@ -142,11 +142,11 @@ fn push_invocation(w: &mut Writer, node: &InvokeNode) -> Result<(), AllocError>
 {
     push_label(w, &node.label)?;
     match &node.head {
-        InvokeHead::Name(text) => name(w, text)?,
-        InvokeHead::Actor(place) => word(w, *place, WordKind::ActorWord)?,
+        InvokeHead::Name(text) => w.name(text)?,
+        InvokeHead::Actor(place) => w.word(*place, WordKind::ActorWord)?,
     }
     push_dotted(w, node.names.as_slice())?;
-    bare(w, MarkKind::OpenRound)?;
+    w.bare_mark(MarkKind::OpenRound)?;
     push_arguments(w, node.arguments.as_slice())?;
     push_with(w, node.parts.as_slice())
 }
@@ -155,12 +155,12 @@ fn push_wait(w: &mut Writer, node: &WaitNode) -> Result<(), AllocError>
     ensures { OnOk result (Writes w.old (phase (phase_step (Phase-F.Wait node.now))) w.new) }
 {
     push_label(w, &node.label)?;
-    word(w, node.place, WordKind::WaitWord)?;
-    bare_word(w, WordKind::ElapsedWord)?;
-    bare(w, MarkKind::OpenRound)?;
+    w.word(node.place, WordKind::WaitWord)?;
+    w.bare_word(WordKind::ElapsedWord)?;
+    w.bare_mark(MarkKind::OpenRound)?;
     push_expr(w, &node.elapsed)?;
-    bare(w, MarkKind::CloseRound)?;
-    line_end(w)
+    w.bare_mark(MarkKind::CloseRound)?;
+    w.line_end()
 }
 
 #[cycle(spelling_phases)]
@@ -184,10 +184,10 @@ fn push_comp(w: &mut Writer, node: &CompNode) -> Result<(), AllocError>
         CompKind::Parallel => WordKind::ParallelWord,
         CompKind::OneOf => WordKind::OneOfWord,
     };
-    word(w, node.place, kind)?;
+    w.word(node.place, kind)?;
     push_brackets(w, node.arguments.as_slice())?;
-    bare(w, MarkKind::Colon)?;
-    opened(w)?;
+    w.bare_mark(MarkKind::Colon)?;
+    w.begin_block()?;
     push_phases(w, node.members.as_slice())
 }
 
@@ -199,5 +199,5 @@ fn push_phases(w: &mut Writer, phases: &[Phase]) -> Result<(), AllocError>
     'phases: for tree in phases {
         push_phase(w, tree)?;
     }
-    closed(w)
+    w.end_block()
 }

@@ -1,7 +1,7 @@
 ghost use Rattle.dsl_spell.specs.Writing.{IfOk, OnOk, file_tree, file as file_forest, FollowsGrammar, Spelled, Writes};
 
 use crate::rows::push_rest;
-use crate::writer::{Writer, push};
+use crate::writer::Writer;
 use dsl_tree::{File, TokenKind, Tokens};
 use osc_base::Row;
 use std::alloc::{AllocError, Global};
@@ -28,7 +28,7 @@ fn push_file(w: &mut Writer, tree: &File) -> Result<(), AllocError>
 {
     push_rest(w, tree.imports.as_slice())?;
     push_rest(w, tree.decls.as_slice())?;
-    push(w, tree.end, TokenKind::End)
+    w.push(tree.end, TokenKind::End)
 }
 
 #[cfg(test)]

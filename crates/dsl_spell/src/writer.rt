@@ -1,5 +1,5 @@
 ghost use Rattle.std.specs.Prelude.{◌≡◌};
-ghost use Rattle.dsl_spell.specs.Writing.{OnOk, put};
+ghost use Rattle.dsl_spell.specs.Writing.{OnOk, put, truth_word};
 
 use dsl_tree::{Digits, Ident, MarkKind, Token, TokenKind, Tokens, WordKind};
 use osc_base::{Place, Text};
@@ -13,76 +13,116 @@ pub(crate) struct Writer {
     pub(crate) tokens: Tokens,
 }
 
-pub(crate) fn push(w: &mut Writer, place: Place, kind: TokenKind) -> Result<(), AllocError>
-    ensures { OnOk result (w.new ≡ put w.old place kind) }
-{
-    w.tokens.push(Token { place, kind })
-}
+impl Writer {
+    pub(crate) fn push(&mut self, place: Place, kind: TokenKind) -> Result<(), AllocError>
+        ensures { OnOk result (self.new ≡ put self.old place kind) }
+    {
+        self.tokens.push(Token { place, kind })
+    }
 
-pub(crate) fn mark(w: &mut Writer, place: Place, kind: MarkKind) -> Result<(), AllocError>
-    ensures { OnOk result (w.new ≡ put w.old place (TokenKind.Mark kind)) }
-{
-    push(w, place, TokenKind::Mark(kind))
-}
+    /// A token whose place the tree doesn't hold.
+    fn push_bare(&mut self, kind: TokenKind) -> Result<(), AllocError>
+        ensures { OnOk result (self.new ≡ put self.old self.old.at kind) }
+    {
+        let at = self.at;
+        self.push(at, kind)
+    }
 
-pub(crate) fn word(w: &mut Writer, place: Place, kind: WordKind) -> Result<(), AllocError>
-    ensures { OnOk result (w.new ≡ put w.old place (TokenKind.Word kind)) }
-{
-    push(w, place, TokenKind::Word(kind))
-}
+    pub(crate) fn mark(&mut self, place: Place, kind: MarkKind) -> Result<(), AllocError>
+        ensures { OnOk result (self.new ≡ put self.old place (TokenKind.Mark kind)) }
+    {
+        self.push(place, TokenKind::Mark(kind))
+    }
 
-/// A mark whose place the tree doesn't hold.
-pub(crate) fn bare(w: &mut Writer, kind: MarkKind) -> Result<(), AllocError>
-    ensures { OnOk result (w.new ≡ put w.old w.old.at (TokenKind.Mark kind)) }
-{
-    let at = w.at;
-    mark(w, at, kind)
-}
+    pub(crate) fn word(&mut self, place: Place, kind: WordKind) -> Result<(), AllocError>
+        ensures { OnOk result (self.new ≡ put self.old place (TokenKind.Word kind)) }
+    {
+        self.push(place, TokenKind::Word(kind))
+    }
 
-pub(crate) fn bare_word(w: &mut Writer, kind: WordKind) -> Result<(), AllocError>
-    ensures { OnOk result (w.new ≡ put w.old w.old.at (TokenKind.Word kind)) }
-{
-    let at = w.at;
-    word(w, at, kind)
-}
+    pub(crate) fn bare_mark(&mut self, kind: MarkKind) -> Result<(), AllocError>
+        ensures { OnOk result (self.new ≡ put self.old self.old.at (TokenKind.Mark kind)) }
+    {
+        self.push_bare(TokenKind::Mark(kind))
+    }
 
-pub(crate) fn line_end(w: &mut Writer) -> Result<(), AllocError>
-    ensures { OnOk result (w.new ≡ put w.old w.old.at TokenKind.Newline) }
-{
-    let at = w.at;
-    push(w, at, TokenKind::Newline)
-}
+    pub(crate) fn bare_word(&mut self, kind: WordKind) -> Result<(), AllocError>
+        ensures { OnOk result (self.new ≡ put self.old self.old.at (TokenKind.Word kind)) }
+    {
+        self.push_bare(TokenKind::Word(kind))
+    }
 
-pub(crate) fn name(w: &mut Writer, name: &Ident) -> Result<(), AllocError>
-    ensures { OnOk result (w.new ≡ put w.old name.now.place (TokenKind.Name name.now.text)) }
-{
-    let text = Text::copy(w.alloc, name.text.as_str())?;
-    push(w, name.place, TokenKind::Name(text))
-}
+    pub(crate) fn bare_name(&mut self, text: &str) -> Result<(), AllocError>
+        ensures { OnOk result (self.new ≡ put self.old self.old.at (TokenKind.Name text.now)) }
+    {
+        let text = Text::copy(self.alloc, text)?;
+        self.push_bare(TokenKind::Name(text))
+    }
 
-pub(crate) fn digits(w: &mut Writer, number: &Digits) -> Result<(), AllocError>
-    ensures { OnOk result (w.new ≡ put w.old number.now.place (TokenKind.Number number.now.digits number.now.places)) }
-{
-    let kind = TokenKind::Number {
-        digits: number.digits,
-        places: number.places,
-    };
-    push(w, number.place, kind)
-}
+    pub(crate) fn name(&mut self, name: &Ident) -> Result<(), AllocError>
+        ensures { OnOk result (self.new ≡ put self.old name.now.place (TokenKind.Name name.now.text)) }
+    {
+        let text = Text::copy(self.alloc, name.text.as_str())?;
+        self.push(name.place, TokenKind::Name(text))
+    }
 
-/// The line end and the beginning of a block.
-pub(crate) fn opened(w: &mut Writer) -> Result<(), AllocError>
-    ensures { OnOk result (w.new ≡ put (put w.old w.old.at TokenKind.Newline) w.old.at TokenKind.Indent) }
-{
-    line_end(w)?;
-    let at = w.at;
-    push(w, at, TokenKind::Indent)
-}
+    pub(crate) fn digits(&mut self, number: &Digits) -> Result<(), AllocError>
+        ensures { OnOk result (self.new ≡ put self.old number.now.place (TokenKind.Number number.now.digits number.now.places)) }
+    {
+        let kind = TokenKind::Number {
+            digits: number.digits,
+            places: number.places,
+        };
+        self.push(number.place, kind)
+    }
 
-/// The end of a block.
-pub(crate) fn closed(w: &mut Writer) -> Result<(), AllocError>
-    ensures { OnOk result (w.new ≡ put w.old w.old.at TokenKind.Dedent) }
-{
-    let at = w.at;
-    push(w, at, TokenKind::Dedent)
+    /// A number with a unit.
+    pub(crate) fn physical(&mut self, number: &Digits, unit: &Text) -> Result<(), AllocError>
+        ensures { OnOk result (self.new ≡ put self.old number.now.place (TokenKind.Physical number.now.digits number.now.places unit.now)) }
+    {
+        let kind = TokenKind::Physical {
+            digits: number.digits,
+            places: number.places,
+            unit: Text::copy(self.alloc, unit.as_str())?,
+        };
+        self.push(number.place, kind)
+    }
+
+    /// A string.
+    pub(crate) fn chars(&mut self, place: Place, text: &Text) -> Result<(), AllocError>
+        ensures { OnOk result (self.new ≡ put self.old place (TokenKind.Chars text.now)) }
+    {
+        let text = Text::copy(self.alloc, text.as_str())?;
+        self.push(place, TokenKind::Chars(text))
+    }
+
+    pub(crate) fn truth(&mut self, place: Place, value: bool) -> Result<(), AllocError>
+        ensures { OnOk result (self.new ≡ put self.old place (TokenKind.Word (truth_word value))) }
+    {
+        if value {
+            self.word(place, WordKind::TrueWord)
+        } else {
+            self.word(place, WordKind::FalseWord)
+        }
+    }
+
+    pub(crate) fn line_end(&mut self) -> Result<(), AllocError>
+        ensures { OnOk result (self.new ≡ put self.old self.old.at TokenKind.Newline) }
+    {
+        self.push_bare(TokenKind::Newline)
+    }
+
+    /// The line end and the indentation before a block.
+    pub(crate) fn begin_block(&mut self) -> Result<(), AllocError>
+        ensures { OnOk result (self.new ≡ put (put self.old self.old.at TokenKind.Newline) self.old.at TokenKind.Indent) }
+    {
+        self.line_end()?;
+        self.push_bare(TokenKind::Indent)
+    }
+
+    pub(crate) fn end_block(&mut self) -> Result<(), AllocError>
+        ensures { OnOk result (self.new ≡ put self.old self.old.at TokenKind.Dedent) }
+    {
+        self.push_bare(TokenKind::Dedent)
+    }
 }

@@ -22,7 +22,7 @@ push_node-returns-in_ok-push_expr-in-Or t c =
 pub push_further-parts-preserved : goal.push_further-parts-preserved
 push_further-parts-preserved t c n =
     one_more (furthers n) c.args.rest.now c.parts.next-index c.next-item.result c.args.w.now c.parts.w c.push_expr.new.w (c.parts.invariant n)
-    (further_steps n c.next-item.result c.kind_of_operator.result c.parts.w c.push.new.w c.push_expr.new.w c.kind_of_operator.ensures c.in_ok-push.ensures c.in_ok-push_expr.ensures)
+    (further_steps n c.next-item.result c.kind_of_operator.result c.parts.w c.push.new.self c.push_expr.new.w c.kind_of_operator.ensures c.in_ok-push.ensures c.in_ok-push_expr.ensures)
     c.parts-test.true c.next-item.is
 
 pub push_further-returns : goal.push_further-returns
@@ -39,11 +39,11 @@ push_suffixes-returns t c = all_done suffixes c.args.suffixes.now c.suffixes.suf
 pub push_items-others-preserved : goal.push_items-others-preserved
 push_items-others-preserved t c =
     one_more items c.in-Some.others.now c.others.item-index c.item-item.result c.push_expr.new.w c.others.w c.push_expr-in-others.new.w c.others.invariant
-    (item_steps c.item-item.result c.others.w c.bare.new.w c.push_expr-in-others.new.w c.in_ok-bare-in-Some.ensures c.in_ok-push_expr-in-Some-2.ensures) c.others-test.true c.item-item.is
+    (item_steps c.item-item.result c.others.w c.bare_mark.new.self c.push_expr-in-others.new.w c.in_ok-bare_mark-in-Some.ensures c.in_ok-push_expr-in-Some-2.ensures) c.others-test.true c.item-item.is
 
 pub push_items-returns-after-others : goal.push_items-returns-after-others
 push_items-returns-after-others t c =
-    on_ok_weaker c.bare-in-Some.result
-    (listed_writes c.args.w.now c.push_expr.new.w c.others.w c.bare-in-Some.new.w c.args.items.now c.in-Some.first.now c.in-Some.others.now c.in-Some.ensures.cases.0 c.in_ok-push_expr-in-Some.ensures
+    on_ok_weaker c.bare_mark-in-Some.result
+    (listed_writes c.args.w.now c.push_expr.new.w c.others.w c.bare_mark-in-Some.new.self c.args.items.now c.in-Some.first.now c.in-Some.others.now c.in-Some.ensures.cases.0 c.in_ok-push_expr-in-Some.ensures
     (all_done items c.in-Some.others.now c.others.item-index c.push_expr.new.w c.others.w c.others.invariant c.others-test.false refl))
-    c.bare-in-Some.ensures
+    c.bare_mark-in-Some.ensures

@@ -10,6 +10,6 @@ push_phases-phases-preserved t c =
 
 pub push_phases-returns : goal.push_phases-returns
 push_phases-returns t c =
-    on_ok_weaker c.closed.result
-    (block_writes c.args.w.now c.phases.w c.closed.new.w c.args.phases.now (all_done phases_of c.args.phases.now c.phases.tree-index c.args.w.now c.phases.w c.phases.invariant c.phases-test.false refl))
-    c.closed.ensures
+    on_ok_weaker c.end_block.result
+    (block_writes c.args.w.now c.phases.w c.end_block.new.self c.args.phases.now (all_done phases_of c.args.phases.now c.phases.tree-index c.args.w.now c.phases.w c.phases.invariant c.phases-test.false refl))
+    c.end_block.ensures
