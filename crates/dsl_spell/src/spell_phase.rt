@@ -1,5 +1,5 @@
 ghost use Rattle.std.specs.Prelude.{◌≡◌};
-ghost use Rattle.dsl_spell.specs.Writing.{map, refl, OnOk, nil, Phase-F, path, rule, rules_tail, dotted_names, invocation_arguments, modifier, parts_tail, invocation_rest, composition_arguments, phase, block_phases, head_tree, path_tree, rule_tree, argument_tree, part_tree, phase_tree, comp_tree, phase_step, wrote, Writes, label_of, argument_of};
+ghost use Rattle.dsl_spell.specs.Writing.{map, refl, OnOk, nil, Phase-F, path, rule, rules_tail, dotted_names, invocation_arguments, modifier, parts_tail, composition_arguments, phase, block_phases, head_tree, path_tree, rule_tree, argument_tree, part_tree, phase_tree, comp_tree, phase_step, wrote, Writes, label_of, argument_of};
 ghost use Rattle.dsl_tree.specs.Written.{path_row};
 ghost use Rattle.dsl_tree.specs.PhaseTree.{row_of};
 
