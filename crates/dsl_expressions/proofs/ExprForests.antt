@@ -2,8 +2,9 @@
 use Rattle.std.proofs.Common.{◌≡◌, ℕ, zero, suc, ◌+◌, ◌-◌, ◌≤◌, List, [], ◌∷◌, length, map, Bool, true, false, cond, Some, refl, sym, ◌∙◌, ap, inl, inr, arith}
 use Rattle.std.proofs.lemmas.Bool.{ltb-false, false≢true}
 use Rattle.std.proofs.lemmas.Option.{none-some, same_Some}
+use Rattle.std.specs.Prelude.{slice_get}
 use Rattle.dsl_cursor.specs.Words.{nat_lt, Place, Ident, MarkKind, WordKind, Token, Part, Symbol, rules, Forest, nil, seen, sub, wrong, AnyRule, mark, ident, Whole, Parsed}
-use Rattle.dsl_expressions.specs.Words.{slice_get, Expr, Further, Suffix, RelationSign, ExprTree, FurtherTree, SuffixTree, grouped, with_suffixes, named_row, indexed_row, expr_tree, suffix_tree, further_tree, level, lifted, raised, written, operator_kind, sign_kind, next_part, mark_at, word_at, expr, listed_tail, RowLevel, at_level, row_level, item_level, tail_of, suffix_forest, suffix_of, suffixes_of, is_named, ends_named, items_of, row_node, post_node}
+use Rattle.dsl_expressions.specs.Words.{Expr, Further, Suffix, RelationSign, ExprTree, FurtherTree, SuffixTree, grouped, with_suffixes, named_row, indexed_row, expr_tree, suffix_tree, further_tree, level, lifted, raised, written, operator_kind, sign_kind, next_part, mark_at, word_at, expr, listed_tail, RowLevel, at_level, row_level, item_level, tail_of, suffix_forest, suffix_of, suffixes_of, is_named, ends_named, items_of, row_node, post_node}
 use Rattle.dsl_tree.specs.declared.expr.Expr.TheViews
 use Rattle.dsl_tree.specs.ExprTree.{row_of}
 use Rattle.dsl_tree.specs.Written.{at}

@@ -1,7 +1,6 @@
 -- What the readers of one argument ensure.
-use Rattle.std.specs.Prelude.{◌≡◌, ◌≢◌, ◌<◌, ◌∷◌}
+use Rattle.std.specs.Prelude.{◌≡◌, ◌≢◌, ◌<◌, ◌∷◌, map}
 use Rattle.dsl_tree.specs.{declared.phases.Argument.Argument, Views.argument_tree}
-use Rattle.std.specs.Prelude.{map}
 use Rattle.dsl_cursor.specs.Words.{ℕ, List, [], length, true, false, Bool, Result, Ok, Err, Stop, Memory, Token, MarkKind, Part, Forest, nil, sub, mark, read, in_row, named_argument}
 use Rattle.dsl_tree.specs.WrittenPhases as written
 

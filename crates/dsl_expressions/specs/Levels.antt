@@ -1,8 +1,7 @@
 -- The levels of expressions: `Expr` 0, `Or` 1, `And` 2, `Not` 3, `Relation` 4, `Sum` 5, `Product` 6,
 -- `Minus` 7, `Postfix` 8 and `Primary` 9.
-use Rattle.std.specs.Prelude.{◌∷◌, ◌++◌}
+use Rattle.std.specs.Prelude.{◌∷◌, ◌++◌, map}
 use Rattle.dsl_tree.specs.{declared.expr.Expr.Expr, declared.expr.Further.Further, declared.expr.Suffix.Suffix, declared.token.WordKind.TheVariants.FalseWord, declared.token.WordKind.TheVariants.ItWord, declared.token.WordKind.TheVariants.RangeWord, declared.token.WordKind.TheVariants.TrueWord, Views.SuffixTree, Views.Named, Views.expr_tree, Views.suffix_tree, Written.written, Written.operator_kind, Written.mark_at, Written.expr}
-use Rattle.std.specs.Prelude.{map}
 use Rattle.dsl_cursor.specs.Words.{ℕ, Bool, true, false, List, [], MarkKind, ActorWord, mark_code, word_code, physical_code, text_code, numbers, names, Part, Forest, nil, seen, sub, first, mark, ident, cond}
 use Rattle.dsl_tree.specs.declared.expr.Expr.TheViews
 use Rattle.dsl_tree.specs.Views.{At}

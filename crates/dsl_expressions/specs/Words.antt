@@ -1,5 +1,4 @@
 -- The words of the definitions here, and those that `dsl_cursor` doesn't pass on.
-pub use Rattle.std.specs.Prelude.{map, IfNone, IfSome, slice_get}
 pub use Rattle.dsl_tree.specs.ExprTree.{ExprTree}
 pub use Rattle.dsl_tree.specs.Views.{argument_tree, expr_tree, suffix_tree, SuffixTree, FurtherTree, further_tree, grouped, indexed_row, named_row, with_suffixes}
 pub use Rattle.dsl_tree.specs.Written.{operator_kind, expr, word_at, mark_at, sign_kind, written, level, lifted, listed_tail, next_part, raised}

@@ -1,8 +1,8 @@
 //! Arguments.
 
-ghost use Rattle.std.specs.Prelude.{◌≡◌, ◌<◌};
+ghost use Rattle.std.specs.Prelude.{◌≡◌, ◌<◌, map};
 ghost use Rattle.dsl_cursor.specs.Words.{length, true, false, IfOk, Part, read, begins_label as has_label, Gives};
-ghost use Rattle.dsl_expressions.specs.Words.{map, argument_tree, HasMore, IsPlain, IsNamed};
+ghost use Rattle.dsl_expressions.specs.Words.{argument_tree, HasMore, IsPlain, IsNamed};
 ghost use Rattle.dsl_tree.specs.WrittenPhases as written;
 
 use crate::expressions::expr;

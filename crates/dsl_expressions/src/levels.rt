@@ -1,8 +1,8 @@
 //! The rows of operators, by their level, and rows of suffixes.
 
-ghost use Rattle.std.specs.Prelude.{◌≡◌};
+ghost use Rattle.std.specs.Prelude.{◌≡◌, IfSome, IfNone, map};
 ghost use Rattle.dsl_cursor.specs.Words.{true, false, TokenKind, code, has, mark_code, Part, first, starts, at, Tries};
-ghost use Rattle.dsl_expressions.specs.Words.{IfSome, IfNone, operator_kind, sign_kind, operators, row_node, post_node, suffix_tree, is_named, ends_named, map};
+ghost use Rattle.dsl_expressions.specs.Words.{operator_kind, sign_kind, operators, row_node, post_node, suffix_tree, is_named, ends_named};
 
 use dsl_cursor::Cursor;
 use dsl_cursor::Sign::{Mark, Word};

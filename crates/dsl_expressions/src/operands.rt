@@ -1,8 +1,8 @@
 //! Operands of a token or two.
 
-ghost use Rattle.std.specs.Prelude.{◌≡◌, ◌∷◌};
+ghost use Rattle.std.specs.Prelude.{◌≡◌, ◌∷◌, IfSome, IfNone};
 ghost use Rattle.dsl_cursor.specs.Words.{true, false, code, has, nil, seen, sub, Part, starts, ident, read, in_row, Gives, enum_member as member_forest, rule_at};
-ghost use Rattle.dsl_expressions.specs.Words.{IfSome, IfNone, at_level, bracket_codes, truth_codes, value_codes};
+ghost use Rattle.dsl_expressions.specs.Words.{at_level, bracket_codes, truth_codes, value_codes};
 
 use dsl_cursor::{Cursor, Stop, enum_member};
 use dsl_tree::{Expr, Ident, TokenKind, WordKind};

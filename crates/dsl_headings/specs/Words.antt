@@ -1,5 +1,4 @@
 -- The words of the definitions here, and those that `dsl_cursor` doesn't pass on.
-pub use Rattle.std.specs.Prelude.{refl}
 pub use Rattle.dsl_tree.specs.Written.{digits}
 pub use Rattle.dsl_tree.specs.WrittenFile.{unit_end, unit_tail}
 pub use Rattle.dsl_tree.specs.WrittenPhases.{dotted_names}

@@ -1,8 +1,8 @@
 //! Imports.
 
-ghost use Rattle.std.specs.Prelude.{◌≡◌, ◌≢◌};
+ghost use Rattle.std.specs.Prelude.{◌≡◌, ◌≢◌, refl};
 ghost use Rattle.dsl_cursor.specs.Words.{Err, IfOk, IfErr, Memory, Part, read, in_row, Gives, rule_at, IsRow};
-ghost use Rattle.dsl_headings.specs.Words.{refl, Import, dotted_names};
+ghost use Rattle.dsl_headings.specs.Words.{Import, dotted_names};
 ghost use Rattle.dsl_tree.specs.WrittenFile as written;
 
 use dsl_cursor::Sign::{self, Mark, Word};

@@ -1,9 +1,8 @@
 -- What is left of the rules of members and of extensions, and what it is written as.
-use Rattle.std.specs.Prelude.{◌∷◌, ◌++◌}
+use Rattle.std.specs.Prelude.{◌∷◌, ◌++◌, option_map, map}
 use Rattle.dsl_tree.specs.{declared.rules.PathHead.PathHead, Views.rule_tree, Views.member_tree}
-use Rattle.std.specs.Prelude.{option_map}
 use Rattle.dsl_cursor.specs.Words.{ℕ, List, [], Token, TokenKind, MarkKind, ActorWord, word_code, name_token, names, Forest, nil, sub, at}
-use Rattle.dsl_expressions.specs.Words.{map, ItWord, expr_tree}
+use Rattle.dsl_expressions.specs.Words.{ItWord, expr_tree}
 use Rattle.dsl_tree.specs.Written as written
 use Rattle.dsl_tree.specs.WrittenPhases.{newline}
 use Rattle.dsl_tree.specs.WrittenFile as file

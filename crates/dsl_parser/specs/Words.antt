@@ -1,5 +1,4 @@
 -- The words of the definitions here, and those that `dsl_cursor` doesn't pass on.
-pub use Rattle.std.specs.Prelude.{option_map}
 pub use Rattle.osc_base.specs.{Stops.OnStop, declared.fault.Fault.Fault}
 pub use Rattle.dsl_tree.specs.FileTree.{FileTree}
 pub use Rattle.dsl_tree.specs.Language.{FirstFault, fault_code, Spelled}

@@ -1,9 +1,7 @@
 //! Declarations and extensions.
 
-ghost use Rattle.std.specs.Prelude.{◌≡◌};
+ghost use Rattle.std.specs.Prelude.{◌≡◌, refl, map};
 ghost use Rattle.dsl_cursor.specs.Words.{Part, read, in_row, Gives, rule_at, first};
-ghost use Rattle.dsl_headings.specs.Words.{refl};
-ghost use Rattle.dsl_expressions.specs.Words.{map};
 ghost use Rattle.dsl_parser.specs.Words.{compound_tree, declaration_tree, written_extension};
 ghost use Rattle.dsl_tree.specs.WrittenFile as written;
 

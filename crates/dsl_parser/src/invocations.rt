@@ -1,9 +1,8 @@
 //! Invocations after their head: arguments, and the block of rules and modifiers.
 
-ghost use Rattle.std.specs.Prelude.{◌≡◌};
+ghost use Rattle.std.specs.Prelude.{◌≡◌, refl, map};
 ghost use Rattle.dsl_cursor.specs.Words.{Part, read, in_row, Gives, rule_at};
-ghost use Rattle.dsl_headings.specs.Words.{refl};
-ghost use Rattle.dsl_expressions.specs.Words.{map, argument_tree};
+ghost use Rattle.dsl_expressions.specs.Words.{argument_tree};
 ghost use Rattle.dsl_parser.specs.Words.{part_tree};
 ghost use Rattle.dsl_tree.specs.WrittenPhases as written;
 

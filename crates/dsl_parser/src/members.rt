@@ -1,9 +1,7 @@
 //! Members of types, and their blocks.
 
-ghost use Rattle.std.specs.Prelude.{◌≡◌, ◌<◌, ◌∷◌};
+ghost use Rattle.std.specs.Prelude.{◌≡◌, ◌<◌, ◌∷◌, refl, map};
 ghost use Rattle.dsl_cursor.specs.Words.{length, IfOk, Part, read, in_row, Gives, rule_at, rest_at, drop};
-ghost use Rattle.dsl_headings.specs.Words.{refl};
-ghost use Rattle.dsl_expressions.specs.Words.{map};
 ghost use Rattle.dsl_parser.specs.Words.{field_tree, member_tree, written_field_rest};
 ghost use Rattle.dsl_tree.specs.WrittenFile as written;
 

@@ -1,8 +1,8 @@
 //! Phases of a behaviour. They nest in the blocks of compositions.
 
-ghost use Rattle.std.specs.Prelude.{◌≡◌, ◌≢◌, ◌∷◌};
+ghost use Rattle.std.specs.Prelude.{◌≡◌, ◌≢◌, ◌∷◌, map};
 ghost use Rattle.dsl_cursor.specs.Words.{[], Err, IfOk, IfErr, Memory, Part, starts, take, read, in_row, Gives, rest_at, IsRow, first};
-ghost use Rattle.dsl_expressions.specs.Words.{map, expr_tree, argument_tree};
+ghost use Rattle.dsl_expressions.specs.Words.{expr_tree, argument_tree};
 ghost use Rattle.dsl_parser.specs.Words.{PhaseTree, row_of, phase_tree, part_tree, composition_codes, composition_token, core_of, behind_label, behind_name, invoke_codes, invoke_token, label_rest, name_rest, phases_rest, IsStarted, IsHeaded};
 ghost use Rattle.dsl_tree.specs.WrittenPhases as written;
 

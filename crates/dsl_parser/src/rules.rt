@@ -1,10 +1,9 @@
 //! Rules: `keep` and `remove_default`.
 
-ghost use Rattle.std.specs.Prelude.{◌≡◌};
+ghost use Rattle.std.specs.Prelude.{◌≡◌, refl, map, option_map};
 ghost use Rattle.dsl_cursor.specs.Words.{Ok, Part, read, in_row, Gives, rule_at, take};
-ghost use Rattle.dsl_headings.specs.Words.{refl};
-ghost use Rattle.dsl_expressions.specs.Words.{map, expr_tree};
-ghost use Rattle.dsl_parser.specs.Words.{option_map, rule_tree, initial, field_end, path as path_forest, path_tree, head_token, head_codes};
+ghost use Rattle.dsl_expressions.specs.Words.{expr_tree};
+ghost use Rattle.dsl_parser.specs.Words.{rule_tree, initial, field_end, path as path_forest, path_tree, head_token, head_codes};
 ghost use Rattle.dsl_tree.specs.WrittenPhases as written;
 
 use dsl_cursor::Sign::{self, Mark, Word};
