@@ -1,11 +1,14 @@
 -- What blocks and arguments are written as, of which there is one item at least, and the steps of parts that end with
 -- a block; and types with members.
 use Rattle.std.proofs.Common.{◌≡◌, ◌<◌, List, [], ◌∷◌, length, map, refl, arith, true, false, sym, Option, None}
-use Rattle.dsl_parser.specs.Words.{MarkKind, WordKind, RuleDecl, Member, Argument, InvokePart, nil, sub, rule_tree, member_tree, part_tree, argument_tree, mark, word, in_block, Place, Ident, CompoundDecl, CompoundKind, Heir, QName, Forest, compound_tree, ident, word_at, body, compound_heading, optional_heir, qualified_name, is_plain, kind_word, Token, Part, in_part, read}
+use Rattle.dsl_cursor.specs.Words.{MarkKind, WordKind, nil, sub, mark, in_block, Place, Ident, Forest, ident, Token, Part, in_part, read}
+use Rattle.dsl_headings.specs.Words.{CompoundKind, is_plain, kind_word}
+use Rattle.dsl_expressions.specs.Words.{Argument, argument_tree, word_at}
+use Rattle.dsl_parser.specs.Words.{RuleDecl, Member, InvokePart, rule_tree, member_tree, part_tree, word, CompoundDecl, Heir, QName, compound_tree, body, compound_heading, optional_heir, qualified_name}
 use Rattle.dsl_tree.specs.WrittenPhases as phases
 use Rattle.dsl_tree.specs.WrittenFile as file
 use Rattle.std.proofs.lemmas.Bool.{false≢true}
-use Rattle.dsl_parser.proofs.ReadSteps.{read_step}
+use Rattle.dsl_cursor.proofs.ReadSteps.{read_step}
 
 pub step_field_end : (ts : List Token) → read Part.FieldEnd ts ≡ in_part read Part.FieldEnd ts
 step_field_end ts = read_step Part.FieldEnd ts

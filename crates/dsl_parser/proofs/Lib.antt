@@ -1,15 +1,5 @@
-mod ArgumentRows
 mod Blocks
-mod ExprForests
-mod ExprSteps
-mod LeafForests
-mod Lengths
-mod Loops
-mod OtherRules
-mod OtherTokens
-mod ReadParts
-mod ReadSteps
-mod RowSteps
+mod PathForests
 mod StartForms
 mod Steps
 mod Wholes

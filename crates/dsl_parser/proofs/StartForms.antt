@@ -1,9 +1,11 @@
 -- How phases are read: those without a block, and the steps of the readers of compositions.
 use Rattle.std.proofs.Common.{◌≡◌, ◌<◌, ◌≤◌, List, [], ◌∷◌, length, map, Bool, cond, Some, None, refl, sym, ◌∙◌, ap, subst, Ok, arith, ◌≢◌, ℕ, Option, Err}
-use Rattle.dsl_parser.specs.Words.{Place, Ident, Expr, Token, ActorWord, InvokeHead, Phase, word_code, Part, Forest, nil, seen, sub, first, PhaseTree, starts, Starts, Stops, phase_tree, expr_tree, argument_tree, part_tree, InvocationRest, Outcome, onto, take, after, only_part, in_row, names, read, behind_label, core_of, invoke_codes, invoke_token, label_rest, IsStarted, rule_at, Stop, Memory, row_of, rest_at, headed, IsHeaded, CompositionHead, Composition}
+use Rattle.dsl_cursor.specs.Words.{Place, Ident, Token, ActorWord, word_code, Part, Forest, nil, seen, sub, first, starts, Starts, Stops, Outcome, onto, take, after, only_part, in_row, names, read, rule_at, Stop, Memory, rest_at}
+use Rattle.dsl_expressions.specs.Words.{Expr, expr_tree, argument_tree}
+use Rattle.dsl_parser.specs.Words.{InvokeHead, Phase, PhaseTree, phase_tree, part_tree, InvocationRest, behind_label, core_of, invoke_codes, invoke_token, label_rest, IsStarted, row_of, headed, IsHeaded, CompositionHead, Composition}
 use Rattle.dsl_tree.specs.WrittenPhases as written
 use Rattle.dsl_parser.specs.declared.phases.PhaseStart.TheVariants.{Whole}
-use Rattle.dsl_parser.proofs.{Lengths.take_shorter, Lengths.read_within, Lengths.read_shorter, ReadParts.Took, ReadSteps.read_step, RowSteps.read_so}
+use Rattle.dsl_cursor.proofs.{Lengths.take_shorter, Lengths.read_within, Lengths.read_shorter, ReadParts.Took, ReadSteps.read_step, RowSteps.read_so}
 
 -- Behind a label
 

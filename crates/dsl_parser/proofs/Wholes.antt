@@ -1,7 +1,8 @@
 -- What `parse` has of what is read of a file: the two halves of a first fault, its token, and the tree.
 use Rattle.std.proofs.Common.{◌≡◌, ◌≢◌, ◌-◌, ◌<◌, ◌≤◌, ℕ, suc, List, [], ◌∷◌, ◌++◌, length, drop, get_or, sym, ◌∙◌, ap, subst, length-append, drop-cons, Ok, Err, arith}
-use Rattle.dsl_parser.specs.Words.{Fault, Stop, At, Memory, File, Token, Part, Parsed, PartFault, FirstFault, file_tree, file, HasViableFront, HasDeadToken, read}
-use Rattle.dsl_parser.proofs.ReadSteps.{read_parsed, read_fault}
+use Rattle.dsl_cursor.specs.Words.{Stop, At, Memory, Token, Part, Parsed, PartFault, read}
+use Rattle.dsl_parser.specs.Words.{Fault, File, FirstFault, file_tree, file, HasViableFront, HasDeadToken}
+use Rattle.dsl_cursor.proofs.ReadSteps.{read_parsed, read_fault}
 
 pub viable_half : (ts : List Token) (fault : Fault) → FirstFault ts fault → HasViableFront ts fault
 viable_half ts fault f = record { front = f.front; token = f.token; back = f.back; split = f.split; place = f.place; code = f.code; viable = f.viable }

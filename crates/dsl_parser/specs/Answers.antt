@@ -1,6 +1,8 @@
 -- What `parse` says of tokens that spell no tree.
 use Rattle.std.specs.Prelude.{◌≡◌, ◌∷◌, ◌++◌}
-use Rattle.dsl_parser.specs.Terms.{List, [], Fault, Token, IsViable, fault_code}
+use Rattle.osc_base.specs.{declared.fault.Fault.Fault}
+use Rattle.dsl_tree.specs.{Language.IsViable, Language.fault_code}
+use Rattle.dsl_cursor.specs.Words.{List, [], Token}
 
 -- `FirstFault` of dsl_tree has two halves. The first: the spelling of some tree begins with the
 -- tokens before the fault.

@@ -1,12 +1,4 @@
 pub mod Answers
-pub mod Arguments
-pub mod Cursor
-pub mod Descent
-pub mod Levels
 pub mod Members
 pub mod Phases
-pub mod Readers
-pub mod Rests
-pub mod Rows
-pub mod Terms
 pub mod Words

@@ -1,12 +1,11 @@
 -- What the readers of phases ensure. A phase that has no block of phases is read whole; of a
 -- composition first what stands before its block.
-use Rattle.std.specs.Prelude.{◌≡◌, ◌≢◌, ◌<◌, ◌≤◌, ◌∷◌, ◌++◌}
-use Rattle.dsl_parser.specs.Terms.{ℕ, List, [], length, map, Result, Ok, Err, Place, Stop, Memory, Token, TokenKind, MarkKind, ActorWord, SerialWord, ParallelWord, OneOfWord, Ident, CompKind, InvokeHead, Phase, row_of, word_code, Part, Forest, nil, seen, bare, sub, phase_tree, argument_tree}
+use Rattle.std.specs.Prelude.{◌≡◌, ◌≢◌, ◌<◌, ◌≤◌, ◌∷◌, ◌++◌, map}
+use Rattle.dsl_tree.specs.{declared.token.WordKind.TheVariants.SerialWord, declared.token.WordKind.TheVariants.ParallelWord, declared.token.WordKind.TheVariants.OneOfWord, declared.phases.CompKind.CompKind, declared.phases.InvokeHead.InvokeHead, declared.phases.Phase.Phase, PhaseTree.row_of, Views.phase_tree}
+use Rattle.dsl_cursor.specs.Words.{ℕ, List, [], length, Result, Ok, Err, Place, Stop, Memory, Token, TokenKind, MarkKind, ActorWord, Ident, word_code, Part, Forest, nil, seen, bare, sub, at, name_token, read, in_row, names, rest_at}
+use Rattle.dsl_expressions.specs.Words.{argument_tree}
 use Rattle.dsl_tree.specs.Written as written
 use Rattle.dsl_tree.specs.WrittenPhases as phases
-use Rattle.dsl_parser.specs.Cursor.{at, name_token}
-use Rattle.dsl_parser.specs.Descent.{read, in_row, names}
-use Rattle.dsl_parser.specs.Rests.{rest_at}
 use Rattle.dsl_parser.specs.declared.{phases.CompositionHead.CompositionHead, phases.PhaseStart.PhaseStart, phases.PhaseStart.TheVariants.Whole, phases.PhaseStart.TheVariants.Composition}
 
 -- a composition or a wait is written as the only part of what stands after a label

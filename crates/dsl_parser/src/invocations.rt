@@ -1,16 +1,17 @@
 //! Invocations after their head: arguments, and the block of rules and modifiers.
 
-ghost use Rattle.std.specs.Prelude.{◌≡◌};
-ghost use Rattle.dsl_parser.specs.Words.{map, refl, Part, argument_tree, part_tree, read, in_row, Gives, rule_at};
+ghost use Rattle.std.specs.Prelude.{◌≡◌, refl, map};
+ghost use Rattle.dsl_cursor.specs.Words.{Part, read, in_row, Gives, rule_at};
+ghost use Rattle.dsl_expressions.specs.Words.{argument_tree};
+ghost use Rattle.dsl_parser.specs.Words.{part_tree};
 ghost use Rattle.dsl_tree.specs.WrittenPhases as written;
 
-use crate::arguments::arguments;
-use crate::imports::dotted_names;
-use crate::rows::{Item, block};
-use crate::signs::Sign::{self, Mark, Word};
-use crate::stop::Stop;
-use crate::tokens::Cursor;
-use dsl_tree::{Argument, Ident, InvokePart, MarkKind, ModifierNode, RuleDecl, WordKind};
+use crate::rules::RuleItem;
+use dsl_cursor::Sign::{self, Mark, Word};
+use dsl_cursor::{Cursor, Item, Stop, block};
+use dsl_expressions::arguments::arguments;
+use dsl_headings::imports::dotted_names;
+use dsl_tree::{Argument, Ident, InvokePart, MarkKind, ModifierNode, WordKind};
 use osc_base::Row;
 use std::alloc::Global;
 
@@ -24,7 +25,12 @@ fn modifier(alloc: Global, tokens: &mut Cursor<'_>) -> Result<InvokePart, Stop>
     Ok(InvokePart::Modifier(ModifierNode { name, arguments }))
 }
 
-impl Item for InvokePart {
+/// One rule or modifier of an invocation.
+struct PartItem;
+
+impl Item for PartItem {
+    type Tree = InvokePart;
+
     ghost part = { Part.InvocationPart };
 
     ghost tail = { Part.PartsTail };
@@ -36,13 +42,13 @@ impl Item for InvokePart {
     ghost law = { (refl, refl, refl, refl, refl, λ x xs. refl) };
 
     fn begins(tokens: &Cursor<'_>) -> bool {
-        tokens.begins_name() || RuleDecl::begins(tokens)
+        tokens.begins_name() || RuleItem::begins(tokens)
     }
 
-    #[tactic(auto, using(crate::proofs::ReadSteps::read_step))]
+    #[tactic(auto, using(dsl_cursor::proofs::ReadSteps::read_step))]
     fn item(alloc: Global, tokens: &mut Cursor<'_>) -> Result<InvokePart, Stop> {
-        if RuleDecl::begins(tokens) {
-            return Ok(InvokePart::Rule(RuleDecl::item(alloc, tokens)?));
+        if RuleItem::begins(tokens) {
+            return Ok(InvokePart::Rule(RuleItem::item(alloc, tokens)?));
         }
         modifier(alloc, tokens)
     }
@@ -57,11 +63,11 @@ fn invocation_end(alloc: Global, tokens: &mut Cursor<'_>) -> Result<Row<InvokePa
     }
     tokens.expect(Word(WordKind::WithWord))?;
     tokens.expect(Mark(MarkKind::Colon))?;
-    let parts = block(alloc, tokens)?;
+    let parts = block::<PartItem>(alloc, tokens)?;
     Ok(parts)
 }
 
-#[tactic(auto, using(crate::proofs::ReadSteps::read_step, crate::proofs::Blocks::some_arguments))]
+#[tactic(auto, using(dsl_cursor::proofs::ReadSteps::read_step, crate::proofs::Blocks::some_arguments))]
 fn invocation_arguments(alloc: Global, tokens: &mut Cursor<'_>) -> Result<Row<Argument>, Stop>
     ensures { Gives (λ xs. written.invocation_arguments (map argument_tree xs)) (read Part.InvocationArguments tokens.old) result tokens.new }
 {
@@ -73,7 +79,7 @@ fn invocation_arguments(alloc: Global, tokens: &mut Cursor<'_>) -> Result<Row<Ar
 }
 
 /// The arguments of a composition in their brackets, if there are any.
-#[tactic(auto, using(crate::proofs::ReadSteps::read_step, crate::proofs::Blocks::some_arguments))]
+#[tactic(auto, using(dsl_cursor::proofs::ReadSteps::read_step, crate::proofs::Blocks::some_arguments))]
 pub fn composition_arguments(alloc: Global, tokens: &mut Cursor<'_>) -> Result<Row<Argument>, Stop>
     ensures { Gives (λ xs. written.composition_arguments (map argument_tree xs)) (read Part.CompositionArguments tokens.old) result tokens.new }
 {

@@ -2,22 +2,11 @@
 //! tree goes on.
 #![tactic(auto)]
 
-mod arguments;
 mod declarations;
-mod expressions;
-mod imports;
 mod invocations;
-mod levels;
 mod members;
-mod operands;
 mod parser;
 mod phases;
-mod rows;
 mod rules;
-mod signs;
-mod stop;
-mod tokens;
-mod units;
 
-pub use parser::parse;
-pub use stop::ParseStop;
+pub use parser::{ParseStop, parse};

@@ -1,25 +1,29 @@
 //! Members of types, and their blocks.
 
-ghost use Rattle.std.specs.Prelude.{◌≡◌, ◌<◌, ◌∷◌};
-ghost use Rattle.dsl_parser.specs.Words.{length, map, refl, IfOk, Part, field_tree, member_tree, read, in_row, Gives, written_field_rest, rule_at, rest_at, drop, IsNext};
+ghost use Rattle.std.specs.Prelude.{◌≡◌, ◌<◌, ◌∷◌, refl, map};
+ghost use Rattle.dsl_cursor.specs.Words.{length, IfOk, Part, read, in_row, Gives, rule_at, rest_at, drop};
+ghost use Rattle.dsl_parser.specs.Words.{field_tree, member_tree, written_field_rest};
 ghost use Rattle.dsl_tree.specs.WrittenFile as written;
 
 use crate::phases::phase;
-use crate::rows::{Item, Repeated, block, row_from};
-use crate::rules::{initial_value, rules_of_field};
-use crate::signs::Sign::{self, Mark, Word};
-use crate::stop::Stop;
-use crate::tokens::Cursor;
+use crate::rules::{RuleItem, initial_value, rules_of_field};
+use dsl_cursor::Sign::{self, Mark, Word};
+use dsl_cursor::{Cursor, Item, Repeated, Stop, block, row_from};
 use dsl_tree::{Expr, FieldDecl, Ident, MarkKind, Member, RuleDecl, WordKind};
 use osc_base::{Place, Row};
 use std::alloc::Global;
 
-impl Repeated for Ident {
+/// Names, each after a comma.
+struct MoreNames;
+
+impl Repeated for MoreNames {
+    type Tree = Ident;
+
     ghost tail = { Part.NamesTail };
 
     ghost rest = { written.names_tail };
 
-    #[tactic(auto, using(crate::proofs::ReadSteps::read_step, crate::proofs::Lengths::lengths))]
+    #[tactic(auto, using(dsl_cursor::proofs::ReadSteps::read_step, dsl_cursor::proofs::Lengths::lengths))]
     fn next(alloc: Global, tokens: &mut Cursor<'_>) -> Result<Option<Ident>, Stop> {
         if tokens.take(Mark(MarkKind::Comma)).is_none() {
             return Ok(None);
@@ -33,7 +37,7 @@ fn names_from(alloc: Global, first: Ident, tokens: &mut Cursor<'_>) -> Result<Ro
     ensures first { IfOk result (λ names. names ≡ first ∷ drop 1 names) }
     ensures rest { Gives (λ names. written.names_tail (drop 1 names)) (read Part.NamesTail tokens.old) result tokens.new }
 {
-    row_from(alloc, first, tokens)
+    row_from::<MoreNames>(alloc, first, tokens)
 }
 
 /// The type of a field.
@@ -43,7 +47,7 @@ struct FieldType {
     of: Ident,
 }
 
-#[tactic(auto, using(crate::proofs::ReadSteps::read_step))]
+#[tactic(auto, using(dsl_cursor::proofs::ReadSteps::read_step))]
 fn field_type(alloc: Global, tokens: &mut Cursor<'_>) -> Result<FieldType, Stop>
     ensures { Gives (λ t. written.field_type t.list t.of) (read Part.FieldType tokens.old) result tokens.new }
 {
@@ -100,7 +104,12 @@ fn do_member(alloc: Global, tokens: &mut Cursor<'_>) -> Result<Member, Stop>
     Ok(Member::Do { place, phase })
 }
 
-impl Item for Member {
+/// One member.
+struct MemberItem;
+
+impl Item for MemberItem {
+    type Tree = Member;
+
     ghost part = { Part.Member };
 
     ghost tail = { Part.MembersTail };
@@ -112,28 +121,28 @@ impl Item for Member {
     ghost law = { (refl, refl, refl, refl, refl, λ x xs. refl) };
 
     fn begins(tokens: &Cursor<'_>) -> bool {
-        tokens.begins_name() || RuleDecl::begins(tokens) || tokens.begins(Word(WordKind::DoWord))
+        tokens.begins_name() || RuleItem::begins(tokens) || tokens.begins(Word(WordKind::DoWord))
     }
 
-    #[tactic(auto, using(crate::proofs::ReadSteps::read_step))]
+    #[tactic(auto, using(dsl_cursor::proofs::ReadSteps::read_step))]
     fn item(alloc: Global, tokens: &mut Cursor<'_>) -> Result<Member, Stop> {
         if tokens.begins_name() {
             return Ok(Member::Field(field(alloc, tokens)?));
         }
-        if RuleDecl::begins(tokens) {
-            return Ok(Member::Rule(RuleDecl::item(alloc, tokens)?));
+        if RuleItem::begins(tokens) {
+            return Ok(Member::Rule(RuleItem::item(alloc, tokens)?));
         }
         do_member(alloc, tokens)
     }
 }
 
 /// A block of members, one or more, after its colon.
-#[tactic(auto, using(crate::proofs::ReadSteps::read_step, crate::proofs::Blocks::members_block))]
+#[tactic(auto, using(dsl_cursor::proofs::ReadSteps::read_step, crate::proofs::Blocks::members_block))]
 pub fn members(alloc: Global, tokens: &mut Cursor<'_>) -> Result<Row<Member>, Stop>
     ensures gives { Gives (λ ms. written.block (map member_tree ms)) (read Part.Block tokens.old) result tokens.new }
     ensures some { IfOk result (λ ms. 0 < length ms) }
 {
-    let members = block(alloc, tokens)?;
+    let members = block::<MemberItem>(alloc, tokens)?;
     Ok(members)
 }
 

@@ -1,13 +1,17 @@
 ghost use Rattle.std.specs.Prelude.{◌≡◌, ◌≢◌};
-ghost use Rattle.dsl_parser.specs.Words.{IfOk, IfErr, FileTree, Part, PartFault, file_tree, Ended, Spelled, FirstFault, fault_code, OnStop, HasViableFront, HasDeadToken, [], Ok, Err, Memory, read, file as file_forest};
+ghost use Rattle.dsl_cursor.specs.Words.{IfOk, IfErr, Part, PartFault, Ended, [], Ok, Err, Memory, read};
+ghost use Rattle.dsl_parser.specs.Words.{FileTree, file_tree, Spelled, FirstFault, fault_code, OnStop, HasViableFront, HasDeadToken, file as file_forest};
 
 use crate::declarations::declarations;
-use crate::imports::imports;
-use crate::stop::{ParseStop, Stop};
-use crate::tokens::Cursor;
+use dsl_cursor::{Cursor, Stop};
+use dsl_headings::imports::imports;
 use dsl_tree::{File, Token, TokenKind, Tokens};
 use osc_base::{Fault, FaultCode};
 use std::alloc::Global;
+
+/// Why tokens have no tree: they spell none, and the fault is at the first one with which no tree goes
+/// on; or out of memory.
+pub type ParseStop = osc_base::Stop<Fault>;
 
 /// Returns the tree that the tokens spell.
 ///
@@ -55,7 +59,7 @@ fn fault_at(tokens: &[Token], left: usize) -> Fault
 }
 
 /// A file, to the end of its tokens.
-#[tactic(auto, using(crate::proofs::ReadSteps::read_step))]
+#[tactic(auto, using(dsl_cursor::proofs::ReadSteps::read_step))]
 fn file(alloc: Global, tokens: &mut Cursor<'_>) -> Result<File, Stop>
     ensures ok { IfOk result (λ f. read Part.File tokens.old ≡ Ok (file_forest (file_tree f), [])) }
     ensures err { IfErr result (λ e. e ≢ Memory → read Part.File tokens.old ≡ Err e) }

@@ -1,16 +1,16 @@
 //! Phases of a behaviour. They nest in the blocks of compositions.
 
-ghost use Rattle.std.specs.Prelude.{◌≡◌, ◌≢◌, ◌∷◌};
-ghost use Rattle.dsl_parser.specs.Words.{[], map, Err, IfOk, IfErr, Memory, Part, PhaseTree, row_of, starts, phase_tree, expr_tree, argument_tree, part_tree, take, read, in_row, Gives, composition_codes, composition_token, core_of, behind_label, behind_name, invoke_codes, invoke_token, label_rest, name_rest, phases_rest, IsStarted, IsHeaded, rest_at, IsRow, first};
+ghost use Rattle.std.specs.Prelude.{◌≡◌, ◌≢◌, ◌∷◌, map};
+ghost use Rattle.dsl_cursor.specs.Words.{[], Err, IfOk, IfErr, Memory, Part, starts, take, read, in_row, Gives, rest_at, IsRow, first};
+ghost use Rattle.dsl_expressions.specs.Words.{expr_tree, argument_tree};
+ghost use Rattle.dsl_parser.specs.Words.{PhaseTree, row_of, phase_tree, part_tree, composition_codes, composition_token, core_of, behind_label, behind_name, invoke_codes, invoke_token, label_rest, name_rest, phases_rest, IsStarted, IsHeaded};
 ghost use Rattle.dsl_tree.specs.WrittenPhases as written;
 
-use crate::expressions::expr;
 use crate::invocations::{InvocationRest, composition_arguments, invocation_rest};
-use crate::rows::row_of as one_row;
-use crate::signs::Sign::{self, Mark, Word};
-use crate::stop::Stop;
-use crate::tokens::Cursor;
-use crate::units::closed;
+use dsl_cursor::Sign::{self, Mark, Word};
+use dsl_cursor::{Cursor, Stop, row_of as one_row};
+use dsl_expressions::expr;
+use dsl_headings::closed;
 use dsl_tree::WordKind::{ActorWord, ElapsedWord, OneOfWord, ParallelWord, SerialWord, WaitWord};
 use dsl_tree::{
     Argument, CompKind, CompNode, Expr, Ident, InvokeHead, InvokeNode, MarkKind, Phase, TokenKind,
@@ -94,7 +94,7 @@ fn begins_head(tokens: &Cursor<'_>) -> bool
 }
 
 /// The head of an invocation behind a label.
-#[tactic(auto, unfolding(crate::specs::Descent::take))]
+#[tactic(auto, unfolding(dsl_cursor::specs::Descent::take))]
 fn invoke_head(alloc: Global, tokens: &mut Cursor<'_>) -> Result<InvokeHead, Stop>
     ensures { Gives invoke_token (take invoke_codes tokens.old) result tokens.new }
 {
@@ -106,7 +106,7 @@ fn invoke_head(alloc: Global, tokens: &mut Cursor<'_>) -> Result<InvokeHead, Sto
     }
 }
 
-#[tactic(auto, using(crate::proofs::Steps::step_labelled_phase, crate::proofs::Lengths::lengths))]
+#[tactic(auto, using(crate::proofs::Steps::step_labelled_phase, dsl_cursor::proofs::Lengths::lengths))]
 fn start_behind_label(
     alloc: Global,
     label: Ident,
@@ -126,7 +126,7 @@ fn start_behind_label(
     Ok(PhaseStart::Whole(waiting(Some(label), place, elapsed)))
 }
 
-#[tactic(auto, using(crate::proofs::Steps::step_phase_after_name, crate::proofs::Lengths::lengths))]
+#[tactic(auto, using(crate::proofs::Steps::step_phase_after_name, dsl_cursor::proofs::Lengths::lengths))]
 fn start_behind_name(
     alloc: Global,
     name: Ident,
@@ -141,7 +141,7 @@ fn start_behind_name(
     Ok(PhaseStart::Whole(invoke(None, InvokeHead::Name(name), rest)))
 }
 
-#[tactic(auto, using(crate::proofs::Steps::step_phase, crate::proofs::Lengths::lengths))]
+#[tactic(auto, using(crate::proofs::Steps::step_phase, dsl_cursor::proofs::Lengths::lengths))]
 fn start(alloc: Global, tokens: &mut Cursor<'_>) -> Result<PhaseStart, Stop>
     ensures { IsStarted Part.Phase (λ f. f) (λ f. f) tokens.old result tokens.new }
 {
@@ -161,7 +161,7 @@ fn start(alloc: Global, tokens: &mut Cursor<'_>) -> Result<PhaseStart, Stop>
 }
 
 /// The place and the kind of the word that begins a composition.
-#[tactic(auto, unfolding(crate::specs::Descent::take))]
+#[tactic(auto, unfolding(dsl_cursor::specs::Descent::take))]
 fn composition_word(tokens: &mut Cursor<'_>) -> Result<(Place, CompKind), Stop>
     ensures { Gives (λ w. composition_token w.0 w.1) (take composition_codes tokens.old) result tokens.new }
 {
@@ -185,7 +185,7 @@ struct CompositionHead {
     arguments: Row<Argument>,
 }
 
-#[tactic(auto, using(crate::proofs::Steps::step_composition, crate::proofs::Lengths::lengths))]
+#[tactic(auto, using(crate::proofs::Steps::step_composition, dsl_cursor::proofs::Lengths::lengths))]
 fn composition_head(alloc: Global, tokens: &mut Cursor<'_>) -> Result<CompositionHead, Stop>
     ensures { IsHeaded tokens.old result tokens.new }
 {
@@ -220,7 +220,7 @@ fn composed(label: Option<Ident>, head: CompositionHead, members: Row<Phase>) ->
 
 /// A phase.
 #[cycle(phase_readers)]
-#[tactic(auto, using(crate::proofs::Lengths::lengths))]
+#[tactic(auto, using(dsl_cursor::proofs::Lengths::lengths))]
 pub fn phase(alloc: Global, tokens: &mut Cursor<'_>) -> Result<Phase, Stop>
     ensures { Gives (λ p. written.phase (phase_tree p)) (read Part.Phase tokens.old) result tokens.new }
 {
@@ -235,7 +235,7 @@ pub fn phase(alloc: Global, tokens: &mut Cursor<'_>) -> Result<Phase, Stop>
 
 /// The phases of a block and its end.
 #[cycle(phase_readers)]
-#[tactic(auto, using(crate::proofs::Lengths::lengths))]
+#[tactic(auto, using(dsl_cursor::proofs::Lengths::lengths))]
 fn phases_in_block(alloc: Global, tokens: &mut Cursor<'_>) -> Result<Row<Phase>, Stop>
     ensures { Gives (λ ps. written.block_phases (row_of (map phase_tree ps))) (in_row read (rest_at Part.Composition 0 5) tokens.old) result tokens.new }
 {
@@ -247,7 +247,7 @@ fn phases_in_block(alloc: Global, tokens: &mut Cursor<'_>) -> Result<Row<Phase>,
 
 /// The phases of a block from this one on.
 #[cycle(phase_readers)]
-#[tactic(auto, using(crate::proofs::Lengths::lengths))]
+#[tactic(auto, using(dsl_cursor::proofs::Lengths::lengths))]
 fn phases_from(alloc: Global, first: Phase, tokens: &mut Cursor<'_>) -> Result<Row<Phase>, Stop>
     ensures ok { IfOk result (λ phases. IsRow Part.PhasesTail phases_rest (first ∷ []) phases tokens.old tokens.new) }
     ensures err { IfErr result (λ e. e ≢ Memory → read Part.PhasesTail tokens.old ≡ Err e) }

@@ -1,21 +1,21 @@
 //! Rules: `keep` and `remove_default`.
 
-ghost use Rattle.std.specs.Prelude.{◌≡◌};
-ghost use Rattle.dsl_parser.specs.Words.{map, option_map, refl, Ok, Part, expr_tree, rule_tree, initial, field_end, read, in_row, Gives, rule_at, path as path_forest, path_tree, take, head_token, head_codes};
+ghost use Rattle.std.specs.Prelude.{◌≡◌, refl, map, option_map};
+ghost use Rattle.dsl_cursor.specs.Words.{Ok, Part, read, in_row, Gives, rule_at, take};
+ghost use Rattle.dsl_expressions.specs.Words.{expr_tree};
+ghost use Rattle.dsl_parser.specs.Words.{rule_tree, initial, field_end, path as path_forest, path_tree, head_token, head_codes};
 ghost use Rattle.dsl_tree.specs.WrittenPhases as written;
 
-use crate::expressions::{expr, suffixes};
-use crate::rows::{Item, block};
-use crate::signs::Sign::{self, Mark, Word};
-use crate::stop::Stop;
-use crate::tokens::Cursor;
-use crate::units::closed;
+use dsl_cursor::Sign::{self, Mark, Word};
+use dsl_cursor::{Cursor, Item, Stop, block};
+use dsl_expressions::{expr, suffixes};
+use dsl_headings::closed;
 use dsl_tree::WordKind::{ActorWord, ItWord};
 use dsl_tree::{Expr, KeepKind, MarkKind, PathHead, PathNode, RuleDecl, TokenKind, WordKind};
 use osc_base::Row;
 use std::alloc::Global;
 
-#[tactic(auto, using(crate::proofs::ReadSteps::read_step, crate::proofs::Lengths::take_within))]
+#[tactic(auto, using(dsl_cursor::proofs::ReadSteps::read_step, dsl_cursor::proofs::Lengths::take_within))]
 fn keep_kind(tokens: &mut Cursor<'_>) -> KeepKind
     ensures { read Part.KeepKind tokens.old ≡ Ok (written.keep_kind result, tokens.new) }
 {
@@ -28,7 +28,7 @@ fn keep_kind(tokens: &mut Cursor<'_>) -> KeepKind
     KeepKind::Plain
 }
 
-#[tactic(auto, unfolding(crate::specs::Descent::take))]
+#[tactic(auto, unfolding(dsl_cursor::specs::Descent::take))]
 fn head(alloc: Global, tokens: &mut Cursor<'_>) -> Result<PathHead, Stop>
     ensures { Gives head_token (take head_codes tokens.old) result tokens.new }
 {
@@ -42,7 +42,7 @@ fn head(alloc: Global, tokens: &mut Cursor<'_>) -> Result<PathHead, Stop>
 }
 
 /// A path: a name, `it` or `actor`, and any suffixes.
-#[tactic(auto, using(crate::proofs::ReadSteps::read_step, crate::proofs::LeafForests::path_forest))]
+#[tactic(auto, using(dsl_cursor::proofs::ReadSteps::read_step, crate::proofs::PathForests::path_forest))]
 fn path(alloc: Global, tokens: &mut Cursor<'_>) -> Result<PathNode, Stop>
     ensures { Gives (λ p. path_forest (path_tree p)) (read Part.Path tokens.old) result tokens.new }
 {
@@ -72,7 +72,12 @@ fn remove(alloc: Global, tokens: &mut Cursor<'_>) -> Result<RuleDecl, Stop>
     Ok(RuleDecl::Remove { place, path })
 }
 
-impl Item for RuleDecl {
+/// One rule.
+pub struct RuleItem;
+
+impl Item for RuleItem {
+    type Tree = RuleDecl;
+
     ghost part = { Part.Rule };
 
     ghost tail = { Part.RulesTail };
@@ -87,7 +92,7 @@ impl Item for RuleDecl {
         tokens.begins(Word(WordKind::KeepWord)) || tokens.begins(Word(WordKind::RemoveDefaultWord))
     }
 
-    #[tactic(auto, using(crate::proofs::ReadSteps::read_step))]
+    #[tactic(auto, using(dsl_cursor::proofs::ReadSteps::read_step))]
     fn item(alloc: Global, tokens: &mut Cursor<'_>) -> Result<RuleDecl, Stop> {
         if tokens.begins(Word(WordKind::KeepWord)) {
             return keep(alloc, tokens);
@@ -106,12 +111,12 @@ pub fn rules_of_field(alloc: Global, tokens: &mut Cursor<'_>) -> Result<Row<Rule
     }
     tokens.expect(Word(WordKind::WithWord))?;
     tokens.expect(Mark(MarkKind::Colon))?;
-    let rules = block(alloc, tokens)?;
+    let rules = block::<RuleItem>(alloc, tokens)?;
     Ok(rules)
 }
 
 /// The value that a field's declaration gives it, if there is one.
-#[tactic(auto, using(crate::proofs::ReadSteps::read_step))]
+#[tactic(auto, using(dsl_cursor::proofs::ReadSteps::read_step))]
 pub fn initial_value(alloc: Global, tokens: &mut Cursor<'_>) -> Result<Option<Expr>, Stop>
     ensures { Gives (λ value. initial (option_map expr_tree value)) (read Part.Initial tokens.old) result tokens.new }
 {

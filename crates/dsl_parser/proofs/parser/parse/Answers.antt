@@ -1,5 +1,6 @@
 use Rattle.std.proofs.Common.{List, ◌∙◌, subst}
-use Rattle.dsl_parser.specs.Words.{Token, FirstFault}
+use Rattle.dsl_cursor.specs.Words.{Token}
+use Rattle.dsl_parser.specs.Words.{FirstFault}
 use Rattle.dsl_tree.proofs.{OneTrees.no_tree_at_fault, Tops.whole_file, Tops.only_tree}
 use Rattle.dsl_parser.proofs.Wholes.{file_fault, file_parsed}
 use Rattle.dsl_parser.proofs.parser.parse.Goals as goal

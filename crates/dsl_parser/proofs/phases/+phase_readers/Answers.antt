@@ -1,7 +1,9 @@
 use Rattle.std.proofs.Common.{◌≡◌, ◌≢◌, Err, refl, sym, ◌∙◌, arith}
-use Rattle.dsl_parser.specs.Words.{Memory, Phase, Forest, Part, phase_tree, read, phases_rest}
+use Rattle.dsl_cursor.specs.Words.{Memory, Forest, Part, read}
+use Rattle.dsl_parser.specs.Words.{Phase, phase_tree, phases_rest}
 use Rattle.dsl_tree.specs.WrittenPhases as written
-use Rattle.dsl_parser.proofs.{Loops.step, Loops.finish, Loops.raise, Loops.raise_gives, StartForms.block_stops, StartForms.composed_read, StartForms.composition_stops, RowSteps.optional_none, RowSteps.part_grows, RowSteps.part_stops}
+use Rattle.dsl_cursor.proofs.{Loops.step, Loops.finish, Loops.raise, Loops.raise_gives, RowSteps.optional_none, RowSteps.part_grows, RowSteps.part_stops}
+use Rattle.dsl_parser.proofs.StartForms.{block_stops, composed_read, composition_stops}
 use Rattle.dsl_parser.proofs.phases.+phase_readers.Goals as goal
 
 abbrev seen_phase : Phase → Forest

@@ -1,6 +1,7 @@
 use Rattle.std.proofs.Common.{◌*◌, ◌+◌, ◌≤◌, [], ◌∷◌, length}
-use Rattle.dsl_parser.specs.Words.{Part, phases_rest}
-use Rattle.dsl_parser.proofs.Loops.{Along}
+use Rattle.dsl_cursor.specs.Words.{Part}
+use Rattle.dsl_parser.specs.Words.{phases_rest}
+use Rattle.dsl_cursor.proofs.Loops.{Along}
 use Rattle.dsl_parser.proofs.phases.+phase_readers.Given as goal
 
 abbrev pub decreases-phase : goal.decreases-phase

@@ -1,0 +1,5 @@
+pub mod Cursor
+pub mod Descent
+pub mod Rows
+pub mod Terms
+pub mod Words

@@ -1,0 +1,6 @@
+mod ArgumentRows
+pub mod ExprForests
+mod ExprSteps
+mod LeafForests
+mod OtherTokens
+mod Steps

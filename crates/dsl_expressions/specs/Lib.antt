@@ -1,0 +1,3 @@
+pub mod Arguments
+pub mod Levels
+pub mod Words

@@ -1,0 +1,3 @@
+pub mod Headings
+pub mod Units
+pub mod Words

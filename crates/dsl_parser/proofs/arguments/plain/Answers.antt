@@ -1,5 +1,0 @@
-use Rattle.dsl_parser.proofs.ArgumentRows.{plain_item}
-use Rattle.dsl_parser.proofs.arguments.plain.Goals as goal
-
-pub returns : goal.returns
-returns c = plain_item _ _ _ _ c.in_ok-more.more c.requires c.in_ok-value.ensures c.in_ok-more.ensures
