@@ -44,7 +44,7 @@ no_number x = not (is_some (kind_of x.shape x.text))
 abbrev pub too_deep : Lexeme → Bool
 too_deep x = nat_lt x.depth_before x.depth_behind && nat_lt 64 x.depth_behind
 
--- a code, and the test that tells where its fault is
+-- a fault's code, and the test that tells which tokens have it
 abbrev pub TokenFault : Type 0
 TokenFault = FaultCode × (Lexeme → Bool)
 
@@ -52,7 +52,7 @@ TokenFault = FaultCode × (Lexeme → Bool)
 abbrev pub token_faults : List TokenFault
 token_faults = (FaultCode.Number, no_number) ∷ (FaultCode.Deep, too_deep) ∷ []
 
--- one of these faults is there, and has this code
+-- x has one of these faults, and it has this code
 abbrev pub IsThere : List TokenFault → Lexeme → FaultCode → Type 0
 IsThere [] x code = ⊥
 IsThere ((own, test) ∷ more) x code = ((code ≡ own) × IsTrue (test x)) ⊎ IsThere more x code

@@ -57,7 +57,8 @@ fn depth_behind(layout: &Layout, brackets: u32) -> usize
     brackets as usize + blocks
 }
 
-/// The code of the first fault at the token's start. That the text is that of a token is known before.
+/// The code of the first fault at the token's start, in the order of `token_faults`. That the text is that of a token
+/// is known before.
 fn token_fault(layout: &Layout, shape: Shape, text: &[u8], brackets: u32) -> Option<FaultCode>
     requires room { HasRoom layout.now 1 }
     requires brackets { brackets < 2 ^ 31 }
