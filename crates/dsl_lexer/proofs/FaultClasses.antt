@@ -1,18 +1,19 @@
 -- The ways to have a fault, walked here alone: each stands at the first byte that begins no character, at an early tab, or
 -- within the next piece, which is none or isn't sound. A further way needs its clause in `class_of`, and one in `least_of`.
-use Rattle.std.proofs.Common.{◌≡◌, ℕ, ◌+◌, ◌<◌, ◌≤◌, true, false, Option, Some, None, List, [], ◌∷◌, ◌++◌, length, refl, ap, sym, ◌∙◌, subst, arith}
+-- A further row of `token_faults` needs none.
+use Rattle.std.proofs.Common.{◌≡◌, ℕ, ◌+◌, ◌<◌, ◌≤◌, true, false, Option, Some, None, List, [], length, refl, ap, sym, ◌∙◌, subst, arith}
 use Rattle.std.specs.Prelude.{◌≢◌, IsSome, is_some}
 use Rattle.std.specs.Str.{IsValidUpTo}
 use Rattle.std.proofs.lemmas.Bool.{false≢true}
 use Rattle.std.proofs.lemmas.List.{length-append}
 use Rattle.osc_base.specs.declared.fault.FaultCode.{FaultCode}
-use Rattle.dsl_lexer.specs.Shapes.{NumberShape, is_lexeme}
-use Rattle.dsl_lexer.specs.Kinds.{kind_of}
+use Rattle.dsl_lexer.specs.Shapes.{is_lexeme}
 use Rattle.dsl_lexer.specs.Pieces.{Piece, reach}
-use Rattle.dsl_lexer.specs.Layout.{line, first_tab, begins_line, has_lexeme, depth}
-use Rattle.dsl_lexer.specs.SourceTokens.{HasControl, IsLaidOut, IsSound, BeginsContent, IsNext, FaultBehind, bad_byte, early_tab, bad_width, no_piece, bad_control, no_string, no_number, too_deep}
+use Rattle.dsl_lexer.specs.Layout.{line, first_tab, begins_line, has_lexeme}
+use Rattle.dsl_lexer.specs.SourceTokens.{HasControl, IsLaidOut, lexeme, HasTokenFault, IsSound, BeginsContent, IsNext, FaultBehind, bad_byte, early_tab, bad_width, no_piece, bad_control, no_string, bad_token}
 use Rattle.dsl_lexer.proofs.Ascii.{control_within}
 use Rattle.dsl_lexer.proofs.Cutting.{is_next_same, some_text}
+use Rattle.dsl_lexer.proofs.TokenFaults.{after_indent}
 
 pub data FaultClass (bytes : List ℕ) (before : List Piece) (rest : List ℕ) (n : ℕ) (code : FaultCode) : Type 0 where
   at_byte : code ≡ FaultCode.Utf8 → IsValidUpTo bytes n → reach before ≤ n
@@ -59,16 +60,11 @@ module _ (bytes : List ℕ) (before : List Piece) (rest : List ℕ) (n : ℕ) (c
       let same : q ≡ p = is_next_same before rest q p next next' in
       sound.no_control (ap (λ x. x.shape) (sym same) ∙ string) i (subst (λ (x : Piece). HasControl x.text i) same there))
   class_of (no_string c at stuck quote) = at_next (λ t. cc) stuck.more at (λ p next sound. stuck.none p.shape p.text next.behind next.stands.shape next.split)
-  class_of (no_number q c at next shape none) =
-      at_next (λ t. cc) (more_behind q next) at
+  class_of (bad_token q at next has) =
+      at_next (λ t. not_tab (subst (λ k. HasTokenFault q before k) t has)) (more_behind q next) at
       (λ p next' sound.
       let same : q ≡ p = is_next_same before rest q p next next' in
-      let shape' : p.shape ≡ NumberShape = ap (λ x. x.shape) (sym same) ∙ shape in
-      some_not_none (kind_of p.shape p.text) (sound.token (ap is_lexeme shape')) (ap (λ x. kind_of x.shape x.text) (sym same) ∙ none))
-  class_of (too_deep q c at next rises over) =
-      at_next (λ t. cc) (more_behind q next) at
-      (λ p next' sound.
-      let same : q ≡ p = is_next_same before rest q p next next' in
-      let shallow = sound.shallow in
-      let over' : 64 < depth (p ∷ before) = subst (λ (x : Piece). 64 < depth (x ∷ before)) same over in
-      omega arith)
+      sound.no_fault code (subst (λ (x : Piece). HasTokenFault x before code) same has))
+    where
+      not_tab : HasTokenFault q before FaultCode.Tab → ⊥
+      not_tab tab = let far = after_indent (lexeme q before) FaultCode.Tab tab.there in absurd (omega arith)

@@ -1,6 +1,6 @@
 -- Which fault is the first.
 use Rattle.std.proofs.Common.{◌≡◌, ℕ, ◌+◌, ◌<◌, ◌≤◌, Bool, true, false, cond, ◌&&◌, ◌⊎◌, inl, inr, Option, Some, None, List, [], ◌∷◌, ◌++◌, length, refl, ap, sym, ◌∙◌, subst, arith}
-use Rattle.std.specs.Prelude.{◌==◌, IsSome, is_some}
+use Rattle.std.specs.Prelude.{◌==◌, is_some}
 use Rattle.std.specs.List.{list_all}
 use Rattle.std.specs.Str.{IsValidUpTo}
 use Rattle.std.proofs.lemmas.Bool.{and_from, and_parts, or_parts, or_right, eqb-true, eq-eqb, cases_order, false≢true, true≢false}
@@ -16,13 +16,13 @@ use Rattle.dsl_lexer.specs.Shapes.{Space, Tab, Comment, LineEnd, Joint, MarkShap
 use Rattle.dsl_lexer.specs.Kinds.{kind_of}
 use Rattle.dsl_lexer.specs.Scan.{first_shape}
 use Rattle.dsl_lexer.specs.Pieces.{Piece, reach, IsLongest, Cut, IsContent}
-use Rattle.dsl_lexer.specs.Layout.{brackets, is_line_end, ends_line, is_tab, line, or_else, first_tab, begins_line, has_lexeme, depth}
-use Rattle.dsl_lexer.specs.SourceTokens.{HasControl, IsLaidOut, IsSound, AreSound, BeginsContent, IsNext, FaultBehind, bad_byte, early_tab, bad_width, no_piece, bad_control, no_string, no_number, too_deep, FaultAt}
+use Rattle.dsl_lexer.specs.Layout.{brackets, is_line_end, ends_line, is_tab, line, or_else, first_tab, has_lexeme}
+use Rattle.dsl_lexer.specs.SourceTokens.{IsSound, AreSound, BeginsContent, IsNext, FaultBehind, FaultAt}
 use Rattle.dsl_lexer.proofs.Spots.{no_feed}
 use Rattle.dsl_lexer.proofs.Fitting.{begins}
 use Rattle.dsl_lexer.proofs.Matching.{lexeme_is}
 use Rattle.dsl_lexer.proofs.FaultClasses.{some_not_none, first_content, FaultClass, at_byte, at_tab, in_piece, class_of}
-use Rattle.dsl_lexer.proofs.Cutting.{is_next_same, same_cut, extends, sound_there, reach_there}
+use Rattle.dsl_lexer.proofs.Cutting.{same_cut, extends, sound_there, reach_there}
 
 -- after sound pieces there is no fault but a byte that begins no character
 

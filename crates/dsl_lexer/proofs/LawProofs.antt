@@ -4,7 +4,7 @@ use Rattle.std.specs.Prelude.{◌≢◌, nat_lt, filter, ◌==◌}
 use Rattle.std.specs.List.{list_all, take_while, prefix_len, AllByRecursion}
 use Rattle.std.specs.Str.{IsUtf8, IsValidUpTo}
 use Rattle.std.proofs.lemmas.Bool.{cases_order, cond_both, true≢false, ltb-true, lt-ltb, eqb-true}
-use Rattle.std.proofs.lemmas.List.{take_all, append_assoc, length-append}
+use Rattle.std.proofs.lemmas.List.{take_all, append_assoc}
 use Rattle.osc_base.specs.declared.fault.FaultCode.{FaultCode}
 use Rattle.osc_base.proofs.FaultRows.{both_no_later}
 use Rattle.osc_base.specs.declared.fault.Fault.{Fault}
@@ -28,8 +28,7 @@ use Rattle.dsl_lexer.specs.Steps.{opened_behind}
 use Rattle.dsl_lexer.specs.SourceTokens.{AreSound, IsNext, FaultBehind, FaultAt, EndsOnce}
 use Rattle.dsl_lexer.specs.Laws.{OneList, CutOrFault, OneFault, EndIsLast, Among, IsFalling, OpenedLaw}
 use Rattle.dsl_lexer.proofs.Opened.{opened-cons}
-use Rattle.dsl_lexer.proofs.Ascii.{control_within}
-use Rattle.dsl_lexer.proofs.Cutting.{same_cut, extends, sound_there, reach_there, some_text, is_next_same}
+use Rattle.dsl_lexer.proofs.Cutting.{same_cut, extends, sound_there, reach_there}
 use Rattle.dsl_lexer.proofs.FaultClasses.{FaultClass, at_byte, at_tab, in_piece, class_of, nothing_next}
 use Rattle.dsl_lexer.proofs.Firsts.{clean, later_tab}
 use Rattle.dsl_lexer.proofs.Stepping.{tab_before}

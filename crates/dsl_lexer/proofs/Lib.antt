@@ -11,6 +11,7 @@ pub mod Opened
 pub mod Spots
 pub mod Bounds
 pub mod Matching
+pub mod TokenFaults
 pub mod FaultClasses
 pub mod Firsts
 pub mod Ascii

@@ -1,37 +1,35 @@
 -- A step of the lexer goes on after one sound piece more, or stops at the first fault: the law.
 use Rattle.std.proofs.Common.{◌≡◌, ℕ, suc, ◌+◌, ◌-◌, ◌<◌, ◌≤◌, Bool, true, false, cond, not, ◌⊎◌, inl, inr, Option, Some, None, List, ◌∷◌, ◌++◌, length, zero, take, refl, ap, sym, ◌∙◌, subst, arith}
-use Rattle.std.specs.Prelude.{nat_lt, ◌==◌, IsSome, is_some}
+use Rattle.std.specs.Prelude.{nat_lt, ◌==◌, is_some}
 use Rattle.std.specs.List.{list_all}
 use Rattle.std.specs.Str.{IsValidUpTo}
 use Rattle.std.proofs.lemmas.Bool.{and_parts, eqb-true, eqb-false, cases_order, false≢true, true≢false, not-true, ltb-true, ltb-false}
 use Rattle.std.proofs.lemmas.List.{length-append, take_at}
 use Rattle.dsl_tree.specs.declared.token.TokenKind.{TokenKind}
-use Rattle.dsl_tree.specs.declared.token.TokenKind.TheVariants.{Mark}
-use Rattle.dsl_tree.specs.declared.token.MarkKind.{MarkKind}
 use Rattle.dsl_lexer.specs.Progress.{IsSpot, IsTab, Matches, Valid, Follows}
 use Rattle.dsl_lexer.specs.declared.spot.Spot.{Spot}
 use Rattle.dsl_lexer.specs.declared.layout.Layout.{Layout}
 use Rattle.dsl_lexer.specs.declared.shape.Shape.{Shape}
 use Rattle.dsl_lexer.specs.Bytes.{is_quote}
-use Rattle.dsl_lexer.specs.Shapes.{Space, Tab, Comment, LineEnd, Joint, MarkShape, NameShape, NumberShape, StringShape, is_lexeme, IsShape, entry, marks}
+use Rattle.dsl_lexer.specs.Shapes.{Space, Tab, Comment, LineEnd, Joint, MarkShape, NameShape, NumberShape, StringShape, is_lexeme, IsShape}
 use Rattle.dsl_lexer.specs.Kinds.{kind_of}
 use Rattle.dsl_lexer.specs.Scan.{first_shape, piece_len, control_at}
 use Rattle.dsl_lexer.specs.Pieces.{Piece, reach, Cut, IsStuck, IsContent}
 use Rattle.dsl_lexer.specs.Layout.{brackets_behind, brackets, line, width, first_tab, widths, opened, fits, has_lexeme, depth}
-use Rattle.dsl_lexer.specs.SourceTokens.{HasControl, IsLaidOut, IsSound, AreSound, BeginsContent, IsNext, FaultBehind, bad_byte, early_tab, bad_width, no_piece, bad_control, no_string, no_number, too_deep}
-use Rattle.dsl_lexer.specs.Steps.{moved, widths_behind, bad_byte_or, first_white_fault, white_fault, end_fault, control_or_end, controls, SpottedFault, Outcome, Goes, Stops, or_stop, after_separator, after_lexeme, separator_of, lexeme_of, content_of, piece_of, step_of}
+use Rattle.dsl_lexer.specs.SourceTokens.{HasControl, IsLaidOut, Lexeme, lexeme, token_faults, IsThere, IsSound, AreSound, BeginsContent, IsNext, FaultBehind, bad_byte, early_tab, bad_width, no_piece, bad_control, no_string, bad_token}
+use Rattle.dsl_lexer.specs.Steps.{moved, widths_behind, bad_byte_or, first_white_fault, white_fault, end_fault, control_or_end, controls, SpottedFault, lexeme_at, first_code, here_or, Outcome, Goes, Stops, or_stop, after_separator, after_lexeme, separator_of, lexeme_of, content_of, piece_of, step_of}
 use Rattle.dsl_lexer.proofs.Spots.{no_feed, is_flat, flat}
 use Rattle.dsl_lexer.proofs.Fronts.{Next, next_found, stuck, content, stuck_content}
 use Rattle.dsl_lexer.proofs.Ascii.{FirstControl, control_none, control_some, control_within, string_control}
 use Rattle.dsl_lexer.proofs.Matching.{lexeme_matches}
+use Rattle.dsl_lexer.proofs.TokenFaults.{after_indent, least_fault, no_fault}
 use Rattle.dsl_lexer.proofs.FaultClasses.{some_not_none}
 use Rattle.dsl_lexer.proofs.Firsts.{IsFirstHere, some_is}
 use Rattle.dsl_lexer.proofs.Cutting.{some_text, is_next_same, cut_length}
-use Rattle.std.specs.Option.{option_map}
 use Rattle.osc_base.specs.declared.fault.FaultCode.{FaultCode}
 use Rattle.osc_base.specs.FaultCodes.{number_of}
 use Rattle.osc_base.specs.FaultRows.{IsNoLater}
-use Rattle.dsl_lexer.proofs.Stepping.{least_of, depth_ok, separator_depth, tab_before, inner_spot, separator_matches, reached_more, bad_comment, stop_here}
+use Rattle.dsl_lexer.proofs.Stepping.{least_of, tab_before, inner_spot, separator_matches, reached_more, bad_comment, stop_here}
 
 -- what is known of a place after its white space
 pub record Clear (valid : ℕ) (before : List Piece) : Type 0 where
@@ -40,21 +38,6 @@ pub record Clear (valid : ℕ) (before : List Piece) : Type 0 where
 
 abbrev piece_of_text : List Piece → Shape → List ℕ → Piece
 piece_of_text before s t = record { at = reach before; shape = s; text = t }
-
-none_number : (s : Shape) (piece_text : List ℕ) → is_lexeme s ≡ true → IsShape s piece_text → kind_of s piece_text ≡ None → s ≡ NumberShape
-none_number MarkShape t lex shape e = mark_none (entry t marks) shape e
-  where
-    mark_none : (o : Option MarkKind) → IsSome o → option_map Mark o ≡ None → MarkShape ≡ NumberShape
-    mark_none None h e = absurd (false≢true h)
-    mark_none (Some k) h e = absurd (cc)
-none_number NameShape t lex shape e = absurd (cc)
-none_number NumberShape t lex shape e = refl
-none_number StringShape t lex shape e = absurd (cc)
-none_number Space t lex shape e = absurd (false≢true lex)
-none_number Tab t lex shape e = absurd (false≢true lex)
-none_number Comment t lex shape e = absurd (false≢true lex)
-none_number LineEnd t lex shape e = absurd (false≢true lex)
-none_number Joint t lex shape e = absurd (false≢true lex)
 
 lexeme_is_flat : (s : Shape) → is_lexeme s ≡ true → is_flat s ≡ true
 lexeme_is_flat MarkShape lex = refl
@@ -130,8 +113,7 @@ module _ (file : ℕ) (bytes : List ℕ) (valid : ℕ) (l : Layout) (v : Valid b
         early = inr (refl, refl);
         least = least_of bytes valid before (b ∷ more) v valid FaultCode.Utf8 (inr (refl, refl)) (λ k c e. absurd (content c)) (λ c e. absurd (content c)) (λ k t e. absurd (stuck k))
             (λ q i nq e h. absurd (false≢true (sym off ∙ ap is_lexeme (sym (shape q nq) ∙ e))))
-            (λ q nq e h. absurd (false≢true (sym off ∙ ap is_lexeme (sym (shape q nq) ∙ e))))
-            (λ q nq rises over. let flat' = separator_depth q before (ap is_lexeme (shape q nq) ∙ off) in absurd (omega arith));
+            (λ q c nq has. absurd (false≢true (sym off ∙ ap is_lexeme (sym (shape q nq)) ∙ has.token)));
         inside = inside';
         next = λ q nq. inr (shape q nq ∙ comment);
       }
@@ -156,13 +138,10 @@ module _ (file : ℕ) (bytes : List ℕ) (valid : ℕ) (l : Layout) (v : Valid b
       let p = piece_of_text before s x.text in
       let cut' : Cut bytes before (x.text ++ x.behind) = subst (Cut bytes before) x.split cut in
       let mm = separator_matches file bytes before l m x.text x.behind cut' s n off x.shape x.size in
-      let deep' = depth_ok before sound in
-      let flat' = separator_depth p before off in
       let good : IsSound p before = record {
         laid_out = λ h. absurd (false≢true (sym off ∙ (and_parts (is_lexeme s) (not (has_lexeme (line before))) h).0));
-        token = λ h. absurd (false≢true (sym off ∙ h));
         no_control = λ h i k. false≢true (sym off ∙ ap is_lexeme h);
-        shallow = omega arith;
+        no_fault = λ code has. false≢true (sym off ∙ has.token);
       } in
       reached_more file bytes valid l (after_separator file l s n) before (b ∷ more) p m cut sound (is_next s n x) good mm (omega arith)
 
@@ -181,7 +160,7 @@ module _ (file : ℕ) (bytes : List ℕ) (valid : ℕ) (l : Layout) (v : Valid b
         fault = early_tab refl c e;
         early = inl (omega arith);
         least = least_of bytes valid before (b ∷ more) v n FaultCode.Tab (inl (omega arith)) (λ k d f. inr (some_is n k (sym e ∙ f), omega arith)) (λ d f. inl low) (λ k t f. inl low)
-            (λ q i nq f h. inl (omega arith)) (λ q nq f h. inl low) (λ q nq rises over. inl low);
+            (λ q i nq f h. inl (omega arith)) (λ q c nq has. inl low);
         inside = λ q nq. omega arith;
         next = λ q nq. inl (content_next c.content q nq);
       }
@@ -192,7 +171,7 @@ module _ (file : ℕ) (bytes : List ℕ) (valid : ℕ) (l : Layout) (v : Valid b
         fault = bad_byte refl (subst (IsValidUpTo bytes) at (v.bad (let r = room in omega arith))) (omega arith) (λ q nq. let some = some_text q.shape q.text nq.stands.shape in omega arith);
         early = inr (sym at, refl);
         least = least_of bytes valid before (b ∷ more) v (reach before) FaultCode.Utf8 (inr (sym at, refl)) (λ k d f. absurd (no_tab k d f)) (λ d f. inr (refl, omega arith)) (λ k t f. stuck_after t)
-            (λ q i nq f h. control_after i) (λ q nq f h. inr (refl, omega arith)) (λ q nq rises over. inr (refl, omega arith));
+            (λ q i nq f h. control_after i) (λ q c nq has. let far = after_indent (lexeme q before) c has.there in inr (refl, omega arith));
         inside = λ q nq. let some = some_text q.shape q.text nq.stands.shape in omega arith;
         next = λ q nq. inl (content_next c q nq);
       }
@@ -211,7 +190,7 @@ module _ (file : ℕ) (bytes : List ℕ) (valid : ℕ) (l : Layout) (v : Valid b
         fault = bad_width refl refl c off;
         early = inl early;
         least = least_of bytes valid before (b ∷ more) v (reach before) FaultCode.Indent (inl early) (λ k d f. absurd (no_tab k f)) (λ d f. inr (refl, omega arith)) (λ k t f. stuck_after t)
-            (λ q i nq f h. control_after i) (λ q nq f h. inr (refl, omega arith)) (λ q nq rises over. inr (refl, omega arith));
+            (λ q i nq f h. control_after i) (λ q c nq has. let far = after_indent (lexeme q before) c has.there in inr (refl, omega arith));
         inside = λ q nq. let some = some_text q.shape q.text nq.stands.shape in omega arith;
         next = λ q nq. inl (content_next c.content q nq);
       }
@@ -275,7 +254,7 @@ module _ (file : ℕ) (bytes : List ℕ) (valid : ℕ) (l : Layout) (v : Valid b
         early = inl clear.early;
         least = least_of bytes valid before (b ∷ more) v (reach before) (cond t FaultCode.Text FaultCode.Character) (inl clear.early)
             (λ j d f. absurd (some_not_none (first_tab (line before)) (ap is_some f) (laid d).no_tab)) (λ d f. absurd (false≢true (sym f ∙ (laid d).fitting)))
-            (λ k' u f. same_go t u (sym e ∙ f)) (λ q i nq f h. absurd (no_piece' q nq)) (λ q nq f h. absurd (no_piece' q nq)) (λ q nq rises over. absurd (no_piece' q nq));
+            (λ k' u f. same_go t u (sym e ∙ f)) (λ q i nq f h. absurd (no_piece' q nq)) (λ q c nq has. absurd (no_piece' q nq));
         inside = λ q nq. absurd (no_piece' q nq);
         next = λ q nq. absurd (no_piece' q nq);
       }
@@ -301,10 +280,9 @@ module _ (file : ℕ) (bytes : List ℕ) (valid : ℕ) (l : Layout) (v : Valid b
   -- the faults at a token, but for those of the token itself
   token_least : (s : Shape) (n : ℕ) (x : Next s (b ∷ more) n) → is_lexeme s ≡ true → Clear valid before → (at : ℕ) (code : FaultCode) → (at < valid) ⊎ ((at ≡ valid) × (code ≡ FaultCode.Utf8))
       → ((i : ℕ) → s ≡ StringShape → HasControl x.text i → IsNoLater at code (reach before + i) FaultCode.Character)
-      → (kind_of s x.text ≡ None → IsNoLater at code (reach before) FaultCode.Number)
-      → (64 < depth (piece_of_text before s x.text ∷ before) → IsNoLater at code (reach before) FaultCode.Deep)
+      → ((c : FaultCode) → IsThere token_faults (lexeme (piece_of_text before s x.text) before) c → IsNoLater at code (reach before) c)
       → (k : ℕ) (c : FaultCode) → FaultBehind bytes before (b ∷ more) k c → IsNoLater at code k c
-  token_least s n x lex clear at code early control number deep =
+  token_least s n x lex clear at code early control start =
       let p = piece_of_text before s x.text in
       let same : (q : Piece) → IsNext before (b ∷ more) q → q ≡ p = λ q nq. is_next_same before (b ∷ more) q p nq (is_next s n x) in
       least_of bytes valid before (b ∷ more) v at code early
@@ -312,8 +290,7 @@ module _ (file : ℕ) (bytes : List ℕ) (valid : ℕ) (l : Layout) (v : Valid b
       (λ d f. absurd (false≢true (sym f ∙ (laid_or clear d).fitting)))
       (λ k t f. absurd (k.none s x.text x.behind x.shape x.split))
       (λ q i nq f h. control i (ap (λ (r : Piece). r.shape) (sym (same q nq)) ∙ f) (subst (λ (r : Piece). HasControl r.text i) (same q nq) h))
-      (λ q nq f h. number (ap (λ (r : Piece). kind_of r.shape r.text) (sym (same q nq)) ∙ h))
-      (λ q nq rises over. deep (subst (λ (r : Piece). 64 < depth (r ∷ before)) (same q nq) over))
+      (λ q c nq has. start c (subst (λ (r : Piece). IsThere token_faults (lexeme r before) c) (same q nq) has.there))
 
   token_inside : (s : Shape) (n : ℕ) (x : Next s (b ∷ more) n) (at : ℕ) → at < reach before + length x.text → (q : Piece) → IsNext before (b ∷ more) q → at < reach before + length q.text
   token_inside s n x at h q nq = subst (λ (r : Piece). at < reach before + length r.text) (sym (is_next_same before (b ∷ more) q (piece_of_text before s x.text) nq (is_next s n x))) h
@@ -321,56 +298,45 @@ module _ (file : ℕ) (bytes : List ℕ) (valid : ℕ) (l : Layout) (v : Valid b
   token_next : (s : Shape) (n : ℕ) (x : Next s (b ∷ more) n) → is_lexeme s ≡ true → (q : Piece) → IsNext before (b ∷ more) q → (is_lexeme q.shape ≡ true) ⊎ (q.shape ≡ Comment)
   token_next s n x lex q nq = inl (ap (λ (r : Piece). is_lexeme r.shape) (is_next_same before (b ∷ more) q (piece_of_text before s x.text) nq (is_next s n x)) ∙ lex)
 
-  number_first : (s : Shape) (n : ℕ) (x : Next s (b ∷ more) n) → is_lexeme s ≡ true → Clear valid before → kind_of s x.text ≡ None → IsFirstHere bytes valid before (b ∷ more) (reach before) FaultCode.Number
-  number_first s n x lex clear none =
-      let shape = none_number s x.text lex x.shape none in
+  start_first : (s : Shape) (n : ℕ) (x : Next s (b ∷ more) n) → is_lexeme s ≡ true → Clear valid before → (code : FaultCode) → first_code token_faults (lexeme (piece_of_text before s x.text) before) ≡ Some code
+      → IsFirstHere bytes valid before (b ∷ more) (reach before) code
+  start_first s n x lex clear code e =
+      let first = least_fault (lexeme (piece_of_text before s x.text) before) code e in
       let some = some_text s x.text x.shape in
       record {
-        fault = no_number (piece_of_text before s x.text) refl refl (is_next s n x) shape none;
+        fault = bad_token (piece_of_text before s x.text) refl (is_next s n x) (record { token = lex; there = first.there });
         early = inl clear.early;
-        least = token_least s n x lex clear (reach before) FaultCode.Number (inl clear.early) (λ i e h. absurd (number_no_string (sym shape ∙ e))) (λ e. inr (refl, omega arith)) (λ over. inr (refl, omega arith));
-        inside = token_inside s n x (reach before) (omega arith);
-        next = token_next s n x lex;
-      }
-
-  deep_first : (s : Shape) (n : ℕ) (x : Next s (b ∷ more) n) → is_lexeme s ≡ true → Clear valid before → IsSome (kind_of s x.text) → 64 < depth (piece_of_text before s x.text ∷ before) → IsFirstHere bytes valid before (b ∷ more) (reach before) FaultCode.Deep
-  deep_first s n x lex clear known over =
-      let some = some_text s x.text x.shape in
-      let ok = depth_ok before sound in
-      record {
-        fault = too_deep (piece_of_text before s x.text) refl refl (is_next s n x) (omega arith) over;
-        early = inl clear.early;
-        least = token_least s n x lex clear (reach before) FaultCode.Deep (inl clear.early)
+        least = token_least s n x lex clear (reach before) code (inl clear.early)
             (λ i e h. let far = string_control x.text i (subst (λ u. IsShape u x.text) e x.shape) h in inl (omega arith))
-            (λ e. absurd (some_not_none (kind_of s x.text) known e)) (λ o. inr (refl, omega arith));
+            (λ c there. inr (refl, first.least c there));
         inside = token_inside s n x (reach before) (omega arith);
         next = token_next s n x lex;
       }
 
-  control_first : (s : Shape) (n : ℕ) (x : Next s (b ∷ more) n) → is_lexeme s ≡ true → Clear valid before → IsSome (kind_of s x.text) → depth (piece_of_text before s x.text ∷ before) ≤ 64
+  control_first : (s : Shape) (n : ℕ) (x : Next s (b ∷ more) n) → is_lexeme s ≡ true → Clear valid before → first_code token_faults (lexeme (piece_of_text before s x.text) before) ≡ None
       → (i : ℕ) → s ≡ StringShape → FirstControl x.text i → reach before + i < valid → IsFirstHere bytes valid before (b ∷ more) (reach before + i) FaultCode.Character
-  control_first s n x lex clear known shallow i string c early =
+  control_first s n x lex clear none i string c early =
       let inside = c.within in
       record {
         fault = bad_control (piece_of_text before s x.text) i refl (is_next s n x) string c.there refl;
         early = inl early;
         least = token_least s n x lex clear (reach before + i) FaultCode.Character (inl early)
             (λ j e h. let far = c.least j h in not_before (reach before + i) (reach before + j) FaultCode.Character FaultCode.Character (omega arith) (omega arith))
-            (λ e. absurd (some_not_none (kind_of s x.text) known e)) (λ o. absurd (omega arith));
+            (λ c there. absurd (no_fault (lexeme (piece_of_text before s x.text) before) c none there));
         inside = token_inside s n x (reach before + i) (omega arith);
         next = token_next s n x lex;
       }
 
-  end_first : (s : Shape) (n : ℕ) (x : Next s (b ∷ more) n) → is_lexeme s ≡ true → Clear valid before → IsSome (kind_of s x.text) → depth (piece_of_text before s x.text ∷ before) ≤ 64
+  end_first : (s : Shape) (n : ℕ) (x : Next s (b ∷ more) n) → is_lexeme s ≡ true → Clear valid before → first_code token_faults (lexeme (piece_of_text before s x.text) before) ≡ None
       → valid < reach before + length x.text → ((i : ℕ) → s ≡ StringShape → HasControl x.text i → valid ≤ reach before + i) → IsFirstHere bytes valid before (b ∷ more) valid FaultCode.Utf8
-  end_first s n x lex clear known shallow inside controls' =
+  end_first s n x lex clear none inside controls' =
       let end = inside_bytes s n x in
       record {
         fault = bad_byte refl (v.bad (omega arith)) within (token_inside s n x valid inside);
         early = inr (refl, refl);
         least = token_least s n x lex clear valid FaultCode.Utf8 (inr (refl, refl))
             (λ j e h. let far = controls' j e h in not_before valid (reach before + j) FaultCode.Utf8 FaultCode.Character far (omega arith))
-            (λ e. absurd (some_not_none (kind_of s x.text) known e)) (λ o. absurd (omega arith));
+            (λ c there. absurd (no_fault (lexeme (piece_of_text before s x.text) before) c none there));
         inside = token_inside s n x valid inside;
         next = token_next s n x lex;
       }
@@ -386,31 +352,30 @@ module _ (file : ℕ) (bytes : List ℕ) (valid : ℕ) (l : Layout) (v : Valid b
       lexeme_matches file bytes before l (reach before) x.text m s kind (length x.text) (moved l.spot (length x.text)) lex e (token_spot s n x lex (length x.text) (omega arith)) refl refl
 
   -- the end of a token
-  end_by : (s : Shape) (n : ℕ) (x : Next s (b ∷ more) n) → is_lexeme s ≡ true → Clear valid before → (kind : TokenKind) → kind_of s x.text ≡ Some kind → depth (piece_of_text before s x.text ∷ before) ≤ 64
+  end_by : (s : Shape) (n : ℕ) (x : Next s (b ∷ more) n) → is_lexeme s ≡ true → Clear valid before → (kind : TokenKind) → kind_of s x.text ≡ Some kind → first_code token_faults (lexeme (piece_of_text before s x.text) before) ≡ None
       → ((i : ℕ) → s ≡ StringShape → HasControl x.text i → valid ≤ reach before + i) → (t : Bool) → nat_lt valid (l.spot.at + length x.text) ≡ t
       → Follows file bytes valid l (or_stop (cond t (Some (moved l.spot (valid - l.spot.at), FaultCode.Utf8)) None) (Goes (after_lexeme file l (length x.text) kind)))
-  end_by s n x lex clear kind e shallow controls' true f =
+  end_by s n x lex clear kind e none controls' true f =
       let at = m.spot.at in
       let low = ltb-true valid (l.spot.at + length x.text) f in
       let here : reach before + (valid - l.spot.at) ≡ valid = omega arith in
       stops valid FaultCode.Utf8 (moved l.spot (valid - l.spot.at)) (subst (λ k. IsSpot bytes k (moved l.spot (valid - l.spot.at))) here (token_spot s n x lex (valid - l.spot.at) (omega arith)))
-      (end_first s n x lex clear (ap is_some e) shallow (omega arith) controls')
-  end_by s n x lex clear kind e shallow controls' false f =
+      (end_first s n x lex clear none (omega arith) controls')
+  end_by s n x lex clear kind e none controls' false f =
       let at = m.spot.at in
       let high = ltb-false valid (l.spot.at + length x.text) f in
       let good : IsSound (piece_of_text before s x.text) before = record {
         laid_out = λ h. clear.laid (not-true (has_lexeme (line before)) (and_parts (is_lexeme s) (not (has_lexeme (line before))) h).1);
-        token = λ h. ap is_some e;
         no_control = λ g i h. let far = controls' i g h in let inside = control_within x.text i h in absurd (omega arith);
-        shallow = shallow;
+        no_fault = λ code has. no_fault (lexeme (piece_of_text before s x.text) before) code none has.there;
       } in
       reached_more file bytes valid l (after_lexeme file l (length x.text) kind) before (b ∷ more) (piece_of_text before s x.text) m cut sound (is_next s n x) good (token_matches s n x lex kind e) (omega arith)
 
-  control_by : (s : Shape) (n : ℕ) (x : Next s (b ∷ more) n) → is_lexeme s ≡ true → Clear valid before → (kind : TokenKind) → kind_of s x.text ≡ Some kind → depth (piece_of_text before s x.text ∷ before) ≤ 64
+  control_by : (s : Shape) (n : ℕ) (x : Next s (b ∷ more) n) → is_lexeme s ≡ true → Clear valid before → (kind : TokenKind) → kind_of s x.text ≡ Some kind → first_code token_faults (lexeme (piece_of_text before s x.text) before) ≡ None
       → (o : Option ℕ) → ControlsAre s x.text o → Follows file bytes valid l (or_stop (control_or_end l valid (length x.text) o) (Goes (after_lexeme file l (length x.text) kind)))
-  control_by s n x lex clear kind e shallow None none =
-      end_by s n x lex clear kind e shallow (λ i g h. absurd (none g i h)) (nat_lt valid (l.spot.at + length x.text)) refl
-  control_by s n x lex clear kind e shallow (Some i) (string, c) = here (nat_lt (l.spot.at + i) valid) refl
+  control_by s n x lex clear kind e none None clean =
+      end_by s n x lex clear kind e none (λ i g h. absurd (clean g i h)) (nat_lt valid (l.spot.at + length x.text)) refl
+  control_by s n x lex clear kind e none (Some i) (string, c) = here (nat_lt (l.spot.at + i) valid) refl
     where
       here : (t : Bool) → nat_lt (l.spot.at + i) valid ≡ t
           → Follows file bytes valid l (or_stop (cond t (Some (moved l.spot i, FaultCode.Character)) (end_fault l valid (length x.text))) (Goes (after_lexeme file l (length x.text) kind)))
@@ -418,30 +383,35 @@ module _ (file : ℕ) (bytes : List ℕ) (valid : ℕ) (l : Layout) (v : Valid b
           let at = m.spot.at in
           let low = ltb-true (l.spot.at + i) valid f in
           let inside = c.within in
-          stops (reach before + i) FaultCode.Character (moved l.spot i) (token_spot s n x lex i (omega arith)) (control_first s n x lex clear (ap is_some e) shallow i string c (omega arith))
+          stops (reach before + i) FaultCode.Character (moved l.spot i) (token_spot s n x lex i (omega arith)) (control_first s n x lex clear none i string c (omega arith))
       here false f =
           let at = m.spot.at in
           let high = ltb-false (l.spot.at + i) valid f in
-          end_by s n x lex clear kind e shallow (λ j g h. let far = c.least j h in omega arith) (nat_lt valid (l.spot.at + length x.text)) refl
+          end_by s n x lex clear kind e none (λ j g h. let far = c.least j h in omega arith) (nat_lt valid (l.spot.at + length x.text)) refl
 
-  deep_by : (s : Shape) (n : ℕ) (x : Next s (b ∷ more) n) → is_lexeme s ≡ true → Clear valid before → (kind : TokenKind) → kind_of s x.text ≡ Some kind
-      → (t : Bool) → nat_lt 64 (brackets_behind (Some kind) l.brackets + length (widths_behind l)) ≡ t
-      → Follows file bytes valid l (or_stop (cond t (Some (l.spot, FaultCode.Deep)) (control_or_end l valid (length x.text) (controls s x.text))) (Goes (after_lexeme file l (length x.text) kind)))
-  deep_by s n x lex clear kind e t f =
-      let mm = token_matches s n x lex kind e in
-      let same : brackets_behind (Some kind) l.brackets + length (widths_behind l) ≡ depth (piece_of_text before s x.text ∷ before) =
-      ap (λ k. k + length (widths_behind l)) mm.brackets ∙ ap (λ ws. brackets (piece_of_text before s x.text ∷ before) + length ws) mm.widths in
-      deep_go s n x lex clear kind e t (ap (λ k. nat_lt 64 k) (sym same) ∙ f)
+  -- what the layout knows of a token is what the pieces say
+  same_lexeme : (s : Shape) (n : ℕ) (x : Next s (b ∷ more) n) → is_lexeme s ≡ true → (kind : TokenKind) → kind_of s x.text ≡ Some kind
+      → lexeme_at l s x.text (brackets_behind (Some kind) l.brackets) ≡ lexeme (piece_of_text before s x.text) before
+  same_lexeme s n x lex kind e =
+      let after = token_matches s n x lex kind e in
+      let outer : l.brackets + length l.widths ≡ depth before = ap (λ k. k + length l.widths) m.brackets ∙ ap (λ ws. brackets before + length ws) m.widths in
+      let inner : brackets_behind (Some kind) l.brackets + length (widths_behind l) ≡ depth (piece_of_text before s x.text ∷ before) =
+      ap (λ k. k + length (widths_behind l)) after.brackets ∙ ap (λ ws. brackets (piece_of_text before s x.text ∷ before) + length ws) after.widths in
+      ap (λ (k : ℕ). lexeme_with k (brackets_behind (Some kind) l.brackets + length (widths_behind l))) outer ∙ ap (λ (k : ℕ). lexeme_with (depth before) k) inner
     where
-      deep_go : (s : Shape) (n : ℕ) (x : Next s (b ∷ more) n) → is_lexeme s ≡ true → Clear valid before → (kind : TokenKind) → kind_of s x.text ≡ Some kind
-          → (t : Bool) → nat_lt 64 (depth (piece_of_text before s x.text ∷ before)) ≡ t
-          → Follows file bytes valid l (or_stop (cond t (Some (l.spot, FaultCode.Deep)) (control_or_end l valid (length x.text) (controls s x.text))) (Goes (after_lexeme file l (length x.text) kind)))
-      deep_go s n x lex clear kind e true f = stops (reach before) FaultCode.Deep l.spot m.spot (deep_first s n x lex clear (ap is_some e) (ltb-true 64 (depth (piece_of_text before s x.text ∷ before)) f))
-      deep_go s n x lex clear kind e false f = control_by s n x lex clear kind e (ltb-false 64 (depth (piece_of_text before s x.text ∷ before)) f) (controls s x.text) (controls_are s x.text lex)
+      lexeme_with : ℕ → ℕ → Lexeme
+      lexeme_with i j = record { shape = s; text = x.text; depth_before = i; depth_behind = j }
+
+  start_by : (s : Shape) (n : ℕ) (x : Next s (b ∷ more) n) → is_lexeme s ≡ true → Clear valid before → (kind : TokenKind) → kind_of s x.text ≡ Some kind
+      → (o : Option FaultCode) → first_code token_faults (lexeme (piece_of_text before s x.text) before) ≡ o
+      → Follows file bytes valid l (or_stop (here_or l o (control_or_end l valid (length x.text) (controls s x.text))) (Goes (after_lexeme file l (length x.text) kind)))
+  start_by s n x lex clear kind e None none = control_by s n x lex clear kind e none (controls s x.text) (controls_are s x.text lex)
+  start_by s n x lex clear kind e (Some code) there = stops (reach before) code l.spot m.spot (start_first s n x lex clear code there)
 
   lexeme_by : (s : Shape) (n : ℕ) (x : Next s (b ∷ more) n) → is_lexeme s ≡ true → Clear valid before → (k : Option TokenKind) → kind_of s x.text ≡ k → Follows file bytes valid l (lexeme_of file valid l s x.text k)
-  lexeme_by s n x lex clear None e = stops (reach before) FaultCode.Number l.spot m.spot (number_first s n x lex clear e)
-  lexeme_by s n x lex clear (Some kind) e = deep_by s n x lex clear kind e (nat_lt 64 (brackets_behind (Some kind) l.brackets + length (widths_behind l))) refl
+  lexeme_by s n x lex clear None e = stops (reach before) FaultCode.Number l.spot m.spot (start_first s n x lex clear FaultCode.Number (rw e refl))
+  lexeme_by s n x lex clear (Some kind) e =
+      start_by s n x lex clear kind e (first_code token_faults (lexeme_at l s x.text (brackets_behind (Some kind) l.brackets))) (ap (first_code token_faults) (sym (same_lexeme s n x lex kind e)))
 
   pub lexeme_step : (n : ℕ) → piece_len (first_shape b) (b ∷ more) ≡ Some n → is_lexeme (first_shape b) ≡ true → Clear valid before
       → Follows file bytes valid l (lexeme_of file valid l (first_shape b) (take n (b ∷ more)) (kind_of (first_shape b) (take n (b ∷ more))))

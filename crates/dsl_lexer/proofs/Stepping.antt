@@ -13,10 +13,9 @@ use Rattle.dsl_lexer.specs.declared.layout.Layout.{Layout}
 use Rattle.dsl_lexer.specs.declared.shape.Shape.{Shape}
 use Rattle.dsl_lexer.specs.Bytes.{is_quote}
 use Rattle.dsl_lexer.specs.Shapes.{Space, Tab, Comment, LineEnd, Joint, MarkShape, NameShape, NumberShape, StringShape, is_lexeme, IsShape}
-use Rattle.dsl_lexer.specs.Kinds.{kind_of}
 use Rattle.dsl_lexer.specs.Pieces.{Piece, reach, Cut, IsStuck}
-use Rattle.dsl_lexer.specs.Layout.{brackets_behind, brackets, ends_line, is_tab, line, width, or_else, first_tab, widths, opened, fits, depth, tokens}
-use Rattle.dsl_lexer.specs.SourceTokens.{HasControl, IsSound, AreSound, BeginsContent, IsNext, begins_with, FaultBehind, bad_byte, early_tab, bad_width, no_piece, bad_control, no_string, no_number, too_deep}
+use Rattle.dsl_lexer.specs.Layout.{ends_line, is_tab, line, width, or_else, first_tab, widths, opened, fits, tokens}
+use Rattle.dsl_lexer.specs.SourceTokens.{HasControl, HasTokenFault, IsSound, AreSound, BeginsContent, IsNext, begins_with, FaultBehind, bad_byte, early_tab, bad_width, no_piece, bad_control, no_string, bad_token}
 use Rattle.dsl_lexer.specs.Steps.{moved, on_next_line, after_separator}
 use Rattle.dsl_lexer.proofs.Spots.{no_feed, spot_over, spot_below, flat, Ends, line_end_ends, joint_ends}
 use Rattle.dsl_lexer.proofs.Ascii.{separator_ascii, ascii_piece}
@@ -32,37 +31,15 @@ module _ (bytes : List ℕ) (valid : ℕ) (before : List Piece) (rest : List ℕ
       → (BeginsContent before rest → fits (width (line before)) (opened (widths before)) ≡ false → IsNoLater n code (reach before) FaultCode.Indent)
       → (IsStuck rest → (t : Bool) → begins_with is_quote rest ≡ t → IsNoLater n code (reach before) (cond t FaultCode.Text FaultCode.Character))
       → ((p : Piece) (i : ℕ) → IsNext before rest p → p.shape ≡ StringShape → HasControl p.text i → IsNoLater n code (reach before + i) FaultCode.Character)
-      → ((p : Piece) → IsNext before rest p → p.shape ≡ NumberShape → kind_of p.shape p.text ≡ None → IsNoLater n code (reach before) FaultCode.Number)
-      → ((p : Piece) → IsNext before rest p → depth before < depth (p ∷ before) → 64 < depth (p ∷ before) → IsNoLater n code (reach before) FaultCode.Deep)
+      → ((p : Piece) (c : FaultCode) → IsNext before rest p → HasTokenFault p before c → IsNoLater n code (reach before) c)
       → (m : ℕ) (c : FaultCode) → FaultBehind bytes before rest m c → IsNoLater n code m c
-  least_of early t w s k u d m c (bad_byte e bad reached ends) = bad_later n code valid m c early (v.only m bad) e
-  least_of early t w s k u d m c (early_tab e begun there) = rw e (t m begun there)
-  least_of early t w s k u d m c (bad_width e at begun off) = rw (e, at) (w begun off)
-  least_of early t w s k u d m c (no_piece e at sticks quote) = rw (e, at) (s sticks false quote)
-  least_of early t w s k u d m c (bad_control p i e next string there at) = rw (e, at) (k p i next string there)
-  least_of early t w s k u d m c (no_string e at sticks quote) = rw (e, at) (s sticks true quote)
-  least_of early t w s k u d m c (no_number p e at next shape none) = rw (e, at) (u p next shape none)
-  least_of early t w s k u d m c (too_deep p e at next rises over) = rw (e, at) (d p next rises over)
-
--- how deep it is
-
-pub depth_ok : (before : List Piece) → AreSound before → depth before ≤ 64
-depth_ok [] h = omega arith
-depth_ok (p ∷ before) h = h.0.shallow
-
-separator_brackets : (s : Shape) (text : List ℕ) (n : ℕ) → is_lexeme s ≡ false → brackets_behind (kind_of s text) n ≡ n
-separator_brackets Space text n h = refl
-separator_brackets Tab text n h = refl
-separator_brackets Comment text n h = refl
-separator_brackets LineEnd text n h = refl
-separator_brackets Joint text n h = refl
-separator_brackets MarkShape text n h = absurd (true≢false h)
-separator_brackets NameShape text n h = absurd (true≢false h)
-separator_brackets NumberShape text n h = absurd (true≢false h)
-separator_brackets StringShape text n h = absurd (true≢false h)
-
-pub separator_depth : (p : Piece) (before : List Piece) → is_lexeme p.shape ≡ false → depth (p ∷ before) ≡ depth before
-separator_depth p before h = rw (h, separator_brackets p.shape p.text (brackets before) h) refl
+  least_of early t w s k r m c (bad_byte e bad reached ends) = bad_later n code valid m c early (v.only m bad) e
+  least_of early t w s k r m c (early_tab e begun there) = rw e (t m begun there)
+  least_of early t w s k r m c (bad_width e at begun off) = rw (e, at) (w begun off)
+  least_of early t w s k r m c (no_piece e at sticks quote) = rw (e, at) (s sticks false quote)
+  least_of early t w s k r m c (bad_control p i e next string there at) = rw (e, at) (k p i next string there)
+  least_of early t w s k r m c (no_string e at sticks quote) = rw (e, at) (s sticks true quote)
+  least_of early t w s k r m c (bad_token p at next has) = rw at (r p c next has)
 
 -- a tab stands before the place
 tab_or : (k n at : ℕ) (o : Option ℕ) (t : Bool) → at < k → ((m : ℕ) → o ≡ Some m → m < k) → or_else o (cond t (Some at) None) ≡ Some n → n < k

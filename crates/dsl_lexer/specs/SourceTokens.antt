@@ -1,15 +1,14 @@
 -- Which tokens a source has, and which faults.
-use Rattle.std.specs.Prelude.{ℕ, ◌+◌, ◌<◌, ◌≤◌, ◌≢◌, ◌≡◌, Bool, true, false, IsTrue, IsSome, List, [], ◌∷◌, ◌++◌, length, drop, Some, None, ◌⊎◌}
+use Rattle.std.specs.Prelude.{ℕ, ◌+◌, ◌<◌, ◌≤◌, ◌≢◌, ◌≡◌, Bool, true, false, ◌&&◌, not, nat_lt, IsTrue, is_some, List, [], ◌∷◌, ◌++◌, length, drop, Some, None, ◌⊎◌}
 use Rattle.std.specs.Str.{IsUtf8, IsValidUpTo}
 use Rattle.osc_base.specs.declared.fault.FaultCode.{FaultCode}
 use Rattle.osc_base.specs.declared.fault.Fault.{Fault}
 use Rattle.osc_base.specs.FaultRows.{IsNoLater}
 use Rattle.dsl_tree.specs.declared.token.Token.{Token}
 use Rattle.dsl_tree.specs.declared.token.TokenKind.TheVariants.{End}
-use Rattle.osc_base.specs.declared.stop.Stop.{Stop}
-use Rattle.osc_base.specs.declared.stop.Stop.TheVariants.{At, Memory}
 use Rattle.dsl_lexer.specs.Bytes.{is_quote, begins_control, place_at}
-use Rattle.dsl_lexer.specs.Shapes.{NumberShape, StringShape, is_lexeme}
+use Rattle.dsl_lexer.specs.declared.shape.Shape.{Shape}
+use Rattle.dsl_lexer.specs.Shapes.{StringShape, is_lexeme}
 use Rattle.dsl_lexer.specs.Kinds.{kind_of}
 use Rattle.dsl_lexer.specs.Pieces.{Piece, reach, Stands, Cut, IsStuck, IsContent}
 use Rattle.dsl_lexer.specs.Layout.{line, width, widths, opened, fits, has_lexeme, begins_line, first_tab, depth, tokens, last_tokens, placed}
@@ -26,12 +25,48 @@ pub record IsLaidOut (before : List Piece) : Type 0 where
   pub no_tab : first_tab (line before) ≡ None
   pub fitting : IsTrue (fits (width (line before)) (opened (widths before)))
 
+-- what the faults at the start of a token are told by: its shape and text, and the depth before and after it
+pub record Lexeme : Type 0 where
+  pub shape : Shape
+  pub text : List ℕ
+  pub depth_before : ℕ
+  pub depth_behind : ℕ
+
+abbrev pub lexeme : Piece → List Piece → Lexeme
+lexeme p before = record { shape = p.shape; text = p.text; depth_before = depth before; depth_behind = depth (p ∷ before) }
+
+-- No token is of the text: a number with too many digits, or `0x` without a digit. Or a word directly after a decimal
+-- number. Or another name character directly after a hexadecimal one.
+abbrev pub no_number : Lexeme → Bool
+no_number x = not (is_some (kind_of x.shape x.text))
+
+-- an opening bracket or INDENT that makes more than 64 open brackets and opened blocks together
+abbrev pub too_deep : Lexeme → Bool
+too_deep x = nat_lt x.depth_before x.depth_behind && nat_lt 64 x.depth_behind
+
+-- a fault's code, and the test that tells which tokens have it
+abbrev pub TokenFault : Type 0
+TokenFault = FaultCode × (Lexeme → Bool)
+
+-- the faults at the start of a token, in the order of their codes
+abbrev pub token_faults : List TokenFault
+token_faults = (FaultCode.Number, no_number) ∷ (FaultCode.Deep, too_deep) ∷ []
+
+-- x has one of these faults, and it has this code
+abbrev pub IsThere : List TokenFault → Lexeme → FaultCode → Type 0
+IsThere [] x code = ⊥
+IsThere ((own, test) ∷ more) x code = ((code ≡ own) × IsTrue (test x)) ⊎ IsThere more x code
+
+-- the piece p is there for a token, and has a fault of this code at its start
+pub record HasTokenFault (p : Piece) (before : List Piece) (code : FaultCode) : Type 0 where
+  pub token : IsTrue (is_lexeme p.shape)
+  pub there : IsThere token_faults (lexeme p before) code
+
 -- what the rules ask of a piece that stands after those in `before`
 pub record IsSound (p : Piece) (before : List Piece) : Type 0 where
   pub laid_out : IsTrue (begins_line p before) → IsLaidOut before
-  pub token : IsTrue (is_lexeme p.shape) → IsSome (kind_of p.shape p.text)
   pub no_control : p.shape ≡ StringShape → (i : ℕ) → HasControl p.text i → ⊥
-  pub shallow : depth (p ∷ before) ≤ 64
+  pub no_fault : (code : FaultCode) → HasTokenFault p before code → ⊥
 
 abbrev pub AreSound : List Piece → Type 0
 AreSound [] = Unit {0}
@@ -75,11 +110,8 @@ pub data FaultBehind (bytes : List ℕ) (before : List Piece) (rest : List ℕ) 
   bad_control : (p : Piece) (i : ℕ) → code ≡ FaultCode.Character → IsNext before rest p → p.shape ≡ StringShape → HasControl p.text i → n ≡ reach before + i → FaultBehind bytes before rest n code
   -- a quote that no string begins with
   no_string : code ≡ FaultCode.Text → n ≡ reach before → IsStuck rest → begins_with is_quote rest ≡ true → FaultBehind bytes before rest n code
-  -- A number with too many digits, or `0x` without a digit. Or a word directly after a decimal number.
-  -- Or another name character directly after a hexadecimal one.
-  no_number : (p : Piece) → code ≡ FaultCode.Number → n ≡ reach before → IsNext before rest p → p.shape ≡ NumberShape → kind_of p.shape p.text ≡ None → FaultBehind bytes before rest n code
-  -- an opening bracket or INDENT that makes more than 64 open brackets and opened blocks together
-  too_deep : (p : Piece) → code ≡ FaultCode.Deep → n ≡ reach before → IsNext before rest p → depth before < depth (p ∷ before) → 64 < depth (p ∷ before) → FaultBehind bytes before rest n code
+  -- a fault at the start of the next token
+  bad_token : (p : Piece) → n ≡ reach before → IsNext before rest p → HasTokenFault p before code → FaultBehind bytes before rest n code
 
 -- A fault at offset n, after so many tokens: those that the pieces before it bring, without the INDENT, DEDENTs and
 -- NEWLINE of its own line that are still to come. The faults are those up to the first byte at which no piece begins:

@@ -12,7 +12,7 @@ use Rattle.dsl_lexer.specs.declared.shape.Shape.{Shape}
 use Rattle.dsl_lexer.specs.Bytes.{is_quote}
 use Rattle.dsl_lexer.specs.Shapes.{Space, Tab, Comment, Joint, StringShape, is_lexeme}
 use Rattle.dsl_lexer.specs.Kinds.{kind_of}
-use Rattle.dsl_lexer.specs.SourceTokens.{begins_with}
+use Rattle.dsl_lexer.specs.SourceTokens.{Lexeme, TokenFault, token_faults, begins_with}
 use Rattle.dsl_lexer.specs.Layout.{brackets_behind, fits, blocks}
 use Rattle.dsl_lexer.specs.Scan.{first_shape, piece_len, control_at}
 
@@ -132,9 +132,22 @@ abbrev pub controls : Shape → List ℕ → Option ℕ
 controls StringShape text = control_at text
 controls _ text = None
 
--- too deep a nesting, a control character, or a byte that begins no character
+-- a token at the spot, after which so many brackets are open
+abbrev pub lexeme_at : Layout → Shape → List ℕ → ℕ → Lexeme
+lexeme_at l shape text brackets = record { shape = shape; text = text; depth_before = l.brackets + length l.widths; depth_behind = brackets + length (widths_behind l) }
+
+-- the first of these faults that is there
+abbrev pub first_code : List TokenFault → Lexeme → Option FaultCode
+first_code [] x = None
+first_code ((code, test) ∷ more) x = if test x then Some code else first_code more x
+
+abbrev pub here_or : Layout → Option FaultCode → Option SpottedFault → Option SpottedFault
+here_or l None other = other
+here_or l (Some code) other = Some (l.spot, code)
+
+-- a fault at the token's start, a control character, or a byte that begins no character
 abbrev pub lexeme_fault : Layout → ℕ → Shape → List ℕ → ℕ → Option SpottedFault
-lexeme_fault l valid shape text brackets = if nat_lt 64 (brackets + length (widths_behind l)) then Some (l.spot, FaultCode.Deep) else control_or_end l valid (length text) (controls shape text)
+lexeme_fault l valid shape text brackets = here_or l (first_code token_faults (lexeme_at l shape text brackets)) (control_or_end l valid (length text) (controls shape text))
 
 -- a step: either the lexer goes on, or it stops at a fault
 

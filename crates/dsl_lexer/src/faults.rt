@@ -1,6 +1,8 @@
 //! Which fault stands at a place, by what is known there. What is computed is a definition of `specs/Steps.antt`.
 
-ghost use Rattle.std.specs.Prelude.{◌≡◌, ◌+◌, ◌≤◌, ◌<◌, ◌^◌, length, Option, Some, None};
+ghost use Rattle.std.specs.Prelude.{◌≡◌, ◌+◌, ◌≤◌, ◌<◌, ◌^◌, length, Option, Some, None, IsSome};
+ghost use Rattle.dsl_lexer.specs.Kinds.{kind_of};
+ghost use Rattle.dsl_lexer.specs.SourceTokens.{token_faults};
 ghost use Rattle.dsl_lexer.specs.Steps as steps;
 ghost use Rattle.dsl_lexer.specs.Room.{HasRoom};
 
@@ -55,7 +57,23 @@ fn depth_behind(layout: &Layout, brackets: u32) -> usize
     brackets as usize + blocks
 }
 
-/// A nesting that is too deep, a control character in a string, or a byte that begins no character.
+/// The code of the first fault at the token's start, in the order of `token_faults`. That the text is that of a token
+/// is known before.
+fn token_fault(layout: &Layout, shape: Shape, text: &[u8], brackets: u32) -> Option<FaultCode>
+    requires room { HasRoom layout.now 1 }
+    requires brackets { brackets < 2 ^ 31 }
+    requires token { IsSome (kind_of shape text.now) }
+    ensures { result ≡ steps.first_code token_faults (steps.lexeme_at layout.now shape text.now brackets) }
+{
+    let before = layout.brackets as usize + layout.widths.len();
+    let behind = depth_behind(layout, brackets);
+    if before < behind && behind > 64 {
+        return Some(FaultCode::Deep);
+    }
+    None
+}
+
+/// A fault at the token's start, a control character in a string, or a byte that begins no character.
 pub fn lexeme_fault(
     layout: &Layout,
     valid: usize,
@@ -67,10 +85,11 @@ pub fn lexeme_fault(
     requires some { 1 ≤ length text.now }
     requires behind { layout.now.spot.at ≤ valid }
     requires brackets { brackets < 2 ^ 31 }
+    requires token { IsSome (kind_of shape text.now) }
     ensures { result ≡ steps.lexeme_fault layout.now valid shape text.now brackets }
 {
-    if depth_behind(layout, brackets) > 64 {
-        return Some((layout.spot, FaultCode::Deep));
+    if let Some(code) = token_fault(layout, shape, text, brackets) {
+        return Some((layout.spot, code));
     }
     if let Shape::StringShape = shape {
         if let Some(i) = scan::control_at(text) {
