@@ -6,6 +6,9 @@
 - The lines of each part write what its rules write. Both are read as sets of rows of tokens and of the parts that the
   lines name; the other parts of the rules are replaced by their own rules. Such sets are regular, so they are compared
   whole.
+
+With `--write` it first puts the lines of Grammar.antt into docs/LANGUAGE.md. Those of a new part come after those of the
+part before it.
 """
 import re
 import sys
@@ -44,7 +47,7 @@ def ebnf_name(part):
     return re.sub(r"(?<!^)(?=[A-Z])", "_", part).lower()
 
 
-def page_lines():
+def page_texts():
     """The lines of each name in the page's section on the grammar."""
     section = re.search(r"^## Grammar\n(.*?)^## ", PAGE.read_text(), re.M | re.S).group(1)
     lines = {}
@@ -53,11 +56,11 @@ def page_lines():
             name = text.split()[0]
             if name in lines:
                 raise Bad(f"docs/LANGUAGE.md: {name} has lines twice")
-            lines[name] = text.split()
+            lines[name] = text
     return lines
 
 
-def comment_lines():
+def comment_texts():
     """The lines of each part in the comment above its rules."""
     lines = {}
     for comment, part in re.findall(r"((?:^-- .*\n)*)^rules (\w+) =$", (SPECS / "Grammar.antt").read_text(), re.M):
@@ -65,8 +68,24 @@ def comment_lines():
         found = re.search(rf"^-- ({name}\s+(?:--\s+)?=.*)", comment, re.M | re.S)
         if not found:
             raise Bad(f"Grammar.antt: no line of {name} above its rules")
-        lines[name] = re.sub(r"^-- ", "", found.group(1), flags=re.M).split()
+        lines[name] = re.sub(r"^-- ", "", found.group(1), flags=re.M).rstrip()
     return lines
+
+
+def write():
+    """Puts the lines of the parts into the page."""
+    known, page, before = page_texts(), PAGE.read_text(), None
+    for name, text in comment_texts().items():
+        if name in known:
+            page = page.replace(f"\n{known[name]}\n", f"\n{text}\n", 1)
+        elif before:
+            page = page.replace(f"\n{before}\n", f"\n{before}\n{text}\n", 1)
+        before = text
+    PAGE.write_text(page)
+
+
+def words(texts):
+    return {name: text.split() for name, text in texts.items()}
 
 
 class Reader:
@@ -203,7 +222,7 @@ def parts_in(tree):
 
 
 def check():
-    page, comments = page_lines(), comment_lines()
+    page, comments = words(page_texts()), words(comment_texts())
     grammar = grammar_lists.Grammar(*(grammar_lists.plain(SPECS / name) for name in ("Grammar.antt", "Codes.antt")))
     parts = {ebnf_name(part): part for part in grammar.parts}
     for name in {**page, **parts}:
@@ -243,6 +262,8 @@ def check():
 
 if __name__ == "__main__":
     try:
+        if "--write" in sys.argv[1:]:
+            write()
         check()
     except Bad as why:
         sys.exit(f"tools/grammar_ebnf.py: {why}")
