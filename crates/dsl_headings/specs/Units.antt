@@ -1,6 +1,6 @@
 -- What the ends of units are written as, and what their readers ensure.
 use Rattle.std.specs.Prelude.{◌∷◌, ◌≡◌, ◌≢◌, ◌<◌}
-use Rattle.dsl_tree.specs.{declared.parts.Signed.Signed, WrittenFile.known_name, WrittenFile.signed, WrittenFile.bases_end, WrittenFile.factor_tail, WrittenFile.unit_end, WrittenFile.base, WrittenFile.offset_end, WrittenFile.unit_tail, declared.units.BasePart.BasePart}
+use Rattle.dsl_tree.specs.{declared.parts.Signed.Signed, WrittenFile.known_name, WrittenFile.factor_rest, WrittenFile.unit_end, WrittenFile.base, WrittenFile.offset_end, WrittenFile.unit_tail, declared.units.BasePart.BasePart}
 use Rattle.dsl_cursor.specs.Words.{ℕ, List, Option, Some, None, Place, MarkKind, WordKind, si_text, Part, Forest, nil, sub, wrong, length, Result, Ok, Err, Stop, Memory, Token, factor_text, mark, read}
 use Rattle.dsl_tree.specs.Written as written
 use Rattle.dsl_tree.specs.WrittenFile as file
@@ -17,12 +17,9 @@ abbrev pub written_unit_of : UnitName → Forest
 written_unit_of u =
     written.word WordKind.OfWord (written.ident u.of (written.word WordKind.IsWord (known_name si_text (written.mark MarkKind.OpenRound (written_unit_bases u.unit)))))
 
-abbrev pub written_offset_rest : Signed → Forest
-written_offset_rest s = written.mark MarkKind.Colon (sub (signed s) bases_end)
-
 abbrev pub by_factor : Option Signed → Option Signed → Forest
 by_factor None offset = wrong
-by_factor (Some factor) offset = written.mark MarkKind.Colon (sub (signed factor) (sub (factor_tail offset) nil))
+by_factor (Some factor) offset = factor_rest factor offset
 
 abbrev pub written_factor_rest : UnitEnd → Forest
 written_factor_rest e = by_factor e.factor e.offset
@@ -32,7 +29,7 @@ written_factor_rest e = by_factor e.factor e.offset
 abbrev pub unit_more : Option Signed → Option Signed → Forest
 unit_more None None = wrong
 unit_more None (Some offset) = offset_end offset
-unit_more (Some factor) offset = known_name factor_text (mark MarkKind.Colon (sub (signed factor) (sub (factor_tail offset) nil)))
+unit_more (Some factor) offset = known_name factor_text (factor_rest factor offset)
 
 -- another base, after which stands again what may stand after a base; or the end of the declaration
 abbrev pub IsUnitNext : List Token → Result UnitNext (Stop ℕ) → List Token → Type 0

@@ -10,4 +10,4 @@ pub use enums::{enum_declaration, enum_items};
 pub use headings::{
     begins_owned, begins_plain, begins_type_or_unit, heir, owned_word, plain_word, qualified_name,
 };
-pub use units::{closed, type_declaration, unit_declaration};
+pub use units::{bracket_and_line_end, type_declaration, unit_declaration};

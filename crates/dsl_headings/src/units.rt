@@ -57,8 +57,8 @@ fn base(alloc: Global, tokens: &mut Cursor<'_>) -> Result<BasePart, Stop>
 }
 
 /// The closing bracket and the line end.
-pub fn closed(tokens: &mut Cursor<'_>) -> Result<(), Stop>
-    ensures { Gives (λ closed. written.bases_end) (in_row read (rule_at Part.UnitTail 0) tokens.old) result tokens.new }
+pub fn bracket_and_line_end(tokens: &mut Cursor<'_>) -> Result<(), Stop>
+    ensures { Gives (λ ended. written.bases_end) (in_row read (rule_at Part.UnitTail 0) tokens.old) result tokens.new }
 {
     tokens.expect(Mark(MarkKind::CloseRound))?;
     tokens.expect(Sign::Newline)?;
@@ -89,7 +89,7 @@ fn bases_of_type(alloc: Global, tokens: &mut Cursor<'_>) -> Result<Row<BasePart>
 {
     let first = base(alloc, tokens)?;
     let bases = row_from::<MoreBases>(alloc, first, tokens)?;
-    closed(tokens)?;
+    bracket_and_line_end(tokens)?;
     Ok(bases)
 }
 
@@ -114,11 +114,11 @@ struct UnitEnd {
 }
 
 fn offset_rest(tokens: &mut Cursor<'_>) -> Result<Signed, Stop>
-    ensures { Gives rest.written_offset_rest (in_row read (rest_at Part.UnitMore 2 1) tokens.old) result tokens.new }
+    ensures { Gives written.offset_rest (in_row read (rest_at Part.UnitMore 2 1) tokens.old) result tokens.new }
 {
     tokens.expect(Mark(MarkKind::Colon))?;
     let offset = signed(tokens)?;
-    closed(tokens)?;
+    bracket_and_line_end(tokens)?;
     Ok(offset)
 }
 
@@ -127,7 +127,7 @@ fn factor_tail(tokens: &mut Cursor<'_>) -> Result<Option<Signed>, Stop>
     ensures { Gives written.factor_tail (read Part.FactorTail tokens.old) result tokens.new }
 {
     if tokens.begins(Mark(MarkKind::CloseRound)) {
-        closed(tokens)?;
+        bracket_and_line_end(tokens)?;
         return Ok(None);
     }
     tokens.expect(Mark(MarkKind::Comma))?;
@@ -175,7 +175,7 @@ fn unit_next(alloc: Global, tokens: &mut Cursor<'_>) -> Result<UnitNext, Stop>
     ensures { IsUnitNext tokens.old result tokens.new }
 {
     if tokens.begins(Mark(MarkKind::CloseRound)) {
-        closed(tokens)?;
+        bracket_and_line_end(tokens)?;
         return Ok(UnitNext::End(UnitEnd {
             factor: None,
             offset: None,

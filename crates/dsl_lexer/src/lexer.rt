@@ -250,8 +250,8 @@ pub fn lex(alloc: Global, file: u32, bytes: &[u8]) -> Result<Tokens, LexStop>
 }
 
 /// At most one token list cuts some bytes. If one does, there is no fault. If none does, there is a first fault, and at
-/// most one. END is the last token. The list of the opened widths, the text of a string and the parts of a number are what they are
-/// said to be.
+/// most one. END is the last token. The list of the opened widths, the text of a string and the parts of a number are what
+/// they are said to be.
 pub fn laws()
     ensures one_list { OneList }
     ensures cut_or_fault { CutOrFault }

@@ -10,7 +10,7 @@ use crate::invocations::{InvocationRest, composition_arguments, invocation_rest}
 use dsl_cursor::Sign::{self, Mark, Word};
 use dsl_cursor::{Cursor, Stop, row_of as one_row};
 use dsl_expressions::expr;
-use dsl_headings::closed;
+use dsl_headings::bracket_and_line_end;
 use dsl_tree::WordKind::{ActorWord, ElapsedWord, OneOfWord, ParallelWord, SerialWord, WaitWord};
 use dsl_tree::{
     Argument, CompKind, CompNode, Expr, Ident, InvokeHead, InvokeNode, MarkKind, Phase, TokenKind,
@@ -53,7 +53,7 @@ fn wait(alloc: Global, tokens: &mut Cursor<'_>) -> Result<(Place, Expr), Stop>
     tokens.expect(Word(ElapsedWord))?;
     tokens.expect(Mark(MarkKind::OpenRound))?;
     let elapsed = expr(alloc, tokens)?;
-    closed(tokens)?;
+    bracket_and_line_end(tokens)?;
     Ok((place, elapsed))
 }
 

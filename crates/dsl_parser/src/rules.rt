@@ -9,7 +9,7 @@ ghost use Rattle.dsl_tree.specs.WrittenPhases as written;
 use dsl_cursor::Sign::{self, Mark, Word};
 use dsl_cursor::{Cursor, Item, Stop, block};
 use dsl_expressions::{expr, suffixes};
-use dsl_headings::closed;
+use dsl_headings::bracket_and_line_end;
 use dsl_tree::WordKind::{ActorWord, ItWord};
 use dsl_tree::{Expr, KeepKind, MarkKind, PathHead, PathNode, RuleDecl, TokenKind, WordKind};
 use osc_base::Row;
@@ -58,7 +58,7 @@ fn keep(alloc: Global, tokens: &mut Cursor<'_>) -> Result<RuleDecl, Stop>
     tokens.expect(Mark(MarkKind::OpenRound))?;
     let kind = keep_kind(tokens);
     let expr = expr(alloc, tokens)?;
-    closed(tokens)?;
+    bracket_and_line_end(tokens)?;
     Ok(RuleDecl::Keep { place, kind, expr })
 }
 
@@ -68,7 +68,7 @@ fn remove(alloc: Global, tokens: &mut Cursor<'_>) -> Result<RuleDecl, Stop>
     let place = tokens.expect(Word(WordKind::RemoveDefaultWord))?;
     tokens.expect(Mark(MarkKind::OpenRound))?;
     let path = path(alloc, tokens)?;
-    closed(tokens)?;
+    bracket_and_line_end(tokens)?;
     Ok(RuleDecl::Remove { place, path })
 }
 

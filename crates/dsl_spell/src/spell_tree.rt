@@ -30,39 +30,3 @@ fn push_file(w: &mut Writer, tree: &File) -> Result<(), AllocError>
     push_rest(w, tree.decls.as_slice())?;
     w.push(tree.end, TokenKind::End)
 }
-
-#[cfg(test)]
-mod tests {
-    use super::*;
-    use dsl_tree::{Import, WordKind};
-    use osc_base::{Place, Text};
-    use std::test::*;
-
-    // `import "a"` and the line end after it
-    #[test]
-    fn spells_an_import(rt: HostRuntime) -> Result<(), Fail> {
-        let place = Place {
-            file: 0,
-            line: 1,
-            column: 8,
-            token: 1,
-        };
-        let name = Text::copy(rt.alloc(), "a")?;
-        let mut imports = Row::new(rt.alloc());
-        imports.push(Import::Named { place, name })?;
-        let file = File {
-            imports,
-            decls: Row::new(rt.alloc()),
-            end: place,
-        };
-        let tokens = spell(rt.alloc(), &file)?;
-        let [word, text, line_end, end] = tokens.as_slice() else {
-            return Err(Fail::from("four tokens"));
-        };
-        assert!(rt; matches!(&word.kind, TokenKind::Word(WordKind::ImportWord)));
-        assert!(rt; matches!(&text.kind, TokenKind::Chars(_)));
-        assert!(rt; matches!(&line_end.kind, TokenKind::Newline));
-        assert!(rt; matches!(&end.kind, TokenKind::End));
-        Ok(())
-    }
-}

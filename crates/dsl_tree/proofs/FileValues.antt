@@ -337,6 +337,7 @@ field_tree_back f h =
     let (w, w') = field_parts f.names f h in
     ap₂ (λ (e : Option ExprTree) (rs : List RuleTree). record { names = f.names; list = f.list; of = f.of; initial = e; rules = rs }) (optional_tree_back f.initial w) (trees_back (Whole rule) rule_tree rule_value rule_tree_back f.rules w')
 
+-- tools/write-members writes the rows
 abbrev pub member_value : MemberTree → Member
 member_value (MemberTree.Field f) = Member.Field (field_value f)
 member_value (MemberTree.Rule r) = Member.Rule (rule_value r)

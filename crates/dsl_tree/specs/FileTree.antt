@@ -21,6 +21,7 @@ pub record FieldTree : Type 0 where
   pub initial : Option ExprTree
   pub rules : List RuleTree
 
+-- tools/write-members writes the rows
 pub data MemberTree : Type 0 where
   Field : (field : FieldTree) → MemberTree
   Rule : (rule : RuleTree) → MemberTree

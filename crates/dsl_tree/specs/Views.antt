@@ -157,6 +157,7 @@ comp_tree = fold-CompNode PhaseTree PhaseTree phase_step comp_step
 abbrev pub field_tree : FieldDecl → FieldTree
 field_tree f = record { names = f.names; list = f.list; of = f.of; initial = option_map expr_tree f.initial; rules = map rule_tree f.rules }
 
+-- tools/write-members writes the rows
 abbrev pub member_tree : Member → MemberTree
 member_tree (Member.Field field) = MemberTree.Field (field_tree field)
 member_tree (Member.Rule rule) = MemberTree.Rule (rule_tree rule)

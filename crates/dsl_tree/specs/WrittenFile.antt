@@ -74,18 +74,26 @@ abbrev pub type_declaration : PhysicalDecl → Forest
 type_declaration d =
     word_at d.place WordKind.TypeWord (ident d.name (word WordKind.IsWord (known_name si_text (mark MarkKind.OpenRound (type_bases d.bases)))))
 
+-- what stands after the word `offset`
+abbrev pub offset_rest : Signed → Forest
+offset_rest s = mark MarkKind.Colon (sub (signed s) bases_end)
+
 abbrev pub offset_end : Signed → Forest
-offset_end s = known_name offset_text (mark MarkKind.Colon (sub (signed s) bases_end))
+offset_end s = known_name offset_text (offset_rest s)
 
 abbrev pub factor_tail : Option Signed → Forest
 factor_tail None = bases_end
 factor_tail (Some offset) = mark MarkKind.Comma (offset_end offset)
 
+-- what stands after the word `factor`
+abbrev pub factor_rest : Signed → Option Signed → Forest
+factor_rest factor offset = mark MarkKind.Colon (sub (signed factor) (sub (factor_tail offset) nil))
+
 -- what stands after the bases of a unit
 abbrev pub unit_end : Option Signed → Option Signed → Forest
 unit_end None None = bases_end
 unit_end None (Some offset) = mark MarkKind.Comma (sub (offset_end offset) nil)
-unit_end (Some factor) offset = mark MarkKind.Comma (sub (known_name factor_text (mark MarkKind.Colon (sub (signed factor) (sub (factor_tail offset) nil)))) nil)
+unit_end (Some factor) offset = mark MarkKind.Comma (sub (known_name factor_text (factor_rest factor offset)) nil)
 
 abbrev pub unit_tail : List BasePart → Forest → Forest
 unit_tail [] end = end
