@@ -1,5 +1,5 @@
 -- What the search returns is accepted, and what is written of it is read as that record.
-use Rattle.std.proofs.Common.{◌≡◌, refl, sym, ap, ◌∙◌, subst, ⊎_elim, ℕ, ◌+◌, ◌*◌, Bool, true, ◌||◌, length, map, ◌++◌, arith, length-append, List, [], ◌∷◌, Option, Some, Result, Ok, Err, IfOk, IfSome}
+use Rattle.std.proofs.Common.{◌≡◌, refl, sym, ap, ◌∙◌, subst, ⊎_elim, ℕ, ◌+◌, ◌*◌, Bool, true, ◌||◌, length, map, ◌++◌, arith, length-append, List, [], ◌∷◌}
 use Rattle.std.proofs.lemmas.List.{length-map}
 use Rattle.box_eval.specs.declared.bounds.Pair.{Pair}
 use Rattle.box_eval.specs.declared.flat.Flat.{Flat}
@@ -10,16 +10,16 @@ use Rattle.box_eval.specs.Record.{Tree, branch, leaf, has_open, cuts_of, IsRecor
 use Rattle.box_eval.proofs.Lines.{length_lines}
 use Rattle.record_text.specs.declared.line.TextLine.TheVariants as T
 use Rattle.box_eval.specs.Rules.{IsFlat}
-use Rattle.record_text.specs.declared.stop.VerifyStop.{VerifyStop}
 use Rattle.record_text.specs.Lines.{AllShort}
 use Rattle.record_text.specs.Text.{text_line, record_lines, record_text, IsTextOf, IsFirstBadLine}
 use Rattle.record_text.proofs.Texts.{text_of_one}
 use Rattle.refute_check.specs.declared.check.Verified.{Verified}
 use Rattle.refute_check.specs.declared.check.Verified.TheVariants as V
-use Rattle.refute_check.specs.Answers.{IsRefutationText, IsOpenText, IsRefusedAt}
+use Rattle.refute_check.specs.Answers.{IsAnswerTo, IsRefutationText, IsOpenText}
 use Rattle.refute_check.proofs.Laws.{refutation_text, open_text, not_both, one_count, refused_not_accepted}
 use Rattle.search_laws.specs.Answers.{IsRefutedAnswer, IsUndecidedAnswer}
 use Rattle.search_laws.specs.State.{last_of}
+use Rattle.record_laws.specs.OneAnswer.{IsOneAnswer}
 use Rattle.record_laws.specs.Short.{HasShortEnds, IsUndecided}
 use Rattle.record_laws.proofs.Short.{accepted_short}
 
@@ -72,41 +72,34 @@ pub lines_count : (claim : Record) (tree : Tree) → IsRecordOf claim tree → l
 lines_count claim tree r =
     omega (arith, length-append (map text_line claim.lines) (T.End ∷ []), length-map claim.lines text_line, ap length r.lines, length_lines tree)
 
--- ---- what `verify` says of their texts
+-- ---- what is right of their texts
 
--- what holds of a value that there is
-at_some : {X : Type 0} (P : X → Type 0) (o : Option X) (x : X) → o ≡ Some x → IfSome o P → P x
-at_some P o x is h = subst (λ p. IfSome p P) is h
-
-pub if_ok : {T E : Type 0} (P : T → Type 0) (r : Result T E) → ((x : T) → r ≡ Ok x → P x) → IfOk r P
-if_ok P (Ok x) h = h x refl
-if_ok P (Err e) h = tt
-
-module _ (flat : Flat) (claim : Record) (is : IsFlat flat) (short : HasShortEnds flat.bounds.pairs) (left : Option (List ℕ)) (told : left ≡ Some (record_text claim)) where
+module _ (flat : Flat) (claim : Record) (is : IsFlat flat) (short : HasShortEnds flat.bounds.pairs) where
   text_of : (tree : Tree) → IsAcceptedAs flat claim tree → IsTextOf (record_text claim) claim tree
   text_of tree a = record { record_of = a.record_of; short = accepted_short flat claim tree is short a; spelled = refl }
 
-  pub refuted_alone : (v : Verified) → IsRefutation flat claim
-      → ((cuts : ℕ) → v ≡ V.Open cuts → IfSome left (λ text. IsOpenText flat text cuts))
-      → ((line : ℕ) → v ≡ V.No line → IfSome left (λ text. IsRefusedAt flat text line))
-      → v ≡ V.Refuted
-  refuted_alone V.Refuted r says_open says_no = refl
-  refuted_alone (V.Open cuts) r says_open says_no =
-      absurd (not_both flat (record_text claim) cuts (refutation_text flat claim (accepted_short flat claim r.tree is short r.accepted) r) (at_some (λ text. IsOpenText flat text cuts) left (record_text claim) told (says_open cuts refl)))
-  refuted_alone (V.No line) r says_open says_no =
-      absurd (refused_not_accepted flat (record_text claim) line claim r.tree (at_some (λ text. IsRefusedAt flat text line) left (record_text claim) told (says_no line refl)) (text_of r.tree r.accepted) r.accepted)
+  not_bad : (tree : Tree) → IsAcceptedAs flat claim tree → (line : ℕ) → IsFirstBadLine (record_text claim) line → ⊥
+  not_bad tree a line bad = bad.no_record claim tree (text_of tree a)
 
-  pub open_alone : (v : Verified) (u : IsUndecided flat claim)
-      → (v ≡ V.Refuted → IfSome left (λ text. IsRefutationText flat text))
-      → ((cuts : ℕ) → v ≡ V.Open cuts → IfSome left (λ text. IsOpenText flat text cuts))
-      → ((line : ℕ) → v ≡ V.No line → IfSome left (λ text. IsRefusedAt flat text line))
-      → v ≡ V.Open u.cuts
-  open_alone V.Refuted u refuted says_open says_no =
-      absurd (not_both flat (record_text claim) _ (at_some (λ text. IsRefutationText flat text) left (record_text claim) told (refuted refl)) (open_text flat claim u.tree (accepted_short flat claim u.tree is short u.accepted) u.accepted u.some_open))
-  open_alone (V.Open cuts) u refuted says_open says_no =
-      ap V.Open (one_count flat (record_text claim) cuts _ (at_some (λ text. IsOpenText flat text cuts) left (record_text claim) told (says_open cuts refl)) (open_text flat claim u.tree (accepted_short flat claim u.tree is short u.accepted) u.accepted u.some_open) ∙ u.cuts_are)
-  open_alone (V.No line) u refuted says_open says_no =
-      absurd (refused_not_accepted flat (record_text claim) line claim u.tree (at_some (λ text. IsRefusedAt flat text line) left (record_text claim) told (says_no line refl)) (text_of u.tree u.accepted) u.accepted)
+  pub refutation_answer : IsRefutation flat claim → IsOneAnswer flat (record_text claim) V.Refuted
+  refutation_answer r = record { right = right; only = only; no_bad_line = not_bad r.tree r.accepted }
+    where
+      right : IsRefutationText flat (record_text claim)
+      right = refutation_text flat claim (accepted_short flat claim r.tree is short r.accepted) r
 
-  pub never_bad : (tree : Tree) → IsAcceptedAs flat claim tree → (line : ℕ) → IfSome left (λ text. IsFirstBadLine text line) → ⊥
-  never_bad tree a line bad = (at_some (λ text. IsFirstBadLine text line) left (record_text claim) told bad).no_record claim tree (text_of tree a)
+      only : (other : Verified) → IsAnswerTo flat (record_text claim) other → other ≡ V.Refuted
+      only V.Refuted a = refl
+      only (V.Open cuts) a = absurd (not_both flat (record_text claim) cuts right a)
+      only (V.No line) a = absurd (refused_not_accepted flat (record_text claim) line claim r.tree a (text_of r.tree r.accepted) r.accepted)
+
+  pub undecided_answer : (u : IsUndecided flat claim) → IsOneAnswer flat (record_text claim) (V.Open u.cuts)
+  undecided_answer u = record { right = right; only = only; no_bad_line = not_bad u.tree u.accepted }
+    where
+      right : IsOpenText flat (record_text claim) u.cuts
+      right = subst (IsOpenText flat (record_text claim)) u.cuts_are
+          (open_text flat claim u.tree (accepted_short flat claim u.tree is short u.accepted) u.accepted u.some_open)
+
+      only : (other : Verified) → IsAnswerTo flat (record_text claim) other → other ≡ V.Open u.cuts
+      only V.Refuted a = absurd (not_both flat (record_text claim) u.cuts a right)
+      only (V.Open cuts) a = ap V.Open (one_count flat (record_text claim) cuts u.cuts a right)
+      only (V.No line) a = absurd (refused_not_accepted flat (record_text claim) line claim u.tree a (text_of u.tree u.accepted) u.accepted)

@@ -1,6 +1,6 @@
 //! What the search returns, the checker accepts; and how many points the boxes of a record have.
 #![tactic(auto)]
 
-mod again;
+mod laws;
 
-pub use again::{verify_refutation, verify_undecided};
+pub use laws::laws;
