@@ -1,24 +1,29 @@
 -- The boxes and the rule that are judged.
-use Rattle.std.specs.Prelude.{◌≡◌, ℕ, ◌≤◌, List, length, pos, ◌≤ℤ◌}
+use Rattle.std.specs.Prelude.{ℕ, zero, suc, ◌+◌, List, replicate, ℤ, pos}
 use Rattle.box_eval.specs.declared.rule.Rule.{Rule}
+use Rattle.box_eval.specs.declared.rule.Rule.TheVariants.{Always, AtMost, Both, Not}
+use Rattle.box_eval.specs.declared.rule.Term.TheVariants.{Whole, Slot, Sum}
 use Rattle.box_eval.specs.declared.bounds.Pair.{Pair}
 use Rattle.box_eval.specs.declared.verdict.Verdict.{Verdict}
 use Rattle.box_eval.specs.declared.verdict.Verdict.TheVariants.{True, False, Open}
-use Rattle.box_eval.specs.Box.{low_at, high_at}
-use Rattle.box_eval.specs.Reach.{slot_bound, reach_of}
+use Rattle.box_eval.specs.Box.{pair}
 
--- a box of nine slots, each of whose ends is from 0 to 100
-pub record IsSmall (ends : List Pair) : Type 0 where
-  pub long : length ends ≡ 9
-  pub low : (slot : ℕ) → pos 0 ≤ℤ low_at ends slot
-  pub low_most : (slot : ℕ) → low_at ends slot ≤ℤ pos 100
-  pub high : (slot : ℕ) → pos 0 ≤ℤ high_at ends slot
-  pub high_most : (slot : ℕ) → high_at ends slot ≤ℤ pos 100
+-- a box of nine slots, each from 0 to a greatest value
+abbrev pub box_to : ℤ → List Pair
+box_to high = replicate 9 (pair (pos 0) high)
 
--- a rule over nine slots, whose terms stay within 1,000 in each such box
-pub record IsModest (rule : Rule) : Type 0 where
-  pub slots : slot_bound rule ≤ 9
-  pub reach : (ends : List Pair) → IsSmall ends → reach_of ends rule ≤ 1000
+-- the slot is at most nine more than the next
+abbrev pub near : ℕ → Rule
+near slot = AtMost (Slot slot) (Sum (Slot (slot + 1)) (Whole (pos 9)))
+
+-- each of the first so many slots is at most nine more than the next
+abbrev pub all_near : ℕ → Rule
+all_near zero = Always
+all_near (suc slot) = Both (near slot) (all_near slot)
+
+-- the rule of fifty nodes that is judged: not each of the first eight slots is at most nine more than the next
+abbrev pub fifty : Rule
+fifty = Not (all_near 8)
 
 -- 1 for an open verdict
 abbrev pub number_open : Verdict → ℕ

@@ -1,8 +1,8 @@
 //! `judge` on a rule of fifty nodes and two boxes in turn, at which each node is looked at.
-ghost use Rattle.std.specs.Prelude.{◌≡◌, ◌+◌, ◌*◌, ◌<◌, ◌≤◌, ◌≤ℤ◌, pos, IfOk};
+ghost use Rattle.std.specs.Prelude.{◌≡◌, ◌+◌, ◌*◌, ◌<◌, pos, IfOk};
 ghost use Rattle.box_eval.specs.Rules.{CanJudge};
 ghost use Rattle.box_eval.specs.Verdict.{verdict_of};
-ghost use Rattle.leaf_bench.specs.Small.{IsSmall, IsModest, number_open};
+ghost use Rattle.leaf_bench.specs.Small.{box_to, near, fifty, number_open};
 
 use box_eval::{Bounds, Pair, Rule, Term, Verdict, judge};
 use osc_base::{Boxed, Row};
@@ -12,17 +12,20 @@ use std::alloc::{AllocError, Global};
 const SLOTS: u32 = 9;
 
 /// How many of the verdicts of `rounds` rounds are open, of which each round has two.
+///
+/// On the narrow box the rule is false, and on the wide one it is open. So there is one in each round.
 pub(crate) fn open_verdicts(alloc: Global, rounds: u32) -> Result<u64, AllocError>
-    ensures { IfOk result (λ n. n ≤ rounds * 2) }
+    ensures { IfOk result (λ n. n ≡ rounds) }
 {
     let rule = make_rule(alloc)?;
     judge_boxes(alloc, &rule, rounds)
 }
 
-/// Makes a narrow and a wide box, and judges a rule on both in each round.
+/// Makes a narrow and a wide box, and judges the rule on both in each round.
 fn judge_boxes(alloc: Global, rule: &Rule, rounds: u32) -> Result<u64, AllocError>
-    requires { IsModest rule.now }
-    ensures { IfOk result (λ n. n ≤ rounds * 2) }
+    requires { rule.now ≡ fifty }
+    ensures { IfOk result (λ n. n
+        ≡ rounds * (number_open (verdict_of (box_to (pos 3)) fifty) + number_open (verdict_of (box_to (pos 20)) fifty))) }
 {
     let narrow = make_box(alloc, 3)?;
     let wide = make_box(alloc, 20)?;
@@ -56,9 +59,7 @@ fn judge_once(rule: &Rule, bounds: &Bounds) -> u64
 
 /// A box whose slots are each from 0 to `high`.
 fn make_box(alloc: Global, high: i64) -> Result<Bounds, AllocError>
-    requires least { pos 0 ≤ℤ high }
-    requires most { high ≤ℤ pos 100 }
-    ensures { IfOk result (λ b. IsSmall b.pairs) }
+    ensures { IfOk result (λ b. b.pairs ≡ box_to high) }
 {
     let pairs = vec![in alloc; Pair { low: 0, high }; SLOTS as usize]?;
     Ok(Bounds {
@@ -68,7 +69,7 @@ fn make_box(alloc: Global, high: i64) -> Result<Bounds, AllocError>
 
 /// The negation of this: each of the first eight slots is at most nine more than the next. It has fifty nodes.
 fn make_rule(alloc: Global) -> Result<Rule, AllocError>
-    ensures { IfOk result (λ rule. IsModest rule) }
+    ensures { IfOk result (λ rule. rule ≡ fifty) }
 {
     let mut rule = Rule::Always;
     for slot in 0..SLOTS - 1 {
@@ -80,9 +81,7 @@ fn make_rule(alloc: Global) -> Result<Rule, AllocError>
 
 /// Both are true.
 fn both(alloc: Global, first: Rule, second: Rule) -> Result<Rule, AllocError>
-    requires first { IsModest first }
-    requires second { IsModest second }
-    ensures { IfOk result (λ r. IsModest r) }
+    ensures { IfOk result (λ r. r ≡ Rule.Both first second) }
 {
     let first = Boxed::new(alloc, first)?;
     let second = Boxed::new(alloc, second)?;
@@ -92,7 +91,7 @@ fn both(alloc: Global, first: Rule, second: Rule) -> Result<Rule, AllocError>
 /// The slot is at most nine more than the next.
 fn make_near(alloc: Global, slot: u32) -> Result<Rule, AllocError>
     requires { slot < 8 }
-    ensures { IfOk result (λ r. IsModest r) }
+    ensures { IfOk result (λ r. r ≡ near slot) }
 {
     let next = Boxed::new(alloc, Term::Slot(slot + 1))?;
     let nine = Boxed::new(alloc, Term::Whole(9))?;

@@ -1,7 +1,7 @@
 //! A `Trail` of 32 slots: in each round one set for each slot, and the way back.
-ghost use Rattle.std.specs.Prelude.{◌≡◌, ◌*◌, ◌<◌, ◌≤◌, length, IfOk};
+ghost use Rattle.std.specs.Prelude.{◌≡◌, ◌*◌, ◌<◌, length, IfOk};
 ghost use Rattle.bound_trail.specs.History.{present};
-ghost use Rattle.leaf_bench.specs.Rounds.{lowered};
+ghost use Rattle.leaf_bench.specs.Rounds.{lowered, IsReady};
 
 use bound_trail::Trail;
 use box_eval::{Bounds, Ends, Pair};
@@ -11,9 +11,9 @@ use std::alloc::{AllocError, Global};
 /// The number of slots of the box, and of sets that the trail has places for.
 const SLOTS: u32 = 32;
 
-/// How many sets `rounds` rounds make.
+/// How many sets `rounds` rounds make, each of which makes one for each slot.
 pub(crate) fn sets(alloc: Global, rounds: u32) -> Result<u64, AllocError>
-    ensures { IfOk result (λ n. n ≤ rounds * 32) }
+    ensures { IfOk result (λ n. n ≡ rounds * 32) }
 {
     let pairs = vec![in alloc; Pair { low: 0, high: 9 }; SLOTS as usize]?;
     let bounds = Bounds {
@@ -25,9 +25,9 @@ pub(crate) fn sets(alloc: Global, rounds: u32) -> Result<u64, AllocError>
 
 /// Makes so many rounds, and counts their sets.
 fn set_all(trail: &mut Trail, rounds: u32) -> u64
-    requires fresh { length trail.old.boxes ≡ 1 }
-    requires slots { length (present trail.old) ≡ 32 }
-    ensures { result ≤ rounds * 32 }
+    requires { IsReady trail.old }
+    ensures sets { result ≡ rounds * 32 }
+    ensures back { trail.new ≡ trail.old }
 {
     let mut sets = 0;
     for _ in 0..rounds {
@@ -38,9 +38,8 @@ fn set_all(trail: &mut Trail, rounds: u32) -> u64
 
 /// Lowers the high end of each slot, takes all of that back, and counts the sets.
 fn set_and_undo(trail: &mut Trail) -> u32
-    requires fresh { length trail.old.boxes ≡ 1 }
-    requires slots { length (present trail.old) ≡ 32 }
-    ensures sets { result ≤ 32 }
+    requires { IsReady trail.old }
+    ensures sets { result ≡ 32 }
     ensures back { trail.new ≡ trail.old }
 {
     for slot in 0..SLOTS {
