@@ -1,5 +1,5 @@
 -- What the search returns is accepted, and what is written of it is read as that record.
-use Rattle.std.proofs.Common.{◌≡◌, refl, sym, ap, ◌∙◌, subst, ⊎_elim, ℕ, ◌+◌, ◌*◌, Bool, true, ◌||◌, length, map, ◌++◌, arith, length-append, List, [], ◌∷◌}
+use Rattle.std.proofs.Common.{◌≡◌, refl, ap, subst, ⊎_elim, ℕ, ◌+◌, ◌*◌, Bool, true, ◌||◌, length, map, arith, length-append, List, [], ◌∷◌}
 use Rattle.std.proofs.lemmas.List.{length-map}
 use Rattle.box_eval.specs.declared.bounds.Pair.{Pair}
 use Rattle.box_eval.specs.declared.flat.Flat.{Flat}
@@ -10,7 +10,6 @@ use Rattle.box_eval.specs.Record.{Tree, branch, leaf, has_open, cuts_of, IsRecor
 use Rattle.box_eval.proofs.Lines.{length_lines}
 use Rattle.record_text.specs.declared.line.TextLine.TheVariants as T
 use Rattle.box_eval.specs.Rules.{IsFlat}
-use Rattle.record_text.specs.Lines.{AllShort}
 use Rattle.record_text.specs.Text.{text_line, record_lines, record_text, IsTextOf, IsFirstBadLine}
 use Rattle.record_text.proofs.Texts.{text_of_one}
 use Rattle.refute_check.specs.declared.check.Verified.{Verified}

@@ -1,5 +1,5 @@
 -- Each number of an accepted record has at most 18 digits, if the ends of the flat form have.
-use Rattle.std.proofs.Common.{◌≡◌, refl, sym, ap, ◌∙◌, subst, ℕ, zero, suc, ◌+◌, ◌<◌, ◌≤◌, ◌^◌, List, [], ◌∷◌, ◌++◌, length, map, slice_get, Some, true, ℤ, ◌≤ℤ◌, ◌<ℤ◌, arith}
+use Rattle.std.proofs.Common.{◌≡◌, sym, subst, ℕ, zero, suc, ◌+◌, ◌<◌, ◌≤◌, ◌^◌, List, [], ◌∷◌, ◌++◌, length, map, slice_get, Some, true, ℤ, ◌≤ℤ◌, ◌<ℤ◌, arith}
 use Rattle.std.specs.Prelude.{unsigned_abs, nat_eq, nat_le}
 use Rattle.std.proofs.lemmas.Int.{ints}
 use Rattle.box_eval.specs.declared.rule.Rule.{Rule}

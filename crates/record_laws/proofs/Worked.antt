@@ -1,8 +1,7 @@
 -- Worked rows: a flat form with one slot from 0 to 3 and one rule, by which it is 0 or 3 and which takes nothing away at first.
-use Rattle.std.proofs.Common.{◌≡◌, ◌≢◌, refl, sym, ap, ◌∙◌, ℕ, zero, suc, ◌<◌, List, [], ◌∷◌, Bool, true, false, ℤ, pos, negsuc, ◌≤ℤ◌, ◌<ℤ◌, inl, inr, arith}
+use Rattle.std.proofs.Common.{◌≡◌, refl, sym, ◌∙◌, ℕ, zero, suc, List, [], ◌∷◌, true, ℤ, pos, inl, inr, arith}
 use Rattle.std.proofs.lemmas.Int.{ints}
 use Rattle.box_eval.specs.declared.rule.Rule.{Rule}
-use Rattle.box_eval.specs.declared.rule.Term.{Term}
 use Rattle.box_eval.specs.declared.rule.Rule.TheVariants.{Equal, Either}
 use Rattle.box_eval.specs.declared.rule.Term.TheVariants.{Whole, Slot}
 use Rattle.box_eval.specs.declared.bounds.Pair.{Pair}
@@ -10,12 +9,11 @@ use Rattle.box_eval.specs.declared.cut.Side.{Side}
 use Rattle.box_eval.specs.declared.cut.Side.TheVariants.{Low, High}
 use Rattle.box_eval.specs.declared.flat.Flat.{Flat}
 use Rattle.box_eval.specs.declared.record.Record.{Record}
-use Rattle.box_eval.specs.declared.verdict.Verdict.{Verdict}
 use Rattle.box_eval.specs.declared.verdict.Verdict.TheVariants.{True, False, Open}
-use Rattle.box_eval.specs.Box.{pair, low_at, high_at, box_of, cut_at, fixed, end_at}
+use Rattle.box_eval.specs.Box.{pair, box_of, cut_at, fixed}
 use Rattle.box_eval.specs.Verdict.{verdict_of}
-use Rattle.box_eval.specs.Record.{Tree, branch, leaf, close, unknown, lines_of, cuts_of, IsAcceptedAs}
-use Rattle.box_eval.specs.Guided.{IsDeadEnd, IsSettledFor, IsSettled, IsFirstWide, IsDrawn, Guided, EndsAt, way_down, HasTwoPoints, IsGuided, IsSpent, IsReached}
+use Rattle.box_eval.specs.Record.{Tree, branch, leaf, close, unknown, lines_of, IsAcceptedAs}
+use Rattle.box_eval.specs.Guided.{IsDeadEnd, IsSettled, IsFirstWide, IsDrawn, Guided, EndsAt, way_down, IsSpent, IsReached}
 use Rattle.box_eval.proofs.Equations.{folds}
 use Rattle.record_laws.specs.Points.{points_of, points_all, leaf_boxes}
 

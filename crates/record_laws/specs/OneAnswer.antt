@@ -1,5 +1,5 @@
 -- Texts of which one answer of the checker is right.
-use Rattle.std.specs.Prelude.{◌≡◌, ℕ, List, ⊥}
+use Rattle.std.specs.Prelude.{◌≡◌, ℕ, List}
 use Rattle.box_eval.specs.declared.flat.Flat.{Flat}
 use Rattle.box_eval.specs.declared.record.Record.{Record}
 use Rattle.box_eval.specs.Record.{IsRefutation}

@@ -1,6 +1,6 @@
 //! What the search returns, the checker accepts; and how many points the boxes of a record have.
 #![tactic(auto)]
 
-mod laws;
+mod one_answer;
 
-pub use laws::laws;
+pub use one_answer::laws;
