@@ -1,6 +1,7 @@
 pub mod Walks
 pub mod Inside
 pub mod Tables
+pub mod WordLengths
 pub mod Fitting
 pub mod Fronts
 pub mod Numbers

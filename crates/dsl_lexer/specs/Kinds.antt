@@ -14,23 +14,32 @@ use Rattle.dsl_lexer.specs.Bytes.{is_digit, is_hexadecimal_digit, is_backslash}
 use Rattle.dsl_lexer.specs.declared.shape.Shape.{Shape}
 use Rattle.dsl_lexer.specs.Shapes.{MarkShape, NameShape, NumberShape, StringShape, entry, marks}
 
+-- Words, the shortest first
+
 abbrev pub reserved_words : List (List ℕ × WordKind)
-reserved_words = (codes "import", ImportWord) ∷ (codes "type", TypeWord) ∷ (codes "unit", UnitWord) ∷ (codes "is", IsWord)
-    ∷ (codes "of", OfWord) ∷ (codes "enum", EnumWord) ∷ (codes "struct", StructWord) ∷ (codes "actor", ActorWord)
-    ∷ (codes "action", ActionWord) ∷ (codes "scenario", ScenarioWord) ∷ (codes "inherits", InheritsWord)
-    ∷ (codes "extend", ExtendWord) ∷ (codes "list", ListWord) ∷ (codes "keep", KeepWord) ∷ (codes "hard", HardWord)
-    ∷ (codes "default", DefaultWord) ∷ (codes "remove_default", RemoveDefaultWord) ∷ (codes "do", DoWord)
-    ∷ (codes "serial", SerialWord) ∷ (codes "parallel", ParallelWord) ∷ (codes "one_of", OneOfWord)
-    ∷ (codes "wait", WaitWord) ∷ (codes "elapsed", ElapsedWord) ∷ (codes "with", WithWord) ∷ (codes "it", ItWord)
-    ∷ (codes "in", InWord) ∷ (codes "range", RangeWord) ∷ (codes "and", AndWord) ∷ (codes "or", OrWord)
-    ∷ (codes "not", NotWord) ∷ (codes "true", TrueWord) ∷ (codes "false", FalseWord) ∷ []
+reserved_words = (codes "is", IsWord) ∷ (codes "of", OfWord) ∷ (codes "do", DoWord) ∷ (codes "it", ItWord)
+    ∷ (codes "in", InWord) ∷ (codes "or", OrWord) ∷ (codes "and", AndWord) ∷ (codes "not", NotWord)
+    ∷ (codes "type", TypeWord) ∷ (codes "unit", UnitWord) ∷ (codes "enum", EnumWord) ∷ (codes "list", ListWord)
+    ∷ (codes "keep", KeepWord) ∷ (codes "hard", HardWord) ∷ (codes "wait", WaitWord) ∷ (codes "with", WithWord)
+    ∷ (codes "true", TrueWord) ∷ (codes "actor", ActorWord) ∷ (codes "range", RangeWord) ∷ (codes "false", FalseWord)
+    ∷ (codes "import", ImportWord) ∷ (codes "struct", StructWord) ∷ (codes "action", ActionWord)
+    ∷ (codes "extend", ExtendWord) ∷ (codes "serial", SerialWord) ∷ (codes "one_of", OneOfWord)
+    ∷ (codes "default", DefaultWord) ∷ (codes "elapsed", ElapsedWord) ∷ (codes "scenario", ScenarioWord)
+    ∷ (codes "inherits", InheritsWord) ∷ (codes "parallel", ParallelWord)
+    ∷ (codes "remove_default", RemoveDefaultWord) ∷ []
 
 abbrev pub left_out_words : List (List ℕ × ExcludedWord)
-left_out_words = (codes "namespace", NamespaceWord) ∷ (codes "export", ExportWord) ∷ (codes "event", EventWord)
-    ∷ (codes "on", OnWord) ∷ (codes "until", UntilWord) ∷ (codes "emit", EmitWord) ∷ (codes "rise", RiseWord)
-    ∷ (codes "fall", FallWord) ∷ (codes "every", EveryWord) ∷ (codes "var", VarWord) ∷ (codes "sample", SampleWord)
-    ∷ (codes "global", GlobalWord) ∷ (codes "def", DefWord) ∷ (codes "external", ExternalWord) ∷ (codes "call", CallWord)
-    ∷ (codes "cover", CoverWord) ∷ (codes "record", RecordWord) ∷ (codes "modifier", ModifierWord) ∷ []
+left_out_words = (codes "on", OnWord) ∷ (codes "var", VarWord) ∷ (codes "def", DefWord) ∷ (codes "emit", EmitWord)
+    ∷ (codes "rise", RiseWord) ∷ (codes "fall", FallWord) ∷ (codes "call", CallWord) ∷ (codes "event", EventWord)
+    ∷ (codes "until", UntilWord) ∷ (codes "every", EveryWord) ∷ (codes "cover", CoverWord)
+    ∷ (codes "export", ExportWord) ∷ (codes "sample", SampleWord) ∷ (codes "global", GlobalWord)
+    ∷ (codes "record", RecordWord) ∷ (codes "external", ExternalWord) ∷ (codes "modifier", ModifierWord)
+    ∷ (codes "namespace", NamespaceWord) ∷ []
+
+-- the words of a table come by their lengths, and the first has at least n bytes
+abbrev pub is_by_length : {K : Type 0} → ℕ → List (List ℕ × K) → Bool
+is_by_length n [] = true
+is_by_length n ((word, kind) ∷ more) = nat_le n (length word) && is_by_length (length word) more
 
 -- a name is a reserved word, else a left-out word, else a name of the program's own
 abbrev pub first_kind : Option WordKind → Option ExcludedWord → List ℕ → TokenKind

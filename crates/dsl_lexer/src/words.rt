@@ -1,74 +1,78 @@
-//! The words of the language.
+//! The words of the language, the shortest first.
 
-ghost use Rattle.std.specs.Prelude.{◌≡◌, ◌||◌, map, is_some};
+ghost use Rattle.std.specs.Prelude.{◌≡◌, ◌||◌, map, is_some, true};
 ghost use Rattle.dsl_lexer.specs.Shapes as shapes;
-ghost use Rattle.dsl_lexer.specs.Kinds.{reserved_words, left_out_words};
+ghost use Rattle.dsl_lexer.specs.Kinds.{is_by_length, reserved_words, left_out_words};
 ghost use Rattle.dsl_lexer.specs.Kinds as kinds;
 
 use dsl_tree::{ExcludedWord, WordKind};
 
 const RESERVED: [(&[u8], WordKind); 32] = [
-    (b"import", WordKind::ImportWord),
-    (b"type", WordKind::TypeWord),
-    (b"unit", WordKind::UnitWord),
     (b"is", WordKind::IsWord),
     (b"of", WordKind::OfWord),
+    (b"do", WordKind::DoWord),
+    (b"it", WordKind::ItWord),
+    (b"in", WordKind::InWord),
+    (b"or", WordKind::OrWord),
+    (b"and", WordKind::AndWord),
+    (b"not", WordKind::NotWord),
+    (b"type", WordKind::TypeWord),
+    (b"unit", WordKind::UnitWord),
     (b"enum", WordKind::EnumWord),
-    (b"struct", WordKind::StructWord),
-    (b"actor", WordKind::ActorWord),
-    (b"action", WordKind::ActionWord),
-    (b"scenario", WordKind::ScenarioWord),
-    (b"inherits", WordKind::InheritsWord),
-    (b"extend", WordKind::ExtendWord),
     (b"list", WordKind::ListWord),
     (b"keep", WordKind::KeepWord),
     (b"hard", WordKind::HardWord),
-    (b"default", WordKind::DefaultWord),
-    (b"remove_default", WordKind::RemoveDefaultWord),
-    (b"do", WordKind::DoWord),
-    (b"serial", WordKind::SerialWord),
-    (b"parallel", WordKind::ParallelWord),
-    (b"one_of", WordKind::OneOfWord),
     (b"wait", WordKind::WaitWord),
-    (b"elapsed", WordKind::ElapsedWord),
     (b"with", WordKind::WithWord),
-    (b"it", WordKind::ItWord),
-    (b"in", WordKind::InWord),
-    (b"range", WordKind::RangeWord),
-    (b"and", WordKind::AndWord),
-    (b"or", WordKind::OrWord),
-    (b"not", WordKind::NotWord),
     (b"true", WordKind::TrueWord),
+    (b"actor", WordKind::ActorWord),
+    (b"range", WordKind::RangeWord),
     (b"false", WordKind::FalseWord),
+    (b"import", WordKind::ImportWord),
+    (b"struct", WordKind::StructWord),
+    (b"action", WordKind::ActionWord),
+    (b"extend", WordKind::ExtendWord),
+    (b"serial", WordKind::SerialWord),
+    (b"one_of", WordKind::OneOfWord),
+    (b"default", WordKind::DefaultWord),
+    (b"elapsed", WordKind::ElapsedWord),
+    (b"scenario", WordKind::ScenarioWord),
+    (b"inherits", WordKind::InheritsWord),
+    (b"parallel", WordKind::ParallelWord),
+    (b"remove_default", WordKind::RemoveDefaultWord),
 ];
 
 const LEFT_OUT: [(&[u8], ExcludedWord); 18] = [
-    (b"namespace", ExcludedWord::NamespaceWord),
-    (b"export", ExcludedWord::ExportWord),
-    (b"event", ExcludedWord::EventWord),
     (b"on", ExcludedWord::OnWord),
-    (b"until", ExcludedWord::UntilWord),
+    (b"var", ExcludedWord::VarWord),
+    (b"def", ExcludedWord::DefWord),
     (b"emit", ExcludedWord::EmitWord),
     (b"rise", ExcludedWord::RiseWord),
     (b"fall", ExcludedWord::FallWord),
+    (b"call", ExcludedWord::CallWord),
+    (b"event", ExcludedWord::EventWord),
+    (b"until", ExcludedWord::UntilWord),
     (b"every", ExcludedWord::EveryWord),
-    (b"var", ExcludedWord::VarWord),
+    (b"cover", ExcludedWord::CoverWord),
+    (b"export", ExcludedWord::ExportWord),
     (b"sample", ExcludedWord::SampleWord),
     (b"global", ExcludedWord::GlobalWord),
-    (b"def", ExcludedWord::DefWord),
-    (b"external", ExcludedWord::ExternalWord),
-    (b"call", ExcludedWord::CallWord),
-    (b"cover", ExcludedWord::CoverWord),
     (b"record", ExcludedWord::RecordWord),
+    (b"external", ExcludedWord::ExternalWord),
     (b"modifier", ExcludedWord::ModifierWord),
+    (b"namespace", ExcludedWord::NamespaceWord),
 ];
 
-/// What the table has for the text.
+/// What the table has for the text. Its words come by their lengths, so longer ones needn't be looked at.
 fn entry<K: Copy>(text: &[u8], table: &[(&[u8], K)]) -> Option<K>
+    requires { is_by_length 0 (map (λ e. (e.0.now, e.1)) table.now) ≡ true }
     ensures { result ≡ shapes.entry text.now (map (λ e. (e.0.now, e.1)) table.now) }
 {
     for (word, kind) in table {
-        if text == *word {
+        if word.len() > text.len() {
+            return None;
+        }
+        if word.len() == text.len() && text == *word {
             return Some(*kind);
         }
     }
