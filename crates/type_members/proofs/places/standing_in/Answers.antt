@@ -1,6 +1,6 @@
 use Rattle.std.proofs.Common.{rules, ◌≡◌, ◌<◌, length, slice_index_or}
 use Rattle.type_members.proofs.RowPlaces.{end_at}
-use Rattle.type_members.proofs.places.span_in.Goals as goal
+use Rattle.type_members.proofs.places.standing_in.Goals as goal
 
 pub returns : goal.returns
 returns c = λ heads bodies are.
