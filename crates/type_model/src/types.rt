@@ -1,4 +1,4 @@
-ghost use Rattle.std.specs.Prelude.{◌≡◌, ℕ, ℤ, bytes_eq, fold, List, Option, Some, None, map, length, pos, option_copied, option_map, slice_index_or, unwrap_or};
+ghost use Rattle.std.specs.Prelude.{◌≡◌, ℕ, ℤ, bytes_eq, fold, List, Option, Some, None, map, length, pos, option_copied, option_map, slice_index_or, unwrap_or, IfOk};
 ghost use Rattle.std.specs.Int.{int_min, int_max};
 ghost use Rattle.name_scope.specs.Declaring.{first_place};
 ghost use Rattle.type_heads.specs.Bounds.{numbers_of, bounds, least_of, greatest_of};
@@ -11,6 +11,7 @@ use crate::parts::{MemberTables, ProgramTables};
 use crate::refs::MemberRefs;
 use dsl_tree::CompoundKind;
 use osc_base::{Row, Text};
+use std::alloc::{AllocError, Global};
 use std::marker::Model;
 use type_heads::{ConditionEntry, EnumHit, FieldType, Form, Heads, MemberRef, TypeId, TypeKind};
 use type_tables::{FieldLists, TextTable, UnitTable};
@@ -123,10 +124,10 @@ impl Types {
     }
 
     /// The members of a type, in order.
-    pub fn members(&self, of: TypeId) -> &[MemberRef]
-        ensures { map shown_member result.now ≡ members_told self.now of }
+    pub fn members(&self, alloc: Global, of: TypeId) -> Result<Row<MemberRef>, AllocError>
+        ensures { IfOk result (λ members. map shown_member members ≡ members_told self.now of) }
     {
-        self.members.members(of)
+        self.members.members(alloc, of)
     }
 
     /// The type of the field of that name.
