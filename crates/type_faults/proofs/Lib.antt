@@ -1,4 +1,3 @@
-mod BaseSteps
 mod BracketSteps
 mod Chains
 mod FreshNumbers

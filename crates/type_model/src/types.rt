@@ -2,7 +2,7 @@ ghost use Rattle.std.specs.Prelude.{◌≡◌, ℕ, ℤ, bytes_eq, fold, List, O
 ghost use Rattle.std.specs.Int.{int_min, int_max};
 ghost use Rattle.name_scope.specs.Declaring.{first_place};
 ghost use Rattle.type_heads.specs.Bounds.{numbers_of, bounds, least_of, greatest_of};
-ghost use Rattle.type_heads.specs.Table.{base, enum_members, enums_with, field_of, form, head, named, owner};
+ghost use Rattle.type_heads.specs.Table.{base, enum_members, enums_with, field_of, form, head, is_kind_of as is_kind, named, owner};
 ghost use Rattle.type_heads.specs.Table.{enum_number as number_in, unit as unit_in};
 ghost use Rattle.type_model.specs.Kept.{AreKept};
 ghost use Rattle.type_heads.specs.Shown.{bare, condition_told, hit_of, kind_form, members_told, shown_field, shown_member, shown_unit, unit_parts};
@@ -94,6 +94,13 @@ impl Types {
         ensures { result ≡ base self.now.table.heads of }
     {
         self.heads.base(of)
+    }
+
+    /// Whether a type is `base` or inherits from it.
+    pub fn is_kind_of(&self, base: TypeId, of: TypeId) -> bool
+        ensures { result ≡ is_kind self.now.table.heads base of }
+    {
+        self.heads.is_kind_of(base, of)
     }
 
     /// The actor that owns a behaviour.

@@ -2,7 +2,7 @@ use Rattle.std.proofs.Common.{◌≡◌, false, length, nat_eq, rules}
 use Rattle.std.specs.List.{list_any}
 use Rattle.type_heads.specs.Table.{line_within}
 use Rattle.type_heads.proofs.LineSteps.{any_step}
-use Rattle.type_heads.proofs.lines.has_base.Goals as goal
+use Rattle.type_heads.proofs.lines.is_on_line.Goals as goal
 
 pub loop-steps-preserved : goal.loop-steps-preserved
 loop-steps-preserved c =
