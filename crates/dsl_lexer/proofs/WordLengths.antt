@@ -1,6 +1,7 @@
 -- Tables whose words come by their lengths.
-use Rattle.std.proofs.Common.{◌≡◌, ◌∙◌, refl, sym, ap, ℕ, ◌<◌, ◌≤◌, ◌&&◌, Bool, true, false, List, [], ◌∷◌, Some, None, arith, length, true≢false, ◌+◌, map, drop, get_or, Bor}
-use Rattle.std.specs.Prelude.{Decides}
+use Rattle.std.proofs.Common.{◌≡◌, ◌∙◌, refl, sym, ap, ℕ, ◌<◌, ◌≤◌, ◌&&◌, Bool, true, false, List, [], ◌∷◌, Option, Some, None, eqb, arith, length, true≢false, ◌+◌, map, drop, get_or, Bor}
+use Rattle.std.specs.Option.{option_eq}
+use Rattle.std.specs.Prelude.{option_copied, slice_get, Decides}
 use Rattle.std.specs.Prelude.{if◌then◌else◌, nat_le}
 use Rattle.std.specs.Str.{bytes_eq}
 use Rattle.std.proofs.lemmas.Bool.Decides.{nat_tests}
@@ -81,3 +82,27 @@ pub by_length_on : {K : Type 0} (table : List (Bor (List ℕ) × K)) (i : ℕ) (
 by_length_on table i e lt at by_length =
     shorter (length e.0.now) (map seen (drop (i + 1) table))
     (both (nat_le 0 (length e.0.now)) (is_by_length (length e.0.now) (map seen (drop (i + 1) table))) (sym (ap (is_by_length 0) (at_row table i e lt at)) ∙ by_length)).1
+
+-- Texts with another first byte
+
+abbrev number_in : Option ℕ → ℕ
+number_in None = 0
+number_in (Some n) = n
+
+same_number : (n m : ℕ) → n ≡ m → eqb n m ≡ true
+same_number n m e = grind (arith, nat_tests)
+
+same_first : (a b : Option (Bor ℕ)) → option_copied a ≡ option_copied b → option_eq (λ x y. eqb x.now y.now) a b ≡ true
+same_first None None e = refl
+same_first None (Some y) e = cc
+same_first (Some x) None e = cc
+same_first (Some x) (Some y) e = same_number x.now y.now (ap number_in e)
+
+-- a text with another first byte isn't the word
+pub other_first : (text word : List ℕ) (a b : Option (Bor ℕ)) → option_copied a ≡ slice_get word 0 → option_copied b ≡ slice_get text 0 →
+    option_eq (λ x y. eqb x.now y.now) a b ≡ false → bytes_eq text word ≡ false
+other_first text word a b of_word of_text other = by (bytes_eq text word) (bytes_eq-Decides text word)
+  where
+    by : (c : Bool) → Decides c (text ≡ word) → c ≡ false
+    by true d = absurd (true≢false (sym (same_first a b (of_word ∙ ap (λ w. slice_get w 0) (sym (d.0 refl)) ∙ sym of_text)) ∙ other))
+    by false d = refl

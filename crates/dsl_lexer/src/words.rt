@@ -72,7 +72,7 @@ fn entry<K: Copy>(text: &[u8], table: &[(&[u8], K)]) -> Option<K>
         if word.len() > text.len() {
             return None;
         }
-        if word.len() == text.len() && text == *word {
+        if word.len() == text.len() && word.first() == text.first() && text == *word {
             return Some(*kind);
         }
     }

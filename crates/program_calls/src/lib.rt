@@ -20,7 +20,7 @@ pub use actors::{actor_checked, actor_type, called, head_place, resolved_actor};
 pub use arguments::argument_named;
 pub use callees::{Callee, actor_of, behaviour_named, callee_of};
 pub use first_tokens::first_place;
-pub use kinds::{is_drive, is_kind_of, is_vehicle};
+pub use kinds::{is_drive, is_vehicle};
 pub use label_paths::{begins_with_label, begins_with_label_at};
 pub use labels::{do_labels, invoked, no_labels};
 pub use modifier_forms::{ModifierForm, is_modifier, modifier_form};

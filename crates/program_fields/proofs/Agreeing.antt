@@ -1,7 +1,7 @@
 -- Lists of which one leads to the other, item by item.
-use Rattle.std.proofs.Common.{◌≡◌, ◌∙◌, refl, sym, ap, ℕ, zero, suc, Bool, true, false, cond, List, [], ◌∷◌, Option, Some, None, map, take, slice_index_or}
+use Rattle.std.proofs.Common.{◌≡◌, ◌∙◌, refl, sym, ap, ℕ, zero, suc, Bool, true, false, cond, List, [], ◌∷◌, Option, Some, None, map, take, drop, slice_index_or}
 use Rattle.std.specs.Prelude.{find, option_and_then, slice_get}
-use Rattle.std.proofs.lemmas.List.{take-map}
+use Rattle.std.proofs.lemmas.List.{drop-map, take-map}
 
 abbrev tail_of : {X : Type 0} → List X → List X
 tail_of [] = []
@@ -36,5 +36,8 @@ module _ {S F : Type 0} (h : S → Option F) where
     found (s ∷ ss) (f ∷ fs) e =
         step s f (find t ss) (find u fs) (t s) (u f) (same s f (head s ss f fs e)) (head s ss f fs e) (found ss fs (tail s ss f fs e))
 
-  pub first_agree : (n : ℕ) (ss : List S) (fs : List F) → map h ss ≡ map Some fs → map h (take n ss) ≡ map Some (take n fs)
+  first_agree : (n : ℕ) (ss : List S) (fs : List F) → map h ss ≡ map Some fs → map h (take n ss) ≡ map Some (take n fs)
   first_agree n ss fs e = sym (take-map h n ss) ∙ ap (take n) e ∙ take-map Some n fs
+
+  pub part_agree : (k n : ℕ) (ss : List S) (fs : List F) → map h ss ≡ map Some fs → map h (drop k (take n ss)) ≡ map Some (drop k (take n fs))
+  part_agree k n ss fs e = sym (drop-map h k (take n ss)) ∙ ap (drop k) (first_agree n ss fs e) ∙ drop-map Some k (take n fs)

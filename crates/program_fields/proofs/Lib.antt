@@ -1,4 +1,7 @@
 mod Agreeing
+mod DoPlaces
+mod FrontFields
+pub mod Fronts
 mod Placed
 mod RowSteps
 mod SpotSteps

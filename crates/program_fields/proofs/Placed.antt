@@ -1,21 +1,16 @@
--- The fields and the `do` of the first members of a row, by what is worked out of the row.
-use Rattle.std.proofs.Common.{◌≡◌, ◌∙◌, refl, sym, ap, ℕ, zero, suc, ◌+◌, true, cond, List, [], ◌∷◌, ◌++◌, Option, Some, None, arith, map, length, take, slice_index_or, length-append, bytes_eq, option_map}
-use Rattle.std.specs.Prelude.{find, filter_map, option_and_then, slice_get}
+-- The fields of a part of a row of members, by what is worked out of the row.
+use Rattle.std.proofs.Common.{◌≡◌, ◌∙◌, refl, sym, ap, ℕ, zero, suc, ◌+◌, List, [], ◌∷◌, ◌++◌, Option, Some, None, arith, map, length, take, drop, slice_index_or, length-append, bytes_eq, option_map}
+use Rattle.std.specs.Prelude.{find, option_and_then, slice_get}
 use Rattle.std.specs.Option.{option_map_or}
-use Rattle.std.specs.List.{cons_option}
 use Rattle.std.proofs.lemmas.List.{append_assoc, length-map, map-append}
-use Rattle.std.proofs.Math.Seq.{take-append-add}
+use Rattle.std.proofs.Math.Seq.{drop-append-add, drop-nil, take-append-add}
 use Rattle.dsl_tree.specs.declared.parts.Ident.{Ident}
 use Rattle.dsl_tree.specs.FileTree.{FieldTree, MemberTree}
-use Rattle.name_scope.specs.Declaring.{first_place}
-use Rattle.type_heads.specs.Members.{do_declared, fields_among, fields_declared}
-use Rattle.type_heads.specs.Types.{Do, Field, Member}
-use Rattle.type_tables.specs.Places.{low_place}
-use Rattle.type_tables.proofs.Firsts.{found_low}
-use Rattle.program_fields.specs.Parts.{all_ends, do_tree, ends_from, facts_of, field_at, field_with, has_text, is_do, one_field, spots_from, spots_in, the_do_in, with_number}
-use Rattle.program_fields.specs.SeenFields.{first_do_in, has_name}
-use Rattle.program_fields.specs.Tables.{spots_among}
-use Rattle.program_fields.proofs.Agreeing.{first_agree, found, got}
+use Rattle.type_heads.specs.Members.{fields_among, fields_declared}
+use Rattle.type_heads.specs.Types.{Field, Member}
+use Rattle.program_fields.specs.Parts.{all_ends, end_of, ends_from, facts_of, field_at, field_with, has_text, one_field, spots_between, spots_from, spots_in, with_number}
+use Rattle.program_fields.specs.SeenFields.{has_name}
+use Rattle.program_fields.proofs.Agreeing.{found, got, part_agree}
 
 -- each name leads to its field
 
@@ -74,11 +69,11 @@ end_is n (m ∷ ms) (suc k) =
 plus_zero : (n : ℕ) → 0 + n ≡ n
 plus_zero n = omega arith
 
-pub count_law : (len : ℕ) (ms : List Member) → slice_index_or (all_ends ms) len (length (spots_from 0 ms)) ≡ length (fields_among (take len ms))
-count_law len ms =
-    ap (slice_index_or (all_ends ms) len) (count_is ms ∙ sym (plus_zero (length (fields_among ms))))
-    ∙ end_is 0 ms len
-    ∙ plus_zero (length (fields_among (take len ms)))
+end_law : (k : ℕ) (ms : List Member) → end_of k ms ≡ length (fields_among (take k ms))
+end_law k ms =
+    ap (slice_index_or (all_ends ms) k) (count_is ms ∙ sym (plus_zero (length (fields_among ms))))
+    ∙ end_is 0 ms k
+    ∙ plus_zero (length (fields_among (take k ms)))
 
 first_fields : (k : ℕ) (ms : List Member) → take (length (fields_among (take k ms))) (fields_among ms) ≡ fields_among (take k ms)
 first_fields zero ms = refl
@@ -88,14 +83,35 @@ first_fields (suc k) (m ∷ ms) =
     ∙ take-append-add (fields_declared m m.written.member) (fields_among ms) (length (fields_among (take k ms)))
     ∙ ap (λ fs. fields_declared m m.written.member ++ fs) (first_fields k ms)
 
-among_law : (len : ℕ) (ms : List Member) → map (field_at ms) (spots_among len ms) ≡ map Some (fields_among (take len ms))
-among_law len ms =
-    first_agree (field_at ms) (slice_index_or (all_ends ms) len (length (spots_from 0 ms))) (spots_from 0 ms) (fields_among ms) (all_law ms)
-    ∙ ap (map Some) (ap (λ n. take n (fields_among ms)) (count_law len ms) ∙ first_fields len ms)
+-- without the fields of the first k members there are those of the others
+later_fields : (k n : ℕ) (ms : List Member) → drop (length (fields_among (take k ms))) (fields_among (take n ms)) ≡ fields_among (drop k (take n ms))
+later_fields zero n ms = refl
+later_fields (suc k) zero ms = drop-nil (length (fields_among (take (suc k) ms)))
+later_fields (suc k) (suc n) [] = refl
+later_fields (suc k) (suc n) (m ∷ ms) =
+    ap (λ c. drop c (fields_among (m ∷ take n ms))) (split_length m (take k ms))
+    ∙ drop-append-add (fields_declared m m.written.member) (fields_among (take n ms)) (length (fields_among (take k ms)))
+    ∙ later_fields k n ms
+
+between_law : (from to : ℕ) (ms : List Member) → map (field_at ms) (spots_between from to ms) ≡ map Some (fields_among (drop from (take to ms)))
+between_law from to ms =
+    part_agree (field_at ms) (end_of from ms) (end_of to ms) (spots_from 0 ms) (fields_among ms) (all_law ms)
+    ∙ ap (map Some)
+    ((λ i. drop (end_law from ms i) (take (end_law to ms i) (fields_among ms)))
+    ∙ ap (drop (length (fields_among (take from ms)))) (first_fields to ms)
+    ∙ later_fields from to ms)
+
+-- how many fields there are
+pub count_law : (from to : ℕ) (ms : List Member) → length (spots_between from to ms) ≡ length (fields_among (drop from (take to ms)))
+count_law from to ms =
+    sym (length-map (spots_between from to ms) (field_at ms))
+    ∙ ap length (between_law from to ms)
+    ∙ length-map (fields_among (drop from (take to ms))) Some
 
 -- the field of a number
-pub field_law : (len : ℕ) (ms : List Member) (number : ℕ) → option_and_then (field_at ms) (slice_get (spots_among len ms) number) ≡ slice_get (fields_among (take len ms)) number
-field_law len ms number = got (field_at ms) (spots_among len ms) (fields_among (take len ms)) (among_law len ms) number
+pub field_law : (from to : ℕ) (ms : List Member) (number : ℕ) →
+    option_and_then (field_at ms) (slice_get (spots_between from to ms) number) ≡ slice_get (fields_among (drop from (take to ms))) number
+field_law from to ms number = got (field_at ms) (spots_between from to ms) (fields_among (drop from (take to ms))) (between_law from to ms) number
 
 with_name : (i : Ident) (m : Member) (tree : MemberTree) (f : Field) → field_with i m tree ≡ Some f → i ≡ f.name
 with_name i m (MemberTree.Field t) f e = ap (λ o. option_map_or (λ (x : Field). x.name) o i) e
@@ -107,30 +123,16 @@ named_at i None f e = let never : None ≡ Some f = e in cc
 named_at i (Some m) f e = with_name i m m.written.member f e
 
 -- the field of a name
-pub named_law : (len : ℕ) (ms : List Member) (name : List ℕ) → option_and_then (field_at ms) (find (has_text name) (spots_among len ms)) ≡ find (has_name name) (fields_among (take len ms))
-named_law len ms name =
+pub named_law : (from to : ℕ) (ms : List Member) (name : List ℕ) →
+    option_and_then (field_at ms) (find (has_text name) (spots_between from to ms)) ≡ find (has_name name) (fields_among (drop from (take to ms)))
+named_law from to ms name =
     found (field_at ms) (has_text name) (has_name name) (λ s f e. ap (λ (i : Ident). bytes_eq i.text name) (named_at s.0 (slice_get ms s.1) f e))
-    (spots_among len ms) (fields_among (take len ms)) (among_law len ms)
-
--- The `do`
-
-do_step : (m : Member) (tree : MemberTree) (rest : List Do) (o : Option Member) → m.written.member ≡ tree → find (λ d. true) rest ≡ option_and_then the_do_in o →
-    find (λ d. true) (cons_option (do_declared m tree) rest) ≡ option_and_then the_do_in (cond (do_tree tree) (Some m) o)
-do_step m (MemberTree.Field f) rest o is h = h
-do_step m (MemberTree.Rule r) rest o is h = h
-do_step m (MemberTree.Do place phase) rest o is h = sym (ap (do_declared m) is)
-
-do_found : (ms : List Member) → first_do_in ms ≡ option_and_then the_do_in (find is_do ms)
-do_found [] = refl
-do_found (m ∷ ms) = do_step m m.written.member (filter_map the_do_in ms) (find is_do ms) refl (do_found ms)
-
-pub do_law : (len : ℕ) (ms : List Member) → option_and_then the_do_in (option_and_then (slice_get ms) (low_place len (first_place is_do 0 ms))) ≡ first_do_in (take len ms)
-do_law len ms = sym (do_found (take len ms) ∙ ap (option_and_then the_do_in) (found_low is_do len ms (low_place len (first_place is_do 0 ms)) refl))
+    (spots_between from to ms) (fields_among (drop from (take to ms))) (between_law from to ms)
 
 -- Rows
 
-abbrev Facts : Type 0
-Facts = List (Ident × ℕ) × List ℕ × Option ℕ
+abbrev pub Facts : Type 0
+Facts = List (Ident × ℕ) × List ℕ × List ℕ
 
 pub row_there : (rows : List (List Member)) (n : ℕ) (x : Facts) → Some x ≡ option_map facts_of (slice_get rows n) → x ≡ facts_of (slice_index_or rows n [])
 row_there [] n x e = let never : Some x ≡ None = e in cc

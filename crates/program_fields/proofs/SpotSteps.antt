@@ -1,4 +1,4 @@
--- The names of the fields of one member more, and how many there are after it.
+-- The names of the fields of one member more, how many there are after it, and the places of `do`s.
 use Rattle.std.proofs.Common.{◌≡◌, ◌∙◌, refl, sym, ap, ℕ, ◌+◌, ◌<◌, List, [], ◌∷◌, ◌++◌, map, length, drop, get_or, length-append}
 use Rattle.std.proofs.lemmas.List.{append_assoc, drop_more, length-map}
 use Rattle.dsl_tree.specs.declared.parts.Ident.{Ident}
@@ -7,7 +7,7 @@ use Rattle.type_heads.specs.Members.{fields_declared}
 use Rattle.type_heads.specs.Types.{Member}
 use Rattle.type_members.specs.Listed.{seen_listed}
 use Rattle.type_members.specs.declared.listed.ListedMember.{ListedMember}
-use Rattle.program_fields.specs.Parts.{ends_from, one_field, spots_from, spots_in, with_number}
+use Rattle.program_fields.specs.Parts.{dos_from, dos_in, ends_from, one_field, spots_from, spots_in, with_number}
 use Rattle.program_fields.specs.SeenSpots.{seen_spot}
 use Rattle.program_fields.specs.declared.spots.FieldSpot.{FieldSpot}
 
@@ -42,3 +42,13 @@ module _ (members : List ListedMember) (i : ℕ) (m : ListedMember) (n : ℕ) (i
       ∙ ap (λ c. ends ++ c ∷ ends_from c (map seen_listed (drop (i + 1) members))) count
       ∙ ap (λ ms. ends ++ ends_from (length into) ms) (from_here within is)
       ∙ so_far
+
+-- the places of the `do`s after one member more
+pub dos_more : (members : List ListedMember) (i : ℕ) (m : ListedMember) (n : ℕ) (dos dos' all : List ℕ) → i < length members → m ≡ get_or members i m →
+    dos ++ dos_from n (map seen_listed (drop i members)) ≡ all → dos' ≡ dos ++ dos_in n (seen_listed m) →
+    dos' ++ dos_from (n + 1) (map seen_listed (drop (i + 1) members)) ≡ all
+dos_more members i m n dos dos' all within is so_far more =
+    ap (λ ds. ds ++ dos_from (n + 1) (map seen_listed (drop (i + 1) members))) more
+    ∙ append_assoc dos (dos_in n (seen_listed m)) (dos_from (n + 1) (map seen_listed (drop (i + 1) members)))
+    ∙ ap (λ ms. dos ++ dos_from n ms) (from_here members i m n [] [] within is)
+    ∙ so_far

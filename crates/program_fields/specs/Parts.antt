@@ -1,8 +1,7 @@
 -- Where the fields and the `do` stand among members.
-use Rattle.std.specs.Prelude.{ℕ, ◌+◌, Bool, true, false, List, [], ◌∷◌, ◌++◌, Option, Some, None, length, map, bytes_eq, option_and_then, slice_get}
+use Rattle.std.specs.Prelude.{ℕ, ◌+◌, ◌&&◌, Bool, true, false, List, [], ◌∷◌, ◌++◌, Option, Some, None, cond, drop, length, map, bytes_eq, nat_le, nat_lt, option_and_then, slice_get, slice_index_or, take}
 use Rattle.dsl_tree.specs.declared.parts.Ident.{Ident}
 use Rattle.dsl_tree.specs.FileTree.{FieldTree, MemberTree}
-use Rattle.name_scope.specs.Declaring.{first_place}
 use Rattle.type_heads.specs.Members.{do_declared, fields_declared}
 use Rattle.type_heads.specs.Types.{Do, Field, Member}
 
@@ -34,6 +33,14 @@ ends_from n (m ∷ ms) = (n + length (fields_declared m m.written.member)) ∷ e
 abbrev pub all_ends : List Member → List ℕ
 all_ends ms = 0 ∷ ends_from 0 ms
 
+-- how many fields the first k members declare
+abbrev pub end_of : ℕ → List Member → ℕ
+end_of k ms = slice_index_or (all_ends ms) k (length (spots_from 0 ms))
+
+-- the names of the fields that the members from one place to another declare
+abbrev pub spots_between : ℕ → ℕ → List Member → List (Ident × ℕ)
+spots_between from to ms = drop (end_of from ms) (take (end_of to ms) (spots_from 0 ms))
+
 -- the `do` that a member is
 abbrev pub the_do_in : Member → Option Do
 the_do_in m = do_declared m m.written.member
@@ -47,9 +54,22 @@ do_tree (MemberTree.Do place phase) = true
 abbrev pub is_do : Member → Bool
 is_do m = do_tree m.written.member
 
--- what is worked out of a row of members: the names of fields, how many fields there are after each member, and the place of the first `do`
-abbrev pub facts_of : List Member → List (Ident × ℕ) × List ℕ × Option ℕ
-facts_of ms = (spots_from 0 ms, all_ends ms, first_place is_do 0 ms)
+-- the place of a member, if it is a `do`
+abbrev pub dos_in : ℕ → Member → List ℕ
+dos_in n m = cond (is_do m) (n ∷ []) []
+
+-- the place of each `do`, where the first member has number n
+abbrev pub dos_from : ℕ → List Member → List ℕ
+dos_from n [] = []
+dos_from n (m ∷ ms) = dos_in n m ++ dos_from (n + 1) ms
+
+-- a place isn't before the first, and is before the second
+abbrev pub is_between : ℕ → ℕ → ℕ → Bool
+is_between from to place = nat_le from place && nat_lt place to
+
+-- what is worked out of a row of members: the names of fields, how many fields there are after each member, and the place of each `do`
+abbrev pub facts_of : List Member → List (Ident × ℕ) × List ℕ × List ℕ
+facts_of ms = (spots_from 0 ms, all_ends ms, dos_from 0 ms)
 
 -- the field of that name that a declaration of a member makes
 abbrev pub one_field : Member → FieldTree → Ident → Field

@@ -6,27 +6,24 @@ ghost use Rattle.program_fields.specs.Parts.{facts_of};
 ghost use Rattle.program_fields.specs.RowFacts.{row_facts};
 
 use crate::field_row::FieldRow;
-use crate::gathered::do_place;
+use crate::gathered::do_places;
 use crate::spots::ended_spots;
 use std::alloc::{AllocError, Global};
 use type_members::{ListedMember, MemberRow};
-use type_tables::{FirstPlaces, IndexRoom};
+use type_tables::FirstPlaces;
 
 /// The fields among members, found by their names.
-fn field_row<'a>(
-    alloc: Global,
-    members: &[ListedMember<'a>],
-    is_indexed: bool,
-) -> Result<FieldRow<'a>, AllocError>
+fn field_row<'a>(alloc: Global, members: &[ListedMember<'a>]) -> Result<FieldRow<'a>, AllocError>
     ensures { IfOk result (λ row. row_facts row ≡ facts_of (map seen_listed members.now)) }
 {
     let fields = ended_spots(alloc, members)?;
-    let places = FirstPlaces::of(alloc, fields.spots.as_slice(), is_indexed)?;
+    let places = FirstPlaces::of(alloc, fields.spots.as_slice())?;
+    let dos = do_places(alloc, members)?;
     Ok(FieldRow {
         spots: fields.spots,
         ends: fields.ends,
         places,
-        do_at: do_place(members),
+        dos,
     })
 }
 
@@ -38,10 +35,8 @@ pub(crate) fn field_rows<'a>(
     ensures { IfOk result (λ all. map row_facts all.items ≡ map facts_of (map seen_row rows.now)) }
 {
     let mut all = Vec::new(alloc);
-    let mut room = IndexRoom::new();
     for row in rows {
-        let is_indexed = room.takes(row);
-        all.push(field_row(alloc, row.members.as_slice(), is_indexed)?)?;
+        all.push(field_row(alloc, row.members.as_slice())?)?;
     }
     Ok(all)
 }

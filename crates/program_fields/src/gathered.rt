@@ -2,15 +2,13 @@
 
 ghost use Rattle.std.specs.Prelude.{◌≡◌, ◌++◌, map, option_map, IfOk, OnOk};
 ghost use Rattle.dsl_tree.specs.Views.{field_tree};
-ghost use Rattle.name_scope.specs.Declaring.{first_place};
 ghost use Rattle.type_heads.specs.Members.{do_declared, fields_among, fields_declared};
 ghost use Rattle.type_members.specs.Listed.{seen_listed};
-ghost use Rattle.program_fields.specs.Parts.{field_with, is_do as is_a_do};
+ghost use Rattle.program_fields.specs.Parts.{dos_from, dos_in, field_with, is_do as is_a_do};
 ghost use Rattle.program_fields.specs.SeenFields.{fields_named, seen_do, seen_field};
 
 use crate::fields::{TypeDo, TypeField};
 use dsl_tree::{FieldDecl, Ident, Member};
-use osc_base::Row;
 use std::alloc::{AllocError, Global};
 use type_heads::TypeId;
 use type_members::ListedMember;
@@ -51,18 +49,17 @@ fn push_fields<'a>(
     }
 }
 
-/// The fields that members declare, name by name.
-pub fn fields_of<'a>(
-    alloc: Global,
+/// Puts the fields that members declare at the end, name by name.
+pub(crate) fn push_all<'a>(
+    into: &mut Vec<TypeField<'a>>,
     members: &'a [ListedMember<'a>],
-) -> Result<Row<TypeField<'a>>, AllocError>
-    ensures { IfOk result (λ fields. map seen_field fields ≡ fields_among (map seen_listed members.entry.now)) }
+) -> Result<(), AllocError>
+    ensures { OnOk result (map seen_field into.new.items ≡ map seen_field into.old.items ++ fields_among (map seen_listed members.entry.now)) }
 {
-    let mut fields = Vec::new(alloc);
     for listed in members {
-        push_fields(&mut fields, listed)?;
+        push_fields(into, listed)?;
     }
-    Ok(Row::of(fields))
+    Ok(())
 }
 
 /// The field of that name, if the member declares fields.
@@ -105,16 +102,28 @@ fn is_do(listed: &ListedMember<'_>) -> bool
     }
 }
 
-/// The place of the first `do` among members, counted from 0.
-pub(crate) fn do_place(members: &[ListedMember<'_>]) -> Option<usize>
-    ensures { result ≡ first_place is_a_do 0 (map seen_listed members.now) }
+/// Puts the place of a member at the end, if the member is a `do`.
+fn push_do(into: &mut Vec<usize>, listed: &ListedMember<'_>, place: usize) -> Result<(), AllocError>
+    ensures { OnOk result (into.new.items ≡ into.old.items ++ dos_in place (seen_listed listed.now)) }
 {
+    if is_do(listed) {
+        into.push(place)?;
+    }
+    Ok(())
+}
+
+/// The place of each `do` among members, counted from 0.
+pub(crate) fn do_places(
+    alloc: Global,
+    members: &[ListedMember<'_>],
+) -> Result<Vec<usize>, AllocError>
+    ensures { IfOk result (λ dos. dos.items ≡ dos_from 0 (map seen_listed members.now)) }
+{
+    let mut dos = Vec::new(alloc);
     let mut place: usize = 0;
     for listed in members {
-        if is_do(listed) {
-            return Some(place);
-        }
+        push_do(&mut dos, listed, place)?;
         place += 1;
     }
-    None
+    Ok(dos)
 }

@@ -5,11 +5,12 @@ mod field_row;
 mod field_rows;
 mod fields;
 mod gathered;
+mod parts;
+mod slices;
 mod spots;
 mod tables;
 mod views;
 
 pub use fields::{TypeDo, TypeField};
-pub use gathered::fields_of;
 pub use tables::ProgramFields;
 pub use views::FieldsOf;

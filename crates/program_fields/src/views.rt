@@ -1,13 +1,11 @@
 //! The fields of one type.
 
-ghost use Rattle.std.specs.Prelude.{◌≡◌, find, length, option_map, slice_get};
-ghost use Rattle.program_fields.specs.Parts.{has_text};
+ghost use Rattle.std.specs.Prelude.{◌≡◌, find, option_map, slice_get};
 ghost use Rattle.program_fields.specs.SeenFields.{has_name, seen_field};
-ghost use Rattle.program_fields.specs.SeenSpots.{seen_spot};
-ghost use Rattle.program_fields.specs.Tables.{fields_in, first_spots};
+ghost use Rattle.program_fields.specs.Tables.{fields_in};
 
 use crate::fields::TypeField;
-use crate::spots::FieldSpot;
+use crate::parts::first_part;
 use crate::tables::ProgramFields;
 use type_members::Span;
 
@@ -19,51 +17,31 @@ pub struct FieldsOf<'l, 'a> {
 }
 
 impl<'l, 'a> FieldsOf<'l, 'a> {
-    /// How many there are.
-    pub fn len(&self) -> usize
-        ensures { result ≡ length (fields_in self.now) }
-    {
-        match self.fields.row(self.span.row) {
-            Some(row) => row.count_among(self.span.len),
-            None => 0,
-        }
-    }
-
     /// The field of that number, counted from 0.
     pub fn at(&self, number: usize) -> Option<TypeField<'a>>
         ensures { option_map seen_field result ≡ slice_get (fields_in self.now) number }
     {
-        match self.spot_at(number) {
-            Some(spot) => self.fields.field(self.span.row, spot),
-            None => None,
+        let mut left = number;
+        for part in self.fields.front(&self.span) {
+            let count = self.fields.part_len(part);
+            if left < count {
+                return self.fields.part_field(part, left);
+            }
+            left -= count;
         }
+        self.fields.part_field(&first_part(&self.span), left)
     }
 
     /// The first field of that name.
     pub fn named(&self, name: &str) -> Option<TypeField<'a>>
         ensures { option_map seen_field result ≡ find (has_name name.now) (fields_in self.now) }
     {
-        match self.spot_named(name) {
-            Some(spot) => self.fields.field(self.span.row, spot),
-            None => None,
+        for part in self.fields.front(&self.span) {
+            match self.fields.part_named(part, name) {
+                Some(found) => return Some(found),
+                None => continue,
+            }
         }
-    }
-
-    fn spot_at(&self, number: usize) -> Option<FieldSpot<'a>>
-        ensures { option_map seen_spot result ≡ slice_get (first_spots self.now) number }
-    {
-        match self.fields.row(self.span.row) {
-            Some(row) => row.spot_at(self.span.len, number),
-            None => None,
-        }
-    }
-
-    fn spot_named(&self, name: &str) -> Option<FieldSpot<'a>>
-        ensures { option_map seen_spot result ≡ find (has_text name.now) (first_spots self.now) }
-    {
-        match self.fields.row(self.span.row) {
-            Some(row) => row.spot_named(self.span.len, name),
-            None => None,
-        }
+        self.fields.part_named(&first_part(&self.span), name)
     }
 }

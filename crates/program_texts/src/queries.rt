@@ -9,7 +9,7 @@ ghost use Rattle.type_heads.specs.Members as told;
 ghost use Rattle.type_heads.specs.Told.{told as all_told};
 ghost use Rattle.type_heads.specs.Table.{form};
 ghost use Rattle.type_heads.specs.Table as table;
-ghost use Rattle.type_members.specs.Listed.{seen_listed};
+ghost use Rattle.type_members.specs.Listed.{lists_of};
 ghost use Rattle.program_calls.specs.SeenLabels.{do_labels as do_labels_of, seen_labels};
 ghost use Rattle.program_texts.specs.OwnLabels.{seen_type_labels};
 ghost use Rattle.program_texts.specs.Ranges.{object_kind};
@@ -23,11 +23,11 @@ use dsl_tree::{FieldDecl, HeirCondition};
 use expr_nodes::LabelTable;
 use osc_base::{Place, Row};
 use program_calls::{do_labels, no_labels};
-use program_fields::{FieldsOf, ProgramFields, TypeDo, TypeField, fields_of};
+use program_fields::{FieldsOf, ProgramFields, TypeDo, TypeField};
 use program_members::ProgramMembers;
 use std::alloc::{AllocError, Global};
-use type_members::heir_condition;
-use type_model::{ListedMember, TypeId, TypeKind, Types};
+use type_members::{MemberLists, heir_condition};
+use type_model::{TypeId, TypeKind, Types};
 
 /// The place of what no file declares.
 const NOWHERE: Place = Place {
@@ -69,7 +69,7 @@ impl<'a> ProgramTexts<'a> {
     pub fn fields(&self, alloc: Global, of: TypeId) -> Result<Row<TypeField<'a>>, AllocError>
         ensures { IfOk result (λ fs. map seen_field fs ≡ told.fields (types_in self.now) of) }
     {
-        fields_of(alloc, self.members(of))
+        self.fields.listed(alloc, of)
     }
 
     /// The fields of a type, found by name and by number.
@@ -119,11 +119,11 @@ impl<'a> ProgramTexts<'a> {
         }
     }
 
-    /// The members of a type, in order.
-    pub fn members(&self, of: TypeId) -> &'a [ListedMember<'a>]
-        ensures { map seen_listed result.now ≡ told.members (types_in self.now) of }
+    /// The members of each type, in order.
+    pub fn lists(&self) -> &'a MemberLists<'a>
+        ensures { lists_of result.now ≡ (types_in self.now).members }
     {
-        self.fields.lists().of(of)
+        self.fields.lists()
     }
 
     /// The place of the name of a type.

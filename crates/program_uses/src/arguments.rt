@@ -22,7 +22,7 @@ use expr_eval::checked;
 use expr_nodes::{Scope, Typed};
 use name_scope::with_fault;
 use osc_base::{Boxed, Fault, FaultCode, Place};
-use program_calls::{begins_with_label, first_place, is_kind_of, is_path};
+use program_calls::{begins_with_label, first_place, is_path};
 use program_fields::{FieldsOf, TypeField};
 use std::alloc::{AllocError, Global};
 use type_faults::TextSet;
@@ -81,7 +81,7 @@ fn is_no_object_of(types: &Types, of: TypeId, typed: &Option<Boxed<Typed>>) -> b
 {
     match typed {
         Some(typed) => match typed.get().info().kind.object_type() {
-            Some(held) => !is_kind_of(types, of, held),
+            Some(held) => !types.is_kind_of(of, held),
             None => true,
         },
         None => false,

@@ -7,6 +7,7 @@ ghost use Rattle.dsl_tree.specs.FileTree.{MemberTree};
 ghost use Rattle.dsl_tree.specs.Views.{expr_tree, field_tree, rule_tree};
 ghost use Rattle.expr_nodes.specs.SeenNames.{seen_it, seen_scope};
 ghost use Rattle.program_texts.specs.SeenTexts.{types_in};
+ghost use Rattle.type_heads.specs.Members as told;
 ghost use Rattle.type_members.specs.Listed.{seen_listed};
 ghost use Rattle.expansion_laws.specs.WorkNodes.{own_within};
 ghost use Rattle.composition.specs.Expanded.{occurrence_of};
@@ -313,6 +314,23 @@ fn push_members(
     Ok(())
 }
 
+/// Puts what all members of the object give at the end, one part of a row after the other.
+fn push_parts(
+    alloc: Global,
+    texts: &ProgramTexts<'_>,
+    standing: &Standing<'_>,
+    into: &mut Vec<Occurrence>,
+) -> Result<(), AllocError>
+    ensures { OnOk result (map seen_occurrence into.new.items ≡ map seen_occurrence into.old.items ++ flat_map (listed_kept (types_in texts.now) (seen_scene standing.now.scene.now).bindings standing.now.object.now standing.now.of) (told.members (types_in texts.now) standing.now.of)) }
+{
+    let lists = texts.lists();
+    let span = lists.span(standing.of);
+    for part in lists.front(span.row) {
+        push_members(alloc, texts, standing, into, lists.part(part))?;
+    }
+    push_members(alloc, texts, standing, into, lists.own(&span))
+}
+
 /// Puts the own constraints of an object with so many steps left at the end.
 pub fn push_own(
     alloc: Global,
@@ -326,6 +344,6 @@ pub fn push_own(
     if steps == 0 {
         return Ok(());
     }
-    push_members(alloc, texts, standing, into, texts.members(standing.of))?;
+    push_parts(alloc, texts, standing, into)?;
     Ok(())
 }

@@ -1,14 +1,15 @@
 -- Fields that are found by their names.
-use Rattle.std.proofs.Common.{◌≡◌, ◌∙◌, refl, ap, ℕ, Bool, ◌||◌, true, false, cond, List, [], ◌∷◌, Option, Some, None, bytes_eq, map}
+use Rattle.std.proofs.Common.{◌≡◌, ◌∙◌, refl, ap, ℕ, Bool, ◌||◌, true, false, cond, List, [], ◌∷◌, ◌++◌, Option, Some, None, bytes_eq, map}
 use Rattle.std.specs.Prelude.{find, option_map}
 use Rattle.std.specs.Option.{option_or}
 use Rattle.std.specs.List.{list_any}
+use Rattle.std.proofs.lemmas.List.Concat.{flat_map-append}
 use Rattle.std.proofs.lemmas.List.Folds.{find-append}
 use Rattle.dsl_tree.specs.declared.parts.Ident.{Ident}
 use Rattle.dsl_tree.specs.FileTree.{FieldTree}
 use Rattle.type_heads.specs.Types.{Field, Member}
 use Rattle.type_heads.specs.Members.{fields_among, fields_declared}
-use Rattle.type_faults.specs.ListedRows.{found_field}
+use Rattle.type_faults.specs.ListedRows.{field_found, found_field}
 
 -- the field that a declaration of names declares
 pub found_named : (names : List Ident) (tree : FieldTree) (holder : ℕ) (under : List ℕ) (name : List ℕ) →
@@ -38,3 +39,10 @@ pub found_next : (m : Member) (ms : List Member) (name : List ℕ) →
 found_next m ms name =
     ap (option_map found_field) (find-append (λ (f : Field). bytes_eq f.name.text name) (fields_declared m m.written.member) (fields_among ms))
     ∙ found_or (find (λ (f : Field). bytes_eq f.name.text name) (fields_declared m m.written.member)) (find (λ (f : Field). bytes_eq f.name.text name) (fields_among ms))
+
+-- the first of some members and of others after them
+pub found_joined : (ms ns : List Member) (name : List ℕ) → field_found name (ms ++ ns) ≡ option_or (field_found name ms) (field_found name ns)
+found_joined ms ns name =
+    ap (λ fs. option_map found_field (find (λ (f : Field). bytes_eq f.name.text name) fs)) (flat_map-append (λ (m : Member). fields_declared m m.written.member) ms ns)
+    ∙ ap (option_map found_field) (find-append (λ (f : Field). bytes_eq f.name.text name) (fields_among ms) (fields_among ns))
+    ∙ found_or (find (λ (f : Field). bytes_eq f.name.text name) (fields_among ms)) (find (λ (f : Field). bytes_eq f.name.text name) (fields_among ns))

@@ -1,4 +1,3 @@
-mod BaseSteps
 mod BracketSteps
 mod Chains
 mod FreshNumbers
@@ -8,6 +7,7 @@ mod KeySets
 mod ListForms
 mod NameFaultRows
 mod NameKeys
+mod NameNotes
 mod NameSteps
 mod RepeatedNames
 mod Rounds
@@ -20,4 +20,9 @@ mod HeadingRows
 mod FoundFields
 mod ConditionSteps
 mod HeldFall
-mod PlainFaults
+mod DistinctNames
+mod FewerMembers
+mod KnownRows
+mod PartNames
+mod PartSteps
+mod Quiet

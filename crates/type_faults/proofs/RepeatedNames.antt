@@ -8,9 +8,9 @@ use Rattle.dsl_tree.specs.declared.phases.Phase.TheViews as PhaseViews
 use Rattle.std.proofs.lemmas.List.{map-append}
 use Rattle.std.proofs.lemmas.List.Concat.{flat_map-append}
 use Rattle.dsl_tree.specs.PhaseTree.{PhaseTree, row_of}
-use Rattle.dsl_tree.specs.Views.{argument_tree, comp_step, comp_tree, member_tree, phase_step, phase_tree}
+use Rattle.dsl_tree.specs.Views.{argument_tree, comp_step, comp_tree, phase_step, phase_tree}
 use Rattle.type_heads.specs.MemberFaults.{labels_among, labels_in, member_names, names_among}
-use Rattle.std.proofs.Common.{◌≡◌, ◌∙◌, refl, sym, ap, ℕ, ◌+◌, ◌<◌, Bool, ◌||◌, List, [], ◌∷◌, ◌++◌, Option, take, length, get_or, append_assoc, append-nil, bytes_eq, subst}
+use Rattle.std.proofs.Common.{◌≡◌, ◌∙◌, refl, sym, ap, ℕ, ◌+◌, ◌<◌, Bool, ◌||◌, List, [], ◌∷◌, ◌++◌, Option, take, length, get_or, append_assoc, append-nil, bytes_eq, subst, Bor}
 use Rattle.std.specs.List.{list_any}
 use Rattle.std.proofs.lemmas.List.{take_more}
 use Rattle.osc_base.specs.declared.fault.Fault.{Fault}
@@ -18,9 +18,12 @@ use Rattle.osc_base.specs.declared.fault.FaultCode.{FaultCode}
 use Rattle.osc_base.specs.FaultRows.{row, row_fault, first_of, first_from}
 use Rattle.dsl_tree.specs.declared.parts.Ident.{Ident}
 use Rattle.type_heads.specs.MemberFaults.{repeated_rows}
-use Rattle.type_faults.specs.NameRows.{HasTexts, ContinuesNames, member_trees}
-use Rattle.type_members.specs.declared.listed.ListedMember.{ListedMember}
-use Rattle.type_members.specs.Listed.{seen_listed}
+use Rattle.type_heads.specs.Types.{Member}
+use Rattle.type_members.specs.Shared.{part_at, parts_at}
+use Rattle.type_members.specs.declared.places.Part.{Part}
+use Rattle.type_faults.specs.NamePlaces.{lent_names}
+use Rattle.type_faults.specs.NameRows.{HasTexts, ContinuesNames}
+use Rattle.type_faults.proofs.PartSteps.{parts_more}
 use Rattle.type_faults.proofs.RowSteps.{one_text_more}
 
 pub one_name : (first found : Option Fault) (old new : List (List ℕ)) (i : Ident) (is_met : Bool) →
@@ -44,11 +47,14 @@ then_names first middle found old between new xs ys one other = λ earlier later
     let b = other a.0 later a.1 in
     (b.0, b.1, ap (λ is. first_from first (repeated_rows earlier is)) (append_assoc xs ys later) ∙ a.2 ∙ b.2)
 
-pub next_name : (first found found' : Option Fault) (old met met' : List (List ℕ)) (names : List Ident) (n : ℕ) (i : Ident) → n < length names → i ≡ get_or names n i →
-    ContinuesNames found met found' met' (i ∷ []) → ContinuesNames first old found met (take n names) → ContinuesNames first old found' met' (take (n + 1) names)
+pub next_name : (first found found' : Option Fault) (old met met' : List (List ℕ)) (names : List (Bor Ident)) (n : ℕ) (i : Bor Ident) → n < length names → i ≡ get_or names n i →
+    ContinuesNames found met found' met' (i.now ∷ []) → ContinuesNames first old found met (lent_names (take n names)) → ContinuesNames first old found' met' (lent_names (take (n + 1) names))
 next_name first found found' old met met' names n i less is one before =
-    let e : take n names ++ i ∷ [] ≡ take (n + 1) names = ap (λ x. take n names ++ x ∷ []) is ∙ sym (take_more names n i less) in
-    subst (ContinuesNames first old found' met') e (then_names first found found' old met met' (take n names) (i ∷ []) before one)
+    let e : lent_names (take n names) ++ i.now ∷ [] ≡ lent_names (take (n + 1) names) =
+    ap (λ (x : Bor Ident). lent_names (take n names) ++ x.now ∷ []) is
+    ∙ sym (map-append (λ (x : Bor Ident). x.now) (take n names) (get_or names n i ∷ []))
+    ∙ ap lent_names (sym (take_more names n i less)) in
+    subst (ContinuesNames first old found' met') e (then_names first found found' old met met' (lent_names (take n names)) (i.now ∷ []) before one)
 
 -- Labels
 
@@ -67,40 +73,16 @@ pub phase_of_comp : (c : CompNode) → comp_tree c ≡ phase_tree (PhaseViews.Co
 unfolding Rattle.dsl_tree.specs.declared.phases.Phase.TheViews.roll-Phase denote.Hole.Carrier.roll
 phase_of_comp c = sym (fold-roll-Phase PhaseTree PhaseTree phase_step comp_step (Phase-F.Comp c))
 
--- one phase more
-pub next_phase : (first found found' : Option Fault) (old met met' : List (List ℕ)) (label : List Ident) (phases items : List Phase) (n : ℕ) (p : Phase) →
-    items ≡ phases → n < length items → p ≡ get_or items n p →
-    ContinuesNames found met found' met' (labels_in (phase_tree p)) →
-    ContinuesNames first old found met (label ++ flat_map labels_in (map phase_tree (take n phases))) →
-    ContinuesNames first old found' met' (label ++ flat_map labels_in (map phase_tree (take (n + 1) phases)))
-next_phase first found found' old met met' label phases items n p same less is one before =
-    let less' : n < length phases = subst (λ xs. n < length xs) same less in
-    let is' : p ≡ get_or phases n p = is ∙ ap (λ xs. get_or xs n p) same in
-    let earlier : List Ident = flat_map labels_in (map phase_tree (take n phases)) in
-    let e : earlier ++ labels_in (phase_tree p) ≡ flat_map labels_in (map phase_tree (take (n + 1) phases)) =
-    ap (λ xs. earlier ++ xs) (sym (append-nil (labels_in (phase_tree p))))
-    ∙ sym (flat_map-append labels_in (map phase_tree (take n phases)) (map phase_tree (p ∷ [])))
-    ∙ ap (flat_map labels_in) (sym (map-append phase_tree (take n phases) (p ∷ [])))
-    ∙ ap (λ x. flat_map labels_in (map phase_tree (take n phases ++ x ∷ []))) is'
-    ∙ ap (λ xs. flat_map labels_in (map phase_tree xs)) (sym (take_more phases n p less')) in
-    subst (ContinuesNames first old found' met') (append_assoc label earlier (labels_in (phase_tree p)) ∙ ap (λ xs. label ++ xs) e)
-    (then_names first found found' old met met' (label ++ earlier) (labels_in (phase_tree p)) before one)
-
--- one member more
-pub next_member : (first found found' : Option Fault) (old met met' : List (List ℕ)) (members : List ListedMember) (n : ℕ) (m : ListedMember) →
-    n < length members → m ≡ get_or members n m →
-    ContinuesNames found met found' met' (member_names (member_tree m.written.member.now)) →
-    ContinuesNames first old found met (flat_map member_names (member_trees (take n members))) →
-    ContinuesNames first old found' met' (flat_map member_names (member_trees (take (n + 1) members)))
-next_member first found found' old met met' members n m less is one before =
-    let earlier : List Ident = flat_map member_names (member_trees (take n members)) in
-    let e : earlier ++ member_names (member_tree m.written.member.now) ≡ flat_map member_names (member_trees (take (n + 1) members)) =
-    ap (λ xs. earlier ++ xs) (sym (append-nil (member_names (member_tree m.written.member.now))))
-    ∙ sym (flat_map-append member_names (member_trees (take n members)) (member_trees (m ∷ [])))
-    ∙ ap (flat_map member_names) (sym (map-append (λ (x : ListedMember). member_tree x.written.member.now) (take n members) (m ∷ [])))
-    ∙ ap (λ x. flat_map member_names (member_trees (take n members ++ x ∷ []))) is
-    ∙ ap (λ xs. flat_map member_names (member_trees xs)) (sym (take_more members n m less)) in
-    subst (ContinuesNames first old found' met') e (then_names first found found' old met met' earlier (member_names (member_tree m.written.member.now)) before one)
+-- the names of one part more
+pub next_part : (first found found' : Option Fault) (old met met' : List (List ℕ)) (rows : List (List Member)) (parts : List Part) (n : ℕ) (p : Part) → n < length parts →
+    ContinuesNames found met found' met' (names_among (part_at rows (get_or parts n p))) → ContinuesNames first old found met (names_among (parts_at rows (take n parts))) →
+    ContinuesNames first old found' met' (names_among (parts_at rows (take (n + 1) parts)))
+next_part first found found' old met met' rows parts n p less one before =
+    let earlier : List Ident = names_among (parts_at rows (take n parts)) in
+    let more : List Member = part_at rows (get_or parts n p) in
+    let e : earlier ++ names_among more ≡ names_among (parts_at rows (take (n + 1) parts)) =
+    sym (flat_map-append (λ (m : Member). member_names m.written.member) (parts_at rows (take n parts)) more) ∙ ap names_among (parts_more rows parts n p less) in
+    subst (ContinuesNames first old found' met') e (then_names first found found' old met met' earlier (names_among more) before one)
 
 -- all names are done
 pub all_names : (first found : Option Fault) (old new given : List (List ℕ)) (names : List Ident) → HasTexts old given → ContinuesNames first old found new names →
@@ -108,8 +90,3 @@ pub all_names : (first found : Option Fault) (old new given : List (List ℕ)) (
 all_names first found old new given names has all =
     let last = all given [] has in
     sym last.2 ∙ ap (λ is. first_from first (repeated_rows given is)) (append-nil names)
-
--- the names of a list of members
-pub names_listed : (ms : List ListedMember) → flat_map member_names (member_trees ms) ≡ names_among (map seen_listed ms)
-names_listed [] = refl
-names_listed (m ∷ ms) = ap (λ is. member_names (member_tree m.written.member.now) ++ is) (names_listed ms)

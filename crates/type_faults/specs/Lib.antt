@@ -10,4 +10,5 @@ pub mod Passing
 pub mod ListedRows
 pub mod ConditionRows
 pub mod HeldRanks
-pub mod PlainLists
+pub mod NamePlaces
+pub mod RowFacts

@@ -1,11 +1,11 @@
 -- The members of types in the lists that the code holds, and the fields found there.
-use Rattle.std.specs.Prelude.{ℕ, List, [], None, bytes_eq, find, option_and_then, slice_index_or}
+use Rattle.std.specs.Prelude.{ℕ, List, [], Option, None, bytes_eq, find, option_and_then, option_map, slice_index_or}
 use Rattle.std.specs.Option.{option_map_or}
 use Rattle.dsl_tree.specs.declared.compounds.HeirCondition.{HeirCondition}
 use Rattle.dsl_tree.specs.Views.{field_tree}
 use Rattle.dsl_tree.specs.FileTree.{FieldTree}
 use Rattle.type_heads.specs.Table.{TypeHead, base}
-use Rattle.type_heads.specs.Members.{fields_among, heir_condition}
+use Rattle.type_heads.specs.Members.{fields_among, fields_declared, heir_condition}
 use Rattle.type_heads.specs.Types.{TypeBody, Member, Field, Types}
 use Rattle.type_faults.specs.declared.member_faults.fields.FieldHit.{FieldHit}
 
@@ -24,6 +24,14 @@ found_field f = record { tree = f.tree; under = f.under }
 -- a field that was found
 abbrev pub seen_hit : FieldHit → FoundField
 seen_hit h = record { tree = field_tree h.field.now; under = h.under.now }
+
+-- what is found of the field of a name that a member declares
+abbrev pub field_declared : List ℕ → Member → Option FoundField
+field_declared name m = option_map found_field (find (λ (f : Field). bytes_eq f.name.text name) (fields_declared m m.written.member))
+
+-- what is found of the first field of a name among members
+abbrev pub field_found : List ℕ → List Member → Option FoundField
+field_found name ms = option_map found_field (find (λ (f : Field). bytes_eq f.name.text name) (fields_among ms))
 
 -- the conditional subtypes that the field of a condition is under
 abbrev pub under_in : List TypeHead → List (List Member) → ℕ → HeirCondition → List ℕ

@@ -1,13 +1,10 @@
 -- The names of members that were met, as the code holds them.
-use Rattle.std.specs.Prelude.{◌≡◌, ℕ, List, ◌++◌, Option, map, bytes_eq}
+use Rattle.std.specs.Prelude.{◌≡◌, ℕ, List, ◌++◌, Option, bytes_eq}
 use Rattle.std.specs.List.{list_any}
 use Rattle.osc_base.specs.declared.fault.Fault.{Fault}
 use Rattle.osc_base.specs.FaultRows.{first_from}
 use Rattle.dsl_tree.specs.declared.parts.Ident.{Ident}
-use Rattle.dsl_tree.specs.FileTree.{MemberTree}
-use Rattle.dsl_tree.specs.Views.{member_tree}
 use Rattle.type_heads.specs.MemberFaults.{repeated_rows}
-use Rattle.type_members.specs.declared.listed.ListedMember.{ListedMember}
 
 -- a set has the texts of a list
 abbrev pub HasTexts : List (List ℕ) → List (List ℕ) → Type 0
@@ -18,7 +15,3 @@ abbrev pub ContinuesNames : Option Fault → List (List ℕ) → Option Fault �
 ContinuesNames first old found new names =
     (earlier : List (List ℕ)) (later : List Ident) → HasTexts old earlier →
     (now : List (List ℕ)) × HasTexts new now × (first_from first (repeated_rows earlier (names ++ later)) ≡ first_from found (repeated_rows now later))
-
--- the members of a list
-abbrev pub member_trees : List ListedMember → List MemberTree
-member_trees ms = map (λ (m : ListedMember). member_tree m.written.member.now) ms

@@ -5,13 +5,38 @@ ghost use Rattle.osc_base.specs.FaultRows.{first_fault};
 ghost use Rattle.type_heads.specs.Bodied.{seen_body};
 ghost use Rattle.type_heads.specs.MemberFaults.{member_fault_rows};
 ghost use Rattle.type_heads.specs.Types.{Types};
-ghost use Rattle.type_members.specs.Listed.{lists_of};
+ghost use Rattle.type_members.specs.Listed.{lists_of, seen_row};
+ghost use Rattle.type_faults.specs.ListedRows.{types_with};
+ghost use Rattle.type_faults.specs.NamePlaces.{AreRowPlaces};
 
-use crate::member_faults::{DependsOn, with_types};
+use crate::member_faults::{DependsOn, NamePlaces, row_places, with_types};
 use osc_base::Fault;
 use std::alloc::{AllocError, Global};
 use type_heads::{Body, Heads};
 use type_members::MemberLists;
+
+/// The first fault of the members of all types, given the places of the names in each row.
+fn first_by_places(
+    alloc: Global,
+    heads: &Heads,
+    bodies: &[Body<'_>],
+    lists: &MemberLists<'_>,
+    places: &[NamePlaces<'_>],
+) -> Result<Option<Fault>, AllocError>
+    requires count { length (lists_of lists.now) ≡ length heads.now }
+    requires places { AreRowPlaces places.now (map seen_row lists.now.rows.items) }
+    ensures { IfOk result (λ f. f ≡ first_fault (member_fault_rows (types_with heads.now (map seen_body bodies.now) (lists_of lists.now)))) }
+{
+    let depends = DependsOn {
+        alloc,
+        heads,
+        bodies,
+        lists,
+        places,
+    };
+    let found = with_types(alloc, None, &depends)?;
+    Ok(found)
+}
 
 /// The first fault of the members of all types: names that a member list has twice, `do` at a place that can't have
 /// one, initial values of a wrong form, and conditions. There is a member list for each type.
@@ -24,12 +49,7 @@ pub fn first_member_fault(
     requires { length (lists_of lists.now) ≡ length heads.now }
     ensures { IfOk result (λ f. (ts : Types) → ts.table.heads ≡ heads.now → ts.bodies ≡ map seen_body bodies.now → ts.members ≡ lists_of lists.now → f ≡ first_fault (member_fault_rows ts)) }
 {
-    let depends = DependsOn {
-        alloc,
-        heads,
-        bodies,
-        lists,
-    };
-    let found = with_types(alloc, None, &depends)?;
+    let places = row_places(alloc, lists.rows())?;
+    let found = first_by_places(alloc, heads, bodies, lists, places.as_slice())?;
     Ok(found)
 }

@@ -10,3 +10,4 @@ pub mod Divisors
 pub mod BodyLists
 pub mod FileLists
 pub mod LineSteps
+pub mod LineClimbs

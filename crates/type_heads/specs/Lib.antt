@@ -9,6 +9,7 @@ pub mod Seen
 pub mod Shown
 pub mod Names
 pub mod EnumNames
+pub mod Ancestors
 pub mod Extending
 pub mod Grouped
 pub mod Gathered

@@ -1,11 +1,14 @@
 ghost use Rattle.std.specs.Prelude.{◌≡◌, ◌≤◌, ◌<◌, ◌^◌, length, pos, option_copied, option_map, IfOk};
 ghost use Rattle.type_heads.specs.Seen.{seen_form};
 ghost use Rattle.type_heads.specs.Shown.{hit_of};
-ghost use Rattle.type_heads.specs.Table.{base, enum_number, enums_with, form, head, named, owner};
+ghost use Rattle.type_heads.specs.Members.{has};
+ghost use Rattle.type_heads.specs.Table.{base, bases, enum_number, enums_with, form, head, is_kind_of as is_kind, named, owner};
 
+use crate::ancestors::{Ancestors, base_in};
 use crate::declarations::Declarations;
 use crate::enum_index::EnumIndex;
 use crate::heads_build::own_heads;
+use crate::lines::is_on_line;
 use crate::names::NameIndex;
 use crate::{EnumHit, Form, Head, TypeId};
 use name_scope::Program;
@@ -18,6 +21,7 @@ pub struct Heads {
     entries: Vec<Head>,
     names: NameIndex,
     members: EnumIndex,
+    ancestors: Option<Ancestors>,
 }
 
 impl Model for Heads {
@@ -28,10 +32,11 @@ impl Model for Heads {
 
     ghost use Rattle.type_heads.specs.Grouped.{IsIndex};
     ghost use Rattle.type_heads.specs.EnumNames.{IsEnumIndex};
+    ghost use Rattle.type_heads.specs.Ancestors.{AreAncestors};
 
     ghost view = { λ h. h.entries.items };
 
-    ghost invariant = { λ h. (length h.entries.items < 2 ^ 32) × IsIndex h.names h.entries.items × IsEnumIndex h.members h.entries.items };
+    ghost invariant = { λ h. (length h.entries.items < 2 ^ 32) × IsIndex h.names h.entries.items × IsEnumIndex h.members h.entries.items × AreAncestors h.entries.items h.ancestors };
 }
 
 impl Heads {
@@ -56,10 +61,12 @@ impl Heads {
         let names = NameIndex::of(alloc, declarations.types.as_slice())?;
         let entries = own_heads(alloc, declarations)?;
         let members = EnumIndex::of(alloc, entries.as_slice())?;
+        let ancestors = Ancestors::of(alloc, entries.as_slice())?;
         Ok(Heads {
             entries,
             names,
             members,
+            ancestors,
         })
     }
 
@@ -92,8 +99,24 @@ impl Heads {
     pub fn base(&self, of: TypeId) -> Option<TypeId>
         ensures { result ≡ base self.now of }
     {
-        let head = self.entries.get(of.0 as usize)?;
-        head.base()
+        base_in(self.entries.as_slice(), of)
+    }
+
+    /// Whether a type inherits from `base`.
+    pub fn has_base(&self, base: TypeId, of: TypeId) -> bool
+        ensures { result ≡ has base (bases self.now of) }
+    {
+        match &self.ancestors {
+            Some(ancestors) => ancestors.has_base(self.entries.as_slice(), base, of),
+            None => is_on_line(self, base, self.base(of)),
+        }
+    }
+
+    /// Whether a type is `base` or inherits from it.
+    pub fn is_kind_of(&self, base: TypeId, of: TypeId) -> bool
+        ensures { result ≡ is_kind self.now base of }
+    {
+        of == base || self.has_base(base, of)
     }
 
     /// What a type is. A number that no type has stands for `int`.

@@ -1,6 +1,7 @@
 //! Types of a program: what it declares, and the members of each type as written.
 #![tactic(auto)]
 
+mod ancestors;
 mod body;
 mod brackets;
 mod decimals;

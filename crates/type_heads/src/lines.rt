@@ -2,7 +2,7 @@
 
 ghost use Rattle.std.specs.Prelude.{◌≡◌, ◌∷◌, length, nat_eq, IfOk};
 ghost use Rattle.std.specs.List.{list_any};
-ghost use Rattle.type_heads.specs.Table.{base, is_kind_of as is_kind, line_within};
+ghost use Rattle.type_heads.specs.Table.{line_within};
 
 use crate::{Heads, TypeId};
 use std::alloc::{AllocError, Global};
@@ -24,14 +24,8 @@ pub fn line(alloc: Global, heads: &Heads, of: Option<TypeId>) -> Result<Vec<Type
     Ok(line)
 }
 
-/// Whether a type is the base or inherits from it.
-pub fn is_kind_of(heads: &Heads, base: TypeId, of: TypeId) -> bool
-    ensures { result ≡ is_kind heads.now base of }
-{
-    of == base || has_base(heads, base, heads.base(of))
-}
-
-fn has_base(heads: &Heads, base: TypeId, of: Option<TypeId>) -> bool
+/// Whether a type is one of these and those that they inherit from, by a walk along all of them.
+pub fn is_on_line(heads: &Heads, base: TypeId, of: Option<TypeId>) -> bool
     ensures { result ≡ list_any (nat_eq base) (line_within (length heads.now) heads.now of) }
 {
     let mut at = of;

@@ -1,5 +1,10 @@
 mod Tasks
 mod Listings
+mod ListTests
+mod Ancestry
+mod Downward
 mod Inheriting
+mod Counting
 mod RowSteps
 mod RowPlaces
+mod Origins

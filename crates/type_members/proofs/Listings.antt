@@ -1,5 +1,5 @@
 -- The members that are listed along a type and those that it inherits from are the members of the type.
-use Rattle.std.proofs.Common.{◌≡◌, ◌≢◌, ◌∙◌, refl, sym, ap, ℕ, zero, suc, ◌⊎◌, inl, inr, ◌||◌, Bool, true, false, not, cond, List, [], ◌∷◌, ◌++◌, Option, Some, None, map, length, filter, nat_eq, slice_index_or}
+use Rattle.std.proofs.Common.{◌≡◌, ◌≢◌, ◌∙◌, refl, sym, ap, ℕ, zero, suc, ◌<◌, ◌⊎◌, inl, inr, ◌||◌, Bool, true, false, not, cond, List, [], ◌∷◌, ◌++◌, Option, Some, None, map, length, filter, nat_eq, slice_index_or}
 use Rattle.std.specs.Prelude.{flat_map, option_to_list}
 use Rattle.std.specs.List.{list_any}
 use Rattle.std.proofs.lemmas.List.{append_assoc, append-nil, map-append}
@@ -10,9 +10,11 @@ use Rattle.type_heads.specs.Table.{TypeHead, base, bases, line_within}
 use Rattle.type_heads.specs.Types.{Written, TypeBody, Member}
 use Rattle.type_heads.specs.Members.{has, body, Line, line_of, through, subtypes, down, down_within, lines_within, member_of, members_of}
 use Rattle.type_heads.proofs.LineSteps.{line_none}
+use Rattle.type_members.specs.Ancestry.{HasEnd}
 use Rattle.type_members.specs.Listed.{AreSubtypes}
 use Rattle.type_members.specs.Listing.{Way, member_in, deeper, kept, listed_within, listed_along}
 use Rattle.type_members.specs.RowEnds.{own_part}
+use Rattle.type_members.proofs.Downward.{own_under_all}
 
 or_swap : (a b c d : Bool) → ((a || b) || (c || d)) ≡ ((a || c) || (b || d))
 or_swap true b c d = refl
@@ -198,13 +200,20 @@ members_listed heads bodies lists t steps line way are count line_is way_is =
     ap (λ n. listed_along n bodies lists line [] way) count ∙ ap (λ ts. listed_along (length heads) bodies lists ts [] way) line_is
     ∙ ap (listed_along (length heads) bodies lists (t ∷ bases heads t) []) way_is ∙ listed_members heads bodies lists t are
 
--- the members that are listed down from a type
-pub part_listed : (heads : List TypeHead) (bodies : List TypeBody) (lists : List (List ℕ)) (t steps : ℕ) (line skipped : List ℕ) → AreSubtypes heads bodies lists →
-    steps ≡ length heads → line ≡ t ∷ bases heads t → skipped ≡ [] →
+-- the members that are listed down from a type, given its line, or none if the line ends
+part_listed : (heads : List TypeHead) (bodies : List TypeBody) (lists : List (List ℕ)) (line : List ℕ) (t : ℕ) → AreSubtypes heads bodies lists →
+    listed_within (length heads) (record { bodies = bodies; subtypes = lists; line = line; skipped = [] }) [] t ≡ map (member_of line) (down heads bodies t)
+part_listed heads bodies lists line t are =
+    within_law heads bodies lists are line (length heads) [] [] t ∙ ap (map (member_of line)) (all_kept heads bodies lists are line (down heads bodies t))
+
+pub part_beside : (heads : List TypeHead) (bodies : List TypeBody) (lists : List (List ℕ)) (t steps depth : ℕ) (line skipped : List ℕ) → AreSubtypes heads bodies lists →
+    steps ≡ length heads → (depth < length heads → HasEnd heads (Some t) depth) → ((line ≡ []) × (depth < length heads)) ⊎ (line ≡ t ∷ bases heads t) → skipped ≡ [] →
     listed_within steps (record { bodies = bodies; subtypes = lists; line = line; skipped = skipped }) [] t ≡ own_part heads bodies t
-part_listed heads bodies lists t steps line skipped are count line_is none =
+part_beside heads bodies lists t steps depth line skipped are count ended lines none =
     ap (λ n. listed_within n (record { bodies = bodies; subtypes = lists; line = line; skipped = skipped }) [] t) count
-    ∙ ap (λ ts. listed_within (length heads) (record { bodies = bodies; subtypes = lists; line = ts; skipped = skipped }) [] t) line_is
-    ∙ ap (λ ss. listed_within (length heads) (record { bodies = bodies; subtypes = lists; line = t ∷ bases heads t; skipped = ss }) [] t) none
-    ∙ within_law heads bodies lists are (t ∷ bases heads t) (length heads) [] [] t
-    ∙ ap (map (member_of (t ∷ bases heads t))) (all_kept heads bodies lists are (t ∷ bases heads t) (down heads bodies t))
+    ∙ ap (λ ss. listed_within (length heads) (record { bodies = bodies; subtypes = lists; line = line; skipped = ss }) [] t) none
+    ∙ part_listed heads bodies lists line t are ∙ by lines
+  where
+    by : ((line ≡ []) × (depth < length heads)) ⊎ (line ≡ t ∷ bases heads t) → map (member_of line) (down heads bodies t) ≡ own_part heads bodies t
+    by (inl (empty, below)) = ap (λ ts. map (member_of ts) (down heads bodies t)) empty ∙ sym (own_under_all heads bodies t depth (ended below))
+    by (inr whole) = ap (λ ts. map (member_of ts) (down heads bodies t)) whole

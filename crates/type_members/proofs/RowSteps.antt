@@ -1,64 +1,91 @@
--- Rows that go on with one type more, and the types whose members are the first of a row.
-use Rattle.std.proofs.Common.{◌≡◌, ◌∙◌, refl, sym, ap, subst, ℕ, ◌+◌, ◌<◌, ◌≤◌, ◌&&◌, Bool, true, not, nat_eq, true≢false, List, [], ◌∷◌, ◌++◌, Option, Some, None, arith, map, length, take, slice_index_or, length-append, false}
+-- Rows that go on with one type more, and the types whose members are the first of a row, after what stands in front of it.
+use Rattle.std.proofs.Common.{◌≡◌, ◌∙◌, refl, sym, ap, subst, ℕ, ◌+◌, ◌<◌, ◌≤◌, ◌&&◌, Bool, true, false, not, nat_eq, true≢false, List, [], ◌∷◌, ◌++◌, Option, Some, None, arith, map, length, take, slice_index_or, length-append}
 use Rattle.std.specs.Option.{option_map_or}
 use Rattle.std.proofs.lemmas.Bool.Decides.{nat_tests}
-use Rattle.std.proofs.lemmas.List.{length-map, take-append-le}
+use Rattle.std.proofs.lemmas.List.{append_assoc, length-map, take-append-le}
 use Rattle.std.proofs.Math.Seq.{take-length}
 use Rattle.std.proofs.lemmas.List.Elements.{All-nil, All-push}
-use Rattle.type_heads.specs.Table.{TypeHead, base, line_within}
+use Rattle.type_heads.specs.Table.{TypeHead, base}
 use Rattle.type_heads.specs.Types.{TypeBody, Member}
 use Rattle.type_heads.specs.Members.{is_conditional, members_of}
-use Rattle.type_members.specs.Listed.{seen_listed}
+use Rattle.type_members.specs.Ancestry.{HasEnd}
+use Rattle.type_members.specs.Listed.{seen_listed, seen_row}
+use Rattle.type_members.specs.Origins.{IsFirstRow, IsWhole}
 use Rattle.type_members.specs.RowEnds.{AreEnds, IsEnd, is_heir, own_part}
-use Rattle.type_members.specs.declared.listed.ListedMember.{ListedMember}
+use Rattle.type_members.specs.Shared.{fronts_in, parts_at, parts_from}
+use Rattle.type_members.specs.declared.rows.MemberRow.{MemberRow}
 use Rattle.type_members.specs.declared.rows.RowEnd.{RowEnd}
-use Rattle.type_members.proofs.Inheriting.{HasEnd, end_more, ended, members_more}
+use Rattle.type_members.specs.declared.rows.Start.{Start}
+use Rattle.type_members.proofs.Ancestry.{end_more}
+use Rattle.type_members.proofs.Inheriting.{members_more}
 
 -- the last type of a row has all its members
-whole_end : (heads : List TypeHead) (bodies : List TypeBody) (row : List Member) (t len : ℕ) → row ≡ members_of heads bodies t → len ≡ length row →
-    IsEnd heads bodies row (record { of = t; len = len })
-whole_end heads bodies row t len is all =
+whole_end : (heads : List TypeHead) (bodies : List TypeBody) (front row : List Member) (t len depth : ℕ) → front ++ row ≡ members_of heads bodies t → len ≡ length row →
+    (depth < length heads → HasEnd heads (Some t) depth) → IsEnd heads bodies front row (record { of = t; len = len; depth = depth })
+whole_end heads bodies front row t len depth is all ended =
     let le : len ≤ length row = omega (arith, all) in
-    record { members = ap (λ n. take n row) all ∙ take-length row ∙ is; within = le }
+    record { members = ap (λ n. front ++ take n row) all ∙ ap (λ ms. front ++ ms) (take-length row) ∙ is; within = le; ended = ended }
 
 -- a row that is longer begins with the members of the same types
-longer_end : (heads : List TypeHead) (bodies : List TypeBody) (row more : List Member) (e : RowEnd) → IsEnd heads bodies row e → IsEnd heads bodies (row ++ more) e
-longer_end heads bodies row more e is =
+longer_end : (heads : List TypeHead) (bodies : List TypeBody) (front row more : List Member) (e : RowEnd) → IsEnd heads bodies front row e → IsEnd heads bodies front (row ++ more) e
+longer_end heads bodies front row more e is =
     let longer : length (row ++ more) ≡ length row + length more = length-append row more in
     let le : e.len ≤ length (row ++ more) = omega (arith, longer, is.within) in
-    record { members = take-append-le e.len row more is.within ∙ is.members; within = le }
+    record { members = ap (λ ms. front ++ ms) (take-append-le e.len row more is.within) ∙ is.members; within = le; ended = is.ended }
 
-longer_ends : (heads : List TypeHead) (bodies : List TypeBody) (row more : List Member) (es : List RowEnd) → AreEnds heads bodies row es → AreEnds heads bodies (row ++ more) es
-longer_ends heads bodies row more es are = λ k d less. longer_end heads bodies row more (slice_index_or es k d) (are k d less)
+longer_ends : (heads : List TypeHead) (bodies : List TypeBody) (front row more : List Member) (es : List RowEnd) → AreEnds heads bodies front row es → AreEnds heads bodies front (row ++ more) es
+longer_ends heads bodies front row more es are = λ k d less. longer_end heads bodies front row more (slice_index_or es k d) (are k d less)
 
--- a row of the members of one type
-pub first_end : (heads : List TypeHead) (bodies : List TypeBody) (ms : List ListedMember) (es : List RowEnd) (t : ℕ) → map seen_listed ms ≡ members_of heads bodies t →
-    es ≡ record { of = t; len = length ms } ∷ [] → AreEnds heads bodies (map seen_listed ms) es
-first_end heads bodies ms es t is one =
-    subst (AreEnds heads bodies (map seen_listed ms)) (sym one)
-    (All-push (IsEnd heads bodies (map seen_listed ms)) [] (record { of = t; len = length ms }) (All-nil (IsEnd heads bodies (map seen_listed ms)))
-    (whole_end heads bodies (map seen_listed ms) t (length ms) is (sym (length-map ms seen_listed))))
+-- a row with one end
+one_end : (heads : List TypeHead) (bodies : List TypeBody) (front : List Member) (row : MemberRow) (t depth : ℕ) → front ++ seen_row row ≡ members_of heads bodies t →
+    (depth < length heads → HasEnd heads (Some t) depth) → row.ends.items ≡ record { of = t; len = length row.members.items; depth = depth } ∷ [] → IsWhole heads bodies front row t
+one_end heads bodies front row t depth is ended one = record {
+  members = is;
+  ends = subst (AreEnds heads bodies front (seen_row row)) (sym one)
+      (All-push (IsEnd heads bodies front (seen_row row)) [] (record { of = t; len = length row.members.items; depth = depth }) (All-nil (IsEnd heads bodies front (seen_row row)))
+      (whole_end heads bodies front (seen_row row) t (length row.members.items) depth is (sym (length-map row.members.items seen_listed)) ended));
+}
 
--- a row that went on with one type more
-pub record IsRow (heads : List TypeHead) (bodies : List TypeBody) (ms : List ListedMember) (es : List RowEnd) (last depth : ℕ) : Type 0 where
-  pub members : map seen_listed ms ≡ members_of heads bodies last
-  pub ends : AreEnds heads bodies (map seen_listed ms) es
-  pub ended : depth < length heads → HasEnd heads (Some last) depth
+-- a row that starts somewhere, and has what its type has beside what stands there
+pub first_at : (heads : List TypeHead) (bodies : List TypeBody) (rows : List MemberRow) (row : MemberRow) (start : Option Start) (t depth : ℕ) → row.start ≡ start →
+    row.front.items ≡ parts_from (fronts_in rows) start → seen_row row ≡ own_part heads bodies t →
+    row.ends.items ≡ record { of = t; len = length row.members.items; depth = depth } ∷ [] → ((s : Start) → start ≡ Some s → s.row < length rows) →
+    parts_at (map seen_row rows) (parts_from (fronts_in rows) start) ++ own_part heads bodies t ≡ members_of heads bodies t →
+    (depth < length heads → HasEnd heads (Some t) depth) → IsFirstRow heads bodies rows t row
+first_at heads bodies rows row start t depth begins front own one earlier is ended =
+    let all : parts_at (map seen_row rows) row.front.items ++ seen_row row ≡ members_of heads bodies t =
+    ap (λ ps. parts_at (map seen_row rows) ps ++ seen_row row) front ∙ ap (λ ms. parts_at (map seen_row rows) (parts_from (fronts_in rows) start) ++ ms) own ∙ is in
+    record {
+      whole = one_end heads bodies (parts_at (map seen_row rows) row.front.items) row t depth all ended one;
+      started = record { front = front ∙ ap (parts_from (fronts_in rows)) (sym begins); earlier = λ s at. earlier s (sym begins ∙ at) };
+    }
 
-pub went_on : (heads : List TypeHead) (bodies : List TypeBody) (ms new : List ListedMember) (es es' : List RowEnd) (last depth heir : ℕ) → IsRow heads bodies ms es last depth →
-    depth < length heads → base heads heir ≡ Some last → is_conditional bodies heir ≡ false → map seen_listed new ≡ map seen_listed ms ++ own_part heads bodies heir →
-    es' ≡ es ++ record { of = heir; len = length new } ∷ [] → IsRow heads bodies new es' heir (depth + 1)
-went_on heads bodies ms new es es' last depth heir row below inherits unconditional more ends =
-    let is : map seen_listed new ≡ members_of heads bodies heir =
-    more ∙ ap (λ xs. xs ++ own_part heads bodies heir) row.members ∙ sym (members_more heads bodies last heir depth inherits unconditional (row.ended below) below) in
-    let before : AreEnds heads bodies (map seen_listed new) es =
-    subst (λ xs. AreEnds heads bodies xs es) (sym more) (longer_ends heads bodies (map seen_listed ms) (own_part heads bodies heir) es row.ends) in
+-- a row of all members of a type, which starts at no other
+pub first_alone : (heads : List TypeHead) (bodies : List TypeBody) (rows : List MemberRow) (row : MemberRow) (t : ℕ) → row.start ≡ None → row.front.items ≡ [] →
+    seen_row row ≡ members_of heads bodies t → row.ends.items ≡ record { of = t; len = length row.members.items; depth = length heads } ∷ [] → IsFirstRow heads bodies rows t row
+first_alone heads bodies rows row t begins front is one =
+    let all : parts_at (map seen_row rows) row.front.items ++ seen_row row ≡ members_of heads bodies t =
+    ap (λ ps. parts_at (map seen_row rows) ps ++ seen_row row) front ∙ is in
+    record {
+      whole = one_end heads bodies (parts_at (map seen_row rows) row.front.items) row t (length heads) all (λ less. absurd (omega (arith, less))) one;
+      started = record { front = front ∙ ap (parts_from (fronts_in rows)) (sym begins); earlier = λ s at. let never : None ≡ Some s = sym begins ∙ at in cc };
+    }
+
+pub went_on : (heads : List TypeHead) (bodies : List TypeBody) (front : List Member) (row new : MemberRow) (last depth heir : ℕ) → IsWhole heads bodies front row last →
+    depth < length heads → HasEnd heads (Some last) depth → base heads heir ≡ Some last → is_conditional bodies heir ≡ false → seen_row new ≡ seen_row row ++ own_part heads bodies heir →
+    new.ends.items ≡ row.ends.items ++ record { of = heir; len = length new.members.items; depth = depth + 1 } ∷ [] → IsWhole heads bodies front new heir
+went_on heads bodies front row new last depth heir whole below end inherits unconditional more ends =
+    let is : front ++ seen_row new ≡ members_of heads bodies heir =
+    ap (λ ms. front ++ ms) more ∙ sym (append_assoc front (seen_row row) (own_part heads bodies heir)) ∙ ap (λ ms. ms ++ own_part heads bodies heir) whole.members
+    ∙ sym (members_more heads bodies last heir depth inherits unconditional end below) in
+    let before : AreEnds heads bodies front (seen_row new) row.ends.items =
+    subst (λ ms. AreEnds heads bodies front ms row.ends.items) (sym more) (longer_ends heads bodies front (seen_row row) (own_part heads bodies heir) row.ends.items whole.ends) in
     record {
       members = is;
-      ends = subst (AreEnds heads bodies (map seen_listed new)) (sym ends)
-          (All-push (IsEnd heads bodies (map seen_listed new)) es (record { of = heir; len = length new }) before
-          (whole_end heads bodies (map seen_listed new) heir (length new) is (sym (length-map new seen_listed))));
-      ended = λ less. end_more heads last heir depth inherits (row.ended below);
+      ends = subst (AreEnds heads bodies front (seen_row new)) (sym ends)
+          (All-push (IsEnd heads bodies front (seen_row new)) row.ends.items (record { of = heir; len = length new.members.items; depth = depth + 1 }) before
+          (whole_end heads bodies front (seen_row new) heir (length new.members.items) (depth + 1) is (sym (length-map new.members.items seen_listed))
+          (λ less. end_more heads last heir depth inherits end)));
     }
 
 never_both : (a : Bool) → (a && false) ≡ false
@@ -76,12 +103,3 @@ heir_found heads bodies t u is = by (base heads u) is
     by : (o : Option ℕ) → option_map_or (λ b. nat_eq b t && not (is_conditional bodies u)) o false ≡ true → (o ≡ Some t) × (is_conditional bodies u ≡ false)
     by None h = absurd (true≢false (sym h))
     by (Some b) h = same b (is_conditional bodies u) h
-
--- a row of the members of one type, whose line is that long
-pub began : (heads : List TypeHead) (bodies : List TypeBody) (ms : List ListedMember) (es : List RowEnd) (t depth : ℕ) → map seen_listed ms ≡ members_of heads bodies t →
-    es ≡ record { of = t; len = length ms } ∷ [] → depth ≡ length (line_within (length heads) heads (Some t)) → IsRow heads bodies ms es t depth
-began heads bodies ms es t depth is one long = record {
-  members = is;
-  ends = first_end heads bodies ms es t is one;
-  ended = λ less. subst (HasEnd heads (Some t)) (sym long) (ended heads (length heads) (Some t) (omega (arith, long, less)));
-}

@@ -1,3 +1,6 @@
+pub mod Ancestry
 pub mod Listed
 pub mod Listing
+pub mod Origins
 pub mod RowEnds
+pub mod Shared

@@ -1,13 +1,13 @@
 -- What the program's own lists of subtypes and members are seen as.
-use Rattle.std.specs.Prelude.{◌≡◌, ℕ, ◌&&◌, Bool, false, List, [], map, nat_eq, slice_index_or, take}
+use Rattle.std.specs.Prelude.{◌≡◌, ℕ, ◌&&◌, Bool, false, List, [], map, nat_eq, slice_index_or}
 use Rattle.std.specs.Option.{option_map_or}
 use Rattle.type_heads.specs.Table.{TypeHead, base}
 use Rattle.type_heads.specs.Types.{TypeBody, Member}
 use Rattle.type_heads.specs.Members.{is_conditional, subtypes}
 use Rattle.type_heads.specs.Bodied.{seen_written}
 use Rattle.type_members.specs.declared.listed.ListedMember.{ListedMember}
+use Rattle.type_members.specs.Shared.{fronts_in, list_at}
 use Rattle.type_members.specs.declared.rows.MemberRow.{MemberRow}
-use Rattle.type_members.specs.declared.places.Span.{Span}
 use Rattle.type_members.specs.declared.member_lists.MemberLists.{MemberLists}
 
 -- a member of a type
@@ -26,10 +26,6 @@ AreSubtypes heads bodies lists = (t : ℕ) → slice_index_or lists t [] ≡ sub
 abbrev pub seen_row : MemberRow → List Member
 seen_row r = map seen_listed r.members.items
 
--- what stands at a place: so many of the first of a row
-abbrev pub list_at : {X : Type 0} → List (List X) → Span → List X
-list_at rows s = take s.len (slice_index_or rows s.row [])
-
 -- the members of each type
 abbrev pub lists_of : MemberLists → List (List Member)
-lists_of m = map (list_at (map seen_row m.rows.items)) m.spans.items
+lists_of m = map (list_at (fronts_in m.rows.items) (map seen_row m.rows.items)) m.spans.items

@@ -1,9 +1,10 @@
 //! The members of one type, listed along the types that it inherits from.
 
-ghost use Rattle.std.specs.Prelude.{◌≡◌, ◌++◌, ◌∷◌, [], map, IfOk, OnOk};
+ghost use Rattle.std.specs.Prelude.{◌≡◌, ◌++◌, ◌<◌, ◌⊎◌, ◌∷◌, [], Some, length, map, IfOk, OnOk};
 ghost use Rattle.type_heads.specs.Bodied.{seen_body};
 ghost use Rattle.type_heads.specs.Members.{members_of};
 ghost use Rattle.type_heads.specs.Table.{bases};
+ghost use Rattle.type_members.specs.Ancestry.{HasEnd};
 ghost use Rattle.type_members.specs.Listed.{AreSubtypes, seen_listed};
 ghost use Rattle.type_members.specs.Listing.{listed_along};
 ghost use Rattle.type_members.specs.RowEnds.{own_part};
@@ -75,7 +76,23 @@ pub fn members<'a>(
     Ok(members)
 }
 
-/// Puts the members at the end that a type has beside those of its base.
+/// What a descent needs to know of the types that one inherits from: nothing, if it isn't one of them.
+fn line_beside(
+    alloc: Global,
+    heads: &Heads,
+    of: TypeId,
+    depth: usize,
+) -> Result<Vec<TypeId>, AllocError>
+    ensures { IfOk result (λ line. ((line.items ≡ []) × (depth < length heads.now)) ⊎ (line.items ≡ of ∷ bases heads.now of)) }
+{
+    if depth < heads.count() as usize {
+        return Ok(Vec::new(alloc));
+    }
+    whole_line(alloc, heads, of)
+}
+
+/// Puts the members at the end that a type has beside those of its base. There are `depth` types from it on, each the base of
+/// the one before; or no fewer than all types, if that isn't known.
 pub fn push_part<'a>(
     alloc: Global,
     into: &mut Vec<ListedMember<'a>>,
@@ -83,15 +100,17 @@ pub fn push_part<'a>(
     bodies: &[Body<'a>],
     subtypes: &Subtypes,
     of: TypeId,
+    depth: usize,
 ) -> Result<(), AllocError>
-    requires { AreSubtypes heads.now (map seen_body bodies.now) subtypes.now }
+    requires subtypes { AreSubtypes heads.now (map seen_body bodies.now) subtypes.now }
+    requires ended { depth < length heads.now → HasEnd heads.now (Some of) depth }
     ensures { OnOk result (map seen_listed into.new.items ≡ map seen_listed into.old.items ++ own_part heads.now (map seen_body bodies.now) of) }
 {
-    let whole = whole_line(alloc, heads, of)?;
+    let line = line_beside(alloc, heads, of, depth)?;
     let descent = Descent {
         bodies,
         subtypes,
-        line: whole.as_slice(),
+        line: line.as_slice(),
         skipped: &[],
     };
     let steps = heads.count();

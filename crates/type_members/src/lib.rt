@@ -3,10 +3,13 @@
 
 mod along;
 mod bodied;
+mod fronts;
 mod heirs;
+mod holes;
 mod listed;
 mod listing;
 mod member_lists;
+mod placed;
 mod places;
 mod rows;
 mod subtypes;
@@ -14,6 +17,6 @@ mod subtypes;
 pub use bodied::heir_condition;
 pub use listed::ListedMember;
 pub use member_lists::MemberLists;
-pub use places::Span;
-pub use rows::{MemberRow, RowEnd};
+pub use places::{Part, Span};
+pub use rows::{MemberRow, RowEnd, Start};
 pub use subtypes::Subtypes;

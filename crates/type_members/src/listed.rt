@@ -1,5 +1,8 @@
 //! Members in the list of a type.
 
+ghost use Rattle.std.specs.Prelude.{◌≡◌, drop, map, take};
+ghost use Rattle.type_members.specs.Listed.{seen_listed};
+
 use osc_base::Row;
 use type_heads::{TypeId, WrittenMember};
 
@@ -10,4 +13,37 @@ pub struct ListedMember<'a> {
     pub written: WrittenMember<'a>,
     pub holder: TypeId,
     pub under: Row<TypeId>,
+}
+
+/// The first members of a row, as far as the row has them.
+fn first_of<'l, 'a>(members: &'l [ListedMember<'a>], len: usize) -> &'l [ListedMember<'a>]
+    ensures { map seen_listed result.now ≡ take len (map seen_listed members.now) }
+{
+    if len < members.len() {
+        &members[..len]
+    } else {
+        members
+    }
+}
+
+/// The members of a row from one place on.
+fn rest_of<'l, 'a>(members: &'l [ListedMember<'a>], from: usize) -> &'l [ListedMember<'a>]
+    ensures { map seen_listed result.now ≡ drop from (map seen_listed members.now) }
+{
+    if from < members.len() {
+        &members[from..]
+    } else {
+        &members[..0]
+    }
+}
+
+/// The members of a row from one place to another, as far as the row has them.
+pub fn between<'l, 'a>(
+    members: &'l [ListedMember<'a>],
+    from: usize,
+    to: usize,
+) -> &'l [ListedMember<'a>]
+    ensures { map seen_listed result.now ≡ drop from (take to (map seen_listed members.now)) }
+{
+    rest_of(first_of(members, to), from)
 }

@@ -1,178 +1,37 @@
 //! The members of each type.
 
-ghost use Rattle.std.specs.Prelude.{◌≡◌, ℕ, [], map, slice_index_or, take, IfOk, OnOk};
-ghost use Rattle.type_heads.specs.Bodied.{seen_body};
-ghost use Rattle.type_heads.specs.Members.{members_of};
-ghost use Rattle.type_heads.specs.Table.{all_types};
-ghost use Rattle.type_members.specs.Listed.{AreSubtypes, list_at, lists_of, seen_listed, seen_row};
-ghost use Rattle.type_members.specs.RowEnds.{AreRows, IsAt};
-ghost use Rattle.type_members.specs.declared.places.Span.{Span};
+ghost use Rattle.type_members.specs.Shared.{AreStarted};
 
-use crate::heirs::{first_heirs, row_order};
-use crate::places::{Places, Span, span_in};
-use crate::rows::{MemberRow, row_from, row_of};
+use crate::listed::between;
+use crate::placed::{PlacedRows, all_spans};
+use crate::places::{Part, Span};
+use crate::rows::MemberRow;
 use crate::{ListedMember, Subtypes};
 use std::alloc::{AllocError, Global};
 use type_heads::{Body, Heads, TypeId};
 
-/// The members of each type, that `lists_of` sees as a list of lists. A type that inherits without a condition has the
-/// members of its base first. So one row serves for a type, one that inherits from it, one that inherits from that, and
-/// so on.
+/// The members of each type, that `lists_of` sees as a list of lists.
+///
+/// A type has the members of its base, and then those that it has beside them. Only these are written: they stand in a row,
+/// and the row comes after the parts of other rows in which those of the base stand. If a type inherits without a condition,
+/// it may go on with the row of its base instead.
 #[derive(Drop)]
 pub struct MemberLists<'a> {
     rows: Vec<MemberRow<'a>>,
     spans: Vec<Span>,
-    /// The members of a type that isn't there.
+    /// The members of a row that isn't there.
     none: Vec<ListedMember<'a>>,
-}
-
-/// Rows of members, and where the members of each type stand in them.
-#[derive(Drop)]
-struct PlacedRows<'a> {
-    rows: Vec<MemberRow<'a>>,
-    places: Places,
-}
-
-impl<'a> PlacedRows<'a> {
-    /// Makes a row that begins with the members of a type.
-    fn push_from(
-        &mut self,
-        alloc: Global,
-        heads: &Heads,
-        bodies: &[Body<'a>],
-        subtypes: &Subtypes,
-        heirs: &[Option<TypeId>],
-        of: TypeId,
-    ) -> Result<(), AllocError>
-        requires subtypes { AreSubtypes heads.now (map seen_body bodies.now) subtypes.now }
-        requires rows { AreRows heads.now (map seen_body bodies.now) self.old.rows.items }
-        ensures { OnOk result (AreRows heads.now (map seen_body bodies.now) self.new.rows.items) }
-    {
-        let row = row_from(alloc, heads, bodies, subtypes, heirs, of)?;
-        self.places.put(self.rows.len(), row.ends.as_slice());
-        self.rows.push(row)?;
-        Ok(())
-    }
-
-    /// Makes a row of the members of a type alone, and says where they stand.
-    fn push_alone(
-        &mut self,
-        alloc: Global,
-        heads: &Heads,
-        bodies: &[Body<'a>],
-        subtypes: &Subtypes,
-        of: TypeId,
-    ) -> Result<Span, AllocError>
-        requires subtypes { AreSubtypes heads.now (map seen_body bodies.now) subtypes.now }
-        requires rows { AreRows heads.now (map seen_body bodies.now) self.old.rows.items }
-        ensures rows { OnOk result (AreRows heads.now (map seen_body bodies.now) self.new.rows.items) }
-        ensures place { IfOk result (λ span. IsAt heads.now (map seen_body bodies.now) self.new.rows.items of span) }
-        ensures kept { OnOk result ((t : ℕ) (s : Span) → IsAt heads.now (map seen_body bodies.now) self.old.rows.items t s → IsAt heads.now (map seen_body bodies.now) self.new.rows.items t s) }
-    {
-        let row = row_of(alloc, heads, bodies, subtypes, of)?;
-        let span = Span {
-            row: self.rows.len(),
-            len: row.members.len(),
-        };
-        self.rows.push(row)?;
-        Ok(span)
-    }
-
-    /// Where the members of a type stand. If its place isn't known, they get a row of their own.
-    fn span_of(
-        &mut self,
-        alloc: Global,
-        heads: &Heads,
-        bodies: &[Body<'a>],
-        subtypes: &Subtypes,
-        of: TypeId,
-    ) -> Result<Span, AllocError>
-        requires subtypes { AreSubtypes heads.now (map seen_body bodies.now) subtypes.now }
-        requires rows { AreRows heads.now (map seen_body bodies.now) self.old.rows.items }
-        ensures rows { OnOk result (AreRows heads.now (map seen_body bodies.now) self.new.rows.items) }
-        ensures place { IfOk result (λ span. IsAt heads.now (map seen_body bodies.now) self.new.rows.items of span) }
-        ensures kept { OnOk result ((t : ℕ) (s : Span) → IsAt heads.now (map seen_body bodies.now) self.old.rows.items t s → IsAt heads.now (map seen_body bodies.now) self.new.rows.items t s) }
-    {
-        match span_in(self.rows.as_slice(), &self.places, of) {
-            Some(span) => Ok(span),
-            None => self.push_alone(alloc, heads, bodies, subtypes, of),
-        }
-    }
-}
-
-/// Rows in which the members of all types stand.
-fn placed_rows<'a>(
-    alloc: Global,
-    heads: &Heads,
-    bodies: &[Body<'a>],
-    subtypes: &Subtypes,
-    heirs: &[Option<TypeId>],
-    order: &[TypeId],
-) -> Result<PlacedRows<'a>, AllocError>
-    requires { AreSubtypes heads.now (map seen_body bodies.now) subtypes.now }
-    ensures { IfOk result (λ placed. AreRows heads.now (map seen_body bodies.now) placed.rows.items) }
-{
-    let mut placed = PlacedRows {
-        rows: Vec::new(alloc),
-        places: Places::new(alloc, heads.count())?,
-    };
-    for of in order {
-        if !placed.places.is_put(*of) {
-            placed.push_from(alloc, heads, bodies, subtypes, heirs, *of)?;
-        }
-    }
-    Ok(placed)
-}
-
-/// Where the members of each type stand in rows.
-fn all_spans<'a>(
-    placed: &mut PlacedRows<'a>,
-    alloc: Global,
-    heads: &Heads,
-    bodies: &[Body<'a>],
-    subtypes: &Subtypes,
-) -> Result<Vec<Span>, AllocError>
-    requires subtypes { AreSubtypes heads.now (map seen_body bodies.now) subtypes.now }
-    requires rows { AreRows heads.now (map seen_body bodies.now) placed.old.rows.items }
-    ensures { IfOk result (λ spans. map (list_at (map seen_row placed.new.rows.items)) spans.items ≡ map (members_of heads.now (map seen_body bodies.now)) (all_types heads.now)) }
-{
-    let mut spans = Vec::new(alloc);
-    for number in 0..heads.count() {
-        let span = placed.span_of(alloc, heads, bodies, subtypes, TypeId(number))?;
-        spans.push(span)?;
-    }
-    Ok(spans)
-}
-
-/// Rows of the members of all types.
-fn all_rows<'a>(
-    alloc: Global,
-    heads: &Heads,
-    bodies: &[Body<'a>],
-    subtypes: &Subtypes,
-) -> Result<PlacedRows<'a>, AllocError>
-    requires { AreSubtypes heads.now (map seen_body bodies.now) subtypes.now }
-    ensures { IfOk result (λ placed. AreRows heads.now (map seen_body bodies.now) placed.rows.items) }
-{
-    let heirs = first_heirs(alloc, heads, bodies)?;
-    let heirs = heirs.as_slice();
-    let order = row_order(alloc, heirs)?;
-    let placed = placed_rows(alloc, heads, bodies, subtypes, heirs, order.as_slice())?;
-    Ok(placed)
-}
-
-/// The first of some members, or all of them if there are fewer.
-fn first_of<'l, 'a>(members: &'l [ListedMember<'a>], len: usize) -> &'l [ListedMember<'a>]
-    ensures { map seen_listed result.now ≡ take len (map seen_listed members.now) }
-{
-    if len < members.len() {
-        &members[..len]
-    } else {
-        members
-    }
+    ghost started: { AreStarted rows.items },
 }
 
 impl<'a> MemberLists<'a> {
+    ghost use Rattle.std.specs.Prelude.{◌≡◌, [], map, slice_index_or, take, IfOk};
+    ghost use Rattle.type_heads.specs.Bodied.{seen_body};
+    ghost use Rattle.type_heads.specs.Members.{members_of};
+    ghost use Rattle.type_heads.specs.Table.{all_types};
+    ghost use Rattle.type_members.specs.Listed.{AreSubtypes, lists_of, seen_listed, seen_row};
+    ghost use Rattle.type_members.specs.Shared.{fronts_in, list_at, part_at};
+
     /// The members of each type, given its conditional subtypes.
     pub fn build(
         alloc: Global,
@@ -183,7 +42,7 @@ impl<'a> MemberLists<'a> {
         requires { AreSubtypes heads.now (map seen_body bodies.now) subtypes.now }
         ensures { IfOk result (λ m. lists_of m ≡ map (members_of heads.now (map seen_body bodies.now)) (all_types heads.now)) }
     {
-        let mut placed = all_rows(alloc, heads, bodies, subtypes)?;
+        let mut placed = PlacedRows::of(alloc, heads, bodies, subtypes)?;
         let spans = all_spans(&mut placed, alloc, heads, bodies, subtypes)?;
         Ok(MemberLists {
             rows: placed.rows,
@@ -199,30 +58,57 @@ impl<'a> MemberLists<'a> {
         self.rows.as_slice()
     }
 
-    /// Where the members of each type stand in the rows.
+    /// Where the members of each type stand.
     pub fn spans(&self) -> &[Span]
         ensures { result.now ≡ self.now.spans.items }
     {
         self.spans.as_slice()
     }
 
-    /// The members that stand at a place in the rows.
-    pub fn at(&self, span: &Span) -> &[ListedMember<'a>]
-        ensures { map seen_listed result.now ≡ list_at (map seen_row self.now.rows.items) span.now }
+    /// Where the members of a type stand. A type that isn't there has none.
+    pub fn span(&self, of: TypeId) -> Span
+        ensures { list_at (fronts_in self.now.rows.items) (map seen_row self.now.rows.items) result ≡ slice_index_or (lists_of self.now) of [] }
     {
-        match self.rows.get(span.row) {
-            Some(row) => first_of(row.members.as_slice(), span.len),
-            None => first_of(self.none.as_slice(), 0),
+        match self.spans.get(of.0 as usize) {
+            Some(span) => *span,
+            None => Span {
+                row: self.rows.len(),
+                len: 0,
+            },
         }
     }
 
-    /// The members of a type, in order.
-    pub fn of(&self, of: TypeId) -> &[ListedMember<'a>]
-        ensures { map seen_listed result.now ≡ slice_index_or (lists_of self.now) of [] }
+    /// The parts in front of the row of that number.
+    pub fn front(&self, row: usize) -> &[Part]
+        ensures { result.now ≡ slice_index_or (fronts_in self.now.rows.items) row [] }
     {
-        match self.spans.get(of.0 as usize) {
-            Some(span) => self.at(span),
-            None => first_of(self.none.as_slice(), 0),
+        match self.rows.get(row) {
+            Some(row) => row.front.as_slice(),
+            None => &[],
         }
+    }
+
+    /// The members of the row of that number, without the parts in front of it.
+    fn row(&self, number: usize) -> &[ListedMember<'a>]
+        ensures { map seen_listed result.now ≡ slice_index_or (map seen_row self.now.rows.items) number [] }
+    {
+        match self.rows.get(number) {
+            Some(row) => row.members.as_slice(),
+            None => between(self.none.as_slice(), 0, 0),
+        }
+    }
+
+    /// The members that stand in a part.
+    pub fn part(&self, part: &Part) -> &[ListedMember<'a>]
+        ensures { map seen_listed result.now ≡ part_at (map seen_row self.now.rows.items) part.now }
+    {
+        between(self.row(part.row), part.from, part.to)
+    }
+
+    /// The members that stand in the row itself, after the parts in front of it.
+    pub fn own(&self, span: &Span) -> &[ListedMember<'a>]
+        ensures { map seen_listed result.now ≡ take span.now.len (slice_index_or (map seen_row self.now.rows.items) span.now.row []) }
+    {
+        between(self.row(span.row), 0, span.len)
     }
 }

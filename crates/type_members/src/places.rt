@@ -3,17 +3,32 @@
 ghost use Rattle.std.specs.Prelude.{List, IfSome};
 ghost use Rattle.type_heads.specs.Table.{TypeHead};
 ghost use Rattle.type_heads.specs.Types.{TypeBody};
-ghost use Rattle.type_members.specs.RowEnds.{AreRows, IsAt};
+ghost use Rattle.type_members.specs.RowEnds.{AreRows, StandsAt};
 
 use crate::rows::{MemberRow, RowEnd};
 use std::alloc::{AllocError, Global};
 use type_heads::TypeId;
 
-/// Which row a type's members are the first of, and how many they are.
+/// What stands in a row from one place to another. Places are counted from 0, and the second isn't part of it.
+#[derive(Clone, Copy)]
+pub struct Part {
+    pub row: usize,
+    pub from: usize,
+    pub to: usize,
+}
+
+/// Where the members of a type stand: in the parts in front of a row, and then so many of the first of the row itself.
 #[derive(Clone, Copy)]
 pub struct Span {
     pub row: usize,
     pub len: usize,
+}
+
+/// Where the members of a type stand, and how many types there are from it on, each the base of the one before.
+#[derive(Clone, Copy)]
+pub struct Standing {
+    pub span: Span,
+    pub depth: usize,
 }
 
 /// Where each type was put, as a row and one of its ends. No contract says so: whoever asks for a place tests it.
@@ -67,8 +82,8 @@ impl Places {
 }
 
 /// The place of a type in rows, if it is the one that was put down.
-pub fn span_in(rows: &[MemberRow<'_>], places: &Places, of: TypeId) -> Option<Span>
-    ensures { (heads : List TypeHead) (bodies : List TypeBody) → AreRows heads bodies rows.now → IfSome result (IsAt heads bodies rows.now of) }
+pub fn standing_in(rows: &[MemberRow<'_>], places: &Places, of: TypeId) -> Option<Standing>
+    ensures { (heads : List TypeHead) (bodies : List TypeBody) → AreRows heads bodies rows.now → IfSome result (StandsAt heads bodies rows.now of) }
 {
     let at = places.end_of(of)?;
     let row = rows.get(at.row)?;
@@ -76,8 +91,11 @@ pub fn span_in(rows: &[MemberRow<'_>], places: &Places, of: TypeId) -> Option<Sp
     if end.of != of {
         return None;
     }
-    Some(Span {
-        row: at.row,
-        len: end.len,
+    Some(Standing {
+        span: Span {
+            row: at.row,
+            len: end.len,
+        },
+        depth: end.depth,
     })
 }

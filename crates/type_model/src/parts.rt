@@ -58,7 +58,7 @@ impl MemberTables {
     {
         let fields = FieldLists::of(alloc, heads, lists)?;
         let members = MemberRefs::of(alloc, lists)?;
-        let conditions = all_conditions(alloc, heads, bodies, lists)?;
+        let conditions = all_conditions(alloc, heads, bodies, lists, &fields)?;
         Ok(MemberTables {
             fields,
             members,

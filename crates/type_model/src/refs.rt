@@ -1,16 +1,17 @@
 //! Where the members of types are written.
 
-ghost use Rattle.std.specs.Prelude.{◌≡◌, [], map, slice_index_or, take, IfOk};
+ghost use Rattle.std.specs.Prelude.{◌≡◌, [], drop, map, slice_index_or, take, IfOk};
 ghost use Rattle.type_heads.specs.Shown.{shown_member};
 ghost use Rattle.type_heads.specs.Told.{last_number, member_told};
-ghost use Rattle.type_members.specs.Listed.{list_at, lists_of, seen_listed, seen_row};
+ghost use Rattle.type_members.specs.Listed.{lists_of, seen_listed, seen_row};
+ghost use Rattle.type_members.specs.Shared.{fronts_in, list_at, part_at, parts_at};
 
 use name_scope::DeclId;
 use osc_base::Row;
 use std::alloc::{AllocError, Global};
 use std::marker::Model;
 use type_heads::{MemberRef, TypeId};
-use type_members::{ListedMember, MemberLists, MemberRow, Span};
+use type_members::{ListedMember, MemberLists, MemberRow, Part, Span};
 
 /// The innermost of the conditional subtypes that a member is under.
 fn innermost(under: &[TypeId]) -> Option<TypeId>
@@ -55,11 +56,24 @@ fn row_refs(alloc: Global, rows: &[MemberRow<'_>]) -> Result<Vec<Row<MemberRef>>
     Ok(all)
 }
 
+/// The parts in front of each row.
+fn row_fronts(alloc: Global, rows: &[MemberRow<'_>]) -> Result<Vec<Row<Part>>, AllocError>
+    ensures { IfOk result (λ all. all.items ≡ fronts_in rows.now) }
+{
+    let mut all = Vec::new(alloc);
+    for row in rows {
+        let front = Vec::from_slice(alloc, row.front.as_slice())?;
+        all.push(Row::of(front))?;
+    }
+    Ok(all)
+}
+
 /// Where the members of each type are written. Contracts see that as a list for each type. Types share rows, as they share
-/// rows of members.
+/// rows of members: a row comes after the parts of other rows that stand in front of it.
 #[derive(Drop)]
 pub struct MemberRefs {
     rows: Vec<Row<MemberRef>>,
+    fronts: Vec<Row<Part>>,
     spans: Vec<Span>,
 }
 
@@ -67,16 +81,16 @@ impl Model for MemberRefs {
     ghost use Rattle.std.specs.Prelude.{List, map};
     ghost use Rattle.type_heads.specs.Shown.{shown_member};
     ghost use Rattle.type_heads.specs.Told.{MemberAt};
-    ghost use Rattle.type_members.specs.Listed.{list_at};
+    ghost use Rattle.type_members.specs.Shared.{list_at};
 
     ghost Value = { List (List MemberAt) };
 
-    ghost view = { λ s. map (list_at (map (map shown_member) s.rows.items)) s.spans.items };
+    ghost view = { λ s. map (list_at s.fronts.items (map (map shown_member) s.rows.items)) s.spans.items };
 }
 
 /// The first of some members, or all of them if there are fewer.
 fn first_of(members: &[MemberRef], len: usize) -> &[MemberRef]
-    ensures { map shown_member result.now ≡ take len (map shown_member members.now) }
+    ensures { result.now ≡ take len members.now }
 {
     if len < members.len() {
         &members[..len]
@@ -85,14 +99,81 @@ fn first_of(members: &[MemberRef], len: usize) -> &[MemberRef]
     }
 }
 
-/// What stands at a place in rows.
-fn refs_at<'r>(rows: &'r [Row<MemberRef>], span: &Span) -> &'r [MemberRef]
-    ensures { map shown_member result.now ≡ list_at (map (map shown_member) rows.now) span.now }
+/// Those of some members that stand at a place or after it.
+fn after(members: &[MemberRef], from: usize) -> &[MemberRef]
+    ensures { result.now ≡ drop from members.now }
 {
-    match rows.get(span.row) {
-        Some(row) => first_of(row.as_slice(), span.len),
+    if from < members.len() {
+        &members[from..]
+    } else {
+        &members[..0]
+    }
+}
+
+/// What stands in a row from one place to another, as far as it is there.
+fn between(members: &[MemberRef], from: usize, to: usize) -> &[MemberRef]
+    ensures { map shown_member result.now ≡ drop from (take to (map shown_member members.now)) }
+{
+    after(first_of(members, to), from)
+}
+
+/// What stands in a part.
+fn part_refs<'r>(rows: &'r [Row<MemberRef>], part: &Part) -> &'r [MemberRef]
+    ensures { map shown_member result.now ≡ part_at (map (map shown_member) rows.now) part.now }
+{
+    match rows.get(part.row) {
+        Some(row) => between(row.as_slice(), part.from, part.to),
         None => &[],
     }
+}
+
+/// What stands in a row itself, after the parts in front of it.
+fn own_refs<'r>(rows: &'r [Row<MemberRef>], span: &Span) -> &'r [MemberRef]
+    ensures { map shown_member result.now ≡ take span.now.len (slice_index_or (map (map shown_member) rows.now) span.now.row []) }
+{
+    match rows.get(span.row) {
+        Some(row) => between(row.as_slice(), 0, span.len),
+        None => &[],
+    }
+}
+
+/// What stands in parts, one after the other.
+fn parts_refs(
+    alloc: Global,
+    rows: &[Row<MemberRef>],
+    parts: &[Part],
+) -> Result<Vec<MemberRef>, AllocError>
+    ensures { IfOk result (λ refs. map shown_member refs.items ≡ parts_at (map (map shown_member) rows.now) parts.now) }
+{
+    let mut refs = Vec::new(alloc);
+    for part in parts {
+        refs.extend_from_slice(part_refs(rows, part))?;
+    }
+    Ok(refs)
+}
+
+/// The parts in front of the row of that number.
+fn front_of(fronts: &[Row<Part>], row: usize) -> &[Part]
+    ensures { result.now ≡ slice_index_or fronts.now row [] }
+{
+    match fronts.get(row) {
+        Some(front) => front.as_slice(),
+        None => &[],
+    }
+}
+
+/// What stands at a place.
+fn refs_at(
+    alloc: Global,
+    fronts: &[Row<Part>],
+    rows: &[Row<MemberRef>],
+    span: &Span,
+) -> Result<Row<MemberRef>, AllocError>
+    ensures { IfOk result (λ refs. map shown_member refs ≡ list_at fronts.now (map (map shown_member) rows.now) span.now) }
+{
+    let mut refs = parts_refs(alloc, rows, front_of(fronts, span.row))?;
+    refs.extend_from_slice(own_refs(rows, span))?;
+    Ok(Row::of(refs))
 }
 
 impl MemberRefs {
@@ -101,17 +182,22 @@ impl MemberRefs {
         ensures { IfOk result (λ all. all ≡ map (map member_told) (lists_of lists.now)) }
     {
         let rows = row_refs(alloc, lists.rows())?;
+        let fronts = row_fronts(alloc, lists.rows())?;
         let spans = Vec::from_slice(alloc, lists.spans())?;
-        Ok(MemberRefs { rows, spans })
+        Ok(MemberRefs {
+            rows,
+            fronts,
+            spans,
+        })
     }
 
     /// Where the members of a type are written, in order.
-    pub fn members(&self, of: TypeId) -> &[MemberRef]
-        ensures { map shown_member result.now ≡ slice_index_or self.now of [] }
+    pub fn members(&self, alloc: Global, of: TypeId) -> Result<Row<MemberRef>, AllocError>
+        ensures { IfOk result (λ refs. map shown_member refs ≡ slice_index_or self.now of []) }
     {
         match self.spans.get(of.0 as usize) {
-            Some(span) => refs_at(self.rows.as_slice(), span),
-            None => &[],
+            Some(span) => refs_at(alloc, self.fronts.as_slice(), self.rows.as_slice(), span),
+            None => Ok(Row::new(alloc)),
         }
     }
 }

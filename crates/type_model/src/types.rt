@@ -1,8 +1,8 @@
-ghost use Rattle.std.specs.Prelude.{◌≡◌, ℕ, ℤ, bytes_eq, fold, List, Option, Some, None, map, length, pos, option_copied, option_map, slice_index_or, unwrap_or};
+ghost use Rattle.std.specs.Prelude.{◌≡◌, ℕ, ℤ, bytes_eq, fold, List, Option, Some, None, map, length, pos, option_copied, option_map, slice_index_or, unwrap_or, IfOk};
 ghost use Rattle.std.specs.Int.{int_min, int_max};
 ghost use Rattle.name_scope.specs.Declaring.{first_place};
 ghost use Rattle.type_heads.specs.Bounds.{numbers_of, bounds, least_of, greatest_of};
-ghost use Rattle.type_heads.specs.Table.{base, enum_members, enums_with, field_of, form, head, named, owner};
+ghost use Rattle.type_heads.specs.Table.{base, enum_members, enums_with, field_of, form, head, is_kind_of as is_kind, named, owner};
 ghost use Rattle.type_heads.specs.Table.{enum_number as number_in, unit as unit_in};
 ghost use Rattle.type_model.specs.Kept.{AreKept};
 ghost use Rattle.type_heads.specs.Shown.{bare, condition_told, hit_of, kind_form, members_told, shown_field, shown_member, shown_unit, unit_parts};
@@ -11,6 +11,7 @@ use crate::parts::{MemberTables, ProgramTables};
 use crate::refs::MemberRefs;
 use dsl_tree::CompoundKind;
 use osc_base::{Row, Text};
+use std::alloc::{AllocError, Global};
 use std::marker::Model;
 use type_heads::{ConditionEntry, EnumHit, FieldType, Form, Heads, MemberRef, TypeId, TypeKind};
 use type_tables::{FieldLists, TextTable, UnitTable};
@@ -95,6 +96,13 @@ impl Types {
         self.heads.base(of)
     }
 
+    /// Whether a type is `base` or inherits from it.
+    pub fn is_kind_of(&self, base: TypeId, of: TypeId) -> bool
+        ensures { result ≡ is_kind self.now.table.heads base of }
+    {
+        self.heads.is_kind_of(base, of)
+    }
+
     /// The actor that owns a behaviour.
     pub fn owner(&self, of: TypeId) -> Option<TypeId>
         ensures { result ≡ owner self.now.table.heads of }
@@ -123,10 +131,10 @@ impl Types {
     }
 
     /// The members of a type, in order.
-    pub fn members(&self, of: TypeId) -> &[MemberRef]
-        ensures { map shown_member result.now ≡ members_told self.now of }
+    pub fn members(&self, alloc: Global, of: TypeId) -> Result<Row<MemberRef>, AllocError>
+        ensures { IfOk result (λ members. map shown_member members ≡ members_told self.now of) }
     {
-        self.members.members(of)
+        self.members.members(alloc, of)
     }
 
     /// The type of the field of that name.

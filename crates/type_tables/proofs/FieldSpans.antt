@@ -1,25 +1,31 @@
--- The fields of the first members of a row are the first fields of the row.
-use Rattle.std.proofs.Common.{◌≡◌, ◌∙◌, refl, sym, ap, ℕ, zero, suc, ◌+◌, ◌<◌, List, [], ◌∷◌, ◌++◌, arith, map, length, take, drop, get_or, slice_index_or, length-append}
-use Rattle.std.specs.Prelude.{slice_get}
-use Rattle.std.specs.Option.{option_map_or}
+-- The fields of a part of the members of a row are a part of the fields of the row.
+use Rattle.std.proofs.Common.{◌≡◌, ◌∙◌, refl, sym, ap, ap₂, ℕ, zero, suc, ◌+◌, ◌<◌, List, [], ◌∷◌, ◌++◌, arith, map, length, take, drop, get_or, slice_index_or, length-append}
 use Rattle.std.proofs.lemmas.List.{append_assoc, drop_more}
 use Rattle.std.proofs.lemmas.List.Elements.{filter_map-append}
-use Rattle.std.proofs.Math.Seq.{take-append-add}
+use Rattle.std.proofs.Math.ListN.{get_or-map}
 use Rattle.type_heads.specs.Table.{TypeHead, TableField}
 use Rattle.type_heads.specs.Types.{Member}
 use Rattle.type_heads.specs.Members.{fields_among, fields_declared, table_field, table_fields}
-use Rattle.type_members.specs.Listed.{list_at, seen_listed, seen_row}
+use Rattle.type_members.specs.Listed.{seen_listed, seen_row}
+use Rattle.type_members.specs.Shared.{fronts_in, list_at, part_at}
 use Rattle.type_members.specs.declared.listed.ListedMember.{ListedMember}
+use Rattle.type_members.specs.declared.places.Part.{Part}
 use Rattle.type_members.specs.declared.places.Span.{Span}
 use Rattle.type_members.specs.declared.rows.MemberRow.{MemberRow}
 use Rattle.type_tables.specs.Entries.{member_entries}
-use Rattle.type_tables.specs.FieldEnds.{all_ends, ends_from, span_of_fields}
+use Rattle.type_tables.specs.FieldEnds.{all_ends, count_in, ends_from, part_of_fields, span_of_fields}
 use Rattle.type_tables.specs.declared.field_rows.FieldRow.{FieldRow}
+use Rattle.type_tables.proofs.FlatParts.{first_given, part_given}
+use Rattle.type_tables.proofs.SharedLists.{lists_made}
 
 none_taken : {X : Type 0} (n : ℕ) (xs : List X) → xs ≡ [] → take n xs ≡ []
 none_taken zero xs e = refl
 none_taken (suc n) [] e = refl
 none_taken (suc n) (x ∷ xs) e = let never : x ∷ xs ≡ [] = e in cc
+
+abbrev tail_of : {X : Type 0} → List X → List X
+tail_of [] = []
+tail_of (x ∷ xs) = xs
 
 module _ (heads : List TypeHead) where
   split : (m : Member) (ms : List Member) → table_fields heads (m ∷ ms) ≡ member_entries heads m ++ table_fields heads ms
@@ -47,59 +53,57 @@ module _ (heads : List TypeHead) where
       ∙ end_is 0 ms k
       ∙ plus_zero (length (table_fields heads (take k ms)))
 
-  first_fields : (k : ℕ) (ms : List Member) → take (length (table_fields heads (take k ms))) (table_fields heads ms) ≡ table_fields heads (take k ms)
-  first_fields zero ms = refl
-  first_fields (suc k) [] = refl
-  first_fields (suc k) (m ∷ ms) =
-      ap (λ n. take n (table_fields heads (m ∷ ms))) (split_length m (take k ms))
-      ∙ ap (take (length (member_entries heads m) + length (table_fields heads (take k ms)))) (split m ms)
-      ∙ take-append-add (member_entries heads m) (table_fields heads ms) (length (table_fields heads (take k ms)))
-      ∙ ap (λ fs. member_entries heads m ++ fs) (first_fields k ms)
-      ∙ sym (split m (take k ms))
+  counted : (rows : List FieldRow) (lists : List (List Member)) (row members : ℕ) → map (λ (r : FieldRow). r.table) rows ≡ map (table_fields heads) lists →
+      map (λ (r : FieldRow). r.ends.items) rows ≡ map (all_ends heads) lists → count_in rows row members ≡ length (table_fields heads (take members (slice_index_or lists row [])))
+  counted [] [] row members tables ends = ap (λ ms. length (table_fields heads ms)) (sym (none_taken members [] refl))
+  counted [] (ms ∷ lists) row members tables ends = let never : [] ≡ table_fields heads ms ∷ map (table_fields heads) lists = tables in cc
+  counted (r ∷ rows) [] row members tables ends = let never : r.table ∷ map (λ (r : FieldRow). r.table) rows ≡ [] = tables in cc
+  counted (r ∷ rows) (ms ∷ lists) zero members tables ends =
+      ap₂ (λ es fs. slice_index_or es members (length fs)) (ap (λ xs. slice_index_or xs 0 []) ends) (ap (λ xs. slice_index_or xs 0 []) tables) ∙ end_among members ms
+  counted (r ∷ rows) (ms ∷ lists) (suc row) members tables ends = counted rows lists row members (ap tail_of tables) (ap tail_of ends)
 
-  -- the fields of the first members of one row
-  row_law : (table : List TableField) (ends : List ℕ) (ms : List Member) (len : ℕ) → table ≡ table_fields heads ms → ends ≡ all_ends heads ms →
-      take (slice_index_or ends len (length table)) table ≡ table_fields heads (take len ms)
-  row_law table ends ms len is ends_are =
-      ap (λ fs. take (slice_index_or ends len (length fs)) fs) is
-      ∙ ap (λ es. take (slice_index_or es len (length (table_fields heads ms))) (table_fields heads ms)) ends_are
-      ∙ ap (λ n. take n (table_fields heads ms)) (end_among len ms)
-      ∙ first_fields len ms
+  -- the rows have the fields of these members
+  module _ (rows : List FieldRow) (lists : List (List Member)) (tables : map (λ (r : FieldRow). r.table) rows ≡ map (table_fields heads) lists)
+      (ends : map (λ (r : FieldRow). r.ends.items) rows ≡ map (all_ends heads) lists) where
+    table_is : (row : ℕ) → slice_index_or (map (λ (r : FieldRow). r.table) rows) row [] ≡ table_fields heads (slice_index_or lists row [])
+    table_is row = ap (λ ts. slice_index_or ts row []) tables ∙ get_or-map (table_fields heads) lists row []
 
-  span_law : (rows : List FieldRow) (lists : List (List Member)) (row len : ℕ) → map (λ (r : FieldRow). r.table) rows ≡ map (table_fields heads) lists →
-      map (λ (r : FieldRow). r.ends.items) rows ≡ map (all_ends heads) lists →
-      take (option_map_or (λ (r : FieldRow). slice_index_or r.ends.items len (length r.table)) (slice_get rows row) 0) (slice_index_or (map (λ (r : FieldRow). r.table) rows) row [])
-      ≡ table_fields heads (take len (slice_index_or lists row []))
-  span_law [] [] row len tables ends = sym (ap (table_fields heads) (none_taken len [] refl))
-  span_law [] (ms ∷ lists) row len tables ends = let never : [] ≡ table_fields heads ms ∷ map (table_fields heads) lists = tables in cc
-  span_law (r ∷ rows) [] row len tables ends = let never : r.table ∷ map (λ (r : FieldRow). r.table) rows ≡ [] = tables in cc
-  span_law (r ∷ rows) (ms ∷ lists) zero len tables ends =
-      row_law r.table r.ends.items ms len (ap (λ xs. slice_index_or xs 0 []) tables) (ap (λ xs. slice_index_or xs 0 []) ends)
-  span_law (r ∷ rows) (ms ∷ lists) (suc row) len tables ends = span_law rows lists row len (ap tail_of tables) (ap tail_of ends)
-    where
-      tail_of : {X : Type 0} → List X → List X
-      tail_of [] = []
-      tail_of (x ∷ xs) = xs
+    count_is : (row members : ℕ) → count_in rows row members ≡ length (table_fields heads (take members (slice_index_or lists row [])))
+    count_is row members = counted rows lists row members tables ends
 
-  pub lists_are : (rows : List FieldRow) (lists : List (List Member)) (spans : List Span) → map (λ (r : FieldRow). r.table) rows ≡ map (table_fields heads) lists →
-      map (λ (r : FieldRow). r.ends.items) rows ≡ map (all_ends heads) lists →
-      map (list_at (map (λ (r : FieldRow). r.table) rows)) (map (span_of_fields rows) spans) ≡ map (table_fields heads) (map (list_at lists) spans)
-  lists_are rows lists [] tables ends = refl
-  lists_are rows lists (s ∷ spans) tables ends =
-      ap (λ fs. fs ∷ map (list_at (map (λ (r : FieldRow). r.table) rows)) (map (span_of_fields rows) spans)) (span_law rows lists s.row s.len tables ends)
-      ∙ ap (λ rest. table_fields heads (list_at lists s) ∷ rest) (lists_are rows lists spans tables ends)
+    same_part : (p : Part) → part_at (map (λ (r : FieldRow). r.table) rows) (part_of_fields rows p) ≡ table_fields heads (part_at lists p)
+    same_part p =
+        let ms : List Member = slice_index_or lists p.row [] in
+        ap₂ (λ from to. drop from (take to (slice_index_or (map (λ (r : FieldRow). r.table) rows) p.row []))) (count_is p.row p.from) (count_is p.row p.to)
+        ∙ ap (λ fs. drop (length (table_fields heads (take p.from ms))) (take (length (table_fields heads (take p.to ms))) fs)) (table_is p.row)
+        ∙ part_given (member_entries heads) (table_fields heads) refl split p.from p.to ms
+
+    same_span : (s : Span) →
+        take (count_in rows s.row s.len) (slice_index_or (map (λ (r : FieldRow). r.table) rows) s.row []) ≡ table_fields heads (take s.len (slice_index_or lists s.row []))
+    same_span s =
+        let ms : List Member = slice_index_or lists s.row [] in
+        ap₂ (λ n fs. take n fs) (count_is s.row s.len) (table_is s.row) ∙ first_given (member_entries heads) (table_fields heads) refl split s.len ms
+
+    lists_are : (fronts : List (List Part)) (spans : List Span) →
+        map (list_at (map (map (part_of_fields rows)) fronts) (map (λ (r : FieldRow). r.table) rows)) (map (span_of_fields rows) spans) ≡ map (table_fields heads) (map (list_at fronts lists) spans)
+    lists_are fronts spans =
+        lists_made (member_entries heads) (table_fields heads) refl split lists (map (λ (r : FieldRow). r.table) rows) (part_of_fields rows) same_part
+        (span_of_fields rows) (λ s. refl) same_span fronts spans
 
   -- the fields of all types
-  pub all_fields : (rows seen : List FieldRow) (held listed : List MemberRow) (spans placed all : List Span) → seen ≡ rows → listed ≡ held → placed ≡ spans →
+  pub all_fields : (rows seen again : List FieldRow) (held listed told : List MemberRow) (fronts : List (List Part)) (spans placed all : List Span) →
+      seen ≡ rows → again ≡ rows → listed ≡ held → told ≡ held → placed ≡ spans →
       map (λ (r : FieldRow). r.table) rows ≡ map (table_fields heads) (map seen_row listed) →
       map (λ (r : FieldRow). r.ends.items) rows ≡ map (all_ends heads) (map seen_row listed) →
-      all ≡ map (span_of_fields seen) placed →
-      map (list_at (map (λ (r : FieldRow). r.table) rows)) all ≡ map (table_fields heads) (map (list_at (map seen_row held)) spans)
-  all_fields rows seen held listed spans placed all same_rows same_lists same_spans tables ends are =
-      ap (map (list_at (map (λ (r : FieldRow). r.table) rows)))
-      (are ∙ ap (λ rs. map (span_of_fields rs) placed) same_rows ∙ ap (map (span_of_fields rows)) same_spans)
-      ∙ lists_are rows (map seen_row held) spans (tables ∙ ap (λ ms. map (table_fields heads) (map seen_row ms)) same_lists)
-      (ends ∙ ap (λ ms. map (all_ends heads) (map seen_row ms)) same_lists)
+      fronts ≡ map (map (part_of_fields seen)) (fronts_in told) →
+      all ≡ map (span_of_fields again) placed →
+      map (list_at fronts (map (λ (r : FieldRow). r.table) rows)) all ≡ map (table_fields heads) (map (list_at (fronts_in held) (map seen_row held)) spans)
+  all_fields rows seen again held listed told fronts spans placed all same_rows rows_again same_lists lists_again same_spans tables ends fronts_are are =
+      ap₂ (λ fs ss. map (list_at fs (map (λ (r : FieldRow). r.table) rows)) ss)
+      (fronts_are ∙ ap₂ (λ rs ms. map (map (part_of_fields rs)) (fronts_in ms)) same_rows lists_again)
+      (are ∙ ap₂ (λ rs ss. map (span_of_fields rs) ss) rows_again same_spans)
+      ∙ lists_are rows (map seen_row held) (tables ∙ ap (λ ms. map (table_fields heads) (map seen_row ms)) same_lists)
+      (ends ∙ ap (λ ms. map (all_ends heads) (map seen_row ms)) same_lists) (fronts_in held) spans
 
   -- how many fields there are after one member more
   pub ends_more : (members : List ListedMember) (i : ℕ) (m : ListedMember) (into into' : List TableField) (ends ends' all : List ℕ) → i < length members → m ≡ get_or members i m →

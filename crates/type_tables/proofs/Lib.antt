@@ -1,5 +1,9 @@
 mod Ascending
+mod DeclaredTypes
 mod MemberFields
+mod NamedInParts
 mod FieldSpans
 mod ListLengths
 pub mod Firsts
+pub mod FlatParts
+pub mod SharedLists

@@ -51,6 +51,15 @@ member_found name m (MemberTree.Field f) rest = one_found f m.holder m.under nam
 member_found name m (MemberTree.Rule r) rest = refl
 member_found name m (MemberTree.Do place phase) rest = refl
 
+or_more : (o p q : Option FieldTree) → option_or o (option_or p q) ≡ option_or (option_or o p) q
+or_more None p q = refl
+or_more (Some x) p q = refl
+
+pub named_in_both : (name : List ℕ) (ms others : List Member) → named_among name (ms ++ others) ≡ option_or (named_among name ms) (named_among name others)
+named_in_both name [] others = refl
+named_in_both name (m ∷ ms) others =
+    ap (option_or (named_in name m.written.member)) (named_in_both name ms others) ∙ or_more (named_in name m.written.member) (named_among name ms) (named_among name others)
+
 -- the first field of that name
 pub found_among : (name : List ℕ) (members : List Member) →
     named_among name members ≡ option_map (λ (f : Field). f.tree) (find (λ (f : Field). bytes_eq f.name.text name) (fields_among members))

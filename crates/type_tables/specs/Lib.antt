@@ -1,4 +1,5 @@
 pub mod Entries
 pub mod FieldEnds
+pub mod InParts
 pub mod Looked
 pub mod Places

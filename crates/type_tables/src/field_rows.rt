@@ -8,7 +8,6 @@ ghost use Rattle.type_tables.specs.FieldEnds.{all_ends};
 
 use crate::FieldTable;
 use crate::fields::push_member;
-use crate::index_room::IndexRoom;
 use std::alloc::{AllocError, Global};
 use type_heads::{FieldEntry, Heads};
 use type_members::{ListedMember, MemberRow};
@@ -76,13 +75,12 @@ fn field_row(
     alloc: Global,
     heads: &Heads,
     members: &[ListedMember<'_>],
-    is_indexed: bool,
 ) -> Result<FieldRow, AllocError>
     ensures table { IfOk result (λ row. row.table ≡ table_fields heads.now (map seen_listed members.now)) }
     ensures ends { IfOk result (λ row. row.ends.items ≡ all_ends heads.now (map seen_listed members.now)) }
 {
     let fields = fields(alloc, heads, members)?;
-    let table = FieldTable::of(alloc, fields.entries, is_indexed)?;
+    let table = FieldTable::of(alloc, fields.entries)?;
     Ok(FieldRow {
         table,
         ends: fields.ends,
@@ -111,10 +109,8 @@ pub fn field_rows(
     ensures ends { IfOk result (λ all. map (λ r. r.ends.items) all.items ≡ map (all_ends heads.now) (map seen_row rows.now)) }
 {
     let mut all = Vec::new(alloc);
-    let mut room = IndexRoom::new();
     for row in rows {
-        let is_indexed = room.takes(row);
-        all.push(field_row(alloc, heads, row.members.as_slice(), is_indexed)?)?;
+        all.push(field_row(alloc, heads, row.members.as_slice())?)?;
     }
     Ok(all)
 }

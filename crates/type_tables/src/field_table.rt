@@ -1,9 +1,9 @@
 //! The fields of a row of members.
 
-ghost use Rattle.std.specs.Prelude.{◌≡◌, length, option_copied, take, IfOk};
+ghost use Rattle.std.specs.Prelude.{◌≡◌, drop, length, option_copied, take, IfOk};
 ghost use Rattle.type_heads.specs.Table.{field_in};
 
-use crate::first_places::{FirstPlaces, HasName, found_before};
+use crate::first_places::{FirstPlaces, HasName, found_between};
 use std::alloc::{AllocError, Global};
 use std::marker::Model;
 use type_heads::FieldEntry;
@@ -36,15 +36,11 @@ impl Model for FieldTable {
 }
 
 impl FieldTable {
-    /// These fields, with places of their names or without.
-    pub fn of(
-        alloc: Global,
-        entries: Vec<FieldEntry>,
-        is_indexed: bool,
-    ) -> Result<FieldTable, AllocError>
+    /// These fields.
+    pub fn of(alloc: Global, entries: Vec<FieldEntry>) -> Result<FieldTable, AllocError>
         ensures { IfOk result (λ table. table ≡ entries.items) }
     {
-        let places = FirstPlaces::of(alloc, entries.as_slice(), is_indexed)?;
+        let places = FirstPlaces::of(alloc, entries.as_slice())?;
         Ok(FieldTable { entries, places })
     }
 
@@ -55,10 +51,10 @@ impl FieldTable {
         self.entries.len()
     }
 
-    /// The first field of that name among the first `len` fields.
-    pub fn named_among(&self, len: usize, name: &str) -> Option<&FieldEntry>
-        ensures { option_copied result ≡ field_in (take len self.now) name.now }
+    /// The first field of that name from one place to another.
+    pub fn named_between(&self, from: usize, to: usize, name: &str) -> Option<&FieldEntry>
+        ensures { option_copied result ≡ field_in (drop from (take to self.now)) name.now }
     {
-        found_before(&self.places, self.entries.as_slice(), len, name)
+        found_between(&self.places, self.entries.as_slice(), from, to, name)
     }
 }

@@ -1,12 +1,10 @@
 //! The fields that members declare.
 
-ghost use Rattle.std.specs.Prelude.{◌≡◌, ◌++◌, None, Some, bytes_eq, cond, find, map, option_map, IfOk, OnOk};
-ghost use Rattle.std.specs.List.{list_any};
-ghost use Rattle.dsl_tree.specs.Views.{expr_tree, field_tree, member_tree};
-ghost use Rattle.type_heads.specs.Members.{fields_among, items_in, list_length as length_of};
-ghost use Rattle.type_heads.specs.Types.{Field};
+ghost use Rattle.std.specs.Prelude.{◌≡◌, ◌++◌, Some, option_map, IfOk, OnOk};
+ghost use Rattle.dsl_tree.specs.Views.{expr_tree, field_tree};
+ghost use Rattle.type_heads.specs.Members.{items_in, list_length as length_of};
 ghost use Rattle.type_members.specs.Listed.{seen_listed};
-ghost use Rattle.type_tables.specs.Entries.{entries, field_entries, member_entries, named_among, named_in};
+ghost use Rattle.type_tables.specs.Entries.{entries, field_entries, member_entries};
 
 use dsl_tree::{Expr, FieldDecl, Ident, Member};
 use osc_base::Text;
@@ -102,49 +100,4 @@ pub(crate) fn push_member(
         }
         Member::Rule(_) | Member::Do { place: _, phase: _ } => Ok(()),
     }
-}
-
-/// Whether one of the names is that name.
-fn has_name(names: &[Ident], name: &str) -> bool
-    ensures { result ≡ list_any (λ i. bytes_eq i.text name.now) names.now }
-{
-    names.iter().any(|i| i.text.as_str() == name)
-}
-
-fn field_if<'a>(field: &'a FieldDecl, name: &str) -> Option<&'a FieldDecl>
-    ensures { option_map (λ f. field_tree f.now) result ≡ cond (list_any (λ i. bytes_eq i.text name.now) field.entry.now.names) (Some (field_tree field.entry.now)) None }
-{
-    if has_name(field.names.as_slice(), name) {
-        Some(field)
-    } else {
-        None
-    }
-}
-
-/// The field of that name that a member declares.
-fn field_in<'a>(member: &'a Member, name: &str) -> Option<&'a FieldDecl>
-    ensures { option_map (λ f. field_tree f.now) result ≡ named_in name.now (member_tree member.entry.now) }
-{
-    match member {
-        Member::Field(field) => field_if(field, name),
-        Member::Rule(_) | Member::Do { place: _, phase: _ } => None,
-    }
-}
-
-fn first_named<'a>(members: &[ListedMember<'a>], name: &str) -> Option<&'a FieldDecl>
-    ensures { option_map (λ f. field_tree f.now) result ≡ named_among name.now (map seen_listed members.now) }
-{
-    for member in members {
-        if let Some(field) = field_in(member.written.member, name) {
-            return Some(field);
-        }
-    }
-    None
-}
-
-/// The first field of that name among members.
-pub fn field_named<'a>(members: &[ListedMember<'a>], name: &str) -> Option<&'a FieldDecl>
-    ensures { option_map (λ f. field_tree f.now) result ≡ option_map (λ f. f.tree) (find (λ f. bytes_eq f.name.text name.now) (fields_among (map seen_listed members.now))) }
-{
-    first_named(members, name)
 }

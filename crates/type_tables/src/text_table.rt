@@ -39,7 +39,7 @@ impl TextTable {
     pub fn of(alloc: Global, entries: Vec<Text>) -> Result<TextTable, AllocError>
         ensures { IfOk result (λ table. table ≡ entries.items) }
     {
-        let places = FirstPlaces::of(alloc, entries.as_slice(), true)?;
+        let places = FirstPlaces::of(alloc, entries.as_slice())?;
         Ok(TextTable { entries, places })
     }
 

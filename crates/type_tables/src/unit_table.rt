@@ -40,7 +40,7 @@ impl UnitTable {
     pub fn of(alloc: Global, entries: Vec<UnitEntry>) -> Result<UnitTable, AllocError>
         ensures { IfOk result (λ table. table ≡ entries.items) }
     {
-        let places = FirstPlaces::of(alloc, entries.as_slice(), true)?;
+        let places = FirstPlaces::of(alloc, entries.as_slice())?;
         Ok(UnitTable { entries, places })
     }
 

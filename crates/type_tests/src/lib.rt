@@ -8,6 +8,8 @@ mod conditional;
 #[cfg(test)]
 mod enums;
 #[cfg(test)]
+mod heirs;
+#[cfg(test)]
 mod members;
 #[cfg(test)]
 mod queries;

@@ -2,7 +2,7 @@ use crate::built::{PARTS, built, loaded};
 use program_members::ProgramMembers;
 use std::alloc::{AllocError, Global};
 use std::test::Fail;
-use type_model::{MemberLists, MemberRef, TypeId, member_lists};
+use type_model::{ListedMember, MemberLists, MemberRef, TypeId, member_lists};
 
 /// Members as text: declaration, number there, and the conditional subtype that each is under.
 fn shown(alloc: Global, members: &[MemberRef]) -> Result<String, AllocError> {
@@ -32,21 +32,35 @@ fn in_order(rt: HostRuntime) -> Result<(), Fail> {
         (9, "4.0/0 4.1/0 5.0/8 7.0/0 6.0/0 "),
     ];
     for (of, want) in &rows {
-        let text = shown(alloc, types.members(TypeId(*of)))?;
+        let members = types.members(alloc, TypeId(*of))?;
+        let text = shown(alloc, members.as_slice())?;
         assert_eq!(rt; text.as_str(), *want);
     }
     Ok(())
 }
 
-/// Each member with the type that holds it, and how many conditional subtypes it is under.
+/// Writes each member as the type that holds it, and how many conditional subtypes it is under.
+fn push_holders(
+    alloc: Global,
+    text: &mut String,
+    members: &[ListedMember<'_>],
+) -> Result<(), AllocError> {
+    for member in members {
+        let under = member.under.as_slice().len();
+        let line = format!(in alloc; "{}/{under} ", member.holder.0)?;
+        text.push_str(line.as_str())?;
+    }
+    Ok(())
+}
+
+/// The members of each type, first those in parts in front of its row.
 fn holders(alloc: Global, lists: &MemberLists<'_>) -> Result<String, AllocError> {
     let mut text = String::new(alloc);
     for span in lists.spans() {
-        for member in lists.at(span) {
-            let under = member.under.as_slice().len();
-            let line = format!(in alloc; "{}/{under} ", member.holder.0)?;
-            text.push_str(line.as_str())?;
+        for part in lists.front(span.row) {
+            push_holders(alloc, &mut text, lists.part(part))?;
         }
+        push_holders(alloc, &mut text, lists.own(span))?;
     }
     Ok(text)
 }

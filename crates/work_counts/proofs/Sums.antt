@@ -130,6 +130,16 @@ counted_all done left all before is =
     none_joined : (t : Tally) → (record { rules = capped t.rules; tokens = capped t.tokens }) ≡ joined t (kept no_amount)
     none_joined t = λ i. record { rules = none_added t.rules i; tokens = none_added t.tokens i }
 
+-- those of one list, and then those of another
+pub counted_split : {X : Type 0} (f : X → Amount) (all xs ys : List X) (one : Tally) → all ≡ xs ++ ys → one ≡ kept (sum_of f xs) →
+    kept (sum_of f all) ≡ joined one (kept (sum_of f ys))
+counted_split f all xs ys one is own =
+    ap (λ zs. kept (sum_of f zs)) is ∙ ap kept (sum_append f xs ys) ∙ sym (kept_plus (sum_of f xs) (sum_of f ys)) ∙ ap (λ t. joined t (kept (sum_of f ys))) (sym own)
+
+-- the last of what is left
+pub counted_last : (done one new left all : Tally) → Counted done left all → new ≡ joined done one → one ≡ left → new ≡ all
+counted_last done one new left all before is own = is ∙ ap (joined done) own ∙ before.both
+
 -- a count of none, at first
 pub counted_first : (left : Amount) → Counted none (kept left) (kept left)
 counted_first left = record { rules = none_capped; tokens = none_capped; both = ap (λ t. joined t (kept left)) kept_none ∙ kept_plus no_amount left ∙ ap kept (plus_left left) }

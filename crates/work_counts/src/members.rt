@@ -5,6 +5,7 @@ ghost use Rattle.std.specs.Option.{option_map_or};
 ghost use Rattle.dsl_tree.specs.Views.{expr_tree, field_tree, member_tree};
 ghost use Rattle.expansion_laws.specs.WorkNodes.{own_within};
 ghost use Rattle.osc_base.specs.declared.path.Path.{Path};
+ghost use Rattle.type_heads.specs.Members as told;
 ghost use Rattle.type_heads.specs.Table.{line_within};
 ghost use Rattle.type_members.specs.Listed.{seen_listed};
 ghost use Rattle.program_texts.specs.SeenTexts.{types_in};
@@ -98,6 +99,19 @@ fn members_tally(texts: &ProgramTexts<'_>, members: &[ListedMember<'_>]) -> Tall
     all
 }
 
+/// The members of a type, one part of a row after the other.
+fn parts_tally(texts: &ProgramTexts<'_>, of: TypeId) -> Tally
+    ensures { result ≡ kept (sum_of (λ m. member_amount (types_in texts.now) m.written.member) (told.members (types_in texts.now) of)) }
+{
+    let lists = texts.lists();
+    let span = lists.span(of);
+    let mut all = Tally::none();
+    for part in lists.front(span.row) {
+        all = all.with(members_tally(texts, lists.part(part)));
+    }
+    all.with(members_tally(texts, lists.own(&span)))
+}
+
 /// The own constraints of an object of a type with so many steps left, wherever the object is.
 pub fn object_tally(texts: &ProgramTexts<'_>, steps: u32, of: TypeId) -> Tally
     ensures { (path : Path) → result ≡ kept (amount_of (own_within steps (types_in texts.now) path of)) }
@@ -105,5 +119,5 @@ pub fn object_tally(texts: &ProgramTexts<'_>, steps: u32, of: TypeId) -> Tally
     if steps == 0 {
         return Tally::none();
     }
-    members_tally(texts, texts.members(of))
+    parts_tally(texts, of)
 }

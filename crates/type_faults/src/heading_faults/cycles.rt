@@ -9,7 +9,6 @@ ghost use Rattle.type_heads.specs.Cycles.{returns};
 ghost use Rattle.type_heads.specs.HeadingFaults.{cycle_row, held_types};
 ghost use Rattle.type_faults.specs.Ranking.{IsShown};
 
-use super::heirs::is_base_of;
 use super::held_types::HeldTypes;
 use super::levels::held_ranking;
 use crate::passing::is_past;
@@ -31,7 +30,7 @@ fn depends_on_itself<S: Steps>(
     requires { IsShown (length heads.now) (S.next steps.now) ranking.now }
     ensures { IfOk result (λ b. b ≡ (has of (bases heads.now of) || returns (length heads.now) (S.next steps.now) of)) }
 {
-    if is_base_of(heads, of, of) {
+    if heads.has_base(of, of) {
         return Ok(true);
     }
     ranking.leads_back(alloc, steps, heads.count(), of)

@@ -4,8 +4,6 @@ ghost use Rattle.std.specs.Prelude.{◌≡◌, [], ◌∷◌, None, false, not};
 ghost use Rattle.std.specs.Option.{option_map_or};
 ghost use Rattle.osc_base.specs.FaultRows.{first_from};
 ghost use Rattle.dsl_tree.specs.Views.{compound_tree};
-ghost use Rattle.type_heads.specs.Table.{bases, is_kind_of as is_of_kind};
-ghost use Rattle.type_heads.specs.Members.{has};
 ghost use Rattle.type_heads.specs.DeclaredTypes.{meant as meaning};
 ghost use Rattle.type_heads.specs.HeadingFaults.{fits_base as fits, fits_owner as fits_with, heir_rows, meant_row, own_owner as owner_of, value_rows};
 
@@ -16,37 +14,13 @@ use name_scope::with_fault;
 use osc_base::{Fault, FaultCode};
 use type_heads::{Heads, TypeId};
 
-/// Whether a type is `base` or inherits from it.
-fn is_kind_of(heads: &Heads, base: TypeId, of: TypeId) -> bool
-    ensures { result ≡ is_of_kind heads.now base of }
-{
-    of == base || is_base_of(heads, base, of)
-}
-
-/// Whether a type inherits from `base`.
-pub fn is_base_of(heads: &Heads, base: TypeId, of: TypeId) -> bool
-    ensures { result ≡ has base (bases heads.now of) }
-{
-    let mut at = heads.base(of);
-    for _step in 0..heads.count() {
-        let Some(next) = at else {
-            return false;
-        };
-        if base == next {
-            return true;
-        }
-        at = heads.base(next);
-    }
-    false
-}
-
 fn fits_owner(heads: &Heads, own: Option<TypeId>, other: Option<TypeId>) -> bool
     ensures { result ≡ fits_with heads.now own other }
 {
     match (own, other) {
         (_, None) => true,
         (None, Some(_)) => false,
-        (Some(own), Some(other)) => is_kind_of(heads, other, own),
+        (Some(own), Some(other)) => heads.is_kind_of(other, own),
     }
 }
 

@@ -7,19 +7,20 @@ ghost use Rattle.type_heads.specs.Cycles.{returns};
 ghost use Rattle.type_heads.specs.Members.{field};
 ghost use Rattle.type_heads.specs.MemberFaults.{condition_rows, depends_on, type_rows};
 ghost use Rattle.type_heads.specs.Table.{all_types, base};
-ghost use Rattle.type_members.specs.Listed.{lists_of, seen_listed, seen_row};
+ghost use Rattle.type_members.specs.Listed.{lists_of, seen_row};
+ghost use Rattle.type_members.specs.Shared.{fronts_in, list_at};
 ghost use Rattle.type_faults.specs.ConditionRows.{found_rows};
 ghost use Rattle.type_faults.specs.ListedRows.{found_field, seen_hit, types_with};
-ghost use Rattle.type_faults.specs.PlainLists.{is_plain};
 ghost use Rattle.type_faults.specs.Ranking.{IsShown};
+ghost use Rattle.type_faults.specs.RowFacts.{AreAllSo};
 
 use super::conditions::with_decided;
 use super::depends_on::DependsOn;
-use super::dos::with_dos;
+use super::dos::with_all_dos;
 use super::fields::{FieldHit, condition_field};
-use super::initial::with_initials;
+use super::initial::with_all_initials;
 use super::names::with_all_names;
-use super::plain::{is_of_plain, plain_rows};
+use super::row_facts::{RowFacts, facts_at, is_plain, row_facts};
 use crate::passing::is_past;
 use crate::reach::Steps;
 use crate::returning::Ranking;
@@ -28,7 +29,7 @@ use name_scope::with_fault;
 use osc_base::{Fault, FaultCode, Place};
 use std::alloc::{AllocError, Global};
 use type_heads::{Heads, TypeId};
-use type_members::{ListedMember, heir_condition};
+use type_members::{Span, heir_condition};
 
 /// A fault at this place, if steps lead from a type back to it. There are `count` types.
 fn with_return<S: Steps>(
@@ -95,7 +96,7 @@ fn with_own_condition(
     let heads = depends.heads;
     let place = condition.field.place;
     let first = with_return(alloc, first, depends, ranking, heads.count(), of, place)?;
-    let hit = condition_field(heads, depends.lists, of, condition);
+    let hit = condition_field(heads, depends.lists, depends.places, of, condition);
     Ok(with_hit(first, heads, condition, hit))
 }
 
@@ -126,38 +127,39 @@ fn with_listed(
     depends: &DependsOn<'_>,
     ranking: &Ranking,
     of: TypeId,
-    members: &[ListedMember<'_>],
+    span: &Span,
 ) -> Result<Option<Fault>, AllocError>
     requires shown { IsShown (length depends.now.heads.now) (depends_on (types_with depends.now.heads.now (map seen_body depends.now.bodies.now) (lists_of depends.now.lists.now))) ranking.now }
-    requires same { map seen_listed members.now ≡ slice_index_or (lists_of depends.now.lists.now) of [] }
+    requires same { list_at (fronts_in depends.now.lists.now.rows.items) (map seen_row depends.now.lists.now.rows.items) span.now ≡ slice_index_or (lists_of depends.now.lists.now) of [] }
     ensures { IfOk result (λ f. f ≡ first_from first (type_rows (types_with depends.now.heads.now (map seen_body depends.now.bodies.now) (lists_of depends.now.lists.now)) of)) }
 {
-    let heads = depends.heads;
-    let named = with_all_names(alloc, first, heads.form(of), members)?;
-    let told = with_dos(named, heads, of, members);
-    let set = with_initials(told, heads, members);
+    let form = depends.heads.form(of);
+    let named = with_all_names(alloc, first, form, depends.lists, span)?;
+    let told = with_all_dos(named, form, depends.lists, span);
+    let set = with_all_initials(told, depends.heads, depends.lists, span);
     let found = with_condition(alloc, set, depends, ranking, of)?;
     Ok(found)
 }
 
-/// Faults of the members of a type. Those that stand in a plain row aren't looked at.
+/// Faults of the members of a type. They aren't looked at if it is known that they give none by themselves.
 fn with_type(
     alloc: Global,
     first: Option<Fault>,
     depends: &DependsOn<'_>,
     ranking: &Ranking,
-    plain: &[bool],
+    facts: &[RowFacts],
     of: TypeId,
 ) -> Result<Option<Fault>, AllocError>
     requires shown { IsShown (length depends.now.heads.now) (depends_on (types_with depends.now.heads.now (map seen_body depends.now.bodies.now) (lists_of depends.now.lists.now))) ranking.now }
-    requires plain { plain.now ≡ map (is_plain depends.now.heads.now) (map seen_row depends.now.lists.now.rows.items) }
+    requires so { AreAllSo depends.now.heads.now (fronts_in depends.now.lists.now.rows.items) (map seen_row depends.now.lists.now.rows.items) facts.now }
     ensures { IfOk result (λ f. f ≡ first_from first (type_rows (types_with depends.now.heads.now (map seen_body depends.now.bodies.now) (lists_of depends.now.lists.now)) of)) }
 {
-    if is_of_plain(plain, depends.lists, of) {
+    let span = depends.lists.span(of);
+    let form = depends.heads.form(of);
+    if is_plain(facts_at(facts, span.row), form) {
         return with_condition(alloc, first, depends, ranking, of);
     }
-    let members = depends.lists.of(of);
-    with_listed(alloc, first, depends, ranking, of, members)
+    with_listed(alloc, first, depends, ranking, of, &span)
 }
 
 /// Faults of the members of all types.
@@ -171,11 +173,11 @@ pub fn with_types(
 {
     let count = depends.heads.count();
     let ranking = Ranking::of(alloc, depends, count)?;
-    let plain = plain_rows(alloc, depends.heads, depends.lists.rows())?;
+    let facts = row_facts(alloc, depends.heads, depends.lists.rows(), depends.places)?;
     let mut found = first;
     for number in 0..count {
         let of = TypeId(number);
-        found = with_type(alloc, found, depends, &ranking, plain.as_slice(), of)?;
+        found = with_type(alloc, found, depends, &ranking, facts.as_slice(), of)?;
     }
     Ok(found)
 }

@@ -6,10 +6,12 @@ ghost use Rattle.type_heads.specs.Bodied.{seen_body};
 ghost use Rattle.type_heads.specs.Members.{fields_among, is_conditional as is_conditional_type};
 ghost use Rattle.type_heads.specs.MemberFaults.{depends_on};
 ghost use Rattle.type_heads.specs.Table.{base, bases};
-ghost use Rattle.type_members.specs.Listed.{lists_of};
+ghost use Rattle.type_members.specs.Listed.{lists_of, seen_row};
 ghost use Rattle.type_faults.specs.ListedRows.{field_under, types_with, under_in};
+ghost use Rattle.type_faults.specs.NamePlaces.{AreRowPlaces};
 
 use super::fields::{FieldHit, condition_field};
+use super::name_places::NamePlaces;
 use crate::reach::push_types;
 use dsl_tree::HeirCondition;
 use std::alloc::{AllocError, Global};
@@ -30,13 +32,15 @@ fn push_hit(hit: Option<FieldHit<'_>>, into: &mut Vec<TypeId>) -> Result<(), All
 fn push_under(
     heads: &Heads,
     lists: &MemberLists<'_>,
+    places: &[NamePlaces<'_>],
     of: TypeId,
     condition: &HeirCondition,
     into: &mut Vec<TypeId>,
 ) -> Result<(), AllocError>
+    requires { AreRowPlaces places.now (map seen_row lists.now.rows.items) }
     ensures { OnOk result (into.new.items ≡ into.old.items ++ under_in heads.now (lists_of lists.now) of condition.now) }
 {
-    let hit = condition_field(heads, lists, of, condition);
+    let hit = condition_field(heads, lists, places, of, condition);
     push_hit(hit, into)?;
     Ok(())
 }
@@ -74,13 +78,15 @@ fn push_field_under(
     heads: &Heads,
     bodies: &[Body<'_>],
     lists: &MemberLists<'_>,
+    places: &[NamePlaces<'_>],
     of: TypeId,
     into: &mut Vec<TypeId>,
 ) -> Result<(), AllocError>
+    requires { AreRowPlaces places.now (map seen_row lists.now.rows.items) }
     ensures { OnOk result (into.new.items ≡ into.old.items ++ field_under heads.now (map seen_body bodies.now) (lists_of lists.now) of) }
 {
     match heir_condition(bodies, of) {
-        Some(condition) => push_under(heads, lists, of, condition, into),
+        Some(condition) => push_under(heads, lists, places, of, condition, into),
         None => Ok(()),
     }
 }
@@ -92,12 +98,14 @@ pub fn push_depended(
     heads: &Heads,
     bodies: &[Body<'_>],
     lists: &MemberLists<'_>,
+    places: &[NamePlaces<'_>],
     of: TypeId,
     into: &mut Vec<TypeId>,
 ) -> Result<(), AllocError>
+    requires { AreRowPlaces places.now (map seen_row lists.now.rows.items) }
     ensures { OnOk result (into.new.items ≡ into.old.items ++ depends_on (types_with heads.now (map seen_body bodies.now) (lists_of lists.now)) of) }
 {
-    push_field_under(heads, bodies, lists, of, into)?;
+    push_field_under(heads, bodies, lists, places, of, into)?;
     let bases = line(alloc, heads, heads.base(of))?;
     push_all_conditional(bodies, bases.as_slice(), into)?;
     Ok(())

@@ -3,10 +3,12 @@
 ghost use Rattle.std.specs.Prelude.{◌≡◌, ◌++◌, map, OnOk};
 ghost use Rattle.type_heads.specs.Bodied.{seen_body};
 ghost use Rattle.type_heads.specs.MemberFaults.{depends_on};
-ghost use Rattle.type_members.specs.Listed.{lists_of};
+ghost use Rattle.type_members.specs.Listed.{lists_of, seen_row};
 ghost use Rattle.type_faults.specs.ListedRows.{types_with};
+ghost use Rattle.type_faults.specs.NamePlaces.{AreRowPlaces};
 
 use super::depends::push_depended;
+use super::name_places::NamePlaces;
 use crate::reach::Steps;
 use std::alloc::{AllocError, Global};
 use type_heads::{Body, Heads, TypeId};
@@ -19,6 +21,8 @@ pub struct DependsOn<'h> {
     pub heads: &'h Heads,
     pub bodies: &'h [Body<'h>],
     pub lists: &'h MemberLists<'h>,
+    pub places: &'h [NamePlaces<'h>],
+    ghost placed: { AreRowPlaces places.now (map seen_row lists.now.rows.items) },
 }
 
 impl<'h> Steps for DependsOn<'h> {
@@ -27,6 +31,14 @@ impl<'h> Steps for DependsOn<'h> {
     fn push_next(&self, of: TypeId, into: &mut Vec<TypeId>) -> Result<(), AllocError>
         ensures { OnOk result (into.new.items ≡ into.old.items ++ depends_on (types_with self.now.heads.now (map seen_body self.now.bodies.now) (lists_of self.now.lists.now)) of) }
     {
-        push_depended(self.alloc, self.heads, self.bodies, self.lists, of, into)
+        push_depended(
+            self.alloc,
+            self.heads,
+            self.bodies,
+            self.lists,
+            self.places,
+            of,
+            into,
+        )
     }
 }

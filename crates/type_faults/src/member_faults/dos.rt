@@ -1,20 +1,22 @@
 //! The faults of the `do` of a scenario.
 
-ghost use Rattle.std.specs.Prelude.{◌≡◌, ◌||◌, List, [], ◌∷◌, false, filter_map, map, not};
+ghost use Rattle.std.specs.Prelude.{◌≡◌, ◌||◌, ◌++◌, List, [], ◌∷◌, false, map, not};
 ghost use Rattle.std.specs.List.{cons_option};
 ghost use Rattle.osc_base.specs.FaultRows.{first_from, row};
 ghost use Rattle.type_heads.specs.Seen.{seen_form};
-ghost use Rattle.type_heads.specs.Table.{form, is_scenario};
+ghost use Rattle.type_heads.specs.Table.{is_scenario};
 ghost use Rattle.type_heads.specs.Types.{Do};
 ghost use Rattle.type_heads.specs.Members.{do_declared};
 ghost use Rattle.type_heads.specs.MemberFaults.{do_rows};
-ghost use Rattle.type_members.specs.Listed.{seen_listed};
+ghost use Rattle.type_members.specs.Listed.{seen_listed, seen_row};
+ghost use Rattle.type_members.specs.Shared.{fronts_in, list_at, parts_at};
+ghost use Rattle.type_faults.specs.RowFacts.{dos_among};
 
 use dsl_tree::Member;
 use name_scope::with_fault;
 use osc_base::{Fault, FaultCode, Place};
-use type_heads::{Form, Heads, TypeId};
-use type_members::ListedMember;
+use type_heads::Form;
+use type_members::{ListedMember, MemberLists, Part, Span};
 
 /// Faults of a `do`, under a conditional subtype or not, that is the first or a later one.
 fn with_do(
@@ -33,31 +35,20 @@ fn with_do(
 
 /// The first fault so far, and whether a `do` was met.
 #[derive(Clone, Copy)]
-struct AfterDos {
-    first: Option<Fault>,
-    is_later: bool,
+pub struct AfterDos {
+    pub first: Option<Fault>,
+    pub is_later: bool,
 }
 
 /// Faults of a member that is a `do`.
-fn with_listed_do(
-    heads: &Heads,
-    of: TypeId,
-    so_far: AfterDos,
-    listed: &ListedMember<'_>,
-) -> AfterDos
-    ensures { (later : List Do) → first_from so_far.first (do_rows (form heads.now of) so_far.is_later (cons_option (do_declared (seen_listed listed.now) (seen_listed listed.now).written.member) later)) ≡ first_from result.first (do_rows (form heads.now of) result.is_later later) }
+fn with_listed_do(form: Form<'_>, so_far: AfterDos, listed: &ListedMember<'_>) -> AfterDos
+    ensures { (later : List Do) → first_from so_far.first (do_rows (seen_form form.entry) so_far.is_later (cons_option (do_declared (seen_listed listed.now) (seen_listed listed.now).written.member) later)) ≡ first_from result.first (do_rows (seen_form form.entry) result.is_later later) }
 {
     match listed.written.member {
         Member::Do { place, phase: _ } => {
             let is_under = !listed.under.as_slice().is_empty();
             AfterDos {
-                first: with_do(
-                    so_far.first,
-                    heads.form(of),
-                    *place,
-                    is_under,
-                    so_far.is_later,
-                ),
+                first: with_do(so_far.first, form, *place, is_under, so_far.is_later),
                 is_later: true,
             }
         }
@@ -65,21 +56,41 @@ fn with_listed_do(
     }
 }
 
-/// Faults of each `do` among the members of a type.
-pub fn with_dos(
-    first: Option<Fault>,
-    heads: &Heads,
-    of: TypeId,
-    members: &[ListedMember<'_>],
-) -> Option<Fault>
-    ensures { result ≡ first_from first (do_rows (form heads.now of) false (filter_map (λ m. do_declared m m.written.member) (map seen_listed members.now))) }
+/// Faults of each `do` among some members more of a type of this form.
+pub fn with_dos(form: Form<'_>, so_far: AfterDos, members: &[ListedMember<'_>]) -> AfterDos
+    ensures { (later : List Do) → first_from so_far.first (do_rows (seen_form form.entry) so_far.is_later (dos_among (map seen_listed members.now) ++ later)) ≡ first_from result.first (do_rows (seen_form form.entry) result.is_later later) }
 {
-    let mut so_far = AfterDos {
+    let mut after = so_far;
+    for listed in members {
+        after = with_listed_do(form, after, listed);
+    }
+    after
+}
+
+/// Faults of each `do` in some parts more.
+fn with_parts(form: Form<'_>, so_far: AfterDos, lists: &MemberLists<'_>, parts: &[Part]) -> AfterDos
+    ensures { (later : List Do) → first_from so_far.first (do_rows (seen_form form.entry) so_far.is_later (dos_among (parts_at (map seen_row lists.now.rows.items) parts.now) ++ later)) ≡ first_from result.first (do_rows (seen_form form.entry) result.is_later later) }
+{
+    let mut after = so_far;
+    for part in parts {
+        after = with_dos(form, after, lists.part(part));
+    }
+    after
+}
+
+/// Faults of each `do` among the members at a place, in a type of this form.
+pub fn with_all_dos(
+    first: Option<Fault>,
+    form: Form<'_>,
+    lists: &MemberLists<'_>,
+    span: &Span,
+) -> Option<Fault>
+    ensures { result ≡ first_from first (do_rows (seen_form form.entry) false (dos_among (list_at (fronts_in lists.now.rows.items) (map seen_row lists.now.rows.items) span.now))) }
+{
+    let so_far = AfterDos {
         first,
         is_later: false,
     };
-    for listed in members {
-        so_far = with_listed_do(heads, of, so_far, listed);
-    }
-    so_far.first
+    let after = with_parts(form, so_far, lists, lists.front(span.row));
+    with_dos(form, after, lists.own(span)).first
 }

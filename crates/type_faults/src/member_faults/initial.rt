@@ -1,18 +1,20 @@
 //! The faults of initial values.
 
-ghost use Rattle.std.specs.Prelude.{◌≡◌, ◌&&◌, [], ◌∷◌, None, Some, false, flat_map, map, not, is_some, option_map};
+ghost use Rattle.std.specs.Prelude.{◌≡◌, ◌&&◌, [], ◌∷◌, None, Some, false, map, not, is_some, option_map};
 ghost use Rattle.std.specs.Option.{option_map_or};
 ghost use Rattle.osc_base.specs.FaultRows.{first_from, row};
-ghost use Rattle.type_members.specs.Listed.{seen_listed};
+ghost use Rattle.type_members.specs.Listed.{seen_listed, seen_row};
+ghost use Rattle.type_members.specs.Shared.{fronts_in, list_at, parts_at};
 ghost use Rattle.dsl_tree.specs.Views.{expr_tree, field_tree, member_tree};
 ghost use Rattle.type_heads.specs.Table.{form, is_object, named};
 ghost use Rattle.type_heads.specs.MemberFaults.{first_name_place as place_of_first, initial_rows, is_list_of as makes_list};
+ghost use Rattle.type_faults.specs.RowFacts.{initials_among};
 
 use dsl_tree::{Expr, FieldDecl, Ident, Member};
 use name_scope::with_fault;
 use osc_base::{Fault, FaultCode, Place};
 use type_heads::Heads;
-use type_members::ListedMember;
+use type_members::{ListedMember, MemberLists, Part, Span};
 
 /// The most elements of a list.
 const MOST_ELEMENTS: usize = 64;
@@ -82,11 +84,40 @@ pub fn with_initials(
     heads: &Heads,
     members: &[ListedMember<'_>],
 ) -> Option<Fault>
-    ensures { result ≡ first_from first (flat_map (λ m. initial_rows heads.now m.written.member) (map seen_listed members.now)) }
+    ensures { result ≡ first_from first (initials_among heads.now (map seen_listed members.now)) }
 {
     let mut found = first;
     for listed in members {
         found = with_initial(found, heads, listed.written.member);
     }
     found
+}
+
+/// Faults of the initial values in some parts.
+fn with_parts(
+    first: Option<Fault>,
+    heads: &Heads,
+    lists: &MemberLists<'_>,
+    parts: &[Part],
+) -> Option<Fault>
+    ensures { result ≡ first_from first (initials_among heads.now (parts_at (map seen_row lists.now.rows.items) parts.now)) }
+{
+    let mut found = first;
+    for part in parts {
+        found = with_initials(found, heads, lists.part(part));
+    }
+    found
+}
+
+/// Faults of the initial values of the members at a place.
+pub fn with_all_initials(
+    first: Option<Fault>,
+    heads: &Heads,
+    lists: &MemberLists<'_>,
+    span: &Span,
+) -> Option<Fault>
+    ensures { result ≡ first_from first (initials_among heads.now (list_at (fronts_in lists.now.rows.items) (map seen_row lists.now.rows.items) span.now)) }
+{
+    let found = with_parts(first, heads, lists, lists.front(span.row));
+    with_initials(found, heads, lists.own(span))
 }

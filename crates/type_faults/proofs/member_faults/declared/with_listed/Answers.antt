@@ -1,13 +1,13 @@
-use Rattle.std.proofs.Common.{◌∙◌, ◌++◌, List, [], ap, flat_map, map, false, slice_index_or}
-use Rattle.std.specs.Prelude.{filter_map}
+use Rattle.std.proofs.Common.{◌∙◌, ◌++◌, List, [], ap, false, map, slice_index_or}
 use Rattle.osc_base.specs.FaultRows.{FaultRow, first_from}
 use Rattle.type_heads.specs.Bodied.{seen_body}
-use Rattle.type_heads.specs.Members.{do_declared}
-use Rattle.type_heads.specs.MemberFaults.{condition_rows, do_rows, initial_rows, names_among, names_given, repeated_rows}
+use Rattle.type_heads.specs.MemberFaults.{condition_rows, do_rows, names_among, names_given, repeated_rows}
 use Rattle.type_heads.specs.Table.{form}
 use Rattle.type_heads.specs.Types.{Member}
-use Rattle.type_members.specs.Listed.{lists_of, seen_listed}
+use Rattle.type_members.specs.Listed.{lists_of, seen_row}
+use Rattle.type_members.specs.Shared.{fronts_in, list_at}
 use Rattle.type_faults.specs.ListedRows.{types_with}
+use Rattle.type_faults.specs.RowFacts.{dos_among, initials_among}
 use Rattle.type_faults.proofs.RowSteps.{two}
 use Rattle.type_faults.proofs.member_faults.declared.with_listed.Goals as goal
 
@@ -19,14 +19,16 @@ returns c =
     let ts = types_with heads (map seen_body d.bodies.now) (lists_of d.lists.now) in
     let same = c.requires.same in
     let named : List Member → List FaultRow = λ ms. repeated_rows (names_given (form heads of)) (names_among ms) in
-    let dos : List Member → List FaultRow = λ ms. do_rows (form heads of) false (filter_map (λ (m : Member). do_declared m m.written.member) ms) in
-    let initial : List Member → List FaultRow = λ ms. flat_map (λ (m : Member). initial_rows heads m.written.member) ms in
+    let dos : List Member → List FaultRow = λ ms. do_rows (form heads of) false (dos_among ms) in
+    let initial : List Member → List FaultRow = λ ms. initials_among heads ms in
     let members : List Member = slice_index_or (lists_of d.lists.now) of [] in
-    two (named members ++ dos members ++ initial members) (condition_rows ts of) c.args.first c.with_initials-set.result c.in_ok-found.found
-    (two (named members ++ dos members) (initial members) c.args.first c.with_dos-told.result c.with_initials-set.result
-    (two (named members) (dos members) c.args.first c.in_ok-named.named c.with_dos-told.result
-    (c.in_ok-named.ensures ∙ ap (λ f. first_from c.args.first (repeated_rows (names_given f) (names_among (map seen_listed c.args.members.now)))) c.form.ensures
+    let listed : List Member = list_at (fronts_in d.lists.now.rows.items) (map seen_row d.lists.now.rows.items) c.args.span.now in
+    two (named members ++ dos members ++ initial members) (condition_rows ts of) c.args.first c.with_all_initials-set.result c.in_ok-found.found
+    (two (named members ++ dos members) (initial members) c.args.first c.with_all_dos-told.result c.with_all_initials-set.result
+    (two (named members) (dos members) c.args.first c.in_ok-named.named c.with_all_dos-told.result
+    (c.in_ok-named.ensures ∙ ap (λ f. first_from c.args.first (repeated_rows (names_given f) (names_among listed))) c.form-form.ensures
     ∙ ap (λ ms. first_from c.args.first (named ms)) same)
-    (c.with_dos-told.ensures ∙ ap (λ ms. first_from c.in_ok-named.named (dos ms)) same))
-    (c.with_initials-set.ensures ∙ ap (λ ms. first_from c.with_dos-told.result (initial ms)) same))
+    (c.with_all_dos-told.ensures ∙ ap (λ f. first_from c.in_ok-named.named (do_rows f false (dos_among listed))) c.form-form.ensures
+    ∙ ap (λ ms. first_from c.in_ok-named.named (dos ms)) same))
+    (c.with_all_initials-set.ensures ∙ ap (λ ms. first_from c.with_all_dos-told.result (initial ms)) same))
     c.in_ok-found.ensures

@@ -4,9 +4,11 @@ use Rattle.type_heads.specs.Bodied.{seen_body}
 use Rattle.type_heads.specs.MemberFaults.{depends_on, type_rows}
 use Rattle.type_heads.specs.Table.{all_types, numbers_from}
 use Rattle.type_members.specs.Listed.{lists_of, seen_row}
+use Rattle.type_members.specs.Shared.{AreStarted, fronts_in}
 use Rattle.type_faults.specs.ListedRows.{types_with}
-use Rattle.type_faults.specs.PlainLists.{is_plain}
+use Rattle.type_faults.specs.NamePlaces.{AreRowPlaces}
 use Rattle.type_faults.specs.Ranking.{IsShown}
+use Rattle.type_faults.specs.RowFacts.{AreAllSo}
 use Rattle.type_faults.proofs.RowSteps.{done}
 use Rattle.type_faults.proofs.TypeNumbers.{next_number, no_number}
 use Rattle.type_faults.proofs.member_faults.declared.with_types.Goals as goal
@@ -16,10 +18,17 @@ with_type-requires-clause-shown c =
     let d = c.args.depends.now in
     subst (λ n. IsShown n (depends_on (types_with d.heads.now (map seen_body d.bodies.now) (lists_of d.lists.now))) c.in_ok-ranking.ranking) c.count-count.ensures c.in_ok-ranking.ensures
 
-pub with_type-requires-clause-plain : goal.with_type-requires-clause-plain
-with_type-requires-clause-plain c =
-    let d = c.args.depends.now in
-    c.as_slice.ensures.value ∙ c.in_ok-plain.ensures ∙ ap (λ rows. map (is_plain d.heads.now) (map seen_row rows)) c.rows.ensures
+pub row_facts-requires-clause-started : goal.row_facts-requires-clause-started
+row_facts-requires-clause-started c = subst AreStarted (sym c.rows.ensures) c.args.depends.now.lists.now.started
+
+pub row_facts-requires-clause-places : goal.row_facts-requires-clause-places
+row_facts-requires-clause-places c = subst (λ rs. AreRowPlaces c.args.depends.now.places.now (map seen_row rs)) (sym c.rows.ensures) c.args.depends.now.placed
+
+pub with_type-requires-clause-so : goal.with_type-requires-clause-so
+with_type-requires-clause-so c =
+    let heads = c.args.depends.now.heads.now in
+    subst (AreAllSo heads (fronts_in c.args.depends.now.lists.now.rows.items) (map seen_row c.args.depends.now.lists.now.rows.items)) (sym c.as_slice.ensures.value)
+    (subst (λ rs. AreAllSo heads (fronts_in rs) (map seen_row rs) c.in_ok-facts.facts.items) c.rows.ensures c.in_ok-facts.ensures)
 
 pub loop-number-preserved : goal.loop-number-preserved
 loop-number-preserved c =

@@ -1,4 +1,5 @@
 use Rattle.std.proofs.Common.{take_all, subst}
+use Rattle.type_faults.specs.NamePlaces.{lent_names}
 use Rattle.type_faults.specs.NameRows.{ContinuesNames}
 use Rattle.type_faults.proofs.RepeatedNames.{next_name}
 use Rattle.type_faults.proofs.member_faults.names.with_names.Goals as goal
@@ -8,4 +9,4 @@ loop-name-preserved c = next_name c.args.first c.loop-name.found c.in_ok-found.f
     c.loop-name-test.true c.name-item.is c.in_ok-found.ensures c.loop-name.invariant
 
 pub returns : goal.returns
-returns c = subst (ContinuesNames c.args.first c.args.met.now c.loop-name.found c.loop-name.met) (take_all c.loop-name.name-index c.args.names.now c.loop-name-test.false) c.loop-name.invariant
+returns c = subst (λ ns. ContinuesNames c.args.first c.args.met.now c.loop-name.found c.loop-name.met (lent_names ns)) (take_all c.loop-name.name-index c.args.names.now c.loop-name-test.false) c.loop-name.invariant

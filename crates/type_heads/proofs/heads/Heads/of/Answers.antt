@@ -1,5 +1,6 @@
 use Rattle.std.proofs.Common.{◌∙◌, sym, ap, map, subst}
 use Rattle.type_heads.specs.EnumNames.{IsEnumIndex}
+use Rattle.type_heads.specs.Ancestors.{AreAncestors}
 use Rattle.type_heads.specs.Table.{named}
 use Rattle.type_heads.specs.DeclaredTypes.{Declared}
 use Rattle.type_heads.specs.Placing.{seen_type}
@@ -16,6 +17,7 @@ invariant_of-result c =
           ∙ sym (ap (λ hs. named hs owner name) c.in_ok-entries.ensures.heads
           ∙ named_same (heads_of c.args.declarations.now) c.args.declarations.now.added.items 0 (map seen_type types) owner name 0),
       subst (IsEnumIndex c.in_ok-members.members) c.as_slice-2.ensures.value c.in_ok-members.ensures,
+      subst (λ hs. AreAncestors hs c.in_ok-ancestors.ancestors) c.as_slice-3.ensures.value c.in_ok-ancestors.ensures,
     )
 
 pub returns : goal.returns

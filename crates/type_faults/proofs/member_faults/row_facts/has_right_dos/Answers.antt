@@ -1,0 +1,15 @@
+use Rattle.std.proofs.Common.{◌∙◌, [], ap, append-nil, map, sym}
+use Rattle.std.specs.Prelude.{is_none}
+use Rattle.osc_base.specs.FaultRows.{first_fault}
+use Rattle.dsl_tree.specs.declared.compounds.CompoundKind.{CompoundKind}
+use Rattle.type_heads.specs.Form.{Form}
+use Rattle.type_heads.specs.MemberFaults.{do_rows}
+use Rattle.type_members.specs.Listed.{seen_listed}
+use Rattle.type_faults.specs.RowFacts.{dos_among}
+use Rattle.type_faults.proofs.Quiet.{told_none}
+use Rattle.type_faults.proofs.member_faults.row_facts.has_right_dos.Goals as goal
+
+pub returns : goal.returns
+returns c =
+    told_none c.with_dos.result.first c.is_none.result c.is_none.ensures
+    ∙ ap is_none (sym (ap (λ ds. first_fault (do_rows (Form.Compound CompoundKind.Scenario) c.args.is_later ds)) (sym (append-nil (dos_among (map seen_listed c.args.members.now)))) ∙ c.with_dos.ensures []))

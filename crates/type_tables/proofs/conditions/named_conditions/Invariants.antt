@@ -1,0 +1,9 @@
+use Rattle.std.proofs.Common.{◌≡◌, ◌++◌, drop, map}
+use Rattle.type_heads.specs.Bodied.{seen_body}
+use Rattle.type_heads.specs.Table.{numbers_from}
+use Rattle.type_tables.specs.Looked.{condition_by, field_type_in}
+use Rattle.type_tables.proofs.conditions.named_conditions.Given as goal
+
+abbrev pub invariant-loop-number : goal.invariant-loop-number
+invariant-loop-number l = l.all.items ++ map (condition_by l.heads (map seen_body l.bodies) (field_type_in l.fields)) (numbers_from l.number (drop l.number l.heads))
+    ≡ map (condition_by l.heads (map seen_body l.bodies) (field_type_in l.fields)) (numbers_from 0 l.heads)
