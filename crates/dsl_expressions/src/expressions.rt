@@ -177,7 +177,11 @@ pub fn suffixes(alloc: Global, tokens: &mut Cursor<'_>) -> Result<Row<Suffix>, S
 fn begins_suffix(tokens: &Cursor<'_>) -> bool
     ensures { result ≡ starts (first Part.Suffix) tokens.now }
 {
-    tokens.begins(Mark(MarkKind::Dot)) || tokens.begins(Mark(MarkKind::OpenSquare))
+    let (next, _) = tokens.split();
+    matches!(
+        next.kind,
+        TokenKind::Mark(MarkKind::Dot | MarkKind::OpenSquare)
+    )
 }
 
 /// A point and a name, or an index in square brackets.

@@ -41,20 +41,24 @@ pub fn take_operator(tokens: &mut Cursor<'_>, row: RowLevel) -> Option<(Place, O
     }
 }
 
+/// Whether a token is an operator of the row.
+fn is_operator(kind: &TokenKind, row: RowLevel) -> bool
+    ensures { result ≡ has (operators row) (code kind.now) }
+{
+    match row {
+        RowLevel::OrRow => matches!(kind, TokenKind::Word(WordKind::OrWord)),
+        RowLevel::AndRow => matches!(kind, TokenKind::Word(WordKind::AndWord)),
+        RowLevel::SumRow => matches!(kind, TokenKind::Mark(MarkKind::Plus | MarkKind::Dash)),
+        RowLevel::ProductRow => matches!(kind, TokenKind::Mark(MarkKind::Star | MarkKind::Slash)),
+    }
+}
+
 /// Whether the first token is an operator of the row.
 pub fn begins_operator(tokens: &Cursor<'_>, row: RowLevel) -> bool
     ensures { result ≡ starts (operators row) tokens.now }
 {
-    match row {
-        RowLevel::OrRow => tokens.begins(Word(WordKind::OrWord)),
-        RowLevel::AndRow => tokens.begins(Word(WordKind::AndWord)),
-        RowLevel::SumRow => {
-            tokens.begins(Mark(MarkKind::Plus)) || tokens.begins(Mark(MarkKind::Dash))
-        }
-        RowLevel::ProductRow => {
-            tokens.begins(Mark(MarkKind::Star)) || tokens.begins(Mark(MarkKind::Slash))
-        }
-    }
+    let (next, _) = tokens.split();
+    is_operator(&next.kind, row)
 }
 
 fn sign_of_mark(mark: MarkKind) -> Option<RelationSign>

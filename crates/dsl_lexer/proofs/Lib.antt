@@ -1,7 +1,7 @@
 pub mod Walks
 pub mod Inside
 pub mod Tables
-pub mod WordLengths
+pub mod WordTables
 pub mod Fitting
 pub mod Fronts
 pub mod Numbers

@@ -36,11 +36,6 @@ left_out_words = (codes "on", OnWord) ∷ (codes "var", VarWord) ∷ (codes "def
     ∷ (codes "record", RecordWord) ∷ (codes "external", ExternalWord) ∷ (codes "modifier", ModifierWord)
     ∷ (codes "namespace", NamespaceWord) ∷ []
 
--- the words of a table come by their lengths, and the first has at least n bytes
-abbrev pub is_by_length : {K : Type 0} → ℕ → List (List ℕ × K) → Bool
-is_by_length n [] = true
-is_by_length n ((word, kind) ∷ more) = nat_le n (length word) && is_by_length (length word) more
-
 -- a name is a reserved word, else a left-out word, else a name of the program's own
 abbrev pub first_kind : Option WordKind → Option ExcludedWord → List ℕ → TokenKind
 first_kind (Some word) left text = Word word

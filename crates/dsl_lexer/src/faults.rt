@@ -1,6 +1,6 @@
 //! Which fault stands at a place, by what is known there. What is computed is a definition of `specs/Steps.antt`.
 
-ghost use Rattle.std.specs.Prelude.{◌≡◌, ◌+◌, ◌≤◌, ◌<◌, ◌^◌, length, Option, Some, None, IsSome};
+ghost use Rattle.std.specs.Prelude.{◌≡◌, ◌+◌, ◌≤◌, ◌<◌, ◌^◌, length, Option, Some, None, IsSome, nat_lt};
 ghost use Rattle.dsl_lexer.specs.Kinds.{kind_of};
 ghost use Rattle.dsl_lexer.specs.SourceTokens.{token_faults};
 ghost use Rattle.dsl_lexer.specs.Steps as steps;
@@ -31,16 +31,22 @@ pub fn white_fault(layout: &Layout, valid: usize) -> Option<(Spot, FaultCode)>
     None
 }
 
-/// A byte of the next `len` that begins no character.
-pub fn end_fault(layout: &Layout, valid: usize, len: usize) -> Option<(Spot, FaultCode)>
+/// Whether a byte of the next `len` begins no character.
+pub fn has_bad_byte(layout: &Layout, valid: usize, len: usize) -> bool
+    requires room { HasRoom layout.now len }
+    ensures { result ≡ nat_lt valid (layout.now.spot.at + len) }
+{
+    valid < layout.spot.at + len
+}
+
+/// The first byte that begins no character, if one of the next `len` does so.
+pub fn bad_byte(layout: &Layout, valid: usize, len: usize) -> (Spot, FaultCode)
     requires room { HasRoom layout.now len }
     requires behind { layout.now.spot.at ≤ valid }
-    ensures { result ≡ steps.end_fault layout.now valid len }
+    requires bad { valid < layout.now.spot.at + len }
+    ensures { Some result ≡ steps.end_fault layout.now valid len }
 {
-    if valid < layout.spot.at + len {
-        return Some((layout.spot.past(valid - layout.spot.at), FaultCode::Utf8));
-    }
-    None
+    (layout.spot.past(valid - layout.spot.at), FaultCode::Utf8)
 }
 
 /// How deep the nesting is after a token, when `brackets` brackets are open after it.
@@ -65,9 +71,8 @@ fn token_fault(layout: &Layout, shape: Shape, text: &[u8], brackets: u32) -> Opt
     requires token { IsSome (kind_of shape text.now) }
     ensures { result ≡ steps.first_code token_faults (steps.lexeme_at layout.now shape text.now brackets) }
 {
-    let before = layout.brackets as usize + layout.widths.len();
     let behind = depth_behind(layout, brackets);
-    if before < behind && behind > 64 {
+    if behind > 64 && layout.brackets as usize + layout.widths.len() < behind {
         return Some(FaultCode::Deep);
     }
     None
@@ -98,5 +103,8 @@ pub fn lexeme_fault(
             }
         }
     }
-    end_fault(layout, valid, text.len())
+    if has_bad_byte(layout, valid, text.len()) {
+        return Some(bad_byte(layout, valid, text.len()));
+    }
+    None
 }

@@ -128,8 +128,8 @@ fn separate(
     requires separator { shapes.is_lexeme shape ≡ false }
     ensures { Gives file layout.old (steps.separator_of file valid layout.old shape len) result layout.new }
 {
-    if let Some(fault) = faults::end_fault(layout, valid, len) {
-        return Err(stop_at(file, layout, fault));
+    if faults::has_bad_byte(layout, valid, len) {
+        return Err(stop_at(file, layout, faults::bad_byte(layout, valid, len)));
     }
     take_separator(file, layout, shape, len)?;
     Ok(())

@@ -1,10 +1,6 @@
-use Rattle.std.proofs.Common.{◌≡◌, map, drop, true}
-use Rattle.dsl_lexer.specs.Kinds.{is_by_length}
+use Rattle.std.proofs.Common.{◌≡◌, map, drop}
 use Rattle.dsl_lexer.specs.Shapes as shapes
 use Rattle.dsl_lexer.proofs.words.entry.Given as goal
 
 abbrev pub invariant-loop-word : goal.invariant-loop-word
-invariant-loop-word g l = record {
-  same : shapes.entry l.text (map (λ e. (e.0.now, e.1)) (drop l.word-index l.table)) ≡ shapes.entry l.text (map (λ e. (e.0.now, e.1)) l.table);
-  by_length : is_by_length 0 (map (λ e. (e.0.now, e.1)) (drop l.word-index l.table)) ≡ true;
-}
+invariant-loop-word g l = shapes.entry l.text (map (λ e. (e.0.now, e.1)) (drop l.word-index l.table)) ≡ shapes.entry l.text (map (λ e. (e.0.now, e.1)) l.table)
