@@ -15,9 +15,9 @@ use Rattle.dsl_tree.specs.declared.token.TokenKind.TheVariants.{Indent, Dedent, 
 use Rattle.dsl_lexer.specs.declared.shape.Shape.{Shape}
 use Rattle.dsl_lexer.specs.Bytes.{place_at, is_digit, is_hexadecimal_digit}
 use Rattle.dsl_lexer.specs.Shapes.{Space, Tab, Comment, LineEnd, Joint, MarkShape, NameShape, NumberShape, StringShape, is_lexeme, entry, marks}
-use Rattle.dsl_lexer.specs.Kinds.{fraction, unit_name, kind_of, first_kind, is_word, number_kind, hexadecimal_kind, decimal_kind, reserved_words, left_out_words}
-use Rattle.dsl_tree.specs.declared.token.WordKind.{WordKind}
-use Rattle.dsl_tree.specs.declared.token.ExcludedWord.{ExcludedWord}
+use Rattle.dsl_lexer.specs.Kinds.{fraction, unit_name, kind_of, is_word, word_or_name, words, number_kind, hexadecimal_kind, decimal_kind}
+use Rattle.dsl_lexer.specs.declared.words.LanguageWord.{LanguageWord}
+use Rattle.dsl_lexer.specs.declared.words.LanguageWord.TheVariants.{LeftOut, Reserved}
 use Rattle.dsl_tree.specs.declared.token.MarkKind.{MarkKind}
 use Rattle.std.specs.Option.{option_map}
 use Rattle.std.specs.Str.{bytes_eq}
@@ -140,10 +140,10 @@ abbrev OwnNoEnd : Option TokenKind → Type 0
 OwnNoEnd None = Unit {0}
 OwnNoEnd (Some k) = k ≢ End
 
-name_no_end : (w : Option WordKind) (u : Option ExcludedWord) (text : List ℕ) → first_kind w u text ≢ End
-name_no_end (Some w) u text e = cc
-name_no_end None (Some u) text e = cc
-name_no_end None None text e = cc
+name_no_end : (w : Option LanguageWord) (text : List ℕ) → word_or_name w text ≢ End
+name_no_end (Some (Reserved w)) text e = cc
+name_no_end (Some (LeftOut w)) text e = cc
+name_no_end None text e = cc
 
 mark_no_end : (o : Option MarkKind) → OwnNoEnd (option_map Mark o)
 mark_no_end None = tt
@@ -161,7 +161,7 @@ number_no_end text = cond_both (bytes_eq (take 2 text) (codes "0x")) (hexadecima
 
 kind_no_end : (s : Shape) (text : List ℕ) → OwnNoEnd (kind_of s text)
 kind_no_end MarkShape text = mark_no_end (entry text marks)
-kind_no_end NameShape text = name_no_end (entry text reserved_words) (entry text left_out_words) text
+kind_no_end NameShape text = name_no_end (entry text words) text
 kind_no_end NumberShape text = number_no_end text
 kind_no_end StringShape text = λ e. cc
 kind_no_end Space text = tt

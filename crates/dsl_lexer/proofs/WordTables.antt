@@ -1,44 +1,96 @@
 -- What a table of words has for a text: only its words of the same length and with the same first byte matter.
-use Rattle.std.proofs.Common.{◌≡◌, ◌∙◌, refl, sym, ap, ℕ, ◌+◌, ◌<◌, Bool, true, false, cond, List, [], ◌∷◌, Option, Some, None, eqb, arith, length, map, drop, get_or, true≢false, Bor}
-use Rattle.std.specs.Option.{option_eq}
-use Rattle.std.specs.Prelude.{◌==◌, filter, option_copied, slice_get, Decides}
+use Rattle.std.proofs.Common.{◌≡◌, ◌∙◌, refl, sym, ap, ℕ, zero, suc, ◌+◌, ◌<◌, ◌≤◌, Bool, true, false, cond, List, [], ◌∷◌, ◌++◌, Option, Some, None, eqb, arith, length, map, drop, get_or, true≢false, Bor}
+use Rattle.std.specs.Option.{option_eq, option_map}
+use Rattle.std.specs.Prelude.{◌==◌, option_copied, slice_get, Decides}
+use Rattle.std.specs.List.{list_all}
+use Rattle.std.specs.Slice.{IsItemAt}
 use Rattle.std.specs.Str.{bytes_eq}
-use Rattle.std.proofs.lemmas.Bool.{cond-false, eq-eqb, false_from_ne_true, false≢true}
+use Rattle.std.proofs.lemmas.Bool.{and_parts, cond-false, eqb-true, false_from_ne_true}
+use Rattle.std.proofs.lemmas.Option.{same_Some, slice_get-map, slice_get_read}
 use Rattle.std.proofs.lemmas.Bool.Decides.{nat_tests}
-use Rattle.std.proofs.lemmas.List.{drop_more}
+use Rattle.std.proofs.lemmas.List.{drop_more, length-map}
 use Rattle.std.proofs.lemmas.Slice.Eq.{bytes_eq-Decides}
+use Rattle.dsl_lexer.specs.Kinds.{all_words, is_by_length}
 use Rattle.dsl_lexer.specs.Shapes.{entry}
 
--- Words of another length
+-- Words by their lengths
 
-skip : {K : Type 0} (text word : List ℕ) (kind : K) (rest : Option K) (n : ℕ) → length text ≡ n → (length word == n) ≡ false → cond (bytes_eq text word) (Some kind) rest ≡ rest
-skip text word kind rest n size other =
-    cond-false (bytes_eq text word) (Some kind) rest (false_from_ne_true (bytes_eq text word) (λ e.
-    let same = (bytes_eq-Decides text word).0 e in
-    false≢true (sym other ∙ eq-eqb (length word) n (sym (ap length same) ∙ size))))
+module _ {K : Type 0} (text : List ℕ) where
+  -- words of another length have nothing for a text
+  other_words : (n : ℕ) (words : List (List ℕ × K)) → (length text ≡ n → ⊥) → list_all (λ e. length e.0 == n) words ≡ true → entry text words ≡ None
+  other_words n [] other all = refl
+  other_words n ((word, kind) ∷ more) other all =
+      let parts = and_parts (length word == n) (list_all (λ e. length e.0 == n) more) all in
+      cond-false (bytes_eq text word) (Some kind) (entry text more) (false_from_ne_true (bytes_eq text word) (λ same.
+      other (ap length ((bytes_eq-Decides text word).0 same) ∙ eqb-true (length word) n parts.0)))
+      ∙ other_words n more other parts.1
 
-keep : {K : Type 0} (text word : List ℕ) (kind : K) (more short : List (List ℕ × K)) (n : ℕ) (t : Bool) → length text ≡ n → (length word == n) ≡ t → entry text more ≡ entry text short
-    → entry text ((word, kind) ∷ more) ≡ entry text (cond t ((word, kind) ∷ short) short)
-keep text word kind more short n true size e h = ap (λ o. cond (bytes_eq text word) (Some kind) o) h
-keep text word kind more short n false size e h = skip text word kind (entry text more) n size e ∙ h
+  -- words that have nothing for a text can be left out before others, and after them
+  pass : (words others : List (List ℕ × K)) → entry text words ≡ None → entry text (words ++ others) ≡ entry text others
+  pass [] others none = refl
+  pass ((word, kind) ∷ more) others none = by (bytes_eq text word) none (pass more others)
+    where
+      by : (b : Bool) → cond b (Some kind) (entry text more) ≡ None → (entry text more ≡ None → entry text (more ++ others) ≡ entry text others) →
+          cond b (Some kind) (entry text (more ++ others)) ≡ entry text others
+      by true e later = absurd (cc)
+      by false e later = later e
 
--- a table has for a text what its words of the text's length have
-pub entry_by_length : {K : Type 0} (table : List (List ℕ × K)) (text : List ℕ) (n : ℕ) → length text ≡ n → entry text table ≡ entry text (filter (λ e. length e.0 == n) table)
-entry_by_length [] text n size = refl
-entry_by_length ((word, kind) ∷ more) text n size = keep text word kind more (filter (λ e. length e.0 == n) more) n (length word == n) size refl (entry_by_length more text n size)
+  stop : (words others : List (List ℕ × K)) → entry text others ≡ None → entry text (words ++ others) ≡ entry text words
+  stop [] others none = none
+  stop ((word, kind) ∷ more) others none = ap (λ rest. cond (bytes_eq text word) (Some kind) rest) (stop more others none)
 
--- The words of a table that are left
+  -- rows of longer words have nothing for a text
+  later_rows : (n : ℕ) (rows : List (List (List ℕ × K))) → length text < n → is_by_length n rows ≡ true → entry text (all_words rows) ≡ None
+  later_rows n [] less by_length = refl
+  later_rows n (row ∷ more) less by_length =
+      let parts = and_parts (list_all (λ e. length e.0 == n) row) (is_by_length (n + 1) more) by_length in
+      pass row (all_words more) (other_words n row (λ same. omega (arith, same, less)) parts.0) ∙ later_rows (n + 1) more (omega (arith, less)) parts.1
+
+  -- a text that is longer than the words of all rows isn't among them
+  pub longer_text : (n : ℕ) (rows : List (List (List ℕ × K))) → is_by_length n rows ≡ true → n + length rows ≤ length text → entry text (all_words rows) ≡ None
+  longer_text n [] by_length long = refl
+  longer_text n (row ∷ more) by_length long =
+      let parts = and_parts (list_all (λ e. length e.0 == n) row) (is_by_length (n + 1) more) by_length in
+      pass row (all_words more) (other_words n row (λ same. omega (arith, same, long)) parts.0) ∙ longer_text (n + 1) more parts.1 (omega (arith, long))
+
+  -- rows of words have for a text what the row of its length has
+  pub entry_by_length : (n i : ℕ) (rows : List (List (List ℕ × K))) (row : List (List ℕ × K)) → is_by_length n rows ≡ true → length text ≡ n + i → slice_get rows i ≡ Some row →
+      entry text (all_words rows) ≡ entry text row
+  entry_by_length n i [] row by_length long at = absurd (cc)
+  entry_by_length n zero (first ∷ more) row by_length long at =
+      let parts = and_parts (list_all (λ e. length e.0 == n) first) (is_by_length (n + 1) more) by_length in
+      stop first (all_words more) (later_rows (n + 1) more (omega (arith, long)) parts.1) ∙ ap (entry text) (same_Some first row at)
+  entry_by_length n (suc i) (first ∷ more) row by_length long at =
+      let parts = and_parts (list_all (λ e. length e.0 == n) first) (is_by_length (n + 1) more) by_length in
+      pass first (all_words more) (other_words n first (λ same. omega (arith, same, long)) parts.0)
+      ∙ entry_by_length (n + 1) i more row parts.1 (omega (arith, long)) at
+
+-- The rows of a table, and the words of a row that are left
 
 -- a row of the program's own table
-abbrev seen : {K : Type 0} → Bor (List ℕ) × K → List ℕ × K
+abbrev pub seen : {K : Type 0} → Bor (List ℕ) × K → List ℕ × K
 seen e = (e.0.now, e.1)
 
+-- the program's own table has for a text what its row of the text's length has
+pub row_of_length : {K : Type 0} (text : List ℕ) (table : List (Bor (List (Bor (List ℕ) × K)))) (row : Bor (Bor (List (Bor (List ℕ) × K)))) →
+    is_by_length 0 (map (λ r. map seen r.now) table) ≡ true → IsItemAt table (length text) (Some row) →
+    entry text (map seen row.now.now) ≡ entry text (all_words (map (λ r. map seen r.now) table))
+row_of_length text table row by_length at =
+    let here : slice_get table (length text) ≡ Some row.now = slice_get_read table (length table) (length text) row.now refl at.3.0 (at.4 (omega arith) row.now) in
+    sym (entry_by_length text 0 (length text) (map (λ r. map seen r.now) table) (map seen row.now.now) by_length (omega arith)
+    (slice_get-map (λ r. map seen r.now) table (length text) ∙ ap (option_map (λ r. map seen r.now)) here))
+
+pub no_row_of_length : {K : Type 0} (text : List ℕ) (table : List (Bor (List (Bor (List ℕ) × K)))) → is_by_length 0 (map (λ r. map seen r.now) table) ≡ true →
+    length table ≤ length text → entry text (all_words (map (λ r. map seen r.now) table)) ≡ None
+no_row_of_length text table by_length long =
+    longer_text text 0 (map (λ r. map seen r.now) table) by_length (omega (arith, long, length-map table (λ r. map seen r.now)))
+
 -- the next word isn't the text
-pub other_next : {K : Type 0} (text : List ℕ) (table : List (Bor (List ℕ) × K)) (i : ℕ) (e : Bor (List ℕ) × K) → i < length table → e ≡ get_or table i e →
-    bytes_eq text e.0.now ≡ false → entry text (map seen (drop (i + 1) table)) ≡ entry text (map seen (drop i table))
-other_next text table i e lt at other =
-    sym (ap (λ xs. entry text (map seen xs)) (drop_more table i e lt ∙ ap (λ y. y ∷ drop (i + 1) table) (sym at))
-    ∙ cond-false (bytes_eq text e.0.now) (Some e.1) (entry text (map seen (drop (i + 1) table))) other)
+pub other_next : {K : Type 0} (text : List ℕ) (words : List (Bor (List ℕ) × K)) (i : ℕ) (d : Bor (List ℕ) × K) → i < length words →
+    bytes_eq text (get_or words i d).0.now ≡ false → entry text (map seen (drop (i + 1) words)) ≡ entry text (map seen (drop i words))
+other_next text words i d lt other =
+    sym (ap (λ xs. entry text (map seen xs)) (drop_more words i d lt)
+    ∙ cond-false (bytes_eq text (get_or words i d).0.now) (Some (get_or words i d).1) (entry text (map seen (drop (i + 1) words))) other)
 
 -- Words with another first byte
 

@@ -1,52 +1,62 @@
 -- Which token a text is, by its shape.
-use Rattle.std.specs.Prelude.{ℕ, ◌+◌, ◌*◌, ◌==◌, Bool, true, false, ◌-◌, ◌||◌, ◌&&◌, not, nat_le, if◌then◌else◌, is_some, List, [], ◌∷◌, ◌++◌, length, take, drop, fold, take_while, Option, Some, None, codes}
+use Rattle.std.specs.Prelude.{ℕ, ◌+◌, ◌*◌, ◌==◌, Bool, true, false, ◌-◌, ◌&&◌, not, nat_le, if◌then◌else◌, is_some, List, [], ◌∷◌, ◌++◌, length, take, drop, fold, take_while, Option, Some, None, codes}
 use Rattle.std.specs.List.{list_all, prefix_len}
 use Rattle.std.specs.Option.{option_map}
 use Rattle.std.specs.Str.{bytes_eq}
 use Rattle.std.specs.Char.{digit_value}
 use Rattle.dsl_tree.specs.declared.token.TokenKind.{TokenKind}
-use Rattle.dsl_tree.specs.declared.token.TokenKind.TheVariants.{Mark, Word, LeftOut, Name, Number, Physical, Chars}
-use Rattle.dsl_tree.specs.declared.token.WordKind.{WordKind}
+use Rattle.dsl_tree.specs.declared.token.TokenKind.TheVariants.{Mark, Word, Name, Number, Physical, Chars}
 use Rattle.dsl_tree.specs.declared.token.WordKind.TheVariants.{ImportWord, TypeWord, UnitWord, IsWord, OfWord, EnumWord, StructWord, ActorWord, ActionWord, ScenarioWord, InheritsWord, ExtendWord, ListWord, KeepWord, HardWord, DefaultWord, RemoveDefaultWord, DoWord, SerialWord, ParallelWord, OneOfWord, WaitWord, ElapsedWord, WithWord, ItWord, InWord, RangeWord, AndWord, OrWord, NotWord, TrueWord, FalseWord}
-use Rattle.dsl_tree.specs.declared.token.ExcludedWord.{ExcludedWord}
 use Rattle.dsl_tree.specs.declared.token.ExcludedWord.TheVariants.{NamespaceWord, ExportWord, EventWord, OnWord, UntilWord, EmitWord, RiseWord, FallWord, EveryWord, VarWord, SampleWord, GlobalWord, DefWord, ExternalWord, CallWord, CoverWord, RecordWord, ModifierWord}
 use Rattle.dsl_lexer.specs.Bytes.{is_digit, is_hexadecimal_digit, is_backslash}
 use Rattle.dsl_lexer.specs.declared.shape.Shape.{Shape}
+use Rattle.dsl_lexer.specs.declared.words.LanguageWord.{LanguageWord}
+use Rattle.dsl_lexer.specs.declared.words.LanguageWord.TheVariants.{LeftOut, Reserved}
 use Rattle.dsl_lexer.specs.Shapes.{MarkShape, NameShape, NumberShape, StringShape, entry, marks}
 
--- Words, the shortest first
+-- Words of the language, the shortest first
 
-abbrev pub reserved_words : List (List ℕ × WordKind)
-reserved_words = (codes "is", IsWord) ∷ (codes "of", OfWord) ∷ (codes "do", DoWord) ∷ (codes "it", ItWord)
-    ∷ (codes "in", InWord) ∷ (codes "or", OrWord) ∷ (codes "and", AndWord) ∷ (codes "not", NotWord)
-    ∷ (codes "type", TypeWord) ∷ (codes "unit", UnitWord) ∷ (codes "enum", EnumWord) ∷ (codes "list", ListWord)
-    ∷ (codes "keep", KeepWord) ∷ (codes "hard", HardWord) ∷ (codes "wait", WaitWord) ∷ (codes "with", WithWord)
-    ∷ (codes "true", TrueWord) ∷ (codes "actor", ActorWord) ∷ (codes "range", RangeWord) ∷ (codes "false", FalseWord)
-    ∷ (codes "import", ImportWord) ∷ (codes "struct", StructWord) ∷ (codes "action", ActionWord)
-    ∷ (codes "extend", ExtendWord) ∷ (codes "serial", SerialWord) ∷ (codes "one_of", OneOfWord)
-    ∷ (codes "default", DefaultWord) ∷ (codes "elapsed", ElapsedWord) ∷ (codes "scenario", ScenarioWord)
-    ∷ (codes "inherits", InheritsWord) ∷ (codes "parallel", ParallelWord)
-    ∷ (codes "remove_default", RemoveDefaultWord) ∷ []
+abbrev pub words : List (List ℕ × LanguageWord)
+words = (codes "is", Reserved IsWord) ∷ (codes "of", Reserved OfWord) ∷ (codes "do", Reserved DoWord) ∷ (codes "it", Reserved ItWord)
+    ∷ (codes "in", Reserved InWord) ∷ (codes "or", Reserved OrWord) ∷ (codes "on", LeftOut OnWord) ∷ (codes "and", Reserved AndWord)
+    ∷ (codes "not", Reserved NotWord) ∷ (codes "var", LeftOut VarWord) ∷ (codes "def", LeftOut DefWord) ∷ (codes "type", Reserved TypeWord)
+    ∷ (codes "unit", Reserved UnitWord) ∷ (codes "enum", Reserved EnumWord) ∷ (codes "list", Reserved ListWord)
+    ∷ (codes "keep", Reserved KeepWord) ∷ (codes "hard", Reserved HardWord) ∷ (codes "wait", Reserved WaitWord)
+    ∷ (codes "with", Reserved WithWord) ∷ (codes "true", Reserved TrueWord) ∷ (codes "emit", LeftOut EmitWord)
+    ∷ (codes "rise", LeftOut RiseWord) ∷ (codes "fall", LeftOut FallWord) ∷ (codes "call", LeftOut CallWord)
+    ∷ (codes "actor", Reserved ActorWord) ∷ (codes "range", Reserved RangeWord) ∷ (codes "false", Reserved FalseWord)
+    ∷ (codes "event", LeftOut EventWord) ∷ (codes "until", LeftOut UntilWord) ∷ (codes "every", LeftOut EveryWord)
+    ∷ (codes "cover", LeftOut CoverWord) ∷ (codes "import", Reserved ImportWord) ∷ (codes "struct", Reserved StructWord)
+    ∷ (codes "action", Reserved ActionWord) ∷ (codes "extend", Reserved ExtendWord) ∷ (codes "serial", Reserved SerialWord)
+    ∷ (codes "one_of", Reserved OneOfWord) ∷ (codes "export", LeftOut ExportWord) ∷ (codes "sample", LeftOut SampleWord)
+    ∷ (codes "global", LeftOut GlobalWord) ∷ (codes "record", LeftOut RecordWord) ∷ (codes "default", Reserved DefaultWord)
+    ∷ (codes "elapsed", Reserved ElapsedWord) ∷ (codes "scenario", Reserved ScenarioWord) ∷ (codes "inherits", Reserved InheritsWord)
+    ∷ (codes "parallel", Reserved ParallelWord) ∷ (codes "external", LeftOut ExternalWord) ∷ (codes "modifier", LeftOut ModifierWord)
+    ∷ (codes "namespace", LeftOut NamespaceWord) ∷ (codes "remove_default", Reserved RemoveDefaultWord) ∷ []
 
-abbrev pub left_out_words : List (List ℕ × ExcludedWord)
-left_out_words = (codes "on", OnWord) ∷ (codes "var", VarWord) ∷ (codes "def", DefWord) ∷ (codes "emit", EmitWord)
-    ∷ (codes "rise", RiseWord) ∷ (codes "fall", FallWord) ∷ (codes "call", CallWord) ∷ (codes "event", EventWord)
-    ∷ (codes "until", UntilWord) ∷ (codes "every", EveryWord) ∷ (codes "cover", CoverWord)
-    ∷ (codes "export", ExportWord) ∷ (codes "sample", SampleWord) ∷ (codes "global", GlobalWord)
-    ∷ (codes "record", RecordWord) ∷ (codes "external", ExternalWord) ∷ (codes "modifier", ModifierWord)
-    ∷ (codes "namespace", NamespaceWord) ∷ []
+-- Rows of words
 
--- a name is a reserved word, else a left-out word, else a name of the program's own
-abbrev pub first_kind : Option WordKind → Option ExcludedWord → List ℕ → TokenKind
-first_kind (Some word) left text = Word word
-first_kind None (Some word) text = LeftOut word
-first_kind None None text = Name text
+-- the words of all rows, the first row first
+abbrev pub all_words : {X : Type 0} → List (List X) → List X
+all_words [] = []
+all_words (row ∷ more) = row ++ all_words more
+
+-- the words of row n have n letters, those of the next row one more, and so on
+abbrev pub is_by_length : {K : Type 0} → ℕ → List (List (List ℕ × K)) → Bool
+is_by_length n [] = true
+is_by_length n (row ∷ more) = list_all (λ e. length e.0 == n) row && is_by_length (n + 1) more
+
+-- a name that is a word of the language is that word, any other is a name of the program's own
+abbrev pub word_or_name : Option LanguageWord → List ℕ → TokenKind
+word_or_name (Some (Reserved word)) text = Word word
+word_or_name (Some (LeftOut word)) text = TokenKind.LeftOut word
+word_or_name None text = Name text
 
 abbrev pub name_kind : List ℕ → TokenKind
-name_kind text = first_kind (entry text reserved_words) (entry text left_out_words) text
+name_kind text = word_or_name (entry text words) text
 
 abbrev pub is_word : List ℕ → Bool
-is_word text = is_some (entry text reserved_words) || is_some (entry text left_out_words)
+is_word text = is_some (entry text words)
 
 -- the number that digits stand for
 abbrev pub value : ℕ → List ℕ → ℕ

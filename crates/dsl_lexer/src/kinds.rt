@@ -8,6 +8,7 @@ ghost use Rattle.dsl_lexer.specs.Bytes as bytes;
 ghost use Rattle.dsl_lexer.specs.Kinds as kinds;
 ghost use Rattle.dsl_lexer.specs.Values.{value_from, Fits};
 
+use crate::words::LanguageWord;
 use crate::{scan, words};
 use dsl_tree::TokenKind;
 use osc_base::Text;
@@ -26,13 +27,11 @@ pub fn name_kind(alloc: Global, text: &[u8]) -> Result<TokenKind, AllocError>
     requires { IsUtf8 text.now }
     ensures { IfOk result (λ kind. kind ≡ kinds.name_kind text.now) }
 {
-    if let Some(word) = words::reserved_word(text) {
-        return Ok(TokenKind::Word(word));
+    match words::word(text) {
+        Some(LanguageWord::Reserved(word)) => Ok(TokenKind::Word(word)),
+        Some(LanguageWord::LeftOut(word)) => Ok(TokenKind::LeftOut(word)),
+        None => Ok(TokenKind::Name(text_of(alloc, text)?)),
     }
-    if let Some(word) = words::left_out_word(text) {
-        return Ok(TokenKind::LeftOut(word));
-    }
-    Ok(TokenKind::Name(text_of(alloc, text)?))
 }
 
 fn digit_value(b: u8) -> u64

@@ -1,110 +1,101 @@
-//! The words of the language. Each table has those of one length, so that a text is compared with few words.
+//! The words of the language, by their lengths: a text is compared with the words of its own length alone.
 
-ghost use Rattle.std.specs.Prelude.{◌≡◌, ◌||◌, map, is_some};
+ghost use Rattle.std.specs.Prelude.{◌≡◌, map, true};
 ghost use Rattle.dsl_lexer.specs.Shapes as shapes;
-ghost use Rattle.dsl_lexer.specs.Kinds.{reserved_words, left_out_words};
+ghost use Rattle.dsl_lexer.specs.Kinds.{all_words, is_by_length, words};
 ghost use Rattle.dsl_lexer.specs.Kinds as kinds;
 
+use LanguageWord::{LeftOut, Reserved};
 use dsl_tree::{ExcludedWord, WordKind};
 
-type ReservedWord = (&'static [u8], WordKind);
+/// A word of the language, which no name may be.
+#[derive(Clone, Copy)]
+pub enum LanguageWord {
+    /// A word of the profile.
+    Reserved(WordKind),
+    /// A word that the profile leaves out.
+    LeftOut(ExcludedWord),
+}
 
-type LeftOutWord = (&'static [u8], ExcludedWord);
-
-const RESERVED_OF_TWO: [ReservedWord; 6] = [
-    (b"is", WordKind::IsWord),
-    (b"of", WordKind::OfWord),
-    (b"do", WordKind::DoWord),
-    (b"it", WordKind::ItWord),
-    (b"in", WordKind::InWord),
-    (b"or", WordKind::OrWord),
+/// The words of the language: in row `n` those of `n` letters.
+const WORDS: [&[(&[u8], LanguageWord)]; 15] = [
+    &[],
+    &[],
+    &[
+        (b"is", Reserved(WordKind::IsWord)),
+        (b"of", Reserved(WordKind::OfWord)),
+        (b"do", Reserved(WordKind::DoWord)),
+        (b"it", Reserved(WordKind::ItWord)),
+        (b"in", Reserved(WordKind::InWord)),
+        (b"or", Reserved(WordKind::OrWord)),
+        (b"on", LeftOut(ExcludedWord::OnWord)),
+    ],
+    &[
+        (b"and", Reserved(WordKind::AndWord)),
+        (b"not", Reserved(WordKind::NotWord)),
+        (b"var", LeftOut(ExcludedWord::VarWord)),
+        (b"def", LeftOut(ExcludedWord::DefWord)),
+    ],
+    &[
+        (b"type", Reserved(WordKind::TypeWord)),
+        (b"unit", Reserved(WordKind::UnitWord)),
+        (b"enum", Reserved(WordKind::EnumWord)),
+        (b"list", Reserved(WordKind::ListWord)),
+        (b"keep", Reserved(WordKind::KeepWord)),
+        (b"hard", Reserved(WordKind::HardWord)),
+        (b"wait", Reserved(WordKind::WaitWord)),
+        (b"with", Reserved(WordKind::WithWord)),
+        (b"true", Reserved(WordKind::TrueWord)),
+        (b"emit", LeftOut(ExcludedWord::EmitWord)),
+        (b"rise", LeftOut(ExcludedWord::RiseWord)),
+        (b"fall", LeftOut(ExcludedWord::FallWord)),
+        (b"call", LeftOut(ExcludedWord::CallWord)),
+    ],
+    &[
+        (b"actor", Reserved(WordKind::ActorWord)),
+        (b"range", Reserved(WordKind::RangeWord)),
+        (b"false", Reserved(WordKind::FalseWord)),
+        (b"event", LeftOut(ExcludedWord::EventWord)),
+        (b"until", LeftOut(ExcludedWord::UntilWord)),
+        (b"every", LeftOut(ExcludedWord::EveryWord)),
+        (b"cover", LeftOut(ExcludedWord::CoverWord)),
+    ],
+    &[
+        (b"import", Reserved(WordKind::ImportWord)),
+        (b"struct", Reserved(WordKind::StructWord)),
+        (b"action", Reserved(WordKind::ActionWord)),
+        (b"extend", Reserved(WordKind::ExtendWord)),
+        (b"serial", Reserved(WordKind::SerialWord)),
+        (b"one_of", Reserved(WordKind::OneOfWord)),
+        (b"export", LeftOut(ExcludedWord::ExportWord)),
+        (b"sample", LeftOut(ExcludedWord::SampleWord)),
+        (b"global", LeftOut(ExcludedWord::GlobalWord)),
+        (b"record", LeftOut(ExcludedWord::RecordWord)),
+    ],
+    &[
+        (b"default", Reserved(WordKind::DefaultWord)),
+        (b"elapsed", Reserved(WordKind::ElapsedWord)),
+    ],
+    &[
+        (b"scenario", Reserved(WordKind::ScenarioWord)),
+        (b"inherits", Reserved(WordKind::InheritsWord)),
+        (b"parallel", Reserved(WordKind::ParallelWord)),
+        (b"external", LeftOut(ExcludedWord::ExternalWord)),
+        (b"modifier", LeftOut(ExcludedWord::ModifierWord)),
+    ],
+    &[(b"namespace", LeftOut(ExcludedWord::NamespaceWord))],
+    &[],
+    &[],
+    &[],
+    &[],
+    &[(b"remove_default", Reserved(WordKind::RemoveDefaultWord))],
 ];
 
-const RESERVED_OF_THREE: [ReservedWord; 2] = [
-    (b"and", WordKind::AndWord),
-    (b"not", WordKind::NotWord),
-];
-
-const RESERVED_OF_FOUR: [ReservedWord; 9] = [
-    (b"type", WordKind::TypeWord),
-    (b"unit", WordKind::UnitWord),
-    (b"enum", WordKind::EnumWord),
-    (b"list", WordKind::ListWord),
-    (b"keep", WordKind::KeepWord),
-    (b"hard", WordKind::HardWord),
-    (b"wait", WordKind::WaitWord),
-    (b"with", WordKind::WithWord),
-    (b"true", WordKind::TrueWord),
-];
-
-const RESERVED_OF_FIVE: [ReservedWord; 3] = [
-    (b"actor", WordKind::ActorWord),
-    (b"range", WordKind::RangeWord),
-    (b"false", WordKind::FalseWord),
-];
-
-const RESERVED_OF_SIX: [ReservedWord; 6] = [
-    (b"import", WordKind::ImportWord),
-    (b"struct", WordKind::StructWord),
-    (b"action", WordKind::ActionWord),
-    (b"extend", WordKind::ExtendWord),
-    (b"serial", WordKind::SerialWord),
-    (b"one_of", WordKind::OneOfWord),
-];
-
-const RESERVED_OF_SEVEN: [ReservedWord; 2] = [
-    (b"default", WordKind::DefaultWord),
-    (b"elapsed", WordKind::ElapsedWord),
-];
-
-const RESERVED_OF_EIGHT: [ReservedWord; 3] = [
-    (b"scenario", WordKind::ScenarioWord),
-    (b"inherits", WordKind::InheritsWord),
-    (b"parallel", WordKind::ParallelWord),
-];
-
-const RESERVED_OF_FOURTEEN: [ReservedWord; 1] = [(b"remove_default", WordKind::RemoveDefaultWord)];
-
-const LEFT_OUT_OF_TWO: [LeftOutWord; 1] = [(b"on", ExcludedWord::OnWord)];
-
-const LEFT_OUT_OF_THREE: [LeftOutWord; 2] = [
-    (b"var", ExcludedWord::VarWord),
-    (b"def", ExcludedWord::DefWord),
-];
-
-const LEFT_OUT_OF_FOUR: [LeftOutWord; 4] = [
-    (b"emit", ExcludedWord::EmitWord),
-    (b"rise", ExcludedWord::RiseWord),
-    (b"fall", ExcludedWord::FallWord),
-    (b"call", ExcludedWord::CallWord),
-];
-
-const LEFT_OUT_OF_FIVE: [LeftOutWord; 4] = [
-    (b"event", ExcludedWord::EventWord),
-    (b"until", ExcludedWord::UntilWord),
-    (b"every", ExcludedWord::EveryWord),
-    (b"cover", ExcludedWord::CoverWord),
-];
-
-const LEFT_OUT_OF_SIX: [LeftOutWord; 4] = [
-    (b"export", ExcludedWord::ExportWord),
-    (b"sample", ExcludedWord::SampleWord),
-    (b"global", ExcludedWord::GlobalWord),
-    (b"record", ExcludedWord::RecordWord),
-];
-
-const LEFT_OUT_OF_EIGHT: [LeftOutWord; 2] = [
-    (b"external", ExcludedWord::ExternalWord),
-    (b"modifier", ExcludedWord::ModifierWord),
-];
-
-const LEFT_OUT_OF_NINE: [LeftOutWord; 1] = [(b"namespace", ExcludedWord::NamespaceWord)];
-
-/// What the table has for the text. The first bytes are compared before the texts, since few words share theirs.
-fn entry<K: Copy>(text: &[u8], table: &[(&[u8], K)]) -> Option<K>
-    ensures { result ≡ shapes.entry text.now (map (λ e. (e.0.now, e.1)) table.now) }
+/// What these words have for the text. The first bytes are compared before the texts, since few words share theirs.
+fn entry(text: &[u8], words: &[(&[u8], LanguageWord)]) -> Option<LanguageWord>
+    ensures { result ≡ shapes.entry text.now (map (λ e. (e.0.now, e.1)) words.now) }
 {
-    for (word, kind) in table {
+    for (word, kind) in words {
         if word.first() == text.first() && text == *word {
             return Some(*kind);
         }
@@ -112,42 +103,27 @@ fn entry<K: Copy>(text: &[u8], table: &[(&[u8], K)]) -> Option<K>
     None
 }
 
-/// The reserved word that a text is.
-pub fn reserved_word(text: &[u8]) -> Option<WordKind>
-    ensures { result ≡ shapes.entry text.now reserved_words }
+/// What the words of the text's length have for it.
+fn entry_in(text: &[u8], rows: &[&[(&[u8], LanguageWord)]]) -> Option<LanguageWord>
+    requires { is_by_length 0 (map (λ row. map (λ e. (e.0.now, e.1)) row.now) rows.now) ≡ true }
+    ensures { result ≡ shapes.entry text.now (all_words (map (λ row. map (λ e. (e.0.now, e.1)) row.now) rows.now)) }
 {
-    match text.len() {
-        2 => entry(text, &RESERVED_OF_TWO),
-        3 => entry(text, &RESERVED_OF_THREE),
-        4 => entry(text, &RESERVED_OF_FOUR),
-        5 => entry(text, &RESERVED_OF_FIVE),
-        6 => entry(text, &RESERVED_OF_SIX),
-        7 => entry(text, &RESERVED_OF_SEVEN),
-        8 => entry(text, &RESERVED_OF_EIGHT),
-        14 => entry(text, &RESERVED_OF_FOURTEEN),
-        _ => None,
+    match rows.get(text.len()) {
+        Some(words) => entry(text, *words),
+        None => None,
     }
 }
 
-/// The left-out word that a text is.
-pub fn left_out_word(text: &[u8]) -> Option<ExcludedWord>
-    ensures { result ≡ shapes.entry text.now left_out_words }
+/// The word of the language that a text is.
+pub fn word(text: &[u8]) -> Option<LanguageWord>
+    ensures { result ≡ shapes.entry text.now words }
 {
-    match text.len() {
-        2 => entry(text, &LEFT_OUT_OF_TWO),
-        3 => entry(text, &LEFT_OUT_OF_THREE),
-        4 => entry(text, &LEFT_OUT_OF_FOUR),
-        5 => entry(text, &LEFT_OUT_OF_FIVE),
-        6 => entry(text, &LEFT_OUT_OF_SIX),
-        8 => entry(text, &LEFT_OUT_OF_EIGHT),
-        9 => entry(text, &LEFT_OUT_OF_NINE),
-        _ => None,
-    }
+    entry_in(text, &WORDS)
 }
 
-/// Whether a text is a word of either kind.
+/// Whether a text is a word of the language.
 pub fn is_word(text: &[u8]) -> bool
     ensures { result ≡ kinds.is_word text.now }
 {
-    reserved_word(text).is_some() || left_out_word(text).is_some()
+    word(text).is_some()
 }
