@@ -64,11 +64,11 @@ fn named(alloc: Global, tokens: &mut Cursor<'_>) -> Result<Argument, Stop>
 fn more(tokens: &mut Cursor<'_>) -> Result<bool, Stop>
     ensures { HasMore tokens.old result tokens.new }
 {
-    if tokens.take(Mark(MarkKind::Comma)).is_some() {
-        return Ok(true);
+    if tokens.take(Mark(MarkKind::CloseRound)).is_some() {
+        return Ok(false);
     }
-    tokens.expect(Mark(MarkKind::CloseRound))?;
-    Ok(false)
+    tokens.expect(Mark(MarkKind::Comma))?;
+    Ok(true)
 }
 
 /// An argument without a name, and whether another one stands after it.
