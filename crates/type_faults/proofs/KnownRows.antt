@@ -168,9 +168,6 @@ next_so heads rs places known r f n started are count less is made so =
     (subst (λ g. AreSo heads g (front_and_row (fronts_in rs) (map seen_row rs) (length known))) (sym made)
     (row_so heads rs places known r started are (subst (λ m. m < length rs) (sym count) less) (is ∙ ap (λ m. get_or rs m r) (sym count)) so))
 
-pub none_of_none : (heads : List TypeHead) (fronts : List (List Part)) (rows : List (List Member)) → AreAllSo heads fronts rows []
-none_of_none heads fronts rows = λ n. none_so heads (front_and_row fronts rows n)
-
 -- Plain members
 
 of_scenario : (form : Form) (is_later : Bool) (ds : List Do) → is_scenario form ≡ true → do_rows scenario is_later ds ≡ do_rows form is_later ds

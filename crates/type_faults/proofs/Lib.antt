@@ -26,3 +26,4 @@ mod KnownRows
 mod PartNames
 mod PartSteps
 mod Quiet
+mod NearDepended

@@ -62,9 +62,6 @@ pub not_false : (b : Bool) → not b ≡ true → b ≡ false
 not_false true h = absurd (true≢false (sym h))
 not_false false h = refl
 
-pub false_not : (b : Bool) → b ≡ false → not b ≡ true
-false_not b h = ap not h
-
 pub left_false : (a b : Bool) → (a || b) ≡ false → a ≡ false
 left_false true b h = h
 left_false false b h = refl

@@ -6,7 +6,7 @@ use Rattle.std.proofs.lemmas.Bool.Decides.{nat_tests}
 use Rattle.std.proofs.lemmas.List.Folds.{list_all-append}
 use Rattle.type_heads.specs.Members.{has}
 use Rattle.type_heads.specs.Cycles.{fresh, reached, returns}
-use Rattle.type_faults.specs.Ranking.{rank, is_level, level_from, falls, AreNext, IsShown}
+use Rattle.type_faults.specs.Ranking.{rank, is_level, level_from, falls, shows, AreNext, HasLevels, IsShown}
 use Rattle.type_faults.specs.declared.returning.Ranking.{Ranking}
 
 pub both : (a b : Bool) → a ≡ true → b ≡ true → (a && b) ≡ true
@@ -70,7 +70,7 @@ module _ (low : ℕ → Bool) where
 -- By ranks
 
 -- one of the types, of a rank below another
-abbrev is_below : ℕ → List ℕ → ℕ → ℕ → Bool
+abbrev pub is_below : ℕ → List ℕ → ℕ → ℕ → Bool
 is_below count ranks r x = nat_lt x count && nat_lt (rank ranks x) r
 
 level_at : (count : ℕ) (ranks : List ℕ) (t n m : ℕ) (next : List (List ℕ)) → level_from count ranks t next ≡ true → n < length next → m ≡ t + n →
@@ -114,27 +114,38 @@ not_below_itself count r t ranks is = by (rank ranks t) is
     by : (a : ℕ) → r ≡ a → (nat_lt t count && nat_lt a r) ≡ false
     by a e = grind (arith, nat_tests)
 
-pub falling_never_back : (step : ℕ → List ℕ) (count : ℕ) (ranks : List ℕ) (next : List (List ℕ)) (t : ℕ) →
-    length next ≡ count → ((x : ℕ) → x < count → slice_index_or next x [] ≡ step x) → level_from count ranks 0 next ≡ true →
-    t < count → falls ranks t (step t) ≡ true → returns count step t ≡ false
-falling_never_back step count ranks next t size same level less fall =
-    never_back (is_below count ranks (rank ranks t)) step stays count t
-    (all_falls_below count ranks t (step t) fall (at t less))
-    (not_below_itself count (rank ranks t) t ranks refl)
+-- the types below that of t, which steps don't leave
+pub record Below (step : ℕ → List ℕ) (low : ℕ → Bool) (t : ℕ) : Type 0 where
+  pub stays : (x : ℕ) → low x ≡ true → list_all low (step x) ≡ true
+  pub start : list_all low (step t) ≡ true
+  pub out : low t ≡ false
+
+falling_below : (step : ℕ → List ℕ) (count : ℕ) (ranks : List ℕ) (next : List (List ℕ)) (t : ℕ) →
+    AreNext count step next → level_from count ranks 0 next ≡ true → t < count → falls ranks t (step t) ≡ true → Below step (is_below count ranks (rank ranks t)) t
+falling_below step count ranks next t are level less fall =
+    record { stays = stays; start = all_falls_below count ranks t (step t) fall (at t less); out = not_below_itself count (rank ranks t) t ranks refl }
   where
     at : (x : ℕ) → x < count → list_all (is_level count ranks x) (step x) ≡ true
     at x l =
-        let l' : x < length next = omega arith in
-        ap (list_all (is_level count ranks x)) (sym (same x l)) ∙ level_at count ranks 0 x x next level l' (omega arith)
+        let l' : x < length next = omega (arith, are.0) in
+        ap (list_all (is_level count ranks x)) (sym (are.1 x l)) ∙ level_at count ranks 0 x x next level l' (omega arith)
 
     stays : (x : ℕ) → is_below count ranks (rank ranks t) x ≡ true → list_all (is_below count ranks (rank ranks t)) (step x) ≡ true
     stays x h =
         let l : x < count = grind (arith, nat_tests, left_of (nat_lt x count) (nat_lt (rank ranks x) (rank ranks t)) h) in
         all_level_below count ranks (rank ranks t) x (step x) (right_of (nat_lt x count) (nat_lt (rank ranks x) (rank ranks t)) h) (at x l)
 
-pub ranking_shows : (step : ℕ → List ℕ) (count : ℕ) (r : Ranking) → AreNext count step r.next.items → level_from (length r.next.items) r.ranks.items 0 r.next.items ≡ true → IsShown count step r
-ranking_shows step count r next level t shown =
+pub shown_below : (step : ℕ → List ℕ) (count : ℕ) (r : Ranking) → HasLevels count step r → (t : ℕ) → shows r t ≡ true → Below step (is_below count r.ranks.items (rank r.ranks.items t)) t
+shown_below step count r levels t shown =
     let few : t < length r.next.items = grind (arith, nat_tests, left_of (nat_lt t (length r.next.items)) (falls r.ranks.items t (slice_index_or r.next.items t [])) shown) in
-    let less : t < count = omega (arith, next.0, few) in
-    falling_never_back step count r.ranks.items r.next.items t next.0 next.1 (ap (λ n. level_from n r.ranks.items 0 r.next.items) (sym next.0) ∙ level) less
-    (ap (falls r.ranks.items t) (sym (next.1 t less)) ∙ right_of (nat_lt t (length r.next.items)) (falls r.ranks.items t (slice_index_or r.next.items t [])) shown)
+    let kept : 0 < length r.next.items = omega (arith, few) in
+    let are : AreNext count step r.next.items = (levels kept).0 in
+    let less : t < count = omega (arith, are.0, few) in
+    falling_below step count r.ranks.items r.next.items t are (ap (λ n. level_from n r.ranks.items 0 r.next.items) (sym are.0) ∙ (levels kept).1) less
+    (ap (falls r.ranks.items t) (sym (are.1 t less)) ∙ right_of (nat_lt t (length r.next.items)) (falls r.ranks.items t (slice_index_or r.next.items t [])) shown)
+
+pub ranking_shows : (step : ℕ → List ℕ) (count : ℕ) (r : Ranking) → HasLevels count step r → IsShown count step r
+ranking_shows step count r levels t shown =
+    let low : ℕ → Bool = is_below count r.ranks.items (rank r.ranks.items t) in
+    let b : Below step low t = shown_below step count r levels t shown in
+    never_back low step b.stays count t b.start b.out

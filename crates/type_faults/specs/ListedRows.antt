@@ -1,5 +1,5 @@
 -- The members of types in the lists that the code holds, and the fields found there.
-use Rattle.std.specs.Prelude.{ℕ, List, [], Option, None, bytes_eq, find, option_and_then, option_map, slice_index_or}
+use Rattle.std.specs.Prelude.{ℕ, List, [], ◌++◌, Option, None, bytes_eq, find, option_and_then, option_map, option_to_list, slice_index_or}
 use Rattle.std.specs.Option.{option_map_or}
 use Rattle.dsl_tree.specs.declared.compounds.HeirCondition.{HeirCondition}
 use Rattle.dsl_tree.specs.Views.{field_tree}
@@ -42,3 +42,7 @@ under_in heads members t c =
 -- those that the field of a type's condition is under
 abbrev pub field_under : List TypeHead → List TypeBody → List (List Member) → ℕ → List ℕ
 field_under heads bodies members t = option_map_or (under_in heads members t) (heir_condition bodies t) []
+
+-- where near steps lead from a type: to those that the field of its condition is under, and to its base, conditional or not
+abbrev pub near_depended : List TypeHead → List TypeBody → List (List Member) → ℕ → List ℕ
+near_depended heads bodies members t = field_under heads bodies members t ++ option_to_list (base heads t)

@@ -32,3 +32,7 @@ IsShown count step r = (t : ℕ) → shows r t ≡ true → returns count step t
 -- the lists are where steps lead from each of so many types
 abbrev pub AreNext : ℕ → (ℕ → List ℕ) → List (List ℕ) → Type 0
 AreNext count step next = (length next ≡ count) × ((t : ℕ) → t < count → slice_index_or next t [] ≡ step t)
+
+-- if any lists are kept, they are where steps lead from each of so many types, and no step leads to a higher rank
+abbrev pub HasLevels : ℕ → (ℕ → List ℕ) → Ranking → Type 0
+HasLevels count step r = 0 < length r.next.items → AreNext count step r.next.items × (level_from (length r.next.items) r.ranks.items 0 r.next.items ≡ true)

@@ -10,6 +10,7 @@ mod initial;
 mod labels;
 mod name_places;
 mod names;
+mod near_depended;
 mod row_facts;
 
 pub use declared::with_types;

@@ -3,7 +3,7 @@
 ghost use Rattle.std.specs.Prelude.{◌≡◌, ◌&&◌, ◌<◌, ℕ, [], length, nat_lt, true, false, slice_index_or, IfOk, OnOk};
 ghost use Rattle.std.specs.List.{list_all};
 ghost use Rattle.type_heads.specs.Cycles.{returns};
-ghost use Rattle.type_faults.specs.Ranking.{AreNext, IsShown, falls as all_fall, is_level as is_level_step, level_from, rank, shows as shows_none};
+ghost use Rattle.type_faults.specs.Ranking.{AreNext, HasLevels, IsShown, falls as all_fall, is_level as is_level_step, level_from, rank, shows as shows_none};
 
 use crate::ranks::ranks_of;
 use crate::reach::{Steps, leads_back};
@@ -97,7 +97,8 @@ fn all_next<S: Steps>(alloc: Global, steps: &S, count: u32) -> Result<Vec<Row<Ty
 impl Ranking {
     /// Steps and ranks of so many types.
     pub fn of<S: Steps>(alloc: Global, steps: &S, count: u32) -> Result<Ranking, AllocError>
-        ensures { IfOk result (λ r. IsShown count (S.next steps.now) r) }
+        ensures shown { IfOk result (λ r. IsShown count (S.next steps.now) r) }
+        ensures levels { IfOk result (λ r. HasLevels count (S.next steps.now) r) }
     {
         let next = all_next(alloc, steps, count)?;
         let ranks = ranks_of(alloc, next.as_slice())?;

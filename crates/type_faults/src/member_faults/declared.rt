@@ -20,6 +20,7 @@ use super::dos::with_all_dos;
 use super::fields::{FieldHit, condition_field};
 use super::initial::with_all_initials;
 use super::names::with_all_names;
+use super::near_depended::near_ranking;
 use super::row_facts::{RowFacts, facts_at, is_plain, row_facts};
 use crate::passing::is_past;
 use crate::reach::Steps;
@@ -172,7 +173,7 @@ pub fn with_types(
     ensures { IfOk result (λ f. f ≡ first_from first (flat_map (type_rows (types_with depends.now.heads.now (map seen_body depends.now.bodies.now) (lists_of depends.now.lists.now))) (all_types depends.now.heads.now))) }
 {
     let count = depends.heads.count();
-    let ranking = Ranking::of(alloc, depends, count)?;
+    let ranking = near_ranking(alloc, depends)?;
     let facts = row_facts(alloc, depends.heads, depends.lists.rows(), depends.places)?;
     let mut found = first;
     for number in 0..count {

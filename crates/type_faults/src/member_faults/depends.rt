@@ -1,13 +1,13 @@
 //! The conditional subtypes on which one depends.
 
-ghost use Rattle.std.specs.Prelude.{◌≡◌, ◌++◌, List, [], ◌∷◌, None, bytes_eq, cond, filter, find, map, option_and_then, slice_index_or, OnOk};
+ghost use Rattle.std.specs.Prelude.{◌≡◌, ◌++◌, List, [], ◌∷◌, None, bytes_eq, cond, filter, find, map, option_and_then, option_to_list, slice_index_or, OnOk};
 ghost use Rattle.std.specs.Option.{option_map_or};
 ghost use Rattle.type_heads.specs.Bodied.{seen_body};
 ghost use Rattle.type_heads.specs.Members.{fields_among, is_conditional as is_conditional_type};
 ghost use Rattle.type_heads.specs.MemberFaults.{depends_on};
 ghost use Rattle.type_heads.specs.Table.{base, bases};
 ghost use Rattle.type_members.specs.Listed.{lists_of, seen_row};
-ghost use Rattle.type_faults.specs.ListedRows.{field_under, types_with, under_in};
+ghost use Rattle.type_faults.specs.ListedRows.{field_under, near_depended, types_with, under_in};
 ghost use Rattle.type_faults.specs.NamePlaces.{AreRowPlaces};
 
 use super::fields::{FieldHit, condition_field};
@@ -89,6 +89,33 @@ fn push_field_under(
         Some(condition) => push_under(heads, lists, places, of, condition, into),
         None => Ok(()),
     }
+}
+
+/// Puts the base of a type at the end, if there is one.
+fn push_base(heads: &Heads, of: TypeId, into: &mut Vec<TypeId>) -> Result<(), AllocError>
+    ensures { OnOk result (into.new.items ≡ into.old.items ++ option_to_list (base heads.now of)) }
+{
+    if let Some(base) = heads.base(of) {
+        into.push(base)?;
+    }
+    Ok(())
+}
+
+/// Puts those at the end that the field of the type's condition is under, and the type's base.
+pub fn push_near(
+    heads: &Heads,
+    bodies: &[Body<'_>],
+    lists: &MemberLists<'_>,
+    places: &[NamePlaces<'_>],
+    of: TypeId,
+    into: &mut Vec<TypeId>,
+) -> Result<(), AllocError>
+    requires { AreRowPlaces places.now (map seen_row lists.now.rows.items) }
+    ensures { OnOk result (into.new.items ≡ into.old.items ++ near_depended heads.now (map seen_body bodies.now) (lists_of lists.now) of) }
+{
+    push_field_under(heads, bodies, lists, places, of, into)?;
+    push_base(heads, of, into)?;
+    Ok(())
 }
 
 /// Puts the conditional subtypes on which one depends at the end: those that the field of its condition is under, and

@@ -18,4 +18,4 @@ pub returns : goal.returns
 returns c =
     let heads = c.args.held.now.heads.now in
     let bodies = map seen_body c.args.held.now.bodies.now in
-    subst (λ n. IfOk c.of.result (IsShown n (held_types heads bodies))) c.count-2.ensures c.of.ensures
+    subst (λ n. IfOk c.of.result (IsShown n (held_types heads bodies))) c.count-2.ensures c.of.ensures.shown

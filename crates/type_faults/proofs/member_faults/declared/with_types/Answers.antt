@@ -13,11 +13,6 @@ use Rattle.type_faults.proofs.RowSteps.{done}
 use Rattle.type_faults.proofs.TypeNumbers.{next_number, no_number}
 use Rattle.type_faults.proofs.member_faults.declared.with_types.Goals as goal
 
-pub with_type-requires-clause-shown : goal.with_type-requires-clause-shown
-with_type-requires-clause-shown c =
-    let d = c.args.depends.now in
-    subst (λ n. IsShown n (depends_on (types_with d.heads.now (map seen_body d.bodies.now) (lists_of d.lists.now))) c.in_ok-ranking.ranking) c.count-count.ensures c.in_ok-ranking.ensures
-
 pub row_facts-requires-clause-started : goal.row_facts-requires-clause-started
 row_facts-requires-clause-started c = subst AreStarted (sym c.rows.ensures) c.args.depends.now.lists.now.started
 

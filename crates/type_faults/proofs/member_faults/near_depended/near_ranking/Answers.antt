@@ -1,0 +1,18 @@
+use Rattle.std.proofs.Common.{length, map, subst}
+use Rattle.type_heads.specs.Bodied.{seen_body}
+use Rattle.type_heads.specs.MemberFaults.{depends_on}
+use Rattle.type_members.specs.Listed.{lists_of}
+use Rattle.type_faults.specs.ListedRows.{near_depended, types_with}
+use Rattle.type_faults.specs.Ranking.{HasLevels, IsShown}
+use Rattle.type_faults.proofs.NearDepended.{near_shows}
+use Rattle.type_faults.proofs.RowSteps.{if_ok}
+use Rattle.type_faults.proofs.member_faults.near_depended.near_ranking.Goals as goal
+
+pub returns : goal.returns
+returns c =
+    let d = c.args.depends.now in
+    let heads = d.heads.now in
+    let bodies = map seen_body d.bodies.now in
+    let members = lists_of d.lists.now in
+    if_ok (HasLevels c.count.result (near_depended heads bodies members)) (IsShown (length heads) (depends_on (types_with heads bodies members)))
+    (λ r levels. near_shows heads bodies members r (subst (λ n. HasLevels n (near_depended heads bodies members) r) c.count.ensures levels)) c.of.result c.of.ensures.levels
