@@ -19,6 +19,10 @@ put_same old new a b h is = is ∙ ap (λ xs. old ++ xs) h
 pub put_two : {X : Type 0} (old mid new a b : List X) → mid ≡ old ++ a → new ≡ mid ++ b → new ≡ old ++ (a ++ b)
 put_two old mid new a b one two = two ∙ ap (λ xs. xs ++ b) one ∙ append_assoc old a b
 
+-- what the last things give, as they were found elsewhere
+pub put_last : {X Z : Type 0} (f : X → List Z) (old new all : List Z) (given left : List X) → given ≡ left → new ≡ old ++ flat_map f given → old ++ flat_map f left ≡ all → new ≡ all
+put_last f old new all given left same is before = is ∙ ap (λ xs. old ++ flat_map f xs) same ∙ before
+
 -- what is made of a part that is there, or isn't
 pub of_some : {X Y : Type 0} (f : X → List Y) (o : Option X) (x : X) → Some x ≡ o → f x ≡ flat_map f (option_to_list o)
 of_some f o x h = sym (append-nil (f x)) ∙ ap (λ p. flat_map f (option_to_list p)) h

@@ -328,7 +328,8 @@ fn push_parts(
     for part in lists.front(span.row) {
         push_members(alloc, texts, standing, into, lists.part(part))?;
     }
-    push_members(alloc, texts, standing, into, lists.own(&span))
+    push_members(alloc, texts, standing, into, lists.own(&span))?;
+    Ok(())
 }
 
 /// Puts the own constraints of an object with so many steps left at the end.

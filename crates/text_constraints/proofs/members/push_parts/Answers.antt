@@ -4,10 +4,10 @@ use Rattle.composition.specs.SeenScenes.{seen_scene}
 use Rattle.type_heads.specs.Members.{members}
 use Rattle.type_members.specs.Listed.{seen_listed, seen_row}
 use Rattle.type_members.specs.Shared.{fronts_in}
-use Rattle.program_fields.proofs.Fronts.{all_left, given_more, own_left}
+use Rattle.program_fields.proofs.Fronts.{all_left, given_more, own_at, own_left}
 use Rattle.program_texts.specs.SeenTexts.{types_in}
 use Rattle.text_constraints.specs.OwnTexts.{listed_kept}
-use Rattle.text_constraints.proofs.ListSteps.{on_ok}
+use Rattle.text_constraints.proofs.ListSteps.{put_last}
 use Rattle.text_constraints.proofs.members.push_parts.Goals as goal
 
 pub loop-part-init : goal.loop-part-init
@@ -34,7 +34,8 @@ returns c =
     let give = listed_kept ts (seen_scene c.args.standing.now.scene.now).bindings c.args.standing.now.object.now c.args.standing.now.of in
     let old = map seen_occurrence c.args.into.now.items in
     let mid = map seen_occurrence c.loop-part.into.items in
-    on_ok _ _ (λ told. told ∙ ap (λ ms. mid ++ flat_map give ms) c.own.ensures
-    ∙ own_left (map seen_row c.lists-lists.result.now.rows.items) c.span-span.result c.front-part-items.result.now c.loop-part.part-index (λ ms. mid ++ flat_map give ms)
-    (old ++ flat_map give (members ts c.args.standing.now.of)) c.loop-part-test.false c.loop-part.invariant)
-    c.push_members-2.result c.push_members-2.ensures
+    let rows = map seen_row c.lists-lists.result.now.rows.items in
+    let before = own_left rows c.span-span.result c.front-part-items.result.now c.loop-part.part-index (λ ms. mid ++ flat_map give ms)
+    (old ++ flat_map give (members ts c.args.standing.now.of)) c.loop-part-test.false c.loop-part.invariant in
+    put_last give mid (map seen_occurrence c.push_members-2.new.into.items) (old ++ flat_map give (members ts c.args.standing.now.of))
+    (map seen_listed c.own.result.now) (own_at rows c.span-span.result) c.own.ensures c.in_ok-push_members-2.ensures before

@@ -41,7 +41,7 @@ returns c =
     let parts = c.front-part-items.result.now in
     let s = c.span-span.result in
     let i = c.loop-part.part-index in
-    counted_last c.loop-part.all c.members_tally-2.result c.with-2.result (kept (sum_of f (left_at rows parts i s))) (kept (sum_of f (members ts c.args.of)))
-    c.loop-part.invariant c.with-2.ensures
+    counted_last c.loop-part.all c.members_tally-2.result c.with.result (kept (sum_of f (left_at rows parts i s))) (kept (sum_of f (members ts c.args.of)))
+    c.loop-part.invariant c.with.ensures
     (c.members_tally-2.ensures ∙ ap (λ ms. kept (sum_of f ms)) c.own.ensures
     ∙ own_left rows s parts i (λ ms. kept (sum_of f ms)) (kept (sum_of f (left_at rows parts i s))) c.loop-part-test.false refl)
