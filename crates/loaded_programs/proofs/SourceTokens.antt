@@ -12,11 +12,11 @@ use Rattle.dsl_tree.specs.declared.token.Token.{Token}
 use Rattle.dsl_tree.specs.declared.token.TokenKind.{TokenKind}
 use Rattle.dsl_tree.specs.declared.token.TokenKind.TheVariants.{Newline, Indent, Dedent, End, Mark}
 use Rattle.dsl_tree.specs.declared.token.MarkKind.{MarkKind}
-use Rattle.dsl_tree.specs.declared.token.WordKind.{WordKind}
-use Rattle.dsl_tree.specs.declared.token.ExcludedWord.{ExcludedWord}
 use Rattle.dsl_lexer.specs.declared.shape.Shape.{Shape}
+use Rattle.dsl_lexer.specs.declared.words.LanguageWord.{LanguageWord}
+use Rattle.dsl_lexer.specs.declared.words.LanguageWord.TheVariants.{LeftOut, Reserved}
 use Rattle.dsl_lexer.specs.Shapes.{entry, marks}
-use Rattle.dsl_lexer.specs.Kinds.{kind_of, first_kind, reserved_words, left_out_words, number_kind, decimal_kind, hexadecimal_kind, fraction, unit_name, is_word}
+use Rattle.dsl_lexer.specs.Kinds.{kind_of, word_or_name, words, number_kind, decimal_kind, hexadecimal_kind, fraction, unit_name, is_word}
 use Rattle.dsl_lexer.specs.Bytes.{is_digit, is_hexadecimal_digit, place_at}
 use Rattle.dsl_lexer.specs.Pieces.{Piece, reach, Cut}
 use Rattle.dsl_lexer.specs.Layout.{opened, line, width, widths, brackets, has_lexeme, begins_line, ends_line, is_widest, blocks, newline, own_token, brought, tokens, last_tokens, placed, OffsetToken}
@@ -101,10 +101,10 @@ mark_passes : (test : TokenKind → Bool) → ((k : MarkKind) → test (Mark k) 
 mark_passes test h None = tt
 mark_passes test h (Some k) = h k
 
-name_short : (w : Option WordKind) (u : Option ExcludedWord) (text : List ℕ) → has_few_digits (first_kind w u text) ≡ true
-name_short (Some w) u text = refl
-name_short None (Some u) text = refl
-name_short None None text = refl
+name_short : (w : Option LanguageWord) (text : List ℕ) → has_few_digits (word_or_name w text) ≡ true
+name_short (Some (Reserved w)) text = refl
+name_short (Some (LeftOut w)) text = refl
+name_short None text = refl
 
 short_own : (o : Option TokenKind) → IsShortKind o → OwnPasses has_few_digits o
 short_own None h = tt
@@ -112,7 +112,7 @@ short_own (Some kind) h = h
 
 piece_short : (s : Shape) (text : List ℕ) → OwnPasses has_few_digits (kind_of s text)
 piece_short Shape.MarkShape text = mark_passes has_few_digits (λ k. refl) (entry text marks)
-piece_short Shape.NameShape text = name_short (entry text reserved_words) (entry text left_out_words) text
+piece_short Shape.NameShape text = name_short (entry text words) text
 piece_short Shape.NumberShape text = short_own (number_kind text) (number_short text)
 piece_short Shape.StringShape text = refl
 piece_short Shape.Space text = tt
@@ -126,13 +126,10 @@ numbers_are_short = all_pass has_few_digits (record { newlines = refl; indents =
 
 -- ---- names
 
-no_words : (w : Option WordKind) (u : Option ExcludedWord) → is_some w ≡ false → is_some u ≡ false → (is_some w || is_some u) ≡ false
-no_words w u e f = rw (e, f) refl
-
-name_own : (text : List ℕ) (w : Option WordKind) (u : Option ExcludedWord) → entry text reserved_words ≡ w → entry text left_out_words ≡ u → is_no_word (first_kind w u text) ≡ true
-name_own text (Some w) u e f = refl
-name_own text None (Some u) e f = refl
-name_own text None None e f = ap (λ b. not b) {x = is_word text} {y = false} (no_words (entry text reserved_words) (entry text left_out_words) (ap is_some e) (ap is_some f))
+name_own : (text : List ℕ) (w : Option LanguageWord) → entry text words ≡ w → is_no_word (word_or_name w text) ≡ true
+name_own text (Some (Reserved w)) e = refl
+name_own text (Some (LeftOut w)) e = refl
+name_own text None e = ap (λ o. not (is_some o)) e
 
 number_own : (whole part unit : List ℕ) → OwnPasses is_no_word (decimal_kind whole part unit)
 number_own whole part [] = cond_both (nat_le (length whole + length part) 18) _ None (OwnPasses is_no_word) (λ _. refl) (λ _. tt)
@@ -148,7 +145,7 @@ numbers_own text =
 
 piece_named : (s : Shape) (text : List ℕ) → OwnPasses is_no_word (kind_of s text)
 piece_named Shape.MarkShape text = mark_passes is_no_word (λ k. refl) (entry text marks)
-piece_named Shape.NameShape text = name_own text (entry text reserved_words) (entry text left_out_words) refl refl
+piece_named Shape.NameShape text = name_own text (entry text words) refl
 piece_named Shape.NumberShape text = numbers_own text
 piece_named Shape.StringShape text = refl
 piece_named Shape.Space text = tt

@@ -13,12 +13,12 @@ use Rattle.dsl_tree.specs.declared.token.Token.{Token}
 use Rattle.dsl_tree.specs.declared.token.TokenKind.{TokenKind}
 use Rattle.dsl_tree.specs.declared.token.TokenKind.TheVariants.{Indent, Dedent, End, Mark}
 use Rattle.dsl_tree.specs.declared.token.MarkKind.{MarkKind}
-use Rattle.dsl_tree.specs.declared.token.WordKind.{WordKind}
-use Rattle.dsl_tree.specs.declared.token.ExcludedWord.{ExcludedWord}
 use Rattle.dsl_lexer.specs.declared.shape.Shape.{Shape}
+use Rattle.dsl_lexer.specs.declared.words.LanguageWord.{LanguageWord}
+use Rattle.dsl_lexer.specs.declared.words.LanguageWord.TheVariants.{LeftOut, Reserved}
 use Rattle.dsl_lexer.specs.Bytes.{is_digit, is_hexadecimal_digit, is_name_byte, is_name_start}
 use Rattle.dsl_lexer.specs.Shapes.{IsName, IsShape, entry, marks}
-use Rattle.dsl_lexer.specs.Kinds.{kind_of, first_kind, reserved_words, left_out_words, number_kind, decimal_kind, hexadecimal_kind, fraction, unit_name, is_word, string_chars}
+use Rattle.dsl_lexer.specs.Kinds.{kind_of, word_or_name, words, number_kind, decimal_kind, hexadecimal_kind, fraction, unit_name, is_word, string_chars}
 use Rattle.dsl_lexer.specs.Pieces.{Piece, reach, Cut}
 use Rattle.dsl_lexer.specs.Layout.{opened, line, width, widths, brackets, has_lexeme, begins_line, ends_line, is_widest, blocks, newline, own_token, brought, tokens, last_tokens, placed, OffsetToken}
 use Rattle.dsl_lexer.specs.SourceTokens.{TokensCut}
@@ -101,10 +101,10 @@ name_is : (text : List ℕ) → IsName text → is_name text ≡ true
 name_is [] h = absurd h
 name_is (b ∷ bs) h = both _ _ (same_start b h.0) (same_bytes bs h.1)
 
-name_own : (text : List ℕ) → is_name text ≡ true → (w : Option WordKind) (u : Option ExcludedWord) → is_readable (first_kind w u text) ≡ true
-name_own text h (Some w) u = refl
-name_own text h None (Some u) = refl
-name_own text h None None = h
+name_own : (text : List ℕ) → is_name text ≡ true → (w : Option LanguageWord) → is_readable (word_or_name w text) ≡ true
+name_own text h (Some (Reserved w)) = refl
+name_own text h (Some (LeftOut w)) = refl
+name_own text h None = h
 
 number_own : (whole part unit : List ℕ) → OwnPasses (decimal_kind whole part unit)
 number_own whole part [] = cond_both (nat_le (length whole + length part) 18) _ None OwnPasses (λ _. refl) (λ _. tt)
@@ -127,7 +127,7 @@ pass_own at (Some kind) h = both (is_readable kind) true h refl
 module _ (bytes : List ℕ) (utf8 : IsUtf8 bytes) where
   piece_own : (text : List ℕ) (before : List Piece) (rest : List ℕ) → Cut bytes before (text ++ rest) → reach before + length text ≤ length bytes → (s : Shape) → IsShape s text → OwnPasses (kind_of s text)
   piece_own text before rest cut within Shape.MarkShape h = mark_passes (entry text marks)
-  piece_own text before rest cut within Shape.NameShape h = name_own text (name_is text h) (entry text reserved_words) (entry text left_out_words)
+  piece_own text before rest cut within Shape.NameShape h = name_own text (name_is text h) (entry text words)
   piece_own text before rest cut within Shape.NumberShape h = numbers_own text
   piece_own text before rest cut within Shape.StringShape h = is_utf8-from_IsUtf8 (string_chars text) (string_utf8 bytes before text rest (length bytes) cut (valid_all bytes utf8) within h)
   piece_own text before rest cut within Shape.Space h = tt
