@@ -1,6 +1,6 @@
 -- What holds of the tokens of each piece holds of all tokens of a source.
 use Rattle.std.proofs.Common.{◌≡◌, ℕ, suc, ◌+◌, ◌≤◌, Bool, true, false, cond, ◌&&◌, not, Option, Some, None, List, [], ◌∷◌, ◌++◌, length, take, drop, map, refl, ap, sym, ◌∙◌, arith}
-use Rattle.std.specs.Prelude.{nat_lt, nat_le, filter, ◌==◌, is_some, ◌||◌, codes}
+use Rattle.std.specs.Prelude.{nat_lt, nat_le, filter, ◌==◌, is_some, codes}
 use Rattle.std.specs.Str.{bytes_eq}
 use Rattle.std.specs.Option.{option_map}
 use Rattle.std.specs.List.{list_all, take_while, prefix_len}
