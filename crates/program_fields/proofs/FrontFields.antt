@@ -7,7 +7,7 @@ use Rattle.std.proofs.lemmas.List.Folds.{find-append}
 use Rattle.std.proofs.lemmas.Grind.{flat_map-append}
 use Rattle.type_heads.specs.Members.{fields_among, fields_declared}
 use Rattle.type_heads.specs.Types.{Do, Field, Member}
-use Rattle.type_members.specs.Shared.{part_at}
+use Rattle.type_members.specs.Shared.{members_in_part}
 use Rattle.type_members.specs.declared.places.Part.{Part}
 use Rattle.type_members.specs.declared.places.Span.{Span}
 use Rattle.program_fields.specs.Parts.{the_do_in}
@@ -39,13 +39,13 @@ past_end (x ∷ xs) ys n = let e : length (x ∷ xs) + n ≡ suc (length xs + n)
 
 module _ (rows : List (List Member)) (s : Span) (parts : List Part) (i : ℕ) (d : Part) (within : i < length parts) where
   abbrev here : List Field
-  here = fields_among (part_at rows (get_or parts i d))
+  here = fields_among (members_in_part rows (get_or parts i d))
 
   abbrev later : List Field
   later = fields_among (left_at rows parts (i + 1) s)
 
   fields_more : fields_among (left_at rows parts i s) ≡ here ++ later
-  fields_more = ap fields_among (one_more rows s parts i d within) ∙ both (part_at rows (get_or parts i d)) (left_at rows parts (i + 1) s)
+  fields_more = ap fields_among (one_more rows s parts i d within) ∙ both (members_in_part rows (get_or parts i d)) (left_at rows parts (i + 1) s)
 
   -- the field of a number is in the part
   pub number_here : (left count : ℕ) (all found : Option Field) → count ≡ length here → left < count → found ≡ slice_get here left →

@@ -4,4 +4,5 @@ mod FrontFields
 pub mod Fronts
 mod Placed
 mod RowSteps
+mod SeenInside
 mod SpotSteps

@@ -8,13 +8,15 @@ use Rattle.std.proofs.lemmas.Option.{slice_get-map}
 use Rattle.dsl_tree.specs.declared.parts.Ident.{Ident}
 use Rattle.type_heads.specs.Members.{fields_among}
 use Rattle.type_heads.specs.Types.{Member}
+use Rattle.type_members.specs.Shared.{under_inside}
 use Rattle.type_tables.proofs.Firsts.{item_is}
 use Rattle.program_fields.specs.Parts.{dos_from, end_of, facts_of, has_text, is_between, spots_between, spots_from}
 use Rattle.program_fields.specs.RowFacts.{count_among, row_facts}
 use Rattle.program_fields.specs.SeenSpots.{seen_spot}
 use Rattle.program_fields.specs.declared.field_row.FieldRow.{FieldRow}
 use Rattle.program_fields.specs.declared.spots.FieldSpot.{FieldSpot}
-use Rattle.program_fields.proofs.Placed.{Facts, count_law, row_there}
+use Rattle.program_fields.proofs.Placed.{Facts, row_there}
+use Rattle.program_fields.proofs.SeenInside.{count_inside}
 
 copied_facts : (r : Option (Bor FieldRow)) → option_map (λ (b : Bor FieldRow). row_facts b.now) r ≡ option_map row_facts (option_copied r)
 copied_facts None = refl
@@ -43,8 +45,9 @@ nothing_taken zero ms e = refl
 nothing_taken (suc n) [] e = refl
 nothing_taken (suc n) (m ∷ ms) e = let never : m ∷ ms ≡ [] = e in cc
 
-pub no_fields : (from to : ℕ) (ms : List Member) → ms ≡ [] → fields_among (drop from (take to ms)) ≡ []
-no_fields from to ms e = ap (λ ms. fields_among (drop from ms)) (nothing_taken to ms e) ∙ ap fields_among (drop-nil from)
+pub no_fields : (k from to : ℕ) (ms : List Member) → ms ≡ [] → fields_among (map (under_inside k) (drop from (take to ms))) ≡ []
+no_fields k from to ms e =
+    ap (λ ms. fields_among (map (under_inside k) (drop from ms))) (nothing_taken to ms e) ∙ ap (λ ms. fields_among (map (under_inside k) ms)) (drop-nil from)
 
 pub no_dos : (from to : ℕ) (ms : List Member) → ms ≡ [] → find (is_between from to) (dos_from 0 ms) ≡ None
 no_dos from to ms e = ap (λ ms. find (is_between from to) (dos_from 0 ms)) e
@@ -75,8 +78,8 @@ module _ (r : FieldRow) (rows : List (List Member)) (n from to : ℕ) (there : S
       ∙ ap (λ (f : Facts). drop (slice_index_or f.1 from (length f.0)) (take (slice_index_or f.1 to (length f.0)) f.0)) (row_there rows n (row_facts r) there)
 
   -- how many fields there are
-  pub counted : length spots_here ≡ length (fields_among (drop from (take to ms)))
-  counted = sym (length-map spots_here seen_spot) ∙ ap length spots_are ∙ count_law from to ms
+  pub counted : (k : ℕ) → length spots_here ≡ length (fields_among (map (under_inside k) (drop from (take to ms))))
+  counted k = sym (length-map spots_here seen_spot) ∙ ap length spots_are ∙ count_inside k from to ms
 
   -- the name of a number
   pub numbered : (number : ℕ) (o : Option FieldSpot) → o ≡ slice_get spots_here number → option_map seen_spot o ≡ slice_get (spots_between from to ms) number

@@ -4,6 +4,7 @@ ghost use Rattle.std.specs.Prelude.{◌≡◌, ◌++◌, map, option_map, IfOk, 
 ghost use Rattle.dsl_tree.specs.Views.{field_tree};
 ghost use Rattle.type_heads.specs.Members.{do_declared, fields_among, fields_declared};
 ghost use Rattle.type_members.specs.Listed.{seen_listed};
+ghost use Rattle.type_members.specs.Shared.{under_inside};
 ghost use Rattle.program_fields.specs.Parts.{dos_from, dos_in, field_with, is_do as is_a_do};
 ghost use Rattle.program_fields.specs.SeenFields.{fields_named, seen_do, seen_field};
 
@@ -33,60 +34,66 @@ fn push_names<'a>(
     Ok(())
 }
 
-/// Puts the fields that a member declares at the end.
+/// Puts the fields that a member declares at the end, seen from inside of so many conditional subtypes.
 fn push_fields<'a>(
     into: &mut Vec<TypeField<'a>>,
     listed: &'a ListedMember<'a>,
+    inside: usize,
 ) -> Result<(), AllocError>
-    ensures { OnOk result (map seen_field into.new.items ≡ map seen_field into.old.items ++ fields_declared (seen_listed listed.entry.now) (seen_listed listed.entry.now).written.member) }
+    ensures { OnOk result (map seen_field into.new.items ≡ map seen_field into.old.items ++ fields_declared (under_inside inside (seen_listed listed.entry.now)) (seen_listed listed.entry.now).written.member) }
 {
     match listed.written.member {
         Member::Field(decl) => {
-            let under = listed.under.as_slice();
+            let under = listed.under_inside(inside);
             push_names(into, decl, listed.holder.0, under)
         }
         Member::Rule(_) | Member::Do { .. } => Ok(()),
     }
 }
 
-/// Puts the fields that members declare at the end, name by name.
+/// Puts the fields that members declare at the end, name by name, seen from inside of so many conditional subtypes.
 pub(crate) fn push_all<'a>(
     into: &mut Vec<TypeField<'a>>,
     members: &'a [ListedMember<'a>],
+    inside: usize,
 ) -> Result<(), AllocError>
-    ensures { OnOk result (map seen_field into.new.items ≡ map seen_field into.old.items ++ fields_among (map seen_listed members.entry.now)) }
+    ensures { OnOk result (map seen_field into.new.items ≡ map seen_field into.old.items ++ fields_among (map (under_inside inside) (map seen_listed members.entry.now))) }
 {
     for listed in members {
-        push_fields(into, listed)?;
+        push_fields(into, listed, inside)?;
     }
     Ok(())
 }
 
-/// The field of that name, if the member declares fields.
-pub(crate) fn field_of<'a>(listed: &'a ListedMember<'a>, name: &'a Ident) -> Option<TypeField<'a>>
-    ensures { option_map seen_field result ≡ field_with name.entry.now (seen_listed listed.entry.now) (seen_listed listed.entry.now).written.member }
+/// The field of that name, if the member declares fields, seen from inside of so many conditional subtypes.
+pub(crate) fn field_of<'a>(
+    listed: &'a ListedMember<'a>,
+    name: &'a Ident,
+    inside: usize,
+) -> Option<TypeField<'a>>
+    ensures { option_map seen_field result ≡ field_with name.entry.now (under_inside inside (seen_listed listed.entry.now)) (seen_listed listed.entry.now).written.member }
 {
     match listed.written.member {
         Member::Field(decl) => Some(TypeField {
             name,
             decl,
             holder: listed.holder.0,
-            under: listed.under.as_slice(),
+            under: listed.under_inside(inside),
         }),
         Member::Rule(_) | Member::Do { .. } => None,
     }
 }
 
-/// The `do` that a member is.
-pub(crate) fn do_of<'a>(listed: &'a ListedMember<'a>) -> Option<TypeDo<'a>>
-    ensures { option_map seen_do result ≡ do_declared (seen_listed listed.entry.now) (seen_listed listed.entry.now).written.member }
+/// The `do` that a member is, seen from inside of so many conditional subtypes.
+pub(crate) fn do_of<'a>(listed: &'a ListedMember<'a>, inside: usize) -> Option<TypeDo<'a>>
+    ensures { option_map seen_do result ≡ do_declared (under_inside inside (seen_listed listed.entry.now)) (seen_listed listed.entry.now).written.member }
 {
     match listed.written.member {
         Member::Do { place, phase } => Some(TypeDo {
             holder: listed.holder.0,
             place: *place,
             phase,
-            under: listed.under.as_slice(),
+            under: listed.under_inside(inside),
         }),
         Member::Field(_) | Member::Rule(_) => None,
     }

@@ -3,11 +3,11 @@
 ghost use Rattle.std.specs.Prelude.{◌≡◌, find, length, option_and_then, option_map, slice_get};
 ghost use Rattle.type_heads.specs.Members.{fields_among};
 ghost use Rattle.type_members.specs.Listed.{seen_listed};
-ghost use Rattle.type_members.specs.Shared.{part_at};
+ghost use Rattle.type_members.specs.Shared.{members_in_part};
 ghost use Rattle.program_fields.specs.Parts.{dos_from, field_at, has_text, is_between, the_do_in};
 ghost use Rattle.program_fields.specs.SeenFields.{first_do_in, has_name, seen_do, seen_field};
 ghost use Rattle.program_fields.specs.SeenSpots.{seen_spot};
-ghost use Rattle.program_fields.specs.Tables.{own_part, part_spots, row_of, rows_in};
+ghost use Rattle.program_fields.specs.Tables.{own_part, part_spots, row_inside, row_of, rows_in};
 
 use crate::fields::{TypeDo, TypeField};
 use crate::gathered::{do_of, field_of};
@@ -23,6 +23,7 @@ pub(crate) fn first_part(span: &Span) -> Part
         row: span.row,
         from: 0,
         to: span.len,
+        inside: 0,
     }
 }
 
@@ -37,19 +38,19 @@ impl<'a> ProgramFields<'a> {
         }
     }
 
-    /// A field of the row of a part.
+    /// A field of the row of a part, seen as it is in the part.
     fn field(&self, part: &Part, spot: FieldSpot<'a>) -> Option<TypeField<'a>>
-        ensures { option_map seen_field result ≡ field_at (row_of self.now part.now) (seen_spot spot.entry) }
+        ensures { option_map seen_field result ≡ field_at (row_inside self.now part.now) (seen_spot spot.entry) }
     {
         match self.member(part, spot.member) {
-            Some(listed) => field_of(listed, spot.name),
+            Some(listed) => field_of(listed, spot.name, part.inside),
             None => None,
         }
     }
 
     /// How many fields the members of a part declare.
     pub(crate) fn part_len(&self, part: &Part) -> usize
-        ensures { result ≡ length (fields_among (part_at (rows_in self.now) part.now)) }
+        ensures { result ≡ length (fields_among (members_in_part (rows_in self.now) part.now)) }
     {
         match self.row(part.row) {
             Some(row) => row.between(part.from, part.to).len(),
@@ -59,7 +60,7 @@ impl<'a> ProgramFields<'a> {
 
     /// The field of that number of a part, counted from 0.
     pub(crate) fn part_field(&self, part: &Part, number: usize) -> Option<TypeField<'a>>
-        ensures { option_map seen_field result ≡ slice_get (fields_among (part_at (rows_in self.now) part.now)) number }
+        ensures { option_map seen_field result ≡ slice_get (fields_among (members_in_part (rows_in self.now) part.now)) number }
     {
         match self.spot_at(part, number) {
             Some(spot) => self.field(part, spot),
@@ -78,7 +79,7 @@ impl<'a> ProgramFields<'a> {
 
     /// The first field of that name of a part.
     pub(crate) fn part_named(&self, part: &Part, name: &str) -> Option<TypeField<'a>>
-        ensures { option_map seen_field result ≡ find (has_name name.now) (fields_among (part_at (rows_in self.now) part.now)) }
+        ensures { option_map seen_field result ≡ find (has_name name.now) (fields_among (members_in_part (rows_in self.now) part.now)) }
     {
         match self.spot_named(part, name) {
             Some(spot) => self.field(part, spot),
@@ -97,7 +98,7 @@ impl<'a> ProgramFields<'a> {
 
     /// The first `do` of a part.
     pub(crate) fn part_do(&self, part: &Part) -> Option<TypeDo<'a>>
-        ensures { option_map seen_do result ≡ first_do_in (part_at (rows_in self.now) part.now) }
+        ensures { option_map seen_do result ≡ first_do_in (members_in_part (rows_in self.now) part.now) }
     {
         match self.do_place(part) {
             Some(place) => self.do_of(part, place),
@@ -115,12 +116,12 @@ impl<'a> ProgramFields<'a> {
         }
     }
 
-    /// The `do` that a member of the row of a part is.
+    /// The `do` that a member of the row of a part is, seen as it is in the part.
     fn do_of(&self, part: &Part, place: usize) -> Option<TypeDo<'a>>
-        ensures { option_map seen_do result ≡ option_and_then the_do_in (slice_get (row_of self.now part.now) place) }
+        ensures { option_map seen_do result ≡ option_and_then the_do_in (slice_get (row_inside self.now part.now) place) }
     {
         match self.member(part, place) {
-            Some(listed) => do_of(listed),
+            Some(listed) => do_of(listed, part.inside),
             None => None,
         }
     }

@@ -63,9 +63,9 @@ impl<'a> ProgramFields<'a> {
         let span = self.lists.span(of);
         let mut fields = Vec::new(alloc);
         for part in self.front(&span) {
-            push_all(&mut fields, self.lists.part(part))?;
+            push_all(&mut fields, self.lists.part(part), part.inside)?;
         }
-        push_all(&mut fields, self.lists.own(&span))?;
+        push_all(&mut fields, self.lists.own(&span), 0)?;
         Ok(Row::of(fields))
     }
 

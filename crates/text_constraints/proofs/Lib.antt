@@ -8,3 +8,4 @@ pub mod HomedTexts
 pub mod KeptTexts
 pub mod ElementTexts
 mod LabelSteps
+mod PartSteps

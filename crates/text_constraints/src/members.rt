@@ -9,6 +9,7 @@ ghost use Rattle.expr_nodes.specs.SeenNames.{seen_it, seen_scope};
 ghost use Rattle.program_texts.specs.SeenTexts.{types_in};
 ghost use Rattle.type_heads.specs.Members as told;
 ghost use Rattle.type_members.specs.Listed.{seen_listed};
+ghost use Rattle.type_members.specs.Shared.{under_inside};
 ghost use Rattle.expansion_laws.specs.WorkNodes.{own_within};
 ghost use Rattle.composition.specs.Expanded.{occurrence_of};
 ghost use Rattle.text_constraints.specs.Kept.{seen_owner};
@@ -184,20 +185,27 @@ fn push_own_rule(
     push_rule(alloc, texts.types(), &text, &owner, into, rule)
 }
 
-/// Puts what a field of the object gives at the end. The scope is that of the member's text.
+/// Puts what a field of the object gives at the end. The scope is that of the member's text. The member is seen from inside of
+/// so many of the conditional subtypes that it is under.
 fn push_field(
     alloc: Global,
     texts: &ProgramTexts<'_>,
     standing: &Standing<'_>,
     scope: &Scope<'_>,
     listed: &ListedMember<'_>,
+    inside: usize,
     into: &mut Vec<Occurrence>,
     decl: &FieldDecl,
 ) -> Result<(), AllocError>
-    ensures { OnOk result (IsTextScope (types_in texts.now) listed.now.holder (seen_scope scope.now) → map seen_occurrence into.new.items ≡ map seen_occurrence into.old.items ++ member_kept (types_in texts.now) (seen_scene standing.now.scene.now).bindings standing.now.object.now standing.now.of (seen_listed listed.now) (MemberTree.Field (field_tree decl.now))) }
+    ensures { OnOk result (IsTextScope (types_in texts.now) listed.now.holder (seen_scope scope.now) → map seen_occurrence into.new.items ≡ map seen_occurrence into.old.items ++ member_kept (types_in texts.now) (seen_scene standing.now.scene.now).bindings standing.now.object.now standing.now.of (under_inside inside (seen_listed listed.now)) (MemberTree.Field (field_tree decl.now))) }
 {
     let it = it_of(texts, decl)?;
-    let under = texts.guards_under(alloc, standing.object, standing.of, listed.under.as_slice())?;
+    let under = texts.guards_under(
+        alloc,
+        standing.object,
+        standing.of,
+        listed.under_inside(inside),
+    )?;
     let own = Scope {
         holder: scope.holder,
         it,
@@ -207,19 +215,26 @@ fn push_field(
     push_names(alloc, texts, standing, &own, under.as_slice(), into, decl)
 }
 
-/// Puts what a rule among the object's members gives at the end. The scope is that of the member's text.
+/// Puts what a rule among the object's members gives at the end. The scope is that of the member's text. The member is seen from
+/// inside of so many of the conditional subtypes that it is under.
 fn push_member_rule(
     alloc: Global,
     texts: &ProgramTexts<'_>,
     standing: &Standing<'_>,
     scope: &Scope<'_>,
     listed: &ListedMember<'_>,
+    inside: usize,
     into: &mut Vec<Occurrence>,
     rule: &RuleDecl,
 ) -> Result<(), AllocError>
-    ensures { OnOk result (IsTextScope (types_in texts.now) listed.now.holder (seen_scope scope.now) → map seen_occurrence into.new.items ≡ map seen_occurrence into.old.items ++ member_kept (types_in texts.now) (seen_scene standing.now.scene.now).bindings standing.now.object.now standing.now.of (seen_listed listed.now) (MemberTree.Rule (rule_tree rule.now))) }
+    ensures { OnOk result (IsTextScope (types_in texts.now) listed.now.holder (seen_scope scope.now) → map seen_occurrence into.new.items ≡ map seen_occurrence into.old.items ++ member_kept (types_in texts.now) (seen_scene standing.now.scene.now).bindings standing.now.object.now standing.now.of (under_inside inside (seen_listed listed.now)) (MemberTree.Rule (rule_tree rule.now))) }
 {
-    let under = texts.guards_under(alloc, standing.object, standing.of, listed.under.as_slice())?;
+    let under = texts.guards_under(
+        alloc,
+        standing.object,
+        standing.of,
+        listed.under_inside(inside),
+    )?;
     let own = Scope {
         holder: scope.holder,
         it: None,
@@ -229,20 +244,26 @@ fn push_member_rule(
     push_own_rule(alloc, texts, standing, &own, under.as_slice(), into, rule)
 }
 
-/// Puts what a member of the object gives at the end. The scope is that of the member's text.
+/// Puts what a member of the object gives at the end. The scope is that of the member's text. The member is seen from inside of
+/// so many of the conditional subtypes that it is under.
 fn push_member(
     alloc: Global,
     texts: &ProgramTexts<'_>,
     standing: &Standing<'_>,
     scope: &Scope<'_>,
     listed: &ListedMember<'_>,
+    inside: usize,
     into: &mut Vec<Occurrence>,
 ) -> Result<(), AllocError>
-    ensures { OnOk result (IsTextScope (types_in texts.now) listed.now.holder (seen_scope scope.now) → map seen_occurrence into.new.items ≡ map seen_occurrence into.old.items ++ listed_kept (types_in texts.now) (seen_scene standing.now.scene.now).bindings standing.now.object.now standing.now.of (seen_listed listed.now)) }
+    ensures { OnOk result (IsTextScope (types_in texts.now) listed.now.holder (seen_scope scope.now) → map seen_occurrence into.new.items ≡ map seen_occurrence into.old.items ++ listed_kept (types_in texts.now) (seen_scene standing.now.scene.now).bindings standing.now.object.now standing.now.of (under_inside inside (seen_listed listed.now))) }
 {
     match listed.written.member {
-        Member::Field(decl) => push_field(alloc, texts, standing, scope, listed, into, decl),
-        Member::Rule(rule) => push_member_rule(alloc, texts, standing, scope, listed, into, rule),
+        Member::Field(decl) => {
+            push_field(alloc, texts, standing, scope, listed, inside, into, decl)
+        }
+        Member::Rule(rule) => {
+            push_member_rule(alloc, texts, standing, scope, listed, inside, into, rule)
+        }
         Member::Do { .. } => Ok(()),
     }
 }
@@ -281,35 +302,39 @@ fn labels_for<'t>(
     text_labels(alloc, texts, holder)
 }
 
-/// Puts what a member of the object gives at the end, given the labels of the member's text.
+/// Puts what a member of the object gives at the end, given the labels of the member's text. It is seen from inside of so many
+/// of the conditional subtypes that it is under.
 fn push_labelled(
     alloc: Global,
     texts: &ProgramTexts<'_>,
     standing: &Standing<'_>,
     labels: &TextLabels<'_>,
     listed: &ListedMember<'_>,
+    inside: usize,
     into: &mut Vec<Occurrence>,
 ) -> Result<(), AllocError>
-    ensures { OnOk result (IsLabelled (types_in texts.now) listed.now.holder labels.now → map seen_occurrence into.new.items ≡ map seen_occurrence into.old.items ++ listed_kept (types_in texts.now) (seen_scene standing.now.scene.now).bindings standing.now.object.now standing.now.of (seen_listed listed.now)) }
+    ensures { OnOk result (IsLabelled (types_in texts.now) listed.now.holder labels.now → map seen_occurrence into.new.items ≡ map seen_occurrence into.old.items ++ listed_kept (types_in texts.now) (seen_scene standing.now.scene.now).bindings standing.now.object.now standing.now.of (under_inside inside (seen_listed listed.now))) }
 {
     let scope = scope_at(labels.holder, None, labels.labels.table(), &[]);
-    push_member(alloc, texts, standing, &scope, listed, into)
+    push_member(alloc, texts, standing, &scope, listed, inside, into)
 }
 
-/// Puts what members of the object give at the end. Labels that are made for a text serve all members in a row.
+/// Puts what members of the object give at the end, seen from inside of so many of the conditional subtypes that they are under.
+/// Labels that are made for a text serve all members in a row.
 fn push_members(
     alloc: Global,
     texts: &ProgramTexts<'_>,
     standing: &Standing<'_>,
     into: &mut Vec<Occurrence>,
     members: &[ListedMember<'_>],
+    inside: usize,
 ) -> Result<(), AllocError>
-    ensures { OnOk result (map seen_occurrence into.new.items ≡ map seen_occurrence into.old.items ++ flat_map (listed_kept (types_in texts.now) (seen_scene standing.now.scene.now).bindings standing.now.object.now standing.now.of) (map seen_listed members.now)) }
+    ensures { OnOk result (map seen_occurrence into.new.items ≡ map seen_occurrence into.old.items ++ flat_map (λ m. listed_kept (types_in texts.now) (seen_scene standing.now.scene.now).bindings standing.now.object.now standing.now.of (under_inside inside m)) (map seen_listed members.now)) }
 {
     let mut labels = text_labels(alloc, texts, standing.of)?;
     for listed in members {
         labels = labels_for(alloc, texts, labels, listed.holder)?;
-        push_labelled(alloc, texts, standing, &labels, listed, into)?;
+        push_labelled(alloc, texts, standing, &labels, listed, inside, into)?;
     }
     Ok(())
 }
@@ -326,9 +351,9 @@ fn push_parts(
     let lists = texts.lists();
     let span = lists.span(standing.of);
     for part in lists.front(span.row) {
-        push_members(alloc, texts, standing, into, lists.part(part))?;
+        push_members(alloc, texts, standing, into, lists.part(part), part.inside)?;
     }
-    push_members(alloc, texts, standing, into, lists.own(&span))?;
+    push_members(alloc, texts, standing, into, lists.own(&span), 0)?;
     Ok(())
 }
 

@@ -99,7 +99,7 @@ met_after name earlier (i ∷ is) h =
     (ap (λ b. list_any (bytes_eq name) earlier || (b || has_text name is)) (text_turned name i.text) ∙ h))
 
 -- with fewer names before there are fewer faults
-fewer_before : (fewer more : List (List ℕ)) (is : List Ident) → ((x : List ℕ) → list_any (bytes_eq x) fewer ≡ true → list_any (bytes_eq x) more ≡ true) →
+pub fewer_before : (fewer more : List (List ℕ)) (is : List Ident) → ((x : List ℕ) → list_any (bytes_eq x) fewer ≡ true → list_any (bytes_eq x) more ≡ true) →
     quiet (repeated_rows more is) ≡ true → quiet (repeated_rows fewer is) ≡ true
 fewer_before fewer more [] sub h = refl
 fewer_before fewer more (i ∷ is) sub h =

@@ -1,8 +1,7 @@
 -- What is known of members is so of fewer of them.
-use Rattle.std.proofs.Common.{◌≡◌, ◌∙◌, refl, sym, ap, subst, ◌⊎◌, inl, inr, ℕ, zero, suc, ◌&&◌, ◌||◌, Bool, true, false, not, List, [], ◌∷◌, ◌++◌, Option, Some, None, bytes_eq, drop, length, nat_lt, take, true≢false, arith}
-use Rattle.std.specs.Prelude.{codes, nat_le}
+use Rattle.std.proofs.Common.{◌≡◌, ◌∙◌, refl, sym, ap, ◌⊎◌, inl, inr, ℕ, zero, suc, ◌&&◌, ◌||◌, Bool, true, false, not, List, [], ◌∷◌, ◌++◌, Option, Some, None, bytes_eq, length, nat_lt, take, true≢false}
+use Rattle.std.specs.Prelude.{codes}
 use Rattle.std.specs.List.{cons_option, list_any}
-use Rattle.std.proofs.lemmas.Bool.Decides.{nat_tests}
 use Rattle.osc_base.specs.FaultRows.{FaultRow}
 use Rattle.dsl_tree.specs.declared.compounds.CompoundKind.{CompoundKind}
 use Rattle.dsl_tree.specs.declared.parts.Ident.{Ident}
@@ -24,10 +23,6 @@ Sub [] ys = Unit {0}
 Sub (x ∷ xs) [] = ⊥
 Sub (x ∷ xs) (y ∷ ys) = ((x ≡ y) × Sub xs ys) ⊎ Sub (x ∷ xs) ys
 
-skipped : {X : Type 0} (xs ys : List X) (y : X) → Sub xs ys → Sub xs (y ∷ ys)
-skipped [] ys y s = tt
-skipped (x ∷ xs) ys y s = inr s
-
 pub sub_after : {X : Type 0} (front xs ys : List X) → Sub xs ys → Sub (front ++ xs) (front ++ ys)
 sub_after [] xs ys s = s
 sub_after (x ∷ front) xs ys s = inl (refl, sub_after front xs ys s)
@@ -36,31 +31,6 @@ pub sub_taken : {X : Type 0} (n : ℕ) (xs : List X) → Sub (take n xs) xs
 sub_taken zero xs = tt
 sub_taken (suc n) [] = tt
 sub_taken (suc n) (x ∷ xs) = inl (refl, sub_taken n xs)
-
-sub_rest : {X : Type 0} (to len : ℕ) (xs : List X) → Sub (drop to (take len xs)) xs
-sub_rest zero len xs = sub_taken len xs
-sub_rest (suc to) zero xs = tt
-sub_rest (suc to) (suc len) [] = tt
-sub_rest (suc to) (suc len) (x ∷ xs) = skipped (drop to (take len xs)) xs x (sub_rest to len xs)
-
-drop_nothing : {X : Type 0} (n : ℕ) → drop {A = X} n [] ≡ []
-drop_nothing zero = refl
-drop_nothing (suc n) = refl
-
-no_less : (from : ℕ) → nat_le (suc from) zero ≡ true → ⊥
-no_less from h = let e : nat_le (suc from) zero ≡ false = grind (arith, nat_tests) in absurd (true≢false (sym h ∙ e))
-
-one_less : (from to : ℕ) → nat_le (suc from) (suc to) ≡ true → nat_le from to ≡ true
-one_less from to h = grind (arith, nat_tests)
-
--- the first of a list, but for those from one place to another
-pub sub_around : {X : Type 0} (from to len : ℕ) (xs : List X) → nat_le from to ≡ true → Sub (take from xs ++ drop to (take len xs)) xs
-sub_around zero to len xs h = sub_rest to len xs
-sub_around (suc from) zero len xs h = absurd (no_less from h)
-sub_around (suc from) (suc to) zero [] h = tt
-sub_around (suc from) (suc to) (suc len) [] h = tt
-sub_around (suc from) (suc to) zero (x ∷ xs) h = inl (refl, subst (λ zs. Sub (take from xs ++ zs) xs) (drop_nothing to) (sub_around from to zero xs (one_less from to h)))
-sub_around (suc from) (suc to) (suc len) (x ∷ xs) h = inl (refl, sub_around from to len xs (one_less from to h))
 
 sub_any : {X : Type 0} (test : X → Bool) (xs ys : List X) → Sub xs ys → list_any test ys ≡ false → list_any test xs ≡ false
 sub_any test [] ys s h = refl
@@ -100,11 +70,11 @@ no_later form (d ∷ ds) h = absurd (true≢false (sym (right_of (not (is_wrong 
 as_first : (form : Form) (is_later : Bool) (ds : List Do) → quiet (do_rows form true ds) ≡ true → quiet (do_rows form is_later ds) ≡ true
 as_first form is_later ds h = ap (λ es. quiet (do_rows form is_later es)) (no_later form ds h)
 
-after_one : (form : Form) (is_later : Bool) (d : Do) (ds : List Do) → quiet (do_rows form is_later (d ∷ ds)) ≡ true → quiet (do_rows form true ds) ≡ true
+pub after_one : (form : Form) (is_later : Bool) (d : Do) (ds : List Do) → quiet (do_rows form is_later (d ∷ ds)) ≡ true → quiet (do_rows form true ds) ≡ true
 after_one form is_later d ds h =
     right_of (not is_later) (quiet (do_rows form true ds)) (right_of (not (is_wrong form d)) (not is_later && quiet (do_rows form true ds)) h)
 
-one_kept : (form : Form) (is_later : Bool) (d : Do) (ds es : List Do) → quiet (do_rows form is_later (d ∷ ds)) ≡ true → quiet (do_rows form true es) ≡ true → quiet (do_rows form is_later (d ∷ es)) ≡ true
+pub one_kept : (form : Form) (is_later : Bool) (d : Do) (ds es : List Do) → quiet (do_rows form is_later (d ∷ ds)) ≡ true → quiet (do_rows form true es) ≡ true → quiet (do_rows form is_later (d ∷ es)) ≡ true
 one_kept form is_later d ds es h k =
     let rest : (not is_later && quiet (do_rows form true ds)) ≡ true = right_of (not (is_wrong form d)) (not is_later && quiet (do_rows form true ds)) h in
     both (not (is_wrong form d)) (not is_later && quiet (do_rows form true es)) (left_of (not (is_wrong form d)) (not is_later && quiet (do_rows form true ds)) h)

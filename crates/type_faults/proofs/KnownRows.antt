@@ -1,6 +1,6 @@
 -- What is known of each row and what is in front of it, and that plain members give no fault by themselves.
-use Rattle.std.proofs.Common.{◌≡◌, ◌∙◌, refl, sym, ap, subst, ℕ, zero, suc, ◌<◌, ◌&&◌, ◌||◌, Bool, true, false, not, cond, List, [], ◌∷◌, ◌++◌, Option, Some, None, append-nil, bytes_eq, drop, get_or, length, map, nat_lt, take, true≢false}
-use Rattle.std.specs.Prelude.{codes, is_some, nat_le, slice_get, slice_index_or}
+use Rattle.std.proofs.Common.{◌≡◌, ◌∙◌, refl, sym, ap, subst, ℕ, zero, suc, ◌<◌, ◌&&◌, ◌||◌, Bool, true, false, not, cond, List, [], ◌∷◌, ◌++◌, Option, Some, None, append-nil, bytes_eq, get_or, length, map, nat_lt, take, true≢false}
+use Rattle.std.specs.Prelude.{codes, is_some, slice_get, slice_index_or}
 use Rattle.std.specs.Option.{option_map_or}
 use Rattle.std.specs.List.{cons_option, list_any}
 use Rattle.std.proofs.lemmas.Grind.{flat_map-append}
@@ -18,17 +18,21 @@ use Rattle.type_heads.specs.Types.{Do, Member, Types}
 use Rattle.type_heads.specs.Members.{do_declared, members}
 use Rattle.type_heads.specs.MemberFaults.{condition_rows, do_rows, names_among, names_given, repeated_rows, type_rows}
 use Rattle.type_members.specs.Listed.{seen_row}
-use Rattle.type_members.specs.Shared.{AreStarted, around, fronts_in, list_at, part_at, parts_at, parts_from}
+use Rattle.type_members.specs.Cutting.{cut_out}
+use Rattle.type_members.specs.Shared.{AreStarted, fronts_in, is_cut, members_at, members_in_part, members_in_parts, moved, parts_from, place_parts}
 use Rattle.type_members.specs.declared.places.Part.{Part}
 use Rattle.type_members.specs.declared.places.Span.{Span}
+use Rattle.type_members.specs.declared.rows.Cut.{Cut}
 use Rattle.type_members.specs.declared.rows.MemberRow.{MemberRow}
 use Rattle.type_members.specs.declared.rows.Start.{Start}
+use Rattle.type_members.proofs.Moves.{IsCutOf, cut_of, first_in, last_in, members_left, moved_is, place_is, whole_is}
 use Rattle.type_faults.specs.NamePlaces.{AreRowPlaces, has_text, may_meet}
 use Rattle.type_faults.specs.RowFacts.{AreAllSo, AreSo, all_known, dos_among, facts_before, facts_with, front_and_row, has_right_dos, has_right_values, initials_among, is_distinct_row, is_do, is_plain, list_rows, next_facts, none_known, quiet}
 use Rattle.type_faults.specs.declared.member_faults.name_places.NamePlaces.{NamePlaces}
 use Rattle.type_faults.specs.declared.member_faults.row_facts.RowFacts.{RowFacts}
 use Rattle.type_faults.proofs.DistinctNames.{is_among, joined, widen}
-use Rattle.type_faults.proofs.FewerMembers.{Sub, no_later, sub_after, sub_around, sub_so, sub_taken}
+use Rattle.type_faults.proofs.FewerMembers.{no_later, sub_after, sub_so, sub_taken}
+use Rattle.type_faults.proofs.MovedMembers.{moved_so}
 use Rattle.type_faults.proofs.NameNotes.{index_mapped}
 use Rattle.type_faults.proofs.PartNames.{none_met}
 use Rattle.type_faults.proofs.Quiet.{any_weaker, both_false, none_quiet, not_false, quiet_both, quiet_stays}
@@ -39,38 +43,37 @@ scenario = Form.Compound CompoundKind.Scenario
 
 -- In front of a row
 
-none_so : (heads : List TypeHead) (ms : List Member) → AreSo heads none_known ms
-none_so heads ms = record {
-  distinct = λ h. absurd (true≢false (sym h));
-  no_duration = λ h. absurd (true≢false (sym h));
-  initials = λ h. absurd (true≢false (sym h));
-  no_do = λ h. absurd (true≢false (sym h));
-  right_do = λ h. absurd (true≢false (sym h));
-}
-
 all_so : (heads : List TypeHead) → AreSo heads all_known []
 all_so heads = record { distinct = λ h. refl; no_duration = λ h. refl; initials = λ h. refl; no_do = λ h. refl; right_do = λ h. refl }
 
-start_sub : (fronts : List (List Part)) (rows : List (List Member)) (s : Start) → nat_le s.from s.to ≡ true →
-    Sub (parts_at rows (slice_index_or fronts s.row [] ++ around s)) (front_and_row fronts rows s.row)
-start_sub fronts rows s h =
-    let front : List Part = slice_index_or fronts s.row [] in
+-- the first members of a row, and what is in front of it
+at_so : (heads : List TypeHead) (fronts : List (List Part)) (rows : List (List Member)) (f : RowFacts) (s : Span) → AreSo heads f (front_and_row fronts rows s.row) → AreSo heads f (members_at fronts rows s)
+at_so heads fronts rows f s so =
+    let front : List Member = members_in_parts rows (slice_index_or fronts s.row []) in
     let own : List Member = slice_index_or rows s.row [] in
-    subst (λ ms. Sub ms (front_and_row fronts rows s.row))
-    (sym (flat_map-append (part_at rows) front (around s) ∙ ap (λ ms. parts_at rows front ++ (take s.from own ++ ms)) (append-nil (drop s.to (take s.len own)))))
-    (sub_after (parts_at rows front) (take s.from own ++ drop s.to (take s.len own)) own (sub_around s.from s.to s.len own h))
+    sub_so heads f (front ++ take s.len own) (front ++ own) (sub_after front (take s.len own) own (sub_taken s.len own)) so
 
-pub before_so : (heads : List TypeHead) (fronts : List (List Part)) (rows : List (List Member)) (facts : List RowFacts) (start : Option Start) → AreAllSo heads fronts rows facts →
-    AreSo heads (facts_before facts start) (parts_at rows (parts_from fronts start))
-before_so heads fronts rows facts None so = all_so heads
-before_so heads fronts rows facts (Some s) so = by (nat_le s.from s.to) refl
-  where
-    front : List Member
-    front = parts_at rows (slice_index_or fronts s.row [] ++ around s)
+-- what is cut out comes last
+cut_so : (heads : List TypeHead) (rows : List (List Member)) (f : RowFacts) (ps : List Part) (cut : Option Cut) → is_cut ps cut ≡ true → AreSo heads f (members_in_parts rows ps) →
+    AreSo heads f (members_in_parts rows (option_map_or (moved ps) cut ps))
+cut_so heads rows f ps None within so = so
+cut_so heads rows f ps (Some cut) within so =
+    let of : IsCutOf ps cut = cut_of ps cut within in
+    let before : List Member = first_in rows ps cut of.of in
+    let out : List Member = members_in_part rows (cut_out of.of cut) in
+    let later : List Member = last_in rows ps cut of.of in
+    subst (AreSo heads f) (sym (moved_is rows ps cut of.of of.there of.within))
+    (moved_so heads f 1 before out later (subst (AreSo heads f) (whole_is rows ps cut of.of of.there of.within) so))
 
-    by : (b : Bool) → nat_le s.from s.to ≡ b → AreSo heads (cond b (slice_index_or facts s.row none_known) none_known) front
-    by true e = sub_so heads (slice_index_or facts s.row none_known) front (front_and_row fronts rows s.row) (start_sub fronts rows s e) (so s.row)
-    by false e = none_so heads front
+pub before_so : (heads : List TypeHead) (fronts : List (List Part)) (rows : List (List Member)) (facts : List RowFacts) (start : Option Start) →
+    ((s : Start) → start ≡ Some s → is_cut (place_parts fronts s.at) s.cut ≡ true) → AreAllSo heads fronts rows facts →
+    AreSo heads (facts_before facts start) (members_in_parts rows (parts_from fronts start))
+before_so heads fronts rows facts None cuts so = all_so heads
+before_so heads fronts rows facts (Some s) cuts so =
+    let f : RowFacts = slice_index_or facts s.at.row none_known in
+    let parts : List Part = place_parts fronts s.at in
+    subst (AreSo heads f) (sym (members_left rows (option_map_or (moved parts) s.cut parts)))
+    (cut_so heads rows f parts s.cut (cuts s refl) (subst (AreSo heads f) (sym (place_is fronts rows s.at)) (at_so heads fronts rows f s.at (so s.at.row))))
 
 -- A row after what is in front of it
 
@@ -99,11 +102,11 @@ distinct_own places rows number are h = by (slice_get places number) refl h
     by (Some p) e k = none_quiet (repeated_rows [] (names_among own)) (sym (are number p e).distinct ∙ k)
 
 pub with_so : (heads : List TypeHead) (places : List NamePlaces) (rows : List (List Member)) (number : ℕ) (parts : List Part) (f : RowFacts) → AreRowPlaces places rows →
-    AreSo heads f (parts_at rows parts) →
-    AreSo heads (facts_with heads places number parts (slice_index_or rows number []) (names_among (slice_index_or rows number [])) f) (parts_at rows parts ++ slice_index_or rows number [])
+    AreSo heads f (members_in_parts rows parts) →
+    AreSo heads (facts_with heads places number parts (slice_index_or rows number []) (names_among (slice_index_or rows number [])) f) (members_in_parts rows parts ++ slice_index_or rows number [])
 with_so heads places rows number parts f are so =
     let own : List Member = slice_index_or rows number [] in
-    let front : List Member = parts_at rows parts in
+    let front : List Member = members_in_parts rows parts in
     let names : names_among (front ++ own) ≡ names_among front ++ names_among own = flat_map-append _ front own in
     let apart : Bool = not (may_meet places parts (names_among own)) in
     record {
@@ -153,12 +156,14 @@ row_so heads rs places known r started are less is so =
     let own : slice_index_or rows n [] ≡ seen_row r = index_mapped seen_row [] rs n r less ∙ ap seen_row (sym is) in
     let front : slice_index_or fronts n [] ≡ r.front.items = index_mapped (λ (q : MemberRow). q.front.items) [] rs n r less ∙ ap (λ (q : MemberRow). q.front.items) (sym is) in
     let starts : r.front.items ≡ parts_from fronts r.start = subst (λ q. q.front.items ≡ parts_from fronts q.start) (sym is) (started n r less).front in
-    let before : AreSo heads (facts_before known r.start) (parts_at rows r.front.items) =
-    subst (λ ps. AreSo heads (facts_before known r.start) (parts_at rows ps)) (sym starts) (before_so heads fronts rows known r.start so) in
-    let whole : AreSo heads (facts_with heads places n r.front.items (seen_row r) (names_among (seen_row r)) (facts_before known r.start)) (parts_at rows r.front.items ++ slice_index_or rows n []) =
-    subst (λ ms. AreSo heads (facts_with heads places n r.front.items ms (names_among ms) (facts_before known r.start)) (parts_at rows r.front.items ++ slice_index_or rows n [])) own
+    let cuts : (s : Start) → r.start ≡ Some s → is_cut (place_parts fronts s.at) s.cut ≡ true =
+    subst (λ q. (s : Start) → q.start ≡ Some s → is_cut (place_parts fronts s.at) s.cut ≡ true) (sym is) (started n r less).cuts in
+    let before : AreSo heads (facts_before known r.start) (members_in_parts rows r.front.items) =
+    subst (λ ps. AreSo heads (facts_before known r.start) (members_in_parts rows ps)) (sym starts) (before_so heads fronts rows known r.start cuts so) in
+    let whole : AreSo heads (facts_with heads places n r.front.items (seen_row r) (names_among (seen_row r)) (facts_before known r.start)) (members_in_parts rows r.front.items ++ slice_index_or rows n []) =
+    subst (λ ms. AreSo heads (facts_with heads places n r.front.items ms (names_among ms) (facts_before known r.start)) (members_in_parts rows r.front.items ++ slice_index_or rows n [])) own
     (with_so heads places rows n r.front.items (facts_before known r.start) are before) in
-    subst (λ ps. AreSo heads (next_facts heads places known r) (parts_at rows ps ++ slice_index_or rows n [])) (sym front) whole
+    subst (λ ps. AreSo heads (next_facts heads places known r) (members_in_parts rows ps ++ slice_index_or rows n [])) (sym front) whole
 
 pub next_so : (heads : List TypeHead) (rs : List MemberRow) (places : List NamePlaces) (known : List RowFacts) (r : MemberRow) (f : RowFacts) (n : ℕ) → AreStarted rs → AreRowPlaces places (map seen_row rs) →
     length known ≡ n → n < length rs → r ≡ get_or rs n r → f ≡ next_facts heads places known r → AreAllSo heads (fronts_in rs) (map seen_row rs) known →
@@ -206,13 +211,10 @@ plain_quiet heads f ms form so h =
 
 -- the members at a place whose row is plain give no fault by themselves
 pub plain_law : (heads : List TypeHead) (fronts : List (List Part)) (rows : List (List Member)) (facts : List RowFacts) (s : Span) (form : Form) (first : Option Fault) → AreAllSo heads fronts rows facts →
-    is_plain (slice_index_or facts s.row none_known) form ≡ true → first_from first (list_rows heads form (list_at fronts rows s)) ≡ first
+    is_plain (slice_index_or facts s.row none_known) form ≡ true → first_from first (list_rows heads form (members_at fronts rows s)) ≡ first
 plain_law heads fronts rows facts s form first so h =
-    let own : List Member = slice_index_or rows s.row [] in
-    let front : List Member = parts_at rows (slice_index_or fronts s.row []) in
     let f : RowFacts = slice_index_or facts s.row none_known in
-    quiet_stays first (list_rows heads form (list_at fronts rows s))
-    (plain_quiet heads f (list_at fronts rows s) form (sub_so heads f (list_at fronts rows s) (front_and_row fronts rows s.row) (sub_after front (take s.len own) own (sub_taken s.len own)) (so s.row)) h)
+    quiet_stays first (list_rows heads form (members_at fronts rows s)) (plain_quiet heads f (members_at fronts rows s) form (at_so heads fronts rows f s (so s.row)) h)
 
 -- only the condition is left to be looked at
 pub condition_left : (ts : Types) (t : ℕ) (first : Option Fault) → first_from first (list_rows ts.table.heads (form ts.table.heads t) (members ts t)) ≡ first →

@@ -23,6 +23,7 @@ mod HeldFall
 mod DistinctNames
 mod FewerMembers
 mod KnownRows
+mod MovedMembers
 mod PartNames
 mod PartSteps
 mod Quiet

@@ -1,5 +1,5 @@
 -- The members of a row that stand in a part, found by the first member that passes a test.
-use Rattle.std.proofs.Common.{◌≡◌, ◌∙◌, refl, sym, ap, ℕ, zero, suc, ◌+◌, ◌&&◌, ◌||◌, Bool, true, false, not, cond, List, [], ◌∷◌, Option, Some, None, bytes_eq, drop, take, nat_lt, true≢false, arith}
+use Rattle.std.proofs.Common.{◌≡◌, ◌∙◌, refl, sym, ap, ℕ, zero, suc, ◌+◌, ◌&&◌, ◌||◌, Bool, true, false, not, cond, List, [], ◌∷◌, Option, Some, None, bytes_eq, drop, map, take, nat_lt, true≢false, arith}
 use Rattle.std.specs.Prelude.{find, is_some, nat_le, option_and_then, option_map, slice_get, slice_index_or}
 use Rattle.std.specs.Option.{option_map_or, option_or}
 use Rattle.std.specs.List.{list_any}
@@ -12,9 +12,10 @@ use Rattle.name_scope.specs.Declaring.{first_place}
 use Rattle.type_heads.specs.Types.{Field, Member}
 use Rattle.type_heads.specs.Members.{fields_declared}
 use Rattle.type_heads.specs.MemberFaults.{member_names, names_among, repeated_rows}
-use Rattle.type_members.specs.Shared.{part_at, parts_at}
+use Rattle.type_members.specs.Shared.{members_in_part, members_in_parts, part_at, parts_at, under_inside}
 use Rattle.type_members.specs.declared.places.Part.{Part}
-use Rattle.type_faults.specs.ListedRows.{field_declared, field_found, found_field}
+use Rattle.type_members.proofs.SeenInside.{flat_in_parts}
+use Rattle.type_faults.specs.ListedRows.{FoundField, field_declared, field_found, found_field}
 use Rattle.type_faults.specs.NamePlaces.{ArePlaces, AreRowPlaces, declares_name, has_text, in_part, may_have, may_meet, number_in}
 use Rattle.type_faults.specs.declared.member_faults.name_places.NamePlaces.{NamePlaces}
 use Rattle.type_faults.proofs.DistinctNames.{AtMostOne, is_one_of, once, text_turned}
@@ -213,9 +214,10 @@ turned name (i ∷ is) = λ k. text_turned i.text name k || turned name is k
 
 -- none of some names is in parts that don't meet them
 pub none_met : (all : List NamePlaces) (rows : List (List Member)) (parts : List Part) (names : List Ident) → AreRowPlaces all rows → may_meet all parts names ≡ false →
-    list_any (is_one_of (names_among (parts_at rows parts))) names ≡ false
+    list_any (is_one_of (names_among (members_in_parts rows parts))) names ≡ false
 none_met all rows parts names are h =
-    any_weaker (λ (i : Ident). list_any (may_have all i.text) parts) (is_one_of (names_among (parts_at rows parts)))
+    ap (λ is. list_any (is_one_of is) names) (flat_in_parts (λ (m : Member). member_names m.written.member) (λ k m. refl) rows parts)
+    ∙ any_weaker (λ (i : Ident). list_any (may_have all i.text) parts) (is_one_of (names_among (parts_at rows parts)))
     (λ i e. sym (turned i.text (names_among (parts_at rows parts)))
     ∙ any_flat (λ (j : Ident). bytes_eq j.text i.text) (λ (m : Member). member_names m.written.member) (parts_at rows parts)
     ∙ parts_lack all rows parts i.text are e) names h
@@ -232,10 +234,22 @@ pub first_field : (name : List ℕ) (ms : List Member) → field_found name ms �
 first_field name [] = refl
 first_field name (m ∷ ms) = found_next m ms name ∙ ap (option_or (field_declared name m)) (first_field name ms)
 
+first_mapped : {X Y Z : Type 0} (g : Y → Option Z) (h : X → Y) (xs : List X) → first_some g (map h xs) ≡ first_some (λ x. g (h x)) xs
+first_mapped g h [] = refl
+first_mapped g h (x ∷ xs) = ap (option_or (g (h x))) (first_mapped g h xs)
+
+-- the field of a name that a member declares, seen from inside of so many conditional subtypes
+abbrev pub field_inside : ℕ → List ℕ → Member → Option FoundField
+field_inside k name m = field_declared name (under_inside k m)
+
 -- the field of a name in a part, by the places of distinct names
-pub field_picked : (q : NamePlaces) (ms : List Member) (p : Part) (name : List ℕ) → ArePlaces q ms → q.is_distinct ≡ true →
-    field_found name (drop p.from (take p.to ms)) ≡ option_and_then (λ i. option_and_then (field_declared name) (slice_get (take p.to ms) i)) (in_part p (number_in q.first name))
-field_picked q ms p name are distinct =
-    first_field name (drop p.from (take p.to ms))
-    ∙ picked (declares_name name) (field_declared name) (λ m e. undeclared name m m.written.member e) p.from p.to ms (distinct_row q ms are distinct name)
-    ∙ ap (λ o. option_and_then (λ i. option_and_then (field_declared name) (slice_get (take p.to ms) i)) (within p.from p.to o)) (sym (are.first name ∙ place_is (declares_name name) ms))
+pub field_picked : (q : NamePlaces) (rows : List (List Member)) (p : Part) (name : List ℕ) → ArePlaces q (slice_index_or rows p.row []) → q.is_distinct ≡ true →
+    field_found name (members_in_part rows p)
+    ≡ option_and_then (λ i. option_and_then (field_inside p.inside name) (slice_get (take p.to (slice_index_or rows p.row [])) i)) (in_part p (number_in q.first name))
+field_picked q rows p name are distinct =
+    let ms : List Member = slice_index_or rows p.row [] in
+    let found : Member → Option FoundField = field_inside p.inside name in
+    first_field name (members_in_part rows p)
+    ∙ first_mapped (field_declared name) (under_inside p.inside) (part_at rows p)
+    ∙ picked (declares_name name) found (λ m e. undeclared name (under_inside p.inside m) m.written.member e) p.from p.to ms (distinct_row q ms are distinct name)
+    ∙ ap (λ o. option_and_then (λ i. option_and_then found (slice_get (take p.to ms) i)) (within p.from p.to o)) (sym (are.first name ∙ place_is (declares_name name) ms))

@@ -1,5 +1,5 @@
 -- Going through the parts in front of a row.
-use Rattle.std.proofs.Common.{◌≡◌, ◌∙◌, refl, sym, ap, ℕ, ◌+◌, ◌<◌, List, [], ◌∷◌, ◌++◌, Option, Some, None, append-nil, append_assoc, get_or, length, take}
+use Rattle.std.proofs.Common.{◌≡◌, ◌∙◌, refl, sym, ap, ℕ, ◌+◌, ◌<◌, List, [], ◌∷◌, ◌++◌, Option, Some, None, append-nil, append_assoc, get_or, length, map, take}
 use Rattle.std.specs.List.{cons_option}
 use Rattle.std.proofs.lemmas.List.{map-append, take_more}
 use Rattle.std.proofs.lemmas.List.Concat.{flat_map-append}
@@ -8,17 +8,21 @@ use Rattle.std.specs.Borrow.{Bor}
 use Rattle.dsl_tree.specs.declared.parts.Ident.{Ident}
 use Rattle.type_heads.specs.Types.{Do, Member}
 use Rattle.type_heads.specs.Members.{do_declared}
-use Rattle.type_members.specs.Shared.{part_at, parts_at}
+use Rattle.type_members.specs.Shared.{members_in_part, members_in_parts, part_at, under_inside}
 use Rattle.type_members.specs.declared.places.Part.{Part}
 use Rattle.type_faults.specs.NamePlaces.{lent_names}
 use Rattle.type_faults.specs.RowFacts.{dos_among}
 
+-- the members in a part, given what stands there
+pub part_seen : (rows : List (List Member)) (p : Part) (ms : List Member) → ms ≡ part_at rows p → members_in_part rows p ≡ map (under_inside p.inside) ms
+part_seen rows p ms e = ap (map (under_inside p.inside)) (sym e)
+
 -- what stands in one part more
-pub parts_more : (rows : List (List Member)) (parts : List Part) (n : ℕ) (p : Part) → n < length parts → parts_at rows (take n parts) ++ part_at rows (get_or parts n p) ≡ parts_at rows (take (n + 1) parts)
+pub parts_more : (rows : List (List Member)) (parts : List Part) (n : ℕ) (p : Part) → n < length parts → members_in_parts rows (take n parts) ++ members_in_part rows (get_or parts n p) ≡ members_in_parts rows (take (n + 1) parts)
 parts_more rows parts n p less =
-    ap (λ ms. parts_at rows (take n parts) ++ ms) (sym (append-nil (part_at rows (get_or parts n p))))
-    ∙ sym (flat_map-append (part_at rows) (take n parts) (get_or parts n p ∷ []))
-    ∙ ap (parts_at rows) (sym (take_more parts n p less))
+    ap (λ ms. members_in_parts rows (take n parts) ++ ms) (sym (append-nil (members_in_part rows (get_or parts n p))))
+    ∙ sym (flat_map-append (members_in_part rows) (take n parts) (get_or parts n p ∷ []))
+    ∙ ap (members_in_parts rows) (sym (take_more parts n p less))
 
 -- one member's `do` before others
 pub do_joined : (o : Option Do) (ds later : List Do) → cons_option o ds ++ later ≡ cons_option o (ds ++ later)

@@ -19,7 +19,7 @@ use Rattle.osc_base.specs.FaultRows.{row, row_fault, first_of, first_from}
 use Rattle.dsl_tree.specs.declared.parts.Ident.{Ident}
 use Rattle.type_heads.specs.MemberFaults.{repeated_rows}
 use Rattle.type_heads.specs.Types.{Member}
-use Rattle.type_members.specs.Shared.{part_at, parts_at}
+use Rattle.type_members.specs.Shared.{members_in_part, members_in_parts}
 use Rattle.type_members.specs.declared.places.Part.{Part}
 use Rattle.type_faults.specs.NamePlaces.{lent_names}
 use Rattle.type_faults.specs.NameRows.{HasTexts, ContinuesNames}
@@ -75,13 +75,13 @@ phase_of_comp c = sym (fold-roll-Phase PhaseTree PhaseTree phase_step comp_step 
 
 -- the names of one part more
 pub next_part : (first found found' : Option Fault) (old met met' : List (List ℕ)) (rows : List (List Member)) (parts : List Part) (n : ℕ) (p : Part) → n < length parts →
-    ContinuesNames found met found' met' (names_among (part_at rows (get_or parts n p))) → ContinuesNames first old found met (names_among (parts_at rows (take n parts))) →
-    ContinuesNames first old found' met' (names_among (parts_at rows (take (n + 1) parts)))
+    ContinuesNames found met found' met' (names_among (members_in_part rows (get_or parts n p))) → ContinuesNames first old found met (names_among (members_in_parts rows (take n parts))) →
+    ContinuesNames first old found' met' (names_among (members_in_parts rows (take (n + 1) parts)))
 next_part first found found' old met met' rows parts n p less one before =
-    let earlier : List Ident = names_among (parts_at rows (take n parts)) in
-    let more : List Member = part_at rows (get_or parts n p) in
-    let e : earlier ++ names_among more ≡ names_among (parts_at rows (take (n + 1) parts)) =
-    sym (flat_map-append (λ (m : Member). member_names m.written.member) (parts_at rows (take n parts)) more) ∙ ap names_among (parts_more rows parts n p less) in
+    let earlier : List Ident = names_among (members_in_parts rows (take n parts)) in
+    let more : List Member = members_in_part rows (get_or parts n p) in
+    let e : earlier ++ names_among more ≡ names_among (members_in_parts rows (take (n + 1) parts)) =
+    sym (flat_map-append (λ (m : Member). member_names m.written.member) (members_in_parts rows (take n parts)) more) ∙ ap names_among (parts_more rows parts n p less) in
     subst (ContinuesNames first old found' met') e (then_names first found found' old met met' earlier (names_among more) before one)
 
 -- all names are done

@@ -1,5 +1,5 @@
 -- What is known of members: that they give no fault by themselves, in a type of some form.
-use Rattle.std.specs.Prelude.{◌≡◌, ℕ, ◌&&◌, ◌||◌, Bool, true, false, not, cond, List, [], ◌++◌, Option, Some, None, codes, filter_map, flat_map, is_none, is_some, length, nat_le, slice_get, slice_index_or}
+use Rattle.std.specs.Prelude.{◌≡◌, ℕ, ◌&&◌, ◌||◌, Bool, true, false, not, List, [], ◌++◌, Option, Some, None, codes, filter_map, flat_map, is_none, is_some, length, slice_get, slice_index_or}
 use Rattle.std.specs.Option.{option_map_or}
 use Rattle.std.specs.List.{list_all, list_any}
 use Rattle.osc_base.specs.FaultRows.{FaultRow, first_fault}
@@ -11,7 +11,7 @@ use Rattle.type_heads.specs.Types.{Do, Member}
 use Rattle.type_heads.specs.Members.{do_declared}
 use Rattle.type_heads.specs.MemberFaults.{do_rows, initial_rows, names_among, names_given, repeated_rows}
 use Rattle.type_members.specs.Listed.{seen_row}
-use Rattle.type_members.specs.Shared.{parts_at}
+use Rattle.type_members.specs.Shared.{members_in_parts}
 use Rattle.type_members.specs.declared.places.Part.{Part}
 use Rattle.type_members.specs.declared.rows.MemberRow.{MemberRow}
 use Rattle.type_members.specs.declared.rows.Start.{Start}
@@ -57,7 +57,7 @@ none_known = record { is_distinct = false; lacks_duration = false; has_right_val
 
 -- the members in front of the row of that number, and those of the row
 abbrev pub front_and_row : List (List Part) → List (List Member) → ℕ → List Member
-front_and_row fronts rows row = parts_at rows (slice_index_or fronts row []) ++ slice_index_or rows row []
+front_and_row fronts rows row = members_in_parts rows (slice_index_or fronts row []) ++ slice_index_or rows row []
 
 -- what is known of each row and what is in front of it is so
 abbrev pub AreAllSo : List TypeHead → List (List Part) → List (List Member) → List RowFacts → Type 0
@@ -66,7 +66,7 @@ AreAllSo heads fronts rows facts = (row : ℕ) → AreSo heads (slice_index_or f
 -- what is known of the members in front of a row, by where it starts
 abbrev pub facts_before : List RowFacts → Option Start → RowFacts
 facts_before facts None = all_known
-facts_before facts (Some s) = cond (nat_le s.from s.to) (slice_index_or facts s.row none_known) none_known
+facts_before facts (Some s) = slice_index_or facts s.at.row none_known
 
 -- places tell that no name of the row of that number is there twice
 abbrev pub is_distinct_row : List NamePlaces → ℕ → Bool

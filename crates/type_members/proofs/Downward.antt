@@ -72,13 +72,13 @@ module _ (heads : List TypeHead) (bodies : List TypeBody) where
       ∙ all_through p steps c (d + 1) (end_more heads t c d on end) (λ x e less h. each x e (omega (arith, less)) h))
 
   -- what comes down from a type, if its line ends, comes through none of its line
-  off_own_line : (t d x e : ℕ) → HasEnd heads (Some t) d → d < e → HasEnd heads (Some x) e → not (has x (t ∷ bases heads t)) ≡ true
+  pub off_own_line : (t d x e : ℕ) → HasEnd heads (Some t) d → d < e → HasEnd heads (Some x) e → not (has x (t ∷ bases heads t)) ≡ true
   off_own_line t zero x e end less deep = absurd end
   off_own_line t (suc d) x e end less deep =
       ap (λ b. not (b || has x (bases heads t))) (apart heads x t e (suc d) deep end less)
       ∙ ap not (off_line heads (length heads) d x e (base heads t) end deep (omega (arith, less)))
 
-  under_all : (line : List ℕ) (ls : List Line) → list_all (λ l. list_all (λ x. not (has x line)) l.through) ls ≡ true → map (member_of line) ls ≡ map (member_of []) ls
+  pub under_all : (line : List ℕ) (ls : List Line) → list_all (λ l. list_all (λ x. not (has x line)) l.through) ls ≡ true → map (member_of line) ls ≡ map (member_of []) ls
   under_all line [] f = refl
   under_all line (l ∷ ls) f =
       let parts : (list_all (λ x. not (has x line)) l.through ≡ true) × (list_all (λ l. list_all (λ x. not (has x line)) l.through) ls ≡ true) =

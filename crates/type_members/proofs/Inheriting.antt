@@ -11,7 +11,7 @@ use Rattle.type_members.specs.Ancestry.{HasEnd}
 use Rattle.type_members.specs.RowEnds.{is_under, own_part}
 use Rattle.type_members.proofs.Ancestry.{end_more, line_stable, off_line}
 use Rattle.type_members.proofs.Downward.{all_down, all_lines}
-use Rattle.type_members.proofs.ListTests.{all_same, both, not_true}
+use Rattle.type_members.proofs.ListTests.{all_same, both, neither, not_true}
 
 -- A type that inherits from none
 
@@ -50,7 +50,7 @@ lines_more heads bodies (suc n) t u d is end below =
     ∙ ap (λ ls. ls ++ down heads bodies u) (append-nil (beside u (lines_within n heads bodies t)))
     ∙ ap (λ ls. beside u ls ++ down heads bodies u) (lines_stable heads bodies d n t end (omega (arith, below)))
 
-line_more : (heads : List TypeHead) (n t u d : ℕ) → base heads u ≡ Some t → HasEnd heads (Some t) d → d < n →
+pub line_more : (heads : List TypeHead) (n t u d : ℕ) → base heads u ≡ Some t → HasEnd heads (Some t) d → d < n →
     line_within n heads (base heads u) ≡ t ∷ line_within n heads (base heads t)
 line_more heads zero t u d is end below = absurd (omega (arith, below))
 line_more heads (suc n) t u d is end below = ap (line_within (suc n) heads) is ∙ line_stable heads d (suc n) (Some t) end (omega (arith, below))
@@ -64,10 +64,6 @@ same_number a b e = by (eqb_tells b a)
     by (inl (f, same)) = let never : false ≡ true = sym e ∙ ap (nat_eq a) same ∙ ap (λ x. nat_eq x a) (sym same) ∙ f in cc
     by (inr (f, apart)) = f
 
-neither : (a b : Bool) → (a || b) ≡ false → (a ≡ false) × (b ≡ false)
-neither true b e = let never : true ≡ false = e in cc
-neither false b e = (refl, e)
-
 under_same : (u : ℕ) (line cs : List ℕ) → has u cs ≡ false → filter (λ c. not (has c (u ∷ line))) cs ≡ filter (λ c. not (has c line)) cs
 under_same u line [] none = refl
 under_same u line (c ∷ cs) none =
@@ -77,7 +73,7 @@ under_same u line (c ∷ cs) none =
     ∙ ap (λ rest. cond (not (has c line)) (c ∷ rest) rest) (under_same u line cs parts.1)
 
 -- a type that isn't on the line is left under members
-under_kept : (u : ℕ) (line cs : List ℕ) → has u line ≡ false → has u (filter (λ c. not (has c line)) cs) ≡ has u cs
+pub under_kept : (u : ℕ) (line cs : List ℕ) → has u line ≡ false → has u (filter (λ c. not (has c line)) cs) ≡ has u cs
 under_kept u line [] off = refl
 under_kept u line (c ∷ cs) off = by (eqb_tells u c) (has c line) refl (under_kept u line cs off)
   where
@@ -111,7 +107,7 @@ members_beside u line (l ∷ ls) off =
 
 -- Members
 
-off_base : (heads : List TypeHead) (t u d : ℕ) → base heads u ≡ Some t → HasEnd heads (Some t) d → has u (line_within (suc (length heads)) heads (Some t)) ≡ false
+pub off_base : (heads : List TypeHead) (t u d : ℕ) → base heads u ≡ Some t → HasEnd heads (Some t) d → has u (line_within (suc (length heads)) heads (Some t)) ≡ false
 off_base heads t u d is end = off_line heads (suc (length heads)) d u (d + 1) (Some t) end (end_more heads t u d is end) (omega arith)
 
 pub members_less : (heads : List TypeHead) (bodies : List TypeBody) (t u d : ℕ) → base heads u ≡ Some t → HasEnd heads (Some t) d → d < length heads →

@@ -1,5 +1,5 @@
 -- Tests that hold of all items of a list, or of none.
-use Rattle.std.proofs.Common.{◌≡◌, ◌∙◌, refl, ap, ◌||◌, ◌&&◌, Bool, true, false, not, cond, List, [], ◌∷◌, ◌++◌, filter}
+use Rattle.std.proofs.Common.{◌≡◌, ◌∙◌, refl, ap, ◌||◌, ◌&&◌, Bool, true, false, not, cond, ℕ, zero, suc, List, [], ◌∷◌, ◌++◌, filter, drop, take}
 use Rattle.std.specs.Prelude.{flat_map}
 use Rattle.std.specs.List.{list_all, list_any}
 use Rattle.std.proofs.lemmas.List.Folds.{list_all-append}
@@ -10,6 +10,10 @@ both false b e = let never : false ≡ true = e in cc
 
 pub joined : (a b : Bool) → a ≡ true → b ≡ true → (a && b) ≡ true
 joined a b e f = ap (λ c. c && b) e ∙ f
+
+pub neither : (a b : Bool) → (a || b) ≡ false → (a ≡ false) × (b ≡ false)
+neither true b e = let never : true ≡ false = e in cc
+neither false b e = (refl, e)
 
 pub not_true : (b : Bool) → not b ≡ true → b ≡ false
 not_true true e = let never : false ≡ true = e in cc
@@ -37,6 +41,18 @@ module _ {X : Type 0} where
       by true here rest = joined (p x) (list_all p (filter q xs)) here rest
       by false here rest = rest
 
+  pub all_taken : (p : X → Bool) (n : ℕ) (xs : List X) → list_all p xs ≡ true → list_all p (take n xs) ≡ true
+  all_taken p zero xs f = refl
+  all_taken p (suc n) [] f = refl
+  all_taken p (suc n) (x ∷ xs) f =
+      let parts : (p x ≡ true) × (list_all p xs ≡ true) = both (p x) (list_all p xs) f in
+      joined (p x) (list_all p (take n xs)) parts.0 (all_taken p n xs parts.1)
+
+  pub all_dropped : (p : X → Bool) (n : ℕ) (xs : List X) → list_all p xs ≡ true → list_all p (drop n xs) ≡ true
+  all_dropped p zero xs f = f
+  all_dropped p (suc n) [] f = refl
+  all_dropped p (suc n) (x ∷ xs) f = all_dropped p n xs (both (p x) (list_all p xs) f).1
+
   -- a test that all items pass keeps all
   pub all_kept : (p : X → Bool) (xs : List X) → list_all p xs ≡ true → filter p xs ≡ xs
   all_kept p [] f = refl
@@ -50,6 +66,15 @@ module _ {X : Type 0} where
   none_kept p (x ∷ xs) f =
       let parts : (not (p x) ≡ true) × (list_all (λ x. not (p x)) xs ≡ true) = both (not (p x)) (list_all (λ x. not (p x)) xs) f in
       ap (λ b. cond b (x ∷ filter p xs) (filter p xs)) (not_true (p x) parts.0) ∙ none_kept p xs parts.1
+
+  -- if a test keeps none, no item passes it
+  pub all_fail : (p : X → Bool) (xs : List X) → filter p xs ≡ [] → list_all (λ x. not (p x)) xs ≡ true
+  all_fail p [] e = refl
+  all_fail p (x ∷ xs) e = by (p x) e (λ h. all_fail p xs h)
+    where
+      by : (b : Bool) → cond b (x ∷ filter p xs) (filter p xs) ≡ [] → (filter p xs ≡ [] → list_all (λ x. not (p x)) xs ≡ true) → (not b && list_all (λ x. not (p x)) xs) ≡ true
+      by true h on = absurd (cc h)
+      by false h on = on h
 
   pub none_any : (p : X → Bool) (xs : List X) → list_all (λ x. not (p x)) xs ≡ not (list_any p xs)
   none_any p [] = refl

@@ -10,9 +10,9 @@ use Rattle.type_heads.specs.Types.{TypeBody, Member}
 use Rattle.type_heads.specs.Members.{is_conditional, members_of}
 use Rattle.type_members.specs.Ancestry.{HasEnd}
 use Rattle.type_members.specs.Listed.{seen_listed, seen_row}
-use Rattle.type_members.specs.Origins.{IsFirstRow, IsWhole}
+use Rattle.type_members.specs.Origins.{IsFirstRow, IsStart, IsWhole}
 use Rattle.type_members.specs.RowEnds.{AreEnds, IsEnd, is_heir, own_part}
-use Rattle.type_members.specs.Shared.{fronts_in, parts_at, parts_from}
+use Rattle.type_members.specs.Shared.{fronts_in, members_in_parts, parts_from}
 use Rattle.type_members.specs.declared.rows.MemberRow.{MemberRow}
 use Rattle.type_members.specs.declared.rows.RowEnd.{RowEnd}
 use Rattle.type_members.specs.declared.rows.Start.{Start}
@@ -47,29 +47,33 @@ one_end heads bodies front row t depth is ended one = record {
 }
 
 -- a row that starts somewhere, and has what its type has beside what stands there
-pub first_at : (heads : List TypeHead) (bodies : List TypeBody) (rows : List MemberRow) (row : MemberRow) (start : Option Start) (t depth : ℕ) → row.start ≡ start →
-    row.front.items ≡ parts_from (fronts_in rows) start → seen_row row ≡ own_part heads bodies t →
-    row.ends.items ≡ record { of = t; len = length row.members.items; depth = depth } ∷ [] → ((s : Start) → start ≡ Some s → s.row < length rows) →
-    parts_at (map seen_row rows) (parts_from (fronts_in rows) start) ++ own_part heads bodies t ≡ members_of heads bodies t →
+pub first_at : (heads : List TypeHead) (bodies : List TypeBody) (rows : List MemberRow) (row : MemberRow) (start : Option Start) (rest : List Member) (t depth : ℕ) → row.start ≡ start →
+    row.front.items ≡ parts_from (fronts_in rows) start → seen_row row ≡ rest →
+    row.ends.items ≡ record { of = t; len = length row.members.items; depth = depth } ∷ [] → ((s : Start) → start ≡ Some s → IsStart rows s) →
+    members_in_parts (map seen_row rows) (parts_from (fronts_in rows) start) ++ rest ≡ members_of heads bodies t →
     (depth < length heads → HasEnd heads (Some t) depth) → IsFirstRow heads bodies rows t row
-first_at heads bodies rows row start t depth begins front own one earlier is ended =
-    let all : parts_at (map seen_row rows) row.front.items ++ seen_row row ≡ members_of heads bodies t =
-    ap (λ ps. parts_at (map seen_row rows) ps ++ seen_row row) front ∙ ap (λ ms. parts_at (map seen_row rows) (parts_from (fronts_in rows) start) ++ ms) own ∙ is in
+first_at heads bodies rows row start rest t depth begins front own one there is ended =
+    let all : members_in_parts (map seen_row rows) row.front.items ++ seen_row row ≡ members_of heads bodies t =
+    ap (λ ps. members_in_parts (map seen_row rows) ps ++ seen_row row) front ∙ ap (λ ms. members_in_parts (map seen_row rows) (parts_from (fronts_in rows) start) ++ ms) own ∙ is in
     record {
-      whole = one_end heads bodies (parts_at (map seen_row rows) row.front.items) row t depth all ended one;
-      started = record { front = front ∙ ap (parts_from (fronts_in rows)) (sym begins); earlier = λ s at. earlier s (sym begins ∙ at) };
+      whole = one_end heads bodies (members_in_parts (map seen_row rows) row.front.items) row t depth all ended one;
+      started = record {
+        front = front ∙ ap (parts_from (fronts_in rows)) (sym begins);
+        earlier = λ s at. (there s (sym begins ∙ at)).there;
+        cuts = λ s at. (there s (sym begins ∙ at)).cut;
+      };
     }
+
+-- where nothing is, is no start
+pub no_start : (rows : List MemberRow) (s : Start) → None ≡ Some s → IsStart rows s
+no_start rows s at = absurd (cc at)
 
 -- a row of all members of a type, which starts at no other
 pub first_alone : (heads : List TypeHead) (bodies : List TypeBody) (rows : List MemberRow) (row : MemberRow) (t : ℕ) → row.start ≡ None → row.front.items ≡ [] →
     seen_row row ≡ members_of heads bodies t → row.ends.items ≡ record { of = t; len = length row.members.items; depth = length heads } ∷ [] → IsFirstRow heads bodies rows t row
 first_alone heads bodies rows row t begins front is one =
-    let all : parts_at (map seen_row rows) row.front.items ++ seen_row row ≡ members_of heads bodies t =
-    ap (λ ps. parts_at (map seen_row rows) ps ++ seen_row row) front ∙ is in
-    record {
-      whole = one_end heads bodies (parts_at (map seen_row rows) row.front.items) row t (length heads) all (λ less. absurd (omega (arith, less))) one;
-      started = record { front = front ∙ ap (parts_from (fronts_in rows)) (sym begins); earlier = λ s at. let never : None ≡ Some s = sym begins ∙ at in cc };
-    }
+    first_at heads bodies rows row None (members_of heads bodies t) t (length heads) begins front is one (no_start rows) refl
+    (λ less. absurd (omega (arith, less)))
 
 pub went_on : (heads : List TypeHead) (bodies : List TypeBody) (front : List Member) (row new : MemberRow) (last depth heir : ℕ) → IsWhole heads bodies front row last →
     depth < length heads → HasEnd heads (Some last) depth → base heads heir ≡ Some last → is_conditional bodies heir ≡ false → seen_row new ≡ seen_row row ++ own_part heads bodies heir →

@@ -1,4 +1,5 @@
 pub mod Ancestry
+pub mod Cutting
 pub mod Listed
 pub mod Listing
 pub mod Origins

@@ -6,7 +6,7 @@ use Rattle.type_heads.specs.Types.{TypeBody, Member}
 use Rattle.type_heads.specs.Members.{is_conditional, subtypes}
 use Rattle.type_heads.specs.Bodied.{seen_written}
 use Rattle.type_members.specs.declared.listed.ListedMember.{ListedMember}
-use Rattle.type_members.specs.Shared.{fronts_in, list_at}
+use Rattle.type_members.specs.Shared.{fronts_in, members_at}
 use Rattle.type_members.specs.declared.rows.MemberRow.{MemberRow}
 use Rattle.type_members.specs.declared.member_lists.MemberLists.{MemberLists}
 
@@ -28,4 +28,4 @@ seen_row r = map seen_listed r.members.items
 
 -- the members of each type
 abbrev pub lists_of : MemberLists → List (List Member)
-lists_of m = map (list_at (fronts_in m.rows.items) (map seen_row m.rows.items)) m.spans.items
+lists_of m = map (members_at (fronts_in m.rows.items) (map seen_row m.rows.items)) m.spans.items

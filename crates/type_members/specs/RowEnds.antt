@@ -7,7 +7,7 @@ use Rattle.type_heads.specs.Types.{TypeBody, Member}
 use Rattle.type_heads.specs.Members.{down, has, is_conditional, member_of, members_of}
 use Rattle.type_members.specs.Ancestry.{HasEnd}
 use Rattle.type_members.specs.Listed.{seen_row}
-use Rattle.type_members.specs.Shared.{AreStarted, fronts_in, list_at, parts_at}
+use Rattle.type_members.specs.Shared.{AreStarted, fronts_in, members_at, members_in_parts}
 use Rattle.type_members.specs.declared.places.Span.{Span}
 use Rattle.type_members.specs.declared.places.Standing.{Standing}
 use Rattle.type_members.specs.declared.rows.MemberRow.{MemberRow}
@@ -38,7 +38,7 @@ AreEnds heads bodies front row ends = All (IsEnd heads bodies front row) ends
 
 -- it is so for each type of a row
 abbrev pub IsSharedRow : List TypeHead → List TypeBody → List MemberRow → MemberRow → Type 0
-IsSharedRow heads bodies rows r = AreEnds heads bodies (parts_at (map seen_row rows) r.front.items) (seen_row r) r.ends.items
+IsSharedRow heads bodies rows r = AreEnds heads bodies (members_in_parts (map seen_row rows) r.front.items) (seen_row r) r.ends.items
 
 -- it is so for each row, and each row starts at an earlier one or at none
 pub record AreRows (heads : List TypeHead) (bodies : List TypeBody) (rows : List MemberRow) : Type 0 where
@@ -48,7 +48,7 @@ pub record AreRows (heads : List TypeHead) (bodies : List TypeBody) (rows : List
 -- the members of a type stand at that place of the rows
 pub record IsAt (heads : List TypeHead) (bodies : List TypeBody) (rows : List MemberRow) (t : ℕ) (s : Span) : Type 0 where
   pub there : s.row < length rows
-  pub members : list_at (fronts_in rows) (map seen_row rows) s ≡ members_of heads bodies t
+  pub members : members_at (fronts_in rows) (map seen_row rows) s ≡ members_of heads bodies t
 
 -- the members of a type stand there, and there are so many types from it on
 pub record StandsAt (heads : List TypeHead) (bodies : List TypeBody) (rows : List MemberRow) (t : ℕ) (s : Standing) : Type 0 where

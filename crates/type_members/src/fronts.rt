@@ -1,30 +1,33 @@
 //! Where rows start, and what they come after.
 
-ghost use Rattle.std.specs.Prelude.{◌≡◌, ◌<◌, List, Some, length, map, true, IfOk, IfSome};
-ghost use Rattle.std.specs.List.{list_all};
+ghost use Rattle.std.specs.Prelude.{◌≡◌, ◌++◌, ◌<◌, List, [], ◌∷◌, Some, filter, length, map, slice_get, IfOk, IfSome, OnOk};
+ghost use Rattle.std.specs.Option.{option_map_or};
 ghost use Rattle.type_heads.specs.Bodied.{seen_body};
 ghost use Rattle.type_heads.specs.Types.{TypeBody};
 ghost use Rattle.type_members.specs.Ancestry.{HasEnd};
-ghost use Rattle.type_members.specs.Listed.{seen_listed, seen_row};
-ghost use Rattle.type_members.specs.RowEnds.{AreRows, is_under, own_part};
-ghost use Rattle.type_members.specs.Origins.{IsConditionalOrigin, IsHole, IsKnownAt, IsOrigin};
-ghost use Rattle.type_members.specs.Shared.{fronts_in, parts_from};
+ghost use Rattle.type_members.specs.Cutting.{AreBare};
+ghost use Rattle.type_members.specs.Listed.{AreSubtypes};
+ghost use Rattle.type_members.specs.RowEnds.{AreRows};
+ghost use Rattle.type_members.specs.Origins.{IsConditionalStart, IsKnownAt, IsOrigin};
+ghost use Rattle.type_members.specs.Shared.{fronts_in, has_places as has_some_places, inner_part as inner_of, moved as moved_in, parts_from, place_parts as parts_at_place};
 
-use crate::ListedMember;
+use crate::Subtypes;
+use crate::bare::is_flagged;
 use crate::bodied::is_conditional;
+use crate::cutting::{cut_for, has_places, part_after, part_before};
 use crate::holes::Holes;
-use crate::listed::between;
 use crate::places::{Part, Places, Span, Standing, standing_in};
-use crate::rows::{MemberRow, Start};
+use crate::rows::{Cut, MemberRow, Start};
 use std::alloc::{AllocError, Global};
 use type_heads::{Body, Heads, TypeId};
 
-/// Where a row can start that begins with a type: nowhere, since the type inherits from none; among the members of its
-/// base; or that isn't known.
+/// Where a row can start that begins with a type: nowhere, since the type inherits from none; after the members of its base,
+/// which the row's come beside; after all members of the type; or that isn't known.
 #[derive(Clone, Copy)]
 pub enum Origin {
     Nowhere,
-    At(Start),
+    Beside(Start),
+    Within(Start),
     Unknown,
 }
 
@@ -39,7 +42,7 @@ fn known_place(
     ensures place { (bodies : List TypeBody) → AreRows heads.now bodies rows.now → IfSome result (IsKnownAt heads.now bodies rows.now of) }
 {
     let at = standing_in(rows, places, of)?;
-    if at.depth < heads.count() as usize {
+    if at.depth < heads.count() as usize && of.0 < heads.count() {
         Some(at)
     } else {
         None
@@ -60,95 +63,129 @@ pub fn depth_of(heads: &Heads, rows: &[MemberRow<'_>], places: &Places, of: Type
     }
 }
 
-/// Whether a member is under a type.
-fn is_under_type(member: &ListedMember<'_>, of: TypeId) -> bool
-    ensures { result ≡ is_under of (seen_listed member.now) }
+/// The parts at a place.
+fn place_parts(alloc: Global, rows: &[MemberRow<'_>], at: Span) -> Result<Vec<Part>, AllocError>
+    ensures { IfOk result (λ parts. parts.items ≡ parts_at_place (fronts_in rows.now) at) }
 {
-    member.under.as_slice().contains(&of)
+    let mut parts = Vec::new(alloc);
+    if let Some(row) = rows.get(at.row) {
+        parts.extend_from_slice(row.front.as_slice())?;
+    }
+    parts.push(Part {
+        row: at.row,
+        from: 0,
+        to: at.len,
+        inside: 0,
+    })?;
+    Ok(parts)
 }
 
-fn all_under(members: &[ListedMember<'_>], of: TypeId) -> bool
-    ensures { result ≡ list_all (is_under of) (map seen_listed members.now) }
-{
-    for member in members {
-        if !is_under_type(member, of) {
-            return false;
-        }
-    }
-    true
-}
-
-/// Whether a start leaves out `count` members of a row, all of them under a type.
-fn leaves_out(rows: &[MemberRow<'_>], start: &Start, of: TypeId, count: usize) -> bool
-    ensures { result ≡ true → IsHole (map seen_row rows.now) start.now of count }
-{
-    let Some(row) = rows.get(start.row) else {
-        return false;
-    };
-    if start.to < start.from {
-        return false;
-    }
-    if start.len < start.to || row.members.len() < start.len {
-        return false;
-    }
-    let hole = between(row.members.as_slice(), start.from, start.to);
-    hole.len() == count && all_under(hole, of)
-}
-
-/// Where a row starts that begins with a conditional subtype: among the members of its base, but for those that come down
-/// from it.
-fn conditional_origin(
+/// Where a row starts that begins with a conditional subtype whose base stands at a place: all its members are there.
+fn conditional_start(
+    alloc: Global,
     rows: &[MemberRow<'_>],
     holes: &Holes,
+    bare: &[bool],
     at: Span,
     of: TypeId,
-    count: usize,
-) -> Origin
-    ensures { IsConditionalOrigin (map seen_row rows.now) at of count result }
+) -> Result<Option<Start>, AllocError>
+    ensures { IfOk result (λ start. IfSome start (IsConditionalStart rows.now bare.now at of)) }
 {
-    let hole = holes.of(of);
-    let start = Start {
-        row: at.row,
-        from: hole.from,
-        to: hole.to,
-        len: at.len,
-    };
-    if leaves_out(rows, &start, of, count) {
-        Origin::At(start)
-    } else {
-        Origin::Unknown
+    if is_flagged(bare, of) {
+        return Ok(Some(Start { at, cut: None }));
+    }
+    let parts = place_parts(alloc, rows, at)?;
+    match cut_for(rows, parts.as_slice(), holes, of) {
+        Some(cut) => Ok(Some(Start { at, cut: Some(cut) })),
+        None => Ok(None),
     }
 }
 
-/// Where a row can start that begins with a type, which has so many members beside those of its base.
+/// Where a row can start that begins with a type, given the types through which no member comes down.
 pub fn origin_of(
+    alloc: Global,
     heads: &Heads,
     bodies: &[Body<'_>],
+    subtypes: &Subtypes,
     rows: &[MemberRow<'_>],
     places: &Places,
     holes: &Holes,
+    bare: &[bool],
     of: TypeId,
-    count: usize,
-) -> Origin
+) -> Result<Origin, AllocError>
+    requires subtypes { AreSubtypes heads.now (map seen_body bodies.now) subtypes.now }
     requires rows { AreRows heads.now (map seen_body bodies.now) rows.now }
-    requires count { count ≡ length (own_part heads.now (map seen_body bodies.now) of) }
-    ensures { IsOrigin heads.now (map seen_body bodies.now) rows.now of result }
+    requires bare { AreBare (map seen_body bodies.now) subtypes.now bare.now }
+    ensures { IfOk result (IsOrigin heads.now (map seen_body bodies.now) rows.now of) }
 {
     let Some(base) = heads.base(of) else {
-        return Origin::Nowhere;
+        return Ok(Origin::Nowhere);
     };
     let Some(at) = known_place(heads, rows, places, base) else {
-        return Origin::Unknown;
+        return Ok(Origin::Unknown);
     };
-    if is_conditional(bodies, of) {
-        return conditional_origin(rows, holes, at.span, of, count);
+    if !is_conditional(bodies, of) {
+        return Ok(Origin::Beside(Start {
+            at: at.span,
+            cut: None,
+        }));
     }
-    Origin::At(Start {
-        row: at.span.row,
-        from: 0,
-        to: 0,
-        len: at.span.len,
+    match conditional_start(alloc, rows, holes, bare, at.span, of)? {
+        Some(start) => Ok(Origin::Within(start)),
+        None => Ok(Origin::Unknown),
+    }
+}
+
+/// Puts a part at the end, if it has places.
+fn push_part(into: &mut Vec<Part>, part: &Part) -> Result<(), AllocError>
+    ensures { OnOk result (into.new.items ≡ into.old.items ++ filter has_some_places (part.now ∷ [])) }
+{
+    if has_places(part) {
+        into.push(*part)?;
+    }
+    Ok(())
+}
+
+/// Puts those of some parts at the end that have places.
+fn push_parts(into: &mut Vec<Part>, parts: &[Part]) -> Result<(), AllocError>
+    ensures { OnOk result (into.new.items ≡ into.old.items ++ filter has_some_places parts.now) }
+{
+    for part in parts {
+        push_part(into, part)?;
+    }
+    Ok(())
+}
+
+/// What is cut out of a part, seen from inside of one conditional subtype more. There are never so many that they can't be
+/// counted.
+fn inner_part(part: &Part, cut: &Cut) -> Result<Part, AllocError>
+    ensures { IfOk result (λ inner. inner ≡ inner_of part.now cut.now) }
+{
+    let Some(inside) = part.inside.checked_add(1) else {
+        return Err(AllocError);
+    };
+    Ok(Part {
+        row: part.row,
+        from: cut.from,
+        to: cut.to,
+        inside,
     })
+}
+
+/// Parts, with what is cut out of them at the end.
+fn moved(alloc: Global, parts: &[Part], cut: &Cut) -> Result<Vec<Part>, AllocError>
+    ensures { IfOk result (λ front. front.items ≡ filter has_some_places (moved_in parts.now cut.now)) }
+{
+    let mut front = Vec::new(alloc);
+    let Some(part) = parts.get(cut.part) else {
+        return Ok(front);
+    };
+    push_parts(&mut front, &parts[..cut.part])?;
+    push_part(&mut front, &part_before(part, cut))?;
+    push_part(&mut front, &part_after(part, cut))?;
+    push_parts(&mut front, &parts[cut.part + 1..])?;
+    push_part(&mut front, &inner_part(part, cut)?)?;
+    Ok(front)
 }
 
 /// What a row comes after that starts there.
@@ -159,19 +196,16 @@ pub fn front_from(
 ) -> Result<Vec<Part>, AllocError>
     ensures { IfOk result (λ front. front.items ≡ parts_from (fronts_in rows.now) (Some start.now)) }
 {
-    let mut front = Vec::new(alloc);
-    if let Some(row) = rows.get(start.row) {
-        front.extend_from_slice(row.front.as_slice())?;
+    let parts = place_parts(alloc, rows, start.at)?;
+    match &start.cut {
+        Some(cut) => {
+            let front = moved(alloc, parts.as_slice(), cut)?;
+            Ok(front)
+        }
+        None => {
+            let mut front = Vec::new(alloc);
+            push_parts(&mut front, parts.as_slice())?;
+            Ok(front)
+        }
     }
-    front.push(Part {
-        row: start.row,
-        from: 0,
-        to: start.from,
-    })?;
-    front.push(Part {
-        row: start.row,
-        from: start.to,
-        to: start.len,
-    })?;
-    Ok(front)
 }

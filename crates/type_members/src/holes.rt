@@ -9,12 +9,12 @@ use type_heads::TypeId;
 /// From which place of a row to which the members come down through a conditional subtype. The second isn't one of them.
 #[derive(Clone, Copy)]
 pub struct Hole {
+    pub row: usize,
     pub from: usize,
     pub to: usize,
 }
 
-/// For each conditional subtype, where the members that come down through it stand in the row in which those of its base
-/// end.
+/// For each conditional subtype, where the members that come down through it were put.
 #[derive(Drop)]
 pub struct Holes {
     holes: Vec<Option<Hole>>,
@@ -30,34 +30,35 @@ impl Holes {
         Ok(Holes { holes })
     }
 
-    /// The hole of a type. An empty one is given if none was put down.
-    pub fn of(&self, of: TypeId) -> Hole {
+    /// The hole of a type, if one was put down.
+    pub fn of(&self, of: TypeId) -> Option<Hole> {
         match self.holes.get(of.0 as usize) {
-            Some(Some(hole)) => *hole,
-            _ => Hole { from: 0, to: 0 },
+            Some(hole) => *hole,
+            None => None,
         }
     }
 
-    fn put_member(&mut self, of: TypeId, place: usize) {
+    fn put_member(&mut self, of: TypeId, row: usize, place: usize) {
         let Some(known) = self.holes.get_mut(of.0 as usize) else {
             return;
         };
         let from = match known {
-            Some(hole) => hole.from,
-            None => place,
+            Some(hole) if hole.row == row => hole.from,
+            _ => place,
         };
         *known = Some(Hole {
+            row,
             from,
             to: place.saturating_add(1),
         });
     }
 
-    /// Puts the members of a row down, each for the outermost conditional subtype that it is under.
-    pub fn put(&mut self, members: &[ListedMember<'_>]) {
+    /// Puts the members of the row of that number down, each for all conditional subtypes that it is under.
+    pub fn put(&mut self, row: usize, members: &[ListedMember<'_>]) {
         let mut place: usize = 0;
         for member in members {
-            if let Some(outermost) = member.under.as_slice().first() {
-                self.put_member(*outermost, place);
+            for of in member.under.as_slice() {
+                self.put_member(*of, row, place);
             }
             place = place.saturating_add(1);
         }

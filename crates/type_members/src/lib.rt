@@ -1,8 +1,10 @@
-//! The members of each type, and what is worked out of them: fields, conditions, texts and the numbers of enums.
+//! The members of each type.
 #![tactic(auto)]
 
 mod along;
+mod bare;
 mod bodied;
+mod cutting;
 mod fronts;
 mod heirs;
 mod holes;
@@ -18,5 +20,5 @@ pub use bodied::heir_condition;
 pub use listed::ListedMember;
 pub use member_lists::MemberLists;
 pub use places::{Part, Span};
-pub use rows::{MemberRow, RowEnd, Start};
+pub use rows::{Cut, MemberRow, RowEnd, Start};
 pub use subtypes::Subtypes;

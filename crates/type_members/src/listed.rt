@@ -15,6 +15,22 @@ pub struct ListedMember<'a> {
     pub under: Row<TypeId>,
 }
 
+impl<'a> ListedMember<'a> {
+    ghost use Rattle.std.specs.Prelude.{◌≡◌, drop};
+
+    /// The conditional subtypes that a member is under, seen from inside of the first so many of them.
+    pub fn under_inside(&self, inside: usize) -> &[TypeId]
+        ensures { result.now ≡ drop inside self.now.under }
+    {
+        let under = self.under.as_slice();
+        if inside < under.len() {
+            &under[inside..]
+        } else {
+            &[]
+        }
+    }
+}
+
 /// The first members of a row, as far as the row has them.
 fn first_of<'l, 'a>(members: &'l [ListedMember<'a>], len: usize) -> &'l [ListedMember<'a>]
     ensures { map seen_listed result.now ≡ take len (map seen_listed members.now) }

@@ -12,9 +12,10 @@ use type_heads::{Body, Heads, TypeId};
 
 /// The members of each type, that `lists_of` sees as a list of lists.
 ///
-/// A type has the members of its base, and then those that it has beside them. Only these are written: they stand in a row,
-/// and the row comes after the parts of other rows in which those of the base stand. If a type inherits without a condition,
-/// it may go on with the row of its base instead.
+/// Each member stands once. A type that inherits without a condition has the members of its base, and then those that it has
+/// beside them. Only these are written: they stand in a row, and the row comes after the parts of other rows in which those of
+/// the base stand; or the type goes on with the row of its base. A conditional subtype has the members of its base in another
+/// order, so nothing is written: those that come down through it stand in a part that comes last.
 #[derive(Drop)]
 pub struct MemberLists<'a> {
     rows: Vec<MemberRow<'a>>,
@@ -30,7 +31,7 @@ impl<'a> MemberLists<'a> {
     ghost use Rattle.type_heads.specs.Members.{members_of};
     ghost use Rattle.type_heads.specs.Table.{all_types};
     ghost use Rattle.type_members.specs.Listed.{AreSubtypes, lists_of, seen_listed, seen_row};
-    ghost use Rattle.type_members.specs.Shared.{fronts_in, list_at, part_at};
+    ghost use Rattle.type_members.specs.Shared.{fronts_in, members_at, part_at};
 
     /// The members of each type, given its conditional subtypes.
     pub fn build(
@@ -67,7 +68,7 @@ impl<'a> MemberLists<'a> {
 
     /// Where the members of a type stand. A type that isn't there has none.
     pub fn span(&self, of: TypeId) -> Span
-        ensures { list_at (fronts_in self.now.rows.items) (map seen_row self.now.rows.items) result ≡ slice_index_or (lists_of self.now) of [] }
+        ensures { members_at (fronts_in self.now.rows.items) (map seen_row self.now.rows.items) result ≡ slice_index_or (lists_of self.now) of [] }
     {
         match self.spans.get(of.0 as usize) {
             Some(span) => *span,
@@ -98,7 +99,7 @@ impl<'a> MemberLists<'a> {
         }
     }
 
-    /// The members that stand in a part.
+    /// The members that stand in a part. Seen from inside of `inside` conditional subtypes, they are under all but so many.
     pub fn part(&self, part: &Part) -> &[ListedMember<'a>]
         ensures { map seen_listed result.now ≡ part_at (map seen_row self.now.rows.items) part.now }
     {

@@ -5,12 +5,14 @@ ghost use Rattle.type_heads.specs.Bodied.{seen_body};
 ghost use Rattle.type_heads.specs.Members.{members_of};
 ghost use Rattle.type_heads.specs.Table.{all_types};
 ghost use Rattle.type_members.specs.Ancestry.{HasEnd};
+ghost use Rattle.type_members.specs.Cutting.{AreBare};
 ghost use Rattle.type_members.specs.Listed.{AreSubtypes, seen_row};
 ghost use Rattle.type_members.specs.Origins.{IsFirstRow};
-ghost use Rattle.type_members.specs.RowEnds.{AreRows, IsAt};
-ghost use Rattle.type_members.specs.Shared.{fronts_in, list_at, parts_from};
+ghost use Rattle.type_members.specs.RowEnds.{AreRows, IsAt, own_part};
+ghost use Rattle.type_members.specs.Shared.{fronts_in, members_at, parts_from};
 
 use crate::along::push_part;
+use crate::bare::bare_types;
 use crate::fronts::{Origin, depth_of, front_from, origin_of};
 use crate::heirs::Heirs;
 use crate::holes::Holes;
@@ -20,7 +22,7 @@ use crate::{ListedMember, Subtypes};
 use std::alloc::{AllocError, Global};
 use type_heads::{Body, Heads, TypeId};
 
-/// Rows of members, where the members of each type stand in them, and those of each conditional subtype.
+/// Rows of members, where the members of each type stand in them, and those that come down through each conditional subtype.
 #[derive(Drop)]
 pub struct PlacedRows<'a> {
     pub rows: Vec<MemberRow<'a>>,
@@ -28,7 +30,7 @@ pub struct PlacedRows<'a> {
     holes: Holes,
 }
 
-/// A row of the members that a type has beside those of its base, which starts there.
+/// A row of some members that begins with a type, and starts there.
 fn row_at<'a>(
     alloc: Global,
     rows: &[MemberRow<'a>],
@@ -68,6 +70,29 @@ impl<'a> PlacedRows<'a> {
         })
     }
 
+    /// A row that begins with a type, and has what the type has beside the members of its base.
+    fn row_beside(
+        &self,
+        alloc: Global,
+        heads: &Heads,
+        bodies: &[Body<'a>],
+        subtypes: &Subtypes,
+        start: Option<Start>,
+        of: TypeId,
+        depth: usize,
+    ) -> Result<MemberRow<'a>, AllocError>
+        requires subtypes { AreSubtypes heads.now (map seen_body bodies.now) subtypes.now }
+        requires ended { depth < length heads.now → HasEnd heads.now (Some of) depth }
+        ensures start { IfOk result (λ row. row.start ≡ start) }
+        ensures front { IfOk result (λ row. row.front.items ≡ parts_from (fronts_in self.now.rows.items) start) }
+        ensures members { IfOk result (λ row. seen_row row ≡ own_part heads.now (map seen_body bodies.now) of) }
+        ensures ends { IfOk result (λ row. row.ends.items ≡ record { of = of; len = length row.members.items; depth = depth } ∷ []) }
+    {
+        let mut members = Vec::new(alloc);
+        push_part(alloc, &mut members, heads, bodies, subtypes, of, depth)?;
+        row_at(alloc, self.rows.as_slice(), start, members, of, depth)
+    }
+
     /// A row that begins with a type. It has all members of the type, if it isn't known where those of its base stand.
     fn first_row(
         &self,
@@ -75,32 +100,39 @@ impl<'a> PlacedRows<'a> {
         heads: &Heads,
         bodies: &[Body<'a>],
         subtypes: &Subtypes,
+        bare: &[bool],
         of: TypeId,
         depth: usize,
     ) -> Result<MemberRow<'a>, AllocError>
         requires subtypes { AreSubtypes heads.now (map seen_body bodies.now) subtypes.now }
+        requires bare { AreBare (map seen_body bodies.now) subtypes.now bare.now }
         requires rows { AreRows heads.now (map seen_body bodies.now) self.now.rows.items }
         requires ended { depth < length heads.now → HasEnd heads.now (Some of) depth }
         ensures { IfOk result (IsFirstRow heads.now (map seen_body bodies.now) self.now.rows.items of) }
     {
-        let mut members = Vec::new(alloc);
-        push_part(alloc, &mut members, heads, bodies, subtypes, of, depth)?;
         let rows = self.rows.as_slice();
-        match origin_of(
+        let origin = origin_of(
+            alloc,
             heads,
             bodies,
+            subtypes,
             rows,
             &self.places,
             &self.holes,
+            bare,
             of,
-            members.len(),
-        ) {
+        )?;
+        match origin {
             Origin::Nowhere => {
-                let row = row_at(alloc, rows, None, members, of, depth)?;
+                let row = self.row_beside(alloc, heads, bodies, subtypes, None, of, depth)?;
                 Ok(row)
             }
-            Origin::At(start) => {
-                let row = row_at(alloc, rows, Some(start), members, of, depth)?;
+            Origin::Beside(start) => {
+                let row = self.row_beside(alloc, heads, bodies, subtypes, Some(start), of, depth)?;
+                Ok(row)
+            }
+            Origin::Within(start) => {
+                let row = row_at(alloc, rows, Some(start), Vec::new(alloc), of, depth)?;
                 Ok(row)
             }
             Origin::Unknown => {
@@ -118,17 +150,20 @@ impl<'a> PlacedRows<'a> {
         bodies: &[Body<'a>],
         subtypes: &Subtypes,
         heirs: &[Option<TypeId>],
+        bare: &[bool],
         of: TypeId,
     ) -> Result<(), AllocError>
         requires subtypes { AreSubtypes heads.now (map seen_body bodies.now) subtypes.now }
+        requires bare { AreBare (map seen_body bodies.now) subtypes.now bare.now }
         requires rows { AreRows heads.now (map seen_body bodies.now) self.old.rows.items }
         ensures { OnOk result (AreRows heads.now (map seen_body bodies.now) self.new.rows.items) }
     {
         let depth = depth_of(heads, self.rows.as_slice(), &self.places, of);
-        let mut row = self.first_row(alloc, heads, bodies, subtypes, of, depth)?;
+        let mut row = self.first_row(alloc, heads, bodies, subtypes, bare, of, depth)?;
         go_on_with_heirs(alloc, &mut row, heads, bodies, subtypes, heirs, of, depth)?;
-        self.places.put(self.rows.len(), row.ends.as_slice());
-        self.holes.put(row.members.as_slice());
+        let number = self.rows.len();
+        self.places.put(number, row.ends.as_slice());
+        self.holes.put(number, row.members.as_slice());
         self.rows.push(row)?;
         Ok(())
     }
@@ -189,9 +224,13 @@ impl<'a> PlacedRows<'a> {
         ensures { IfOk result (λ placed. AreRows heads.now (map seen_body bodies.now) placed.rows.items) }
     {
         let made = Heirs::of(alloc, heads, bodies)?;
+        let order = made.order.as_slice();
+        let bare = bare_types(alloc, heads, bodies, subtypes, order)?;
+        let bare = bare.as_slice();
+        let heirs = made.heirs.as_slice();
         let mut placed = PlacedRows::new(alloc, heads.count())?;
-        for of in made.order.as_slice() {
-            placed.push_from(alloc, heads, bodies, subtypes, made.heirs.as_slice(), *of)?;
+        for of in order {
+            placed.push_from(alloc, heads, bodies, subtypes, heirs, bare, *of)?;
         }
         Ok(placed)
     }
@@ -208,7 +247,7 @@ pub fn all_spans<'a>(
     requires subtypes { AreSubtypes heads.now (map seen_body bodies.now) subtypes.now }
     requires rows { AreRows heads.now (map seen_body bodies.now) placed.old.rows.items }
     ensures rows { OnOk result (AreRows heads.now (map seen_body bodies.now) placed.new.rows.items) }
-    ensures lists { IfOk result (λ spans. map (list_at (fronts_in placed.new.rows.items) (map seen_row placed.new.rows.items)) spans.items ≡ map (members_of heads.now (map seen_body bodies.now)) (all_types heads.now)) }
+    ensures lists { IfOk result (λ spans. map (members_at (fronts_in placed.new.rows.items) (map seen_row placed.new.rows.items)) spans.items ≡ map (members_of heads.now (map seen_body bodies.now)) (all_types heads.now)) }
 {
     let mut spans = Vec::new(alloc);
     for number in 0..heads.count() {

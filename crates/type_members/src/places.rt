@@ -9,12 +9,14 @@ use crate::rows::{MemberRow, RowEnd};
 use std::alloc::{AllocError, Global};
 use type_heads::TypeId;
 
-/// What stands in a row from one place to another. Places are counted from 0, and the second isn't part of it.
+/// What stands in a row from one place to another, seen from inside of the first `inside` of the conditional subtypes that its
+/// members are under. Places are counted from 0, and the second isn't part of it.
 #[derive(Clone, Copy)]
 pub struct Part {
     pub row: usize,
     pub from: usize,
     pub to: usize,
+    pub inside: usize,
 }
 
 /// Where the members of a type stand: in the parts in front of a row, and then so many of the first of the row itself.
@@ -51,11 +53,6 @@ impl Places {
             ends.push(None)?;
         }
         Ok(Places { ends })
-    }
-
-    /// Whether the place of a type is known.
-    pub fn is_put(&self, of: TypeId) -> bool {
-        self.end_of(of).is_some()
     }
 
     fn end_of(&self, of: TypeId) -> Option<EndAt> {

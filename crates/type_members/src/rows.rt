@@ -12,7 +12,7 @@ ghost use Rattle.type_members.specs.RowEnds.{AreEnds, is_heir as inherits, own_p
 
 use crate::along::{members, push_part};
 use crate::bodied::heir_condition;
-use crate::places::Part;
+use crate::places::{Part, Span};
 use crate::{ListedMember, Subtypes};
 use std::alloc::{AllocError, Global};
 use type_heads::{Body, Heads, TypeId};
@@ -26,13 +26,19 @@ pub struct RowEnd {
     pub depth: usize,
 }
 
-/// Where a row starts: at the end of the first `len` members of another row, but for those from one place to another.
+/// What is cut out of one of some parts, from one place of its row to another.
 #[derive(Clone, Copy)]
-pub struct Start {
-    pub row: usize,
+pub struct Cut {
+    pub part: usize,
     pub from: usize,
     pub to: usize,
-    pub len: usize,
+}
+
+/// Where a row starts: after what stands at an earlier place. If there is a cut, what is cut out of that comes last.
+#[derive(Clone, Copy)]
+pub struct Start {
+    pub at: Span,
+    pub cut: Option<Cut>,
 }
 
 /// Members in a row, what they come after, and the types whose members end in the row.

@@ -1,10 +1,11 @@
 //! Where the members of types are written.
 
-ghost use Rattle.std.specs.Prelude.{◌≡◌, [], drop, map, slice_index_or, take, IfOk};
+ghost use Rattle.std.specs.Prelude.{◌≡◌, ◌++◌, [], drop, map, slice_index_or, take, IfOk, OnOk};
 ghost use Rattle.type_heads.specs.Shown.{shown_member};
 ghost use Rattle.type_heads.specs.Told.{last_number, member_told};
 ghost use Rattle.type_members.specs.Listed.{lists_of, seen_listed, seen_row};
-ghost use Rattle.type_members.specs.Shared.{fronts_in, list_at, part_at, parts_at};
+ghost use Rattle.type_members.specs.Shared.{fronts_in, part_at};
+ghost use Rattle.type_model.specs.RowRefs.{ref_of, refs_in_parts, told_at, told_inside};
 
 use name_scope::DeclId;
 use osc_base::Row;
@@ -20,9 +21,16 @@ fn innermost(under: &[TypeId]) -> Option<TypeId>
     under.last().copied()
 }
 
+/// Where a member of a row is written, and how many conditional subtypes it is under.
+#[derive(Clone, Copy)]
+pub struct RowRef {
+    pub at: MemberRef,
+    pub depth: usize,
+}
+
 /// Where a member is written.
 fn member_ref(member: &ListedMember<'_>) -> MemberRef
-    ensures { shown_member result ≡ member_told (seen_listed member.now) }
+    ensures { result ≡ (ref_of (seen_listed member.now)).at }
 {
     MemberRef {
         decl: DeclId {
@@ -35,19 +43,23 @@ fn member_ref(member: &ListedMember<'_>) -> MemberRef
 }
 
 /// Where members are written.
-fn refs(alloc: Global, members: &[ListedMember<'_>]) -> Result<Row<MemberRef>, AllocError>
-    ensures { IfOk result (λ refs. map shown_member refs ≡ map member_told (map seen_listed members.now)) }
+fn refs(alloc: Global, members: &[ListedMember<'_>]) -> Result<Row<RowRef>, AllocError>
+    ensures { IfOk result (λ refs. refs ≡ map ref_of (map seen_listed members.now)) }
 {
     let mut refs = Vec::new(alloc);
     for member in members {
-        refs.push(member_ref(member))?;
+        let at = member_ref(member);
+        refs.push(RowRef {
+            at,
+            depth: member.under.as_slice().len(),
+        })?;
     }
     Ok(Row::of(refs))
 }
 
 /// Where the members of each row are written.
-fn row_refs(alloc: Global, rows: &[MemberRow<'_>]) -> Result<Vec<Row<MemberRef>>, AllocError>
-    ensures { IfOk result (λ all. map (map shown_member) all.items ≡ map (map member_told) (map seen_row rows.now)) }
+fn row_refs(alloc: Global, rows: &[MemberRow<'_>]) -> Result<Vec<Row<RowRef>>, AllocError>
+    ensures { IfOk result (λ all. all.items ≡ map (map ref_of) (map seen_row rows.now)) }
 {
     let mut all = Vec::new(alloc);
     for row in rows {
@@ -72,24 +84,23 @@ fn row_fronts(alloc: Global, rows: &[MemberRow<'_>]) -> Result<Vec<Row<Part>>, A
 /// rows of members: a row comes after the parts of other rows that stand in front of it.
 #[derive(Drop)]
 pub struct MemberRefs {
-    rows: Vec<Row<MemberRef>>,
+    rows: Vec<Row<RowRef>>,
     fronts: Vec<Row<Part>>,
     spans: Vec<Span>,
 }
 
 impl Model for MemberRefs {
     ghost use Rattle.std.specs.Prelude.{List, map};
-    ghost use Rattle.type_heads.specs.Shown.{shown_member};
     ghost use Rattle.type_heads.specs.Told.{MemberAt};
-    ghost use Rattle.type_members.specs.Shared.{list_at};
+    ghost use Rattle.type_model.specs.RowRefs.{told_at};
 
     ghost Value = { List (List MemberAt) };
 
-    ghost view = { λ s. map (list_at s.fronts.items (map (map shown_member) s.rows.items)) s.spans.items };
+    ghost view = { λ s. map (told_at s.fronts.items s.rows.items) s.spans.items };
 }
 
 /// The first of some members, or all of them if there are fewer.
-fn first_of(members: &[MemberRef], len: usize) -> &[MemberRef]
+fn first_of(members: &[RowRef], len: usize) -> &[RowRef]
     ensures { result.now ≡ take len members.now }
 {
     if len < members.len() {
@@ -100,7 +111,7 @@ fn first_of(members: &[MemberRef], len: usize) -> &[MemberRef]
 }
 
 /// Those of some members that stand at a place or after it.
-fn after(members: &[MemberRef], from: usize) -> &[MemberRef]
+fn after(members: &[RowRef], from: usize) -> &[RowRef]
     ensures { result.now ≡ drop from members.now }
 {
     if from < members.len() {
@@ -111,15 +122,15 @@ fn after(members: &[MemberRef], from: usize) -> &[MemberRef]
 }
 
 /// What stands in a row from one place to another, as far as it is there.
-fn between(members: &[MemberRef], from: usize, to: usize) -> &[MemberRef]
-    ensures { map shown_member result.now ≡ drop from (take to (map shown_member members.now)) }
+fn between(members: &[RowRef], from: usize, to: usize) -> &[RowRef]
+    ensures { result.now ≡ drop from (take to members.now) }
 {
     after(first_of(members, to), from)
 }
 
 /// What stands in a part.
-fn part_refs<'r>(rows: &'r [Row<MemberRef>], part: &Part) -> &'r [MemberRef]
-    ensures { map shown_member result.now ≡ part_at (map (map shown_member) rows.now) part.now }
+fn part_refs<'r>(rows: &'r [Row<RowRef>], part: &Part) -> &'r [RowRef]
+    ensures { result.now ≡ part_at rows.now part.now }
 {
     match rows.get(part.row) {
         Some(row) => between(row.as_slice(), part.from, part.to),
@@ -128,8 +139,8 @@ fn part_refs<'r>(rows: &'r [Row<MemberRef>], part: &Part) -> &'r [MemberRef]
 }
 
 /// What stands in a row itself, after the parts in front of it.
-fn own_refs<'r>(rows: &'r [Row<MemberRef>], span: &Span) -> &'r [MemberRef]
-    ensures { map shown_member result.now ≡ take span.now.len (slice_index_or (map (map shown_member) rows.now) span.now.row []) }
+fn own_refs<'r>(rows: &'r [Row<RowRef>], span: &Span) -> &'r [RowRef]
+    ensures { result.now ≡ take span.now.len (slice_index_or rows.now span.now.row []) }
 {
     match rows.get(span.row) {
         Some(row) => between(row.as_slice(), 0, span.len),
@@ -137,17 +148,47 @@ fn own_refs<'r>(rows: &'r [Row<MemberRef>], span: &Span) -> &'r [MemberRef]
     }
 }
 
-/// What stands in parts, one after the other.
+/// Where a member is written, seen from inside of the first so many of the conditional subtypes that it is under.
+fn ref_inside(kept: &RowRef, inside: usize) -> MemberRef
+    ensures { shown_member result ≡ told_inside inside kept.now }
+{
+    let under = if inside < kept.depth {
+        kept.at.under
+    } else {
+        None
+    };
+    MemberRef {
+        decl: kept.at.decl,
+        index: kept.at.index,
+        under,
+    }
+}
+
+/// Puts at the end where members are written, seen from inside of the first so many of the conditional subtypes.
+fn push_inside(
+    refs: &mut Vec<MemberRef>,
+    members: &[RowRef],
+    inside: usize,
+) -> Result<(), AllocError>
+    ensures { OnOk result (map shown_member refs.new.items ≡ map shown_member refs.old.items ++ map (told_inside inside) members.now) }
+{
+    for member in members {
+        refs.push(ref_inside(member, inside))?;
+    }
+    Ok(())
+}
+
+/// What is told of the members in parts, one part after the other.
 fn parts_refs(
     alloc: Global,
-    rows: &[Row<MemberRef>],
+    rows: &[Row<RowRef>],
     parts: &[Part],
 ) -> Result<Vec<MemberRef>, AllocError>
-    ensures { IfOk result (λ refs. map shown_member refs.items ≡ parts_at (map (map shown_member) rows.now) parts.now) }
+    ensures { IfOk result (λ refs. map shown_member refs.items ≡ refs_in_parts rows.now parts.now) }
 {
     let mut refs = Vec::new(alloc);
     for part in parts {
-        refs.extend_from_slice(part_refs(rows, part))?;
+        push_inside(&mut refs, part_refs(rows, part), part.inside)?;
     }
     Ok(refs)
 }
@@ -162,17 +203,17 @@ fn front_of(fronts: &[Row<Part>], row: usize) -> &[Part]
     }
 }
 
-/// What stands at a place.
+/// What is told of the members at a place.
 fn refs_at(
     alloc: Global,
     fronts: &[Row<Part>],
-    rows: &[Row<MemberRef>],
+    rows: &[Row<RowRef>],
     span: &Span,
 ) -> Result<Row<MemberRef>, AllocError>
-    ensures { IfOk result (λ refs. map shown_member refs ≡ list_at fronts.now (map (map shown_member) rows.now) span.now) }
+    ensures { IfOk result (λ refs. map shown_member refs ≡ told_at fronts.now rows.now span.now) }
 {
     let mut refs = parts_refs(alloc, rows, front_of(fronts, span.row))?;
-    refs.extend_from_slice(own_refs(rows, span))?;
+    push_inside(&mut refs, own_refs(rows, span), 0)?;
     Ok(Row::of(refs))
 }
 

@@ -10,10 +10,11 @@ use Rattle.dsl_tree.specs.FileTree.{FieldTree, MemberTree}
 use Rattle.type_heads.specs.Members.{fields_among, fields_declared, heir_condition, list_length, table_field, table_fields}
 use Rattle.type_heads.specs.Table.{TypeHead, TableField, base, field_in, named}
 use Rattle.type_heads.specs.Types.{Field, Member, TypeBody}
-use Rattle.type_members.specs.Shared.{list_at, part_at, parts_at}
+use Rattle.type_members.specs.Shared.{list_at, members_at, part_at, parts_at}
 use Rattle.type_members.specs.declared.places.Part.{Part}
 use Rattle.type_members.specs.declared.places.Span.{Span}
 use Rattle.type_tables.specs.Looked.{condition_by, condition_of, condition_with, field_type_among, field_type_in, has_type, have_types}
+use Rattle.type_tables.proofs.SeenInside.{joined_at, typed_inside}
 
 -- What holds of all holds of parts
 
@@ -142,7 +143,15 @@ module _ (heads : List TypeHead) where
     conditions_are [] = refl
     conditions_are (t ∷ ts) = ap₂ (λ c cs. c ∷ cs) (same_condition t) (conditions_are ts)
 
-  -- each member of a list stands in a row
+  -- each member of a list stands in a row, seen from inside of conditional subtypes
   pub lists_typed : (rows : List (List Member)) (fronts : List (List Part)) (spans : List Span) → list_all (have_types heads) rows ≡ true →
-      list_all (have_types heads) (map (list_at fronts rows) spans) ≡ true
-  lists_typed rows fronts spans e = in_each (λ (m : Member). has_type heads m.written.member) rows e fronts spans
+      list_all (have_types heads) (map (members_at fronts rows) spans) ≡ true
+  lists_typed rows fronts spans e = seen_typed spans ∙ in_each test rows e fronts spans
+    where
+      test : Member → Bool
+      test m = has_type heads m.written.member
+
+      seen_typed : (ss : List Span) → list_all (have_types heads) (map (members_at fronts rows) ss) ≡ list_all (have_types heads) (map (list_at fronts rows) ss)
+      seen_typed [] = refl
+      seen_typed (s ∷ ss) =
+          ap₂ (λ a b. a && b) (joined_at (have_types heads) (λ a b. a && b) (list_all-append test) (typed_inside heads) rows fronts s) (seen_typed ss)

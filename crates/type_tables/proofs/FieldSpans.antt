@@ -7,7 +7,7 @@ use Rattle.type_heads.specs.Table.{TypeHead, TableField}
 use Rattle.type_heads.specs.Types.{Member}
 use Rattle.type_heads.specs.Members.{fields_among, fields_declared, table_field, table_fields}
 use Rattle.type_members.specs.Listed.{seen_listed, seen_row}
-use Rattle.type_members.specs.Shared.{fronts_in, list_at, part_at}
+use Rattle.type_members.specs.Shared.{fronts_in, list_at, members_at, part_at}
 use Rattle.type_members.specs.declared.listed.ListedMember.{ListedMember}
 use Rattle.type_members.specs.declared.places.Part.{Part}
 use Rattle.type_members.specs.declared.places.Span.{Span}
@@ -15,7 +15,8 @@ use Rattle.type_members.specs.declared.rows.MemberRow.{MemberRow}
 use Rattle.type_tables.specs.Entries.{member_entries}
 use Rattle.type_tables.specs.FieldEnds.{all_ends, count_in, ends_from, part_of_fields, span_of_fields}
 use Rattle.type_tables.specs.declared.field_rows.FieldRow.{FieldRow}
-use Rattle.type_tables.proofs.FlatParts.{first_given, part_given}
+use Rattle.type_tables.proofs.FlatParts.{first_given, joined, part_given}
+use Rattle.type_tables.proofs.SeenInside.{fields_inside, joined_at}
 use Rattle.type_tables.proofs.SharedLists.{lists_made}
 
 none_taken : {X : Type 0} (n : ℕ) (xs : List X) → xs ≡ [] → take n xs ≡ []
@@ -90,6 +91,15 @@ module _ (heads : List TypeHead) where
         lists_made (member_entries heads) (table_fields heads) refl split lists (map (λ (r : FieldRow). r.table) rows) (part_of_fields rows) same_part
         (span_of_fields rows) (λ s. refl) same_span fronts spans
 
+  -- what members are under tells nothing of the fields in the table
+  seen_fields : (rows : List (List Member)) (fronts : List (List Part)) (spans : List Span) →
+      map (table_fields heads) (map (members_at fronts rows) spans) ≡ map (table_fields heads) (map (list_at fronts rows) spans)
+  seen_fields rows fronts [] = refl
+  seen_fields rows fronts (s ∷ ss) =
+      ap₂ (λ a b. a ∷ b)
+      (joined_at (table_fields heads) (λ a b. a ++ b) (joined (member_entries heads) (table_fields heads) refl split) (fields_inside heads split) rows fronts s)
+      (seen_fields rows fronts ss)
+
   -- the fields of all types
   pub all_fields : (rows seen again : List FieldRow) (held listed told : List MemberRow) (fronts : List (List Part)) (spans placed all : List Span) →
       seen ≡ rows → again ≡ rows → listed ≡ held → told ≡ held → placed ≡ spans →
@@ -97,13 +107,14 @@ module _ (heads : List TypeHead) where
       map (λ (r : FieldRow). r.ends.items) rows ≡ map (all_ends heads) (map seen_row listed) →
       fronts ≡ map (map (part_of_fields seen)) (fronts_in told) →
       all ≡ map (span_of_fields again) placed →
-      map (list_at fronts (map (λ (r : FieldRow). r.table) rows)) all ≡ map (table_fields heads) (map (list_at (fronts_in held) (map seen_row held)) spans)
+      map (list_at fronts (map (λ (r : FieldRow). r.table) rows)) all ≡ map (table_fields heads) (map (members_at (fronts_in held) (map seen_row held)) spans)
   all_fields rows seen again held listed told fronts spans placed all same_rows rows_again same_lists lists_again same_spans tables ends fronts_are are =
       ap₂ (λ fs ss. map (list_at fs (map (λ (r : FieldRow). r.table) rows)) ss)
       (fronts_are ∙ ap₂ (λ rs ms. map (map (part_of_fields rs)) (fronts_in ms)) same_rows lists_again)
       (are ∙ ap₂ (λ rs ss. map (span_of_fields rs) ss) rows_again same_spans)
       ∙ lists_are rows (map seen_row held) (tables ∙ ap (λ ms. map (table_fields heads) (map seen_row ms)) same_lists)
       (ends ∙ ap (λ ms. map (all_ends heads) (map seen_row ms)) same_lists) (fronts_in held) spans
+      ∙ sym (seen_fields (map seen_row held) (fronts_in held) spans)
 
   -- how many fields there are after one member more
   pub ends_more : (members : List ListedMember) (i : ℕ) (m : ListedMember) (into into' : List TableField) (ends ends' all : List ℕ) → i < length members → m ≡ get_or members i m →

@@ -4,6 +4,7 @@ mod MemberFields
 mod NamedInParts
 mod FieldSpans
 mod ListLengths
+mod SeenInside
 pub mod Firsts
 pub mod FlatParts
 pub mod SharedLists

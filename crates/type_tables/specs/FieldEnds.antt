@@ -27,4 +27,4 @@ span_of_fields rows s = record { row = s.row; len = count_in rows s.row s.len }
 
 -- where fields stand, given the part in which the members that declare them stand
 abbrev pub part_of_fields : List FieldRow → Part → Part
-part_of_fields rows p = record { row = p.row; from = count_in rows p.row p.from; to = count_in rows p.row p.to }
+part_of_fields rows p = record { row = p.row; from = count_in rows p.row p.from; to = count_in rows p.row p.to; inside = p.inside }

@@ -33,6 +33,7 @@ fn field_part(rows: &[FieldRow], part: &Part) -> Part
         row: part.row,
         from: first_count(rows, part.row, part.from),
         to: first_count(rows, part.row, part.to),
+        inside: part.inside,
     }
 }
 

@@ -12,4 +12,6 @@ mod heirs;
 #[cfg(test)]
 mod members;
 #[cfg(test)]
+mod nested;
+#[cfg(test)]
 mod queries;

@@ -39,14 +39,15 @@ fn in_order(rt: HostRuntime) -> Result<(), Fail> {
     Ok(())
 }
 
-/// Writes each member as the type that holds it, and how many conditional subtypes it is under.
+/// Writes each member as the type that holds it, and how many conditional subtypes it is under, seen from inside of so many.
 fn push_holders(
     alloc: Global,
     text: &mut String,
     members: &[ListedMember<'_>],
+    inside: usize,
 ) -> Result<(), AllocError> {
     for member in members {
-        let under = member.under.as_slice().len();
+        let under = member.under_inside(inside).len();
         let line = format!(in alloc; "{}/{under} ", member.holder.0)?;
         text.push_str(line.as_str())?;
     }
@@ -54,13 +55,13 @@ fn push_holders(
 }
 
 /// The members of each type, first those in parts in front of its row.
-fn holders(alloc: Global, lists: &MemberLists<'_>) -> Result<String, AllocError> {
+pub fn holders(alloc: Global, lists: &MemberLists<'_>) -> Result<String, AllocError> {
     let mut text = String::new(alloc);
     for span in lists.spans() {
         for part in lists.front(span.row) {
-            push_holders(alloc, &mut text, lists.part(part))?;
+            push_holders(alloc, &mut text, lists.part(part), part.inside)?;
         }
-        push_holders(alloc, &mut text, lists.own(span))?;
+        push_holders(alloc, &mut text, lists.own(span), 0)?;
     }
     Ok(text)
 }

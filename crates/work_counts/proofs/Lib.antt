@@ -1,4 +1,5 @@
 pub mod Sums
+mod PartSums
 pub mod TextLaws
 pub mod InitialForms
 pub mod HeirForms

@@ -8,7 +8,7 @@ ghost use Rattle.type_heads.specs.Members.{field};
 ghost use Rattle.type_heads.specs.MemberFaults.{condition_rows, depends_on, type_rows};
 ghost use Rattle.type_heads.specs.Table.{all_types, base};
 ghost use Rattle.type_members.specs.Listed.{lists_of, seen_row};
-ghost use Rattle.type_members.specs.Shared.{fronts_in, list_at};
+ghost use Rattle.type_members.specs.Shared.{fronts_in, members_at};
 ghost use Rattle.type_faults.specs.ConditionRows.{found_rows};
 ghost use Rattle.type_faults.specs.ListedRows.{found_field, seen_hit, types_with};
 ghost use Rattle.type_faults.specs.Ranking.{IsShown};
@@ -131,7 +131,7 @@ fn with_listed(
     span: &Span,
 ) -> Result<Option<Fault>, AllocError>
     requires shown { IsShown (length depends.now.heads.now) (depends_on (types_with depends.now.heads.now (map seen_body depends.now.bodies.now) (lists_of depends.now.lists.now))) ranking.now }
-    requires same { list_at (fronts_in depends.now.lists.now.rows.items) (map seen_row depends.now.lists.now.rows.items) span.now ≡ slice_index_or (lists_of depends.now.lists.now) of [] }
+    requires same { members_at (fronts_in depends.now.lists.now.rows.items) (map seen_row depends.now.lists.now.rows.items) span.now ≡ slice_index_or (lists_of depends.now.lists.now) of [] }
     ensures { IfOk result (λ f. f ≡ first_from first (type_rows (types_with depends.now.heads.now (map seen_body depends.now.bodies.now) (lists_of depends.now.lists.now)) of)) }
 {
     let form = depends.heads.form(of);

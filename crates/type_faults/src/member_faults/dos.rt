@@ -9,7 +9,7 @@ ghost use Rattle.type_heads.specs.Types.{Do};
 ghost use Rattle.type_heads.specs.Members.{do_declared};
 ghost use Rattle.type_heads.specs.MemberFaults.{do_rows};
 ghost use Rattle.type_members.specs.Listed.{seen_listed, seen_row};
-ghost use Rattle.type_members.specs.Shared.{fronts_in, list_at, parts_at};
+ghost use Rattle.type_members.specs.Shared.{fronts_in, members_at, members_in_parts, under_inside};
 ghost use Rattle.type_faults.specs.RowFacts.{dos_among};
 
 use dsl_tree::Member;
@@ -40,13 +40,18 @@ pub struct AfterDos {
     pub is_later: bool,
 }
 
-/// Faults of a member that is a `do`.
-fn with_listed_do(form: Form<'_>, so_far: AfterDos, listed: &ListedMember<'_>) -> AfterDos
-    ensures { (later : List Do) → first_from so_far.first (do_rows (seen_form form.entry) so_far.is_later (cons_option (do_declared (seen_listed listed.now) (seen_listed listed.now).written.member) later)) ≡ first_from result.first (do_rows (seen_form form.entry) result.is_later later) }
+/// Faults of a member that is a `do`, seen from inside of so many conditional subtypes.
+fn with_listed_do(
+    form: Form<'_>,
+    so_far: AfterDos,
+    listed: &ListedMember<'_>,
+    inside: usize,
+) -> AfterDos
+    ensures { (later : List Do) → first_from so_far.first (do_rows (seen_form form.entry) so_far.is_later (cons_option (do_declared (under_inside inside (seen_listed listed.now)) (seen_listed listed.now).written.member) later)) ≡ first_from result.first (do_rows (seen_form form.entry) result.is_later later) }
 {
     match listed.written.member {
         Member::Do { place, phase: _ } => {
-            let is_under = !listed.under.as_slice().is_empty();
+            let is_under = !listed.under_inside(inside).is_empty();
             AfterDos {
                 first: with_do(so_far.first, form, *place, is_under, so_far.is_later),
                 is_later: true,
@@ -56,24 +61,29 @@ fn with_listed_do(form: Form<'_>, so_far: AfterDos, listed: &ListedMember<'_>) -
     }
 }
 
-/// Faults of each `do` among some members more of a type of this form.
-pub fn with_dos(form: Form<'_>, so_far: AfterDos, members: &[ListedMember<'_>]) -> AfterDos
-    ensures { (later : List Do) → first_from so_far.first (do_rows (seen_form form.entry) so_far.is_later (dos_among (map seen_listed members.now) ++ later)) ≡ first_from result.first (do_rows (seen_form form.entry) result.is_later later) }
+/// Faults of each `do` among some members more of a type of this form, seen from inside of so many conditional subtypes.
+pub fn with_dos(
+    form: Form<'_>,
+    so_far: AfterDos,
+    members: &[ListedMember<'_>],
+    inside: usize,
+) -> AfterDos
+    ensures { (later : List Do) → first_from so_far.first (do_rows (seen_form form.entry) so_far.is_later (dos_among (map (under_inside inside) (map seen_listed members.now)) ++ later)) ≡ first_from result.first (do_rows (seen_form form.entry) result.is_later later) }
 {
     let mut after = so_far;
     for listed in members {
-        after = with_listed_do(form, after, listed);
+        after = with_listed_do(form, after, listed, inside);
     }
     after
 }
 
 /// Faults of each `do` in some parts more.
 fn with_parts(form: Form<'_>, so_far: AfterDos, lists: &MemberLists<'_>, parts: &[Part]) -> AfterDos
-    ensures { (later : List Do) → first_from so_far.first (do_rows (seen_form form.entry) so_far.is_later (dos_among (parts_at (map seen_row lists.now.rows.items) parts.now) ++ later)) ≡ first_from result.first (do_rows (seen_form form.entry) result.is_later later) }
+    ensures { (later : List Do) → first_from so_far.first (do_rows (seen_form form.entry) so_far.is_later (dos_among (members_in_parts (map seen_row lists.now.rows.items) parts.now) ++ later)) ≡ first_from result.first (do_rows (seen_form form.entry) result.is_later later) }
 {
     let mut after = so_far;
     for part in parts {
-        after = with_dos(form, after, lists.part(part));
+        after = with_dos(form, after, lists.part(part), part.inside);
     }
     after
 }
@@ -85,12 +95,12 @@ pub fn with_all_dos(
     lists: &MemberLists<'_>,
     span: &Span,
 ) -> Option<Fault>
-    ensures { result ≡ first_from first (do_rows (seen_form form.entry) false (dos_among (list_at (fronts_in lists.now.rows.items) (map seen_row lists.now.rows.items) span.now))) }
+    ensures { result ≡ first_from first (do_rows (seen_form form.entry) false (dos_among (members_at (fronts_in lists.now.rows.items) (map seen_row lists.now.rows.items) span.now))) }
 {
     let so_far = AfterDos {
         first,
         is_later: false,
     };
     let after = with_parts(form, so_far, lists, lists.front(span.row));
-    with_dos(form, after, lists.own(span)).first
+    with_dos(form, after, lists.own(span), 0).first
 }

@@ -6,7 +6,7 @@ ghost use Rattle.dsl_tree.specs.Views.{field_tree};
 ghost use Rattle.type_heads.specs.Members.{fields_among};
 ghost use Rattle.type_heads.specs.Table.{base};
 ghost use Rattle.type_members.specs.Listed.{lists_of, seen_listed, seen_row};
-ghost use Rattle.type_members.specs.Shared.{part_at, parts_at};
+ghost use Rattle.type_members.specs.Shared.{members_in_part, members_in_parts, under_inside};
 ghost use Rattle.type_faults.specs.ListedRows.{field_declared, field_found, found_field, seen_hit};
 ghost use Rattle.type_faults.specs.NamePlaces.{ArePlaces, AreRowPlaces};
 
@@ -39,22 +39,26 @@ fn if_named<'l>(field: &'l FieldDecl, under: &'l [TypeId], name: &str) -> Option
     }
 }
 
-/// The field of that name that a member declares.
-fn field_in<'l>(listed: &'l ListedMember<'_>, name: &str) -> Option<FieldHit<'l>>
-    ensures { option_map seen_hit result ≡ field_declared name.now (seen_listed listed.entry.now) }
+/// The field of that name that a member declares, seen from inside of so many conditional subtypes.
+fn field_in<'l>(listed: &'l ListedMember<'_>, inside: usize, name: &str) -> Option<FieldHit<'l>>
+    ensures { option_map seen_hit result ≡ field_declared name.now (under_inside inside (seen_listed listed.entry.now)) }
 {
     match listed.written.member {
-        Member::Field(field) => if_named(field, listed.under.as_slice(), name),
+        Member::Field(field) => if_named(field, listed.under_inside(inside), name),
         Member::Rule(_) | Member::Do { place: _, phase: _ } => None,
     }
 }
 
-/// The first field of that name among members.
-fn field_among<'l>(members: &'l [ListedMember<'_>], name: &str) -> Option<FieldHit<'l>>
-    ensures { option_map seen_hit result ≡ field_found name.now (map seen_listed members.entry.now) }
+/// The first field of that name among members, seen from inside of so many conditional subtypes.
+fn field_among<'l>(
+    members: &'l [ListedMember<'_>],
+    inside: usize,
+    name: &str,
+) -> Option<FieldHit<'l>>
+    ensures { option_map seen_hit result ≡ field_found name.now (map (under_inside inside) (map seen_listed members.entry.now)) }
 {
     for listed in members {
-        match field_in(listed, name) {
+        match field_in(listed, inside, name) {
             Some(hit) => return Some(hit),
             None => continue,
         }
@@ -62,12 +66,17 @@ fn field_among<'l>(members: &'l [ListedMember<'_>], name: &str) -> Option<FieldH
     None
 }
 
-/// The field of that name that the member of that number declares.
-fn field_at<'l>(members: &'l [ListedMember<'_>], number: usize, name: &str) -> Option<FieldHit<'l>>
-    ensures { option_map seen_hit result ≡ option_and_then (field_declared name.now) (slice_get (map seen_listed members.entry.now) number) }
+/// The field of that name that the member of that number declares, seen from inside of so many conditional subtypes.
+fn field_at<'l>(
+    members: &'l [ListedMember<'_>],
+    number: usize,
+    inside: usize,
+    name: &str,
+) -> Option<FieldHit<'l>>
+    ensures { option_map seen_hit result ≡ option_and_then (λ m. field_declared name.now (under_inside inside m)) (slice_get (map seen_listed members.entry.now) number) }
 {
     match members.get(number) {
-        Some(listed) => field_in(listed, name),
+        Some(listed) => field_in(listed, inside, name),
         None => None,
     }
 }
@@ -80,10 +89,10 @@ fn field_in_row<'l>(
     name: &str,
 ) -> Option<FieldHit<'l>>
     requires { ArePlaces row.now (slice_index_or (map seen_row lists.now.rows.items) part.now.row []) }
-    ensures { option_map seen_hit result ≡ field_found name.now (part_at (map seen_row lists.entry.now.rows.items) part.now) }
+    ensures { option_map seen_hit result ≡ field_found name.now (members_in_part (map seen_row lists.entry.now.rows.items) part.now) }
 {
     if !row.is_distinct {
-        return field_among(lists.part(part), name);
+        return field_among(lists.part(part), part.inside, name);
     }
     match row.in_part(part, name) {
         Some(number) => {
@@ -91,8 +100,9 @@ fn field_in_row<'l>(
                 row: part.row,
                 from: 0,
                 to: part.to,
+                inside: part.inside,
             };
-            field_at(lists.part(&before), number, name)
+            field_at(lists.part(&before), number, part.inside, name)
         }
         None => None,
     }
@@ -106,11 +116,11 @@ fn field_in_part<'l>(
     name: &str,
 ) -> Option<FieldHit<'l>>
     requires { AreRowPlaces places.now (map seen_row lists.now.rows.items) }
-    ensures { option_map seen_hit result ≡ field_found name.now (part_at (map seen_row lists.entry.now.rows.items) part.now) }
+    ensures { option_map seen_hit result ≡ field_found name.now (members_in_part (map seen_row lists.entry.now.rows.items) part.now) }
 {
     match places.get(part.row) {
         Some(row) => field_in_row(lists, row, part, name),
-        None => field_among(lists.part(part), name),
+        None => field_among(lists.part(part), part.inside, name),
     }
 }
 
@@ -122,7 +132,7 @@ fn field_in_parts<'l>(
     name: &str,
 ) -> Option<FieldHit<'l>>
     requires { AreRowPlaces places.now (map seen_row lists.now.rows.items) }
-    ensures { option_map seen_hit result ≡ field_found name.now (parts_at (map seen_row lists.entry.now.rows.items) parts.now) }
+    ensures { option_map seen_hit result ≡ field_found name.now (members_in_parts (map seen_row lists.entry.now.rows.items) parts.now) }
 {
     for part in parts {
         match field_in_part(lists, places, part, name) {
@@ -151,6 +161,7 @@ fn field_of<'l>(
                 row: span.row,
                 from: 0,
                 to: span.len,
+                inside: 0,
             };
             field_in_part(lists, places, &own, name)
         }

@@ -4,7 +4,7 @@ ghost use Rattle.std.specs.Prelude.{◌≡◌, ◌&&◌, [], ◌∷◌, None, So
 ghost use Rattle.std.specs.Option.{option_map_or};
 ghost use Rattle.osc_base.specs.FaultRows.{first_from, row};
 ghost use Rattle.type_members.specs.Listed.{seen_listed, seen_row};
-ghost use Rattle.type_members.specs.Shared.{fronts_in, list_at, parts_at};
+ghost use Rattle.type_members.specs.Shared.{fronts_in, members_at, members_in_parts};
 ghost use Rattle.dsl_tree.specs.Views.{expr_tree, field_tree, member_tree};
 ghost use Rattle.type_heads.specs.Table.{form, is_object, named};
 ghost use Rattle.type_heads.specs.MemberFaults.{first_name_place as place_of_first, initial_rows, is_list_of as makes_list};
@@ -100,7 +100,7 @@ fn with_parts(
     lists: &MemberLists<'_>,
     parts: &[Part],
 ) -> Option<Fault>
-    ensures { result ≡ first_from first (initials_among heads.now (parts_at (map seen_row lists.now.rows.items) parts.now)) }
+    ensures { result ≡ first_from first (initials_among heads.now (members_in_parts (map seen_row lists.now.rows.items) parts.now)) }
 {
     let mut found = first;
     for part in parts {
@@ -116,7 +116,7 @@ pub fn with_all_initials(
     lists: &MemberLists<'_>,
     span: &Span,
 ) -> Option<Fault>
-    ensures { result ≡ first_from first (initials_among heads.now (list_at (fronts_in lists.now.rows.items) (map seen_row lists.now.rows.items) span.now)) }
+    ensures { result ≡ first_from first (initials_among heads.now (members_at (fronts_in lists.now.rows.items) (map seen_row lists.now.rows.items) span.now)) }
 {
     let found = with_parts(first, heads, lists, lists.front(span.row));
     with_initials(found, heads, lists.own(span))

@@ -5,7 +5,7 @@ ghost use Rattle.osc_base.specs.FaultRows.{first_from};
 ghost use Rattle.type_heads.specs.Seen.{seen_form};
 ghost use Rattle.type_heads.specs.MemberFaults.{names_among as names_and_labels, names_given, repeated_rows};
 ghost use Rattle.type_members.specs.Listed.{seen_listed, seen_row};
-ghost use Rattle.type_members.specs.Shared.{fronts_in, list_at, parts_at};
+ghost use Rattle.type_members.specs.Shared.{fronts_in, members_at, members_in_parts};
 ghost use Rattle.type_faults.specs.NamePlaces.{are_distinct as are_distinct_names, lent_names};
 ghost use Rattle.type_faults.specs.NameRows.{ContinuesNames, HasTexts};
 
@@ -66,7 +66,7 @@ fn with_parts<'a>(
     lists: &MemberLists<'a>,
     parts: &[Part],
 ) -> Result<Option<Fault>, AllocError>
-    ensures { IfOk result (λ f. ContinuesNames first met.old f met.new (names_and_labels (parts_at (map seen_row lists.now.rows.items) parts.now))) }
+    ensures { IfOk result (λ f. ContinuesNames first met.old f met.new (names_and_labels (members_in_parts (map seen_row lists.now.rows.items) parts.now))) }
 {
     let mut found = first;
     for part in parts {
@@ -94,7 +94,7 @@ pub fn with_all_names(
     lists: &MemberLists<'_>,
     span: &Span,
 ) -> Result<Option<Fault>, AllocError>
-    ensures { IfOk result (λ f. f ≡ first_from first (repeated_rows (names_given (seen_form form.entry)) (names_and_labels (list_at (fronts_in lists.now.rows.items) (map seen_row lists.now.rows.items) span.now)))) }
+    ensures { IfOk result (λ f. f ≡ first_from first (repeated_rows (names_given (seen_form form.entry)) (names_and_labels (members_at (fronts_in lists.now.rows.items) (map seen_row lists.now.rows.items) span.now)))) }
 {
     let mut met = given_names(alloc, form)?;
     let found = with_parts(alloc, first, &mut met, lists, lists.front(span.row))?;

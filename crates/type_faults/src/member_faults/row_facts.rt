@@ -69,18 +69,13 @@ pub fn facts_at(facts: &[RowFacts], row: usize) -> RowFacts
     }
 }
 
-/// What is known of the members in front of a row: what is known where it starts, since these are some of the members there.
+/// What is known of the members in front of a row: what is known where it starts, since these are some of the members there,
+/// maybe in another order, and some of them under fewer conditional subtypes.
 fn facts_before(known: &[RowFacts], start: Option<Start>) -> RowFacts
     ensures { result ≡ known_before known.now start }
 {
     match start {
-        Some(start) => {
-            if start.from <= start.to {
-                facts_at(known, start.row)
-            } else {
-                none_known()
-            }
-        }
+        Some(start) => facts_at(known, start.at.row),
         None => all_known(),
     }
 }
@@ -132,7 +127,7 @@ fn has_right_dos(is_later: bool, members: &[ListedMember<'_>]) -> bool
         is_later,
     };
     let form = Form::Compound(CompoundKind::Scenario);
-    with_dos(form, so_far, members).first.is_none()
+    with_dos(form, so_far, members, 0).first.is_none()
 }
 
 /// Whether no name of the row of that number is there twice.

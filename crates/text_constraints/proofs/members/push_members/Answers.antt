@@ -2,7 +2,9 @@ use Rattle.std.proofs.Common.{◌++◌, flat_map, map, refl}
 use Rattle.composition.specs.SeenParts.{seen_occurrence}
 use Rattle.composition.specs.SeenScenes.{seen_scene}
 use Rattle.program_texts.specs.SeenTexts.{types_in}
+use Rattle.type_heads.specs.Types.{Member}
 use Rattle.type_members.specs.Listed.{seen_listed}
+use Rattle.type_members.specs.Shared.{under_inside}
 use Rattle.text_constraints.specs.OwnTexts.{listed_kept}
 use Rattle.text_constraints.proofs.LabelSteps.{self_labelled}
 use Rattle.text_constraints.proofs.ListSteps.{each_more}
@@ -14,7 +16,7 @@ loop-listed-init c = (self_labelled (types_in c.args.texts.now) c.args.standing.
 pub loop-listed-preserved : goal.loop-listed-preserved
 loop-listed-preserved c =
     let ts = types_in c.args.texts.now in
-    let give = listed_kept ts (seen_scene c.args.standing.now.scene.now).bindings c.args.standing.now.object.now c.args.standing.now.of in
+    let give = λ (m : Member). listed_kept ts (seen_scene c.args.standing.now.scene.now).bindings c.args.standing.now.object.now c.args.standing.now.of (under_inside c.args.inside m) in
     let made = c.in_ok-labels-2.ensures c.loop-listed.invariant.0 in (
       self_labelled ts c.listed-item.result.holder c.in_ok-labels-2.labels made,
       each_more give seen_listed c.args.members.now c.loop-listed.listed-index c.listed-item.result (map seen_occurrence c.loop-listed.into.items) (map seen_occurrence c.push_labelled.new.into.items)

@@ -2,12 +2,14 @@ use Rattle.std.proofs.Common.{◌≡◌, ◌++◌, drop, flat_map, map}
 use Rattle.composition.specs.SeenParts.{seen_occurrence}
 use Rattle.composition.specs.SeenScenes.{seen_scene}
 use Rattle.program_texts.specs.SeenTexts.{types_in}
+use Rattle.type_heads.specs.Types.{Member}
 use Rattle.type_members.specs.Listed.{seen_listed}
+use Rattle.type_members.specs.Shared.{under_inside}
 use Rattle.text_constraints.specs.Labelled.{IsLabelled}
 use Rattle.text_constraints.specs.OwnTexts.{listed_kept}
 use Rattle.text_constraints.proofs.members.push_members.Given as goal
 
 abbrev pub invariant-loop-listed : goal.invariant-loop-listed
 invariant-loop-listed l = (IsLabelled (types_in l.texts) l.labels.holder l.labels) × (
-    map seen_occurrence l.into.items ++ flat_map (listed_kept (types_in l.texts) (seen_scene l.standing.scene.now).bindings l.standing.object.now l.standing.of) (map seen_listed (drop l.listed-index l.members))
-    ≡ map seen_occurrence l.fn.into.items ++ flat_map (listed_kept (types_in l.texts) (seen_scene l.standing.scene.now).bindings l.standing.object.now l.standing.of) (map seen_listed l.members))
+    map seen_occurrence l.into.items ++ flat_map (λ (m : Member). listed_kept (types_in l.texts) (seen_scene l.standing.scene.now).bindings l.standing.object.now l.standing.of (under_inside l.inside m)) (map seen_listed (drop l.listed-index l.members))
+    ≡ map seen_occurrence l.fn.into.items ++ flat_map (λ (m : Member). listed_kept (types_in l.texts) (seen_scene l.standing.scene.now).bindings l.standing.object.now l.standing.of (under_inside l.inside m)) (map seen_listed l.members))

@@ -4,10 +4,11 @@ use Rattle.composition.specs.SeenScenes.{seen_scene}
 use Rattle.type_heads.specs.Members.{members}
 use Rattle.type_members.specs.Listed.{seen_listed, seen_row}
 use Rattle.type_members.specs.Shared.{fronts_in}
-use Rattle.program_fields.proofs.Fronts.{all_left, given_more, own_at, own_left}
+use Rattle.program_fields.proofs.Fronts.{all_left, own_at, own_left}
 use Rattle.program_texts.specs.SeenTexts.{types_in}
 use Rattle.text_constraints.specs.OwnTexts.{listed_kept}
 use Rattle.text_constraints.proofs.ListSteps.{put_last}
+use Rattle.text_constraints.proofs.PartSteps.{part_more}
 use Rattle.text_constraints.proofs.members.push_parts.Goals as goal
 
 pub loop-part-init : goal.loop-part-init
@@ -25,7 +26,7 @@ loop-part-preserved c =
     let ts = types_in c.args.texts.now in
     let give = listed_kept ts (seen_scene c.args.standing.now.scene.now).bindings c.args.standing.now.object.now c.args.standing.now.of in
     let old = map seen_occurrence c.args.into.now.items in
-    given_more (map seen_row c.lists-lists.result.now.rows.items) c.span-span.result c.front-part-items.result.now c.loop-part.part-index _ c.loop-part-test.true give (map seen_listed c.part.result.now) (map seen_occurrence c.loop-part.into.items) (map seen_occurrence c.push_members.new.into.items)
+    part_more give (map seen_row c.lists-lists.result.now.rows.items) c.span-span.result c.front-part-items.result.now c.loop-part.part-index _ c.loop-part-test.true (map seen_listed c.part.result.now) (map seen_occurrence c.loop-part.into.items) (map seen_occurrence c.push_members.new.into.items)
     (old ++ flat_map give (members ts c.args.standing.now.of)) c.part.ensures c.in_ok-push_members.ensures c.loop-part.invariant
 
 pub returns : goal.returns

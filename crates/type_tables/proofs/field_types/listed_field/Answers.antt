@@ -9,6 +9,7 @@ use Rattle.type_tables.specs.Entries.{named_among}
 use Rattle.type_tables.specs.InParts.{first_found}
 use Rattle.type_tables.proofs.MemberFields.{found_among, named_in_both}
 use Rattle.type_tables.proofs.NamedInParts.{in_list}
+use Rattle.type_tables.proofs.SeenInside.{joined_at, named_inside}
 use Rattle.type_tables.proofs.field_types.listed_field.Goals as goal
 
 pub returns-in-Some : goal.returns-in-Some
@@ -18,6 +19,7 @@ returns-in-Some c =
     ap (λ o. option_or o (named_among name (take c.span-span.result.len (slice_index_or rows c.span-span.result.row []))))
     (ap (option_map (λ (f : Bor FieldDecl). field_tree f.now)) (sym c.in-Some.is) ∙ c.named_in_parts.ensures ∙ ap (first_found (λ p. named_among name (part_at rows p))) c.front.ensures)
     ∙ sym (in_list (named_among name) refl (named_in_both name) rows (fronts_in c.args.lists.now.rows.items) c.span-span.result)
+    ∙ sym (joined_at (named_among name) option_or (named_in_both name) (named_inside name) rows (fronts_in c.args.lists.now.rows.items) c.span-span.result)
     ∙ ap (named_among name) c.span-span.ensures
     ∙ found_among name (slice_index_or (lists_of c.args.lists.now) c.args.of [])
 
@@ -30,5 +32,6 @@ returns-in-None c =
     ∙ ap (λ o. option_or o (named_among name (take c.span-span.result.len (slice_index_or rows c.span-span.result.row []))))
     (ap (option_map (λ (f : Bor FieldDecl). field_tree f.now)) (sym c.in-None.is) ∙ c.named_in_parts.ensures ∙ ap (first_found (λ p. named_among name (part_at rows p))) c.front.ensures)
     ∙ sym (in_list (named_among name) refl (named_in_both name) rows (fronts_in c.args.lists.now.rows.items) c.span-span.result)
+    ∙ sym (joined_at (named_among name) option_or (named_in_both name) (named_inside name) rows (fronts_in c.args.lists.now.rows.items) c.span-span.result)
     ∙ ap (named_among name) c.span-span.ensures
     ∙ found_among name (slice_index_or (lists_of c.args.lists.now) c.args.of [])

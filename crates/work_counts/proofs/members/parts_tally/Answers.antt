@@ -1,13 +1,14 @@
-use Rattle.std.proofs.Common.{◌∙◌, ◌+◌, ◌++◌, [], ap, map, refl, slice_index_or, sym}
+use Rattle.std.proofs.Common.{◌∙◌, ◌+◌, [], ap, map, refl, slice_index_or}
 use Rattle.type_heads.specs.Members.{members}
 use Rattle.type_heads.specs.Types.{Member}
 use Rattle.type_members.specs.Listed.{seen_listed, seen_row}
 use Rattle.type_members.specs.Shared.{fronts_in}
-use Rattle.program_fields.proofs.Fronts.{all_left, left_at, one_more, own_left}
+use Rattle.program_fields.proofs.Fronts.{all_left, left_at, own_left}
 use Rattle.program_texts.specs.SeenTexts.{types_in}
 use Rattle.work_counts.specs.Amounts.{kept, sum_of}
 use Rattle.work_counts.specs.TextAmounts.{member_amount}
-use Rattle.work_counts.proofs.Sums.{counted_init, counted_last, counted_more, counted_split}
+use Rattle.work_counts.proofs.PartSums.{counted_part}
+use Rattle.work_counts.proofs.Sums.{counted_init, counted_last, counted_more}
 use Rattle.work_counts.proofs.members.parts_tally.Goals as goal
 
 pub loop-part-init : goal.loop-part-init
@@ -30,8 +31,7 @@ loop-part-preserved c =
     let i = c.loop-part.part-index in
     counted_more c.loop-part.all c.members_tally.result c.with-all.result (kept (sum_of f (left_at rows parts i s))) (kept (sum_of f (left_at rows parts (i + 1) s)))
     (kept (sum_of f (members ts c.args.of))) c.loop-part.invariant c.with-all.ensures
-    (counted_split f (left_at rows parts i s) (map seen_listed c.part.result.now) (left_at rows parts (i + 1) s) c.members_tally.result
-    (one_more rows s parts i _ c.loop-part-test.true ∙ ap (λ ms. ms ++ left_at rows parts (i + 1) s) (sym c.part.ensures)) c.members_tally.ensures)
+    (counted_part f (λ k m. refl) rows s parts i _ c.loop-part-test.true (map seen_listed c.part.result.now) c.members_tally.result c.part.ensures c.members_tally.ensures)
 
 pub returns : goal.returns
 returns c =

@@ -1,16 +1,16 @@
 use Rattle.std.proofs.Common.{◌∙◌, ap, option_and_then}
 use Rattle.program_fields.specs.Parts.{field_at}
-use Rattle.program_fields.specs.Tables.{row_of}
-use Rattle.program_fields.proofs.Placed.{named_law}
+use Rattle.program_fields.specs.Tables.{row_inside, row_of}
+use Rattle.program_fields.proofs.SeenInside.{named_inside}
 use Rattle.program_fields.proofs.tables.ProgramFields.part_named.Goals as goal
 
 pub returns-in-Some : goal.returns-in-Some
 returns-in-Some c =
     c.field.ensures
-    ∙ ap (option_and_then (field_at (row_of c.args.self.now c.args.part.now))) c.in-Some.ensures
-    ∙ named_law c.args.part.now.from c.args.part.now.to (row_of c.args.self.now c.args.part.now) c.args.name.now
+    ∙ ap (option_and_then (field_at (row_inside c.args.self.now c.args.part.now))) c.in-Some.ensures
+    ∙ named_inside c.args.part.now.inside c.args.part.now.from c.args.part.now.to (row_of c.args.self.now c.args.part.now) c.args.name.now
 
 pub returns-in-None : goal.returns-in-None
 returns-in-None c =
-    ap (option_and_then (field_at (row_of c.args.self.now c.args.part.now))) c.in-None.ensures
-    ∙ named_law c.args.part.now.from c.args.part.now.to (row_of c.args.self.now c.args.part.now) c.args.name.now
+    ap (option_and_then (field_at (row_inside c.args.self.now c.args.part.now))) c.in-None.ensures
+    ∙ named_inside c.args.part.now.inside c.args.part.now.from c.args.part.now.to (row_of c.args.self.now c.args.part.now) c.args.name.now

@@ -5,7 +5,7 @@ use Rattle.type_heads.specs.MemberFaults.{condition_rows, do_rows, names_among, 
 use Rattle.type_heads.specs.Table.{form}
 use Rattle.type_heads.specs.Types.{Member}
 use Rattle.type_members.specs.Listed.{lists_of, seen_row}
-use Rattle.type_members.specs.Shared.{fronts_in, list_at}
+use Rattle.type_members.specs.Shared.{fronts_in, members_at}
 use Rattle.type_faults.specs.ListedRows.{types_with}
 use Rattle.type_faults.specs.RowFacts.{dos_among, initials_among}
 use Rattle.type_faults.proofs.RowSteps.{two}
@@ -22,7 +22,7 @@ returns c =
     let dos : List Member → List FaultRow = λ ms. do_rows (form heads of) false (dos_among ms) in
     let initial : List Member → List FaultRow = λ ms. initials_among heads ms in
     let members : List Member = slice_index_or (lists_of d.lists.now) of [] in
-    let listed : List Member = list_at (fronts_in d.lists.now.rows.items) (map seen_row d.lists.now.rows.items) c.args.span.now in
+    let listed : List Member = members_at (fronts_in d.lists.now.rows.items) (map seen_row d.lists.now.rows.items) c.args.span.now in
     two (named members ++ dos members ++ initial members) (condition_rows ts of) c.args.first c.with_all_initials-set.result c.in_ok-found.found
     (two (named members ++ dos members) (initial members) c.args.first c.with_all_dos-told.result c.with_all_initials-set.result
     (two (named members) (dos members) c.args.first c.in_ok-named.named c.with_all_dos-told.result

@@ -4,7 +4,8 @@ use Rattle.osc_base.specs.FaultRows.{first_from}
 use Rattle.type_heads.specs.Seen.{seen_form}
 use Rattle.type_heads.specs.MemberFaults.{do_rows}
 use Rattle.type_members.specs.Listed.{seen_row}
-use Rattle.type_members.specs.Shared.{fronts_in, parts_at}
+use Rattle.type_members.specs.Shared.{fronts_in, members_in_parts, under_inside}
+use Rattle.type_members.proofs.Moves.{inside_none}
 use Rattle.type_faults.specs.RowFacts.{dos_among}
 use Rattle.type_faults.proofs.PartSteps.{dos_joined}
 use Rattle.type_faults.proofs.member_faults.dos.with_all_dos.Goals as goal
@@ -17,8 +18,8 @@ returns c =
     let front = slice_index_or (fronts_in c.args.lists.now.rows.items) span.row [] in
     let own = take span.len (slice_index_or rows span.row []) in
     let after = c.with_parts-after.result in
-    sym (ap (λ ds. first_from c.args.first (do_rows form false ds)) (sym (append-nil (dos_among (parts_at rows front ++ own))) ∙ dos_joined (parts_at rows front) own [])
-    ∙ ap (λ ps. first_from c.args.first (do_rows form false (dos_among (parts_at rows ps) ++ (dos_among own ++ [])))) (sym c.front.ensures)
+    sym (ap (λ ds. first_from c.args.first (do_rows form false ds)) (sym (append-nil (dos_among (members_in_parts rows front ++ own))) ∙ dos_joined (members_in_parts rows front) own [])
+    ∙ ap (λ ps. first_from c.args.first (do_rows form false (dos_among (members_in_parts rows ps) ++ (dos_among own ++ [])))) (sym c.front.ensures)
     ∙ c.with_parts-after.ensures (dos_among own ++ [])
-    ∙ ap (λ ms. first_from after.first (do_rows form after.is_later (dos_among ms ++ []))) (sym c.own.ensures)
+    ∙ ap (λ ms. first_from after.first (do_rows form after.is_later (dos_among ms ++ []))) (sym (inside_none own) ∙ ap (map (under_inside 0)) (sym c.own.ensures))
     ∙ c.with_dos.ensures [])

@@ -4,6 +4,7 @@ use Rattle.type_heads.specs.Seen.{seen_form}
 use Rattle.type_heads.specs.Members.{do_declared}
 use Rattle.type_heads.specs.MemberFaults.{do_rows}
 use Rattle.type_members.specs.Listed.{seen_listed}
+use Rattle.type_members.specs.Shared.{under_inside}
 use Rattle.type_faults.specs.RowFacts.{dos_among}
 use Rattle.type_faults.proofs.PartSteps.{do_joined}
 use Rattle.type_faults.proofs.RowSteps.{left_is}
@@ -12,10 +13,10 @@ use Rattle.type_faults.proofs.member_faults.dos.with_dos.Goals as goal
 pub loop-listed-preserved : goal.loop-listed-preserved
 loop-listed-preserved c = λ later.
     let form = seen_form c.args.form in
-    let m = seen_listed c.listed-item.result in
-    let rest = dos_among (map seen_listed (drop (c.loop-listed.listed-index + 1) c.args.members.now)) in
+    let m = under_inside c.args.inside (seen_listed c.listed-item.result) in
+    let rest = dos_among (map (under_inside c.args.inside) (map seen_listed (drop (c.loop-listed.listed-index + 1) c.args.members.now))) in
     c.loop-listed.invariant later
-    ∙ ap (λ ms. first_from c.loop-listed.after.first (do_rows form c.loop-listed.after.is_later (dos_among (map seen_listed ms) ++ later)))
+    ∙ ap (λ ms. first_from c.loop-listed.after.first (do_rows form c.loop-listed.after.is_later (dos_among (map (under_inside c.args.inside) (map seen_listed ms)) ++ later)))
     (left_is c.args.members.now c.loop-listed.listed-index c.listed-item.result c.loop-listed-test.true c.listed-item.is)
     ∙ ap (λ ds. first_from c.loop-listed.after.first (do_rows form c.loop-listed.after.is_later ds)) (do_joined (do_declared m m.written.member) rest later)
     ∙ c.with_listed_do-after.ensures (rest ++ later)

@@ -4,10 +4,11 @@ use Rattle.type_heads.specs.Seen.{seen_form}
 use Rattle.type_heads.specs.Types.{Do}
 use Rattle.type_heads.specs.MemberFaults.{do_rows}
 use Rattle.type_members.specs.Listed.{seen_listed}
+use Rattle.type_members.specs.Shared.{under_inside}
 use Rattle.type_faults.specs.RowFacts.{dos_among}
 use Rattle.type_faults.proofs.member_faults.dos.with_dos.Given as goal
 
 abbrev pub invariant-loop-listed : goal.invariant-loop-listed
 invariant-loop-listed l =
-    (later : List Do) → first_from l.fn.so_far.first (do_rows (seen_form l.form) l.fn.so_far.is_later (dos_among (map seen_listed l.members) ++ later))
-    ≡ first_from l.after.first (do_rows (seen_form l.form) l.after.is_later (dos_among (map seen_listed (drop l.listed-index l.members)) ++ later))
+    (later : List Do) → first_from l.fn.so_far.first (do_rows (seen_form l.form) l.fn.so_far.is_later (dos_among (map (under_inside l.inside) (map seen_listed l.members)) ++ later))
+    ≡ first_from l.after.first (do_rows (seen_form l.form) l.after.is_later (dos_among (map (under_inside l.inside) (map seen_listed (drop l.listed-index l.members))) ++ later))

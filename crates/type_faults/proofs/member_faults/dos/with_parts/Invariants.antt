@@ -4,11 +4,11 @@ use Rattle.type_heads.specs.Seen.{seen_form}
 use Rattle.type_heads.specs.Types.{Do}
 use Rattle.type_heads.specs.MemberFaults.{do_rows}
 use Rattle.type_members.specs.Listed.{seen_row}
-use Rattle.type_members.specs.Shared.{parts_at}
+use Rattle.type_members.specs.Shared.{members_in_parts}
 use Rattle.type_faults.specs.RowFacts.{dos_among}
 use Rattle.type_faults.proofs.member_faults.dos.with_parts.Given as goal
 
 abbrev pub invariant-loop-part : goal.invariant-loop-part
 invariant-loop-part l =
-    (later : List Do) → first_from l.fn.so_far.first (do_rows (seen_form l.form) l.fn.so_far.is_later (dos_among (parts_at (map seen_row l.lists.rows.items) l.parts) ++ later))
-    ≡ first_from l.after.first (do_rows (seen_form l.form) l.after.is_later (dos_among (parts_at (map seen_row l.lists.rows.items) (drop l.part-index l.parts)) ++ later))
+    (later : List Do) → first_from l.fn.so_far.first (do_rows (seen_form l.form) l.fn.so_far.is_later (dos_among (members_in_parts (map seen_row l.lists.rows.items) l.parts) ++ later))
+    ≡ first_from l.after.first (do_rows (seen_form l.form) l.after.is_later (dos_among (members_in_parts (map seen_row l.lists.rows.items) (drop l.part-index l.parts)) ++ later))

@@ -2,7 +2,8 @@ use Rattle.std.proofs.Common.{◌∙◌, [], ap, map, sym, take}
 use Rattle.std.specs.Prelude.{slice_index_or}
 use Rattle.std.specs.Option.{option_or}
 use Rattle.type_members.specs.Listed.{seen_row}
-use Rattle.type_members.specs.Shared.{fronts_in, parts_at}
+use Rattle.type_members.specs.Shared.{fronts_in, members_in_parts}
+use Rattle.type_members.proofs.Moves.{inside_none}
 use Rattle.type_faults.specs.ListedRows.{field_found}
 use Rattle.type_faults.proofs.FoundFields.{found_joined}
 use Rattle.type_faults.proofs.member_faults.fields.field_of.Goals as goal
@@ -14,8 +15,8 @@ returns-in-Some c =
     let name = c.args.name.now in
     let own = take span.len (slice_index_or rows span.row []) in
     sym (ap (field_found name) (sym c.span-span.ensures)
-    ∙ found_joined (parts_at rows (slice_index_or (fronts_in c.args.lists.now.rows.items) span.row [])) own name
-    ∙ ap (λ ps. option_or (field_found name (parts_at rows ps)) (field_found name own)) (sym c.front.ensures)
+    ∙ found_joined (members_in_parts rows (slice_index_or (fronts_in c.args.lists.now.rows.items) span.row [])) own name
+    ∙ ap (λ ps. option_or (field_found name (members_in_parts rows ps)) (field_found name own)) (sym c.front.ensures)
     ∙ ap (λ o. option_or o (field_found name own)) (sym c.in-Some.ensures))
 
 pub returns-in-None : goal.returns-in-None
@@ -25,7 +26,8 @@ returns-in-None c =
     let name = c.args.name.now in
     let own = take span.len (slice_index_or rows span.row []) in
     sym (ap (field_found name) (sym c.span-span.ensures)
-    ∙ found_joined (parts_at rows (slice_index_or (fronts_in c.args.lists.now.rows.items) span.row [])) own name
-    ∙ ap (λ ps. option_or (field_found name (parts_at rows ps)) (field_found name own)) (sym c.front.ensures)
+    ∙ found_joined (members_in_parts rows (slice_index_or (fronts_in c.args.lists.now.rows.items) span.row [])) own name
+    ∙ ap (λ ps. option_or (field_found name (members_in_parts rows ps)) (field_found name own)) (sym c.front.ensures)
     ∙ ap (λ o. option_or o (field_found name own)) (sym c.in-None.ensures)
+    ∙ ap (field_found name) (sym (inside_none own))
     ∙ sym c.field_in_part.ensures)

@@ -6,7 +6,7 @@ use Rattle.type_heads.specs.Seen.{seen_form}
 use Rattle.type_heads.specs.Types.{Member}
 use Rattle.type_heads.specs.MemberFaults.{member_names, names_among, names_given, repeated_rows}
 use Rattle.type_members.specs.Listed.{seen_listed, seen_row}
-use Rattle.type_members.specs.Shared.{fronts_in, parts_at}
+use Rattle.type_members.specs.Shared.{fronts_in, members_in_parts}
 use Rattle.type_faults.specs.NameRows.{ContinuesNames}
 use Rattle.type_faults.proofs.RowSteps.{if_ok}
 use Rattle.type_faults.proofs.RepeatedNames.{all_names, then_names}
@@ -17,10 +17,10 @@ returns c =
     let given = names_given (seen_form c.args.form) in
     let rows : List (List Member) = map seen_row c.args.lists.now.rows.items in
     let span = c.args.span.now in
-    let front : List Member = parts_at rows (slice_index_or (fronts_in c.args.lists.now.rows.items) span.row []) in
+    let front : List Member = members_in_parts rows (slice_index_or (fronts_in c.args.lists.now.rows.items) span.row []) in
     let own : List Member = take span.len (slice_index_or rows span.row []) in
     let one : ContinuesNames c.args.first c.in_ok-met.met c.in_ok-found.found c.with_parts.new.met (names_among front) =
-    subst (λ ps. ContinuesNames c.args.first c.in_ok-met.met c.in_ok-found.found c.with_parts.new.met (names_among (parts_at rows ps))) c.front.ensures c.in_ok-found.ensures in
+    subst (λ ps. ContinuesNames c.args.first c.in_ok-met.met c.in_ok-found.found c.with_parts.new.met (names_among (members_in_parts rows ps))) c.front.ensures c.in_ok-found.ensures in
     if_ok (λ f. ContinuesNames c.in_ok-found.found c.with_parts.new.met f c.with_members.new.met (names_among (map seen_listed c.own.result.now))) (λ f. f ≡ first_from c.args.first (repeated_rows given (names_among (front ++ own))))
     (λ f more. all_names c.args.first f c.in_ok-met.met c.with_members.new.met given (names_among (front ++ own)) c.in_ok-met.ensures
     (subst (ContinuesNames c.args.first c.in_ok-met.met f c.with_members.new.met) (sym (flat_map-append (λ (m : Member). member_names m.written.member) front own))

@@ -1,7 +1,9 @@
-use Rattle.std.proofs.Common.{map, subst, take_all}
-use Rattle.type_heads.specs.MemberFaults.{names_among}
+use Rattle.std.proofs.Common.{◌∙◌, ap, map, refl, subst, sym, take_all}
+use Rattle.type_heads.specs.Types.{Member}
+use Rattle.type_heads.specs.MemberFaults.{member_names, names_among}
 use Rattle.type_members.specs.Listed.{seen_row}
-use Rattle.type_members.specs.Shared.{parts_at}
+use Rattle.type_members.specs.Shared.{members_in_parts}
+use Rattle.type_members.proofs.SeenInside.{flat_in_part}
 use Rattle.type_faults.specs.NameRows.{ContinuesNames}
 use Rattle.type_faults.proofs.RepeatedNames.{next_part}
 use Rattle.type_faults.proofs.member_faults.names.with_parts.Goals as goal
@@ -9,9 +11,10 @@ use Rattle.type_faults.proofs.member_faults.names.with_parts.Goals as goal
 pub loop-part-preserved : goal.loop-part-preserved
 loop-part-preserved c =
     next_part c.args.first c.loop-part.found c.in_ok-found.found c.args.met.now c.loop-part.met c.with_members.new.met (map seen_row c.args.lists.now.rows.items) c.args.parts.now c.loop-part.part-index _ c.loop-part-test.true
-    (subst (λ ms. ContinuesNames c.loop-part.found c.loop-part.met c.in_ok-found.found c.with_members.new.met (names_among ms)) c.part.ensures c.in_ok-found.ensures)
+    (subst (ContinuesNames c.loop-part.found c.loop-part.met c.in_ok-found.found c.with_members.new.met)
+    (ap names_among c.part.ensures ∙ sym (flat_in_part (λ (m : Member). member_names m.written.member) (λ k m. refl) (map seen_row c.args.lists.now.rows.items) _)) c.in_ok-found.ensures)
     c.loop-part.invariant
 
 pub returns : goal.returns
-returns c = subst (λ ps. ContinuesNames c.args.first c.args.met.now c.loop-part.found c.loop-part.met (names_among (parts_at (map seen_row c.args.lists.now.rows.items) ps)))
+returns c = subst (λ ps. ContinuesNames c.args.first c.args.met.now c.loop-part.found c.loop-part.met (names_among (members_in_parts (map seen_row c.args.lists.now.rows.items) ps)))
     (take_all c.loop-part.part-index c.args.parts.now c.loop-part-test.false) c.loop-part.invariant
