@@ -21,6 +21,3 @@ pub use record::{Line, Record, refuted};
 pub use rule::{Rule, Term};
 pub use slots::slots_of;
 pub use verdict::Verdict;
-
-#[cfg(test)]
-mod tests;

@@ -17,6 +17,3 @@ pub use least::with_fault;
 pub use library::library_text;
 pub use names::{FileName, Wanted};
 pub use program::{AddStop, Program};
-
-#[cfg(test)]
-mod tests;

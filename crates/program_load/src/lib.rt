@@ -11,6 +11,3 @@ mod turn;
 pub use laws::{one_load, some_load};
 pub use loader::load;
 pub use stop::{LoadStop, Refusal};
-
-#[cfg(test)]
-mod tests;

@@ -1,7 +1,7 @@
-use crate::{LoadStop, Refusal, load};
 use name_scope::Program;
 use osc_base::Row;
 use outside_io::{MemoryShelf, NamedBytes};
+use program_load::{LoadStop, Refusal, load};
 use std::alloc::{AllocError, Global};
 use std::process::Abort;
 use std::test::Fail;

@@ -1,10 +1,10 @@
 ghost use Rattle.std.specs.Prelude.{◌≤◌};
 
-use crate::{
+use osc_base::Row;
+use outside_io::{
     FileShelf, MemoryShelf, MemorySink, OutSink, ReadStop, Shelf, ShelfFault, Sink, SinkFault,
     SinkStop, read_all, write_all,
 };
-use osc_base::Row;
 use std::alloc::{AllocError, Global};
 use std::fmt::Display;
 use std::io;

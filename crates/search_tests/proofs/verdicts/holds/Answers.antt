@@ -1,7 +1,7 @@
 use Rattle.std.proofs.Common.{◌≡◌, arith, to_z, of_z, w64}
 use Rattle.std.proofs.lemmas.Int.{ints}
-use Rattle.box_eval.proofs.Rows.{judges}
-use Rattle.box_eval.proofs.tests.holds.Goals as goal
+use Rattle.search_tests.proofs.Rows.{judges}
+use Rattle.search_tests.proofs.verdicts.holds.Goals as goal
 
 pub truth-requires-clause-reach : goal.truth-requires-clause-reach
 truth-requires-clause-reach c =

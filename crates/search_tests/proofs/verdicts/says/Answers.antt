@@ -1,7 +1,7 @@
 use Rattle.std.proofs.Common.{◌≡◌, arith, to_z, of_z, w64}
 use Rattle.std.proofs.lemmas.Int.{ints}
-use Rattle.box_eval.proofs.Rows.{box, judges}
-use Rattle.box_eval.proofs.tests.says.Goals as goal
+use Rattle.search_tests.proofs.Rows.{box, judges}
+use Rattle.search_tests.proofs.verdicts.says.Goals as goal
 
 pub judge-requires-clause-reach : goal.judge-requires-clause-reach
 judge-requires-clause-reach c =

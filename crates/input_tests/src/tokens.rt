@@ -1,5 +1,4 @@
-use crate::lexer::{laws, lex};
-use crate::stop::LexStop;
+use dsl_lexer::{LexStop, laws, lex};
 use dsl_tree::{Token, TokenKind};
 use std::io;
 

@@ -3,8 +3,8 @@ ghost use Rattle.dsl_tree.specs.Language.{FollowsGrammar};
 ghost use Rattle.dsl_tree.specs.Views.{file_tree};
 ghost use Rattle.name_scope.specs.FileNumbers.{name_text, wanted_name};
 
-use crate::{AddStop, DeclId, NameKind, Program, Wanted, library_text};
 use dsl_tree::{CompoundDecl, CompoundKind, Declaration, File, Ident, Import, QName};
+use name_scope::{AddStop, DeclId, NameKind, Program, Wanted, library_text};
 use osc_base::{Fault, FaultCode, Place, Row, Text};
 use std::alloc::{AllocError, Global};
 use std::test::Fail;

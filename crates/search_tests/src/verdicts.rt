@@ -3,7 +3,7 @@ ghost use Rattle.std.specs.Prelude.{IfOk, [], ◌∷◌, negsuc, pos, ◌≤ℤ�
 ghost use Rattle.box_eval.specs.Box.{pair};
 ghost use Rattle.box_eval.specs.Rules.{CanJudge};
 
-use crate::{
+use box_eval::{
     Bounds, Flat, Line, Pair, Record, Rule, Term, Verdict, judge, refuted, slots_of, truth,
 };
 use osc_base::{Boxed, Row};

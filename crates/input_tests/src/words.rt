@@ -1,4 +1,4 @@
-use crate::{Request, Setting, Source, read_words};
+use command_words::{Request, Setting, Source, read_words};
 use std::io;
 
 /// The words of a line, which has one space between any two.
