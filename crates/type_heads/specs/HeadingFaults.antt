@@ -209,10 +209,12 @@ field_types heads w (MemberTree.Do place phase) = []
 abbrev pub family : List TypeHead → List TypeBody → ℕ → List ℕ
 family heads bodies t = reached (suc (length heads)) (subtypes heads bodies) [] (fresh [] (t ∷ bases heads t))
 
--- the types of the fields that these declare
+-- the types that a type holds: those of the fields that its family declares; a type without members holds none
 abbrev pub held_types : List TypeHead → List TypeBody → ℕ → List ℕ
 held_types heads bodies t =
-    flat_map (λ u. flat_map (λ (w : Written). field_types heads w w.member) ((body bodies u).own ++ (body bodies u).more)) (family heads bodies t)
+    cond (has_members (form heads t))
+    (flat_map (λ u. flat_map (λ (w : Written). field_types heads w w.member) ((body bodies u).own ++ (body bodies u).more)) (family heads bodies t))
+    []
 
 -- a type with members that inherits from itself or holds itself
 abbrev pub cycle_row : List TypeHead → List TypeBody → ℕ → FaultRow

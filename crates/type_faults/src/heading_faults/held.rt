@@ -131,7 +131,8 @@ fn push_all(
     Ok(())
 }
 
-/// Puts the types that a type holds at the end: those of the fields that an object of the type may have.
+/// Puts the types that a type holds at the end: those of the fields that an object of the type may have. A type without
+/// members holds none, even if others inherit from it, which is a fault.
 pub fn push_held(
     alloc: Global,
     heads: &Heads,
@@ -143,6 +144,9 @@ pub fn push_held(
     requires { AreSubtypes heads.now (map seen_body bodies.now) subtypes.now }
     ensures { OnOk result (into.new.items ≡ into.old.items ++ held_types heads.now (map seen_body bodies.now) of) }
 {
+    if !heads.form(of).has_members() {
+        return Ok(());
+    }
     let family = family(alloc, heads, subtypes, of)?;
     push_all(heads, bodies, family.as_slice(), into)?;
     Ok(())
