@@ -21,3 +21,6 @@ pub use record::{Line, Record, refuted};
 pub use rule::{Rule, Term};
 pub use slots::slots_of;
 pub use verdict::Verdict;
+
+// Crates below, for the crates above.
+pub use osc_base;

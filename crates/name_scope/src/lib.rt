@@ -17,3 +17,6 @@ pub use least::with_fault;
 pub use library::library_text;
 pub use names::{FileName, Wanted};
 pub use program::{AddStop, Program};
+
+// Crates below, for the crates above.
+pub use dsl_tree;

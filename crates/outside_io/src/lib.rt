@@ -19,3 +19,6 @@ pub use memory_sink::MemorySink;
 pub use out_sink::OutSink;
 pub use shelf::{NamedBytes, Shelf, ShelfFault};
 pub use sink::{Sink, SinkFault};
+
+// Crates below, for the crates above.
+pub use osc_base;

@@ -11,3 +11,7 @@ mod turn;
 pub use laws::{one_load, some_load};
 pub use loader::load;
 pub use stop::{LoadStop, Refusal};
+
+// Crates below, for the crates above.
+pub use dsl_lexer;
+pub use dsl_parser;

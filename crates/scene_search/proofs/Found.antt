@@ -5,14 +5,14 @@ use Rattle.box_eval.specs.declared.record.Record.{Record}
 use Rattle.box_eval.specs.Box.{IsPointOf}
 use Rattle.box_eval.specs.Record.{Tree, depth_of, IsRecordOf}
 use Rattle.box_eval.proofs.Empty.{refutation_empty}
-use Rattle.composition.specs.declared.run.Run.{Run}
-use Rattle.composition.specs.Scenes.{Scene}
-use Rattle.composition.specs.Claims.{IsInstance}
-use Rattle.composition.specs.TimedRuns.{timed}
-use Rattle.field_flatten.specs.Ends.{bounds}
-use Rattle.field_flatten.specs.Exactness.{IsExpanded, IsFlatOf}
-use Rattle.field_flatten.specs.Points.{run_of}
-use Rattle.field_flatten.proofs.Exact.{exact_flat}
+use Rattle.flat_forms.specs.composition.declared.run.Run.{Run}
+use Rattle.flat_forms.specs.composition.Scenes.{Scene}
+use Rattle.flat_forms.specs.composition.Claims.{IsInstance}
+use Rattle.flat_forms.specs.composition.TimedRuns.{timed}
+use Rattle.scene_runs.specs.field_flatten.Ends.{bounds}
+use Rattle.scene_runs.specs.field_flatten.Exactness.{IsExpanded, IsFlatOf}
+use Rattle.scene_runs.specs.field_flatten.Points.{run_of}
+use Rattle.scene_runs.proofs.of_field_flatten.Exact.{exact_flat}
 use Rattle.record_laws.proofs.Accepting.{lines_count}
 use Rattle.scene_search.specs.Findings.{IsReachedRun, IsSizedBy, IsSceneRefutation, IsSpentRecord}
 use Rattle.scene_search.specs.Outcomes.{IsReachedPoint, IsSeedRefutation, IsSeedSpent}

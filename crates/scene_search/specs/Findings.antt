@@ -5,13 +5,13 @@ use Rattle.box_eval.specs.declared.flat.Flat.{Flat}
 use Rattle.box_eval.specs.declared.record.Record.{Record}
 use Rattle.box_eval.specs.Record.{Tree, cuts_of, depth_of}
 use Rattle.box_eval.specs.Guided.{IsGuidedRefutation, IsReached, IsSpent}
-use Rattle.composition.specs.declared.run.Run.{Run}
-use Rattle.composition.specs.Claims.{IsInstance}
-use Rattle.composition.specs.Scenes.{Scene}
-use Rattle.composition.specs.TimedRuns.{TimedRun, timed}
-use Rattle.field_flatten.specs.Exactness.{IsFlatOf}
-use Rattle.field_flatten.specs.Points.{run_of}
-use Rattle.record_text.specs.Text.{record_lines}
+use Rattle.flat_forms.specs.composition.declared.run.Run.{Run}
+use Rattle.flat_forms.specs.composition.Claims.{IsInstance}
+use Rattle.flat_forms.specs.composition.Scenes.{Scene}
+use Rattle.flat_forms.specs.composition.TimedRuns.{TimedRun, timed}
+use Rattle.scene_runs.specs.field_flatten.Exactness.{IsFlatOf}
+use Rattle.scene_runs.specs.field_flatten.Points.{run_of}
+use Rattle.record_laws.specs.record_text.Text.{record_lines}
 use Rattle.seeded_search.specs.Draws.{number_of}
 use Rattle.scene_search.specs.declared.finding.Finding.{Finding}
 

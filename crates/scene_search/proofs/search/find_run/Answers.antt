@@ -1,5 +1,5 @@
 use Rattle.std.proofs.Common.{subst}
-use Rattle.composition.specs.SeenScenes.{seen_scene}
+use Rattle.flat_forms.specs.composition.SeenScenes.{seen_scene}
 use Rattle.scene_search.specs.Outcomes.{IsOutcome}
 use Rattle.scene_search.proofs.Found.{reached_run, scene_refutation, spent_record}
 use Rattle.scene_search.proofs.search.find_run.Goals as goal
