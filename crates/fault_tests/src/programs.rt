@@ -49,6 +49,29 @@ fn faults_of_headings(rt: HostRuntime) -> Result<(), Fail> {
 }
 
 #[test]
+fn types_without_members_hold_nothing(rt: HostRuntime) -> Result<(), Fail> {
+    let rows: [(&str, &str); 4] = [
+        (
+            "enum e: [a]\nstruct s:\n    x: e\nstruct r inherits e(x == a):\n    y: s\nscenario top\n",
+            "314 4:19",
+        ),
+        (
+            "type t is SI(m: 1)\nstruct s:\n    x: t\nstruct r inherits t(x == true):\n    y: s\n",
+            "314 4:19",
+        ),
+        (
+            "struct s:\n    x: int\nstruct r inherits int(x == true):\n    y: s\n",
+            "314 3:19",
+        ),
+        (
+            "struct e:\n    a: bool\nstruct s:\n    x: e\nstruct r inherits e(a == true):\n    y: s\nscenario top\n",
+            "313 1:8",
+        ),
+    ];
+    faults_are(&rt, &rows)
+}
+
+#[test]
 fn faults_of_members(rt: HostRuntime) -> Result<(), Fail> {
     let rows: [(&str, &str); 12] = [
         ("struct a:\n    x: int\n    y, x: int\n", "311 3:8"),

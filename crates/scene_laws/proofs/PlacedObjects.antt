@@ -66,6 +66,14 @@ object_members f h = by (is_object f) h
     by true e = refl
     by false e = absurd (true≢false (sym e))
 
+kind_members : (f : Form) → is_object f ≡ true ⊎ is_behaviour f ≡ true → has_members f ≡ true
+kind_members f (inl h) = object_members f h
+kind_members f (inr h) = by (is_object f) h
+  where
+    by : (b : Bool) → is_behaviour f ≡ true → b || is_behaviour f ≡ true
+    by true e = refl
+    by false e = e
+
 -- what is known of a program's types
 pub record IsAcyclic (ts : Types) : Type 0 where
   pub owned : AreOwned ts.table.heads
@@ -152,7 +160,7 @@ module _ (ts : Types) (a : IsAcyclic ts) where
       extended m t of fuel (named_below ts.table.heads None f.tree.of.text of typed) (λ same. self same) (λ x j same. other x j (fuel.edges x j) same) (inl o) (λ x j. edge x j)
     where
       holds : In of (held_types ts.table.heads ts.bodies t)
-      holds = field_held ts a.based a.listed t fuel.below f i of typed
+      holds = field_held ts a.based a.listed t fuel.below (kind_members (form ts.table.heads t) fuel.kind) f i of typed
 
       self : of ≡ t → ⊥
       self same = no_hold t fuel.below (subst (λ k. IsObject k) same o) zero (subst (λ k. In k (held_types ts.table.heads ts.bodies t)) same holds)

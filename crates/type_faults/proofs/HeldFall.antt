@@ -5,11 +5,11 @@ use Rattle.std.specs.Option.{option_map_or}
 use Rattle.std.specs.List.{list_all}
 use Rattle.std.proofs.lemmas.Bool.Decides.{nat_tests}
 use Rattle.std.proofs.lemmas.List.Folds.{list_all-append}
-use Rattle.type_heads.specs.Table.{TypeHead, all_types, base, bases, int_head, line_within, numbers_from}
-use Rattle.type_heads.specs.Types.{TypeBody}
-use Rattle.type_heads.specs.Members.{body, is_conditional, no_body, subtypes}
-use Rattle.type_heads.specs.Cycles.{fresh, returns}
-use Rattle.type_heads.specs.HeadingFaults.{family, held_types}
+use Rattle.type_members.specs.type_heads.Table.{TypeHead, all_types, base, bases, form, has_members, int_head, line_within, numbers_from}
+use Rattle.type_members.specs.type_heads.Types.{TypeBody}
+use Rattle.type_members.specs.type_heads.Members.{body, is_conditional, no_body, subtypes}
+use Rattle.type_members.specs.type_heads.Cycles.{fresh, returns}
+use Rattle.type_members.specs.type_heads.HeadingFaults.{family, held_types}
 use Rattle.type_faults.specs.Holding.{fields_of}
 use Rattle.type_faults.specs.HeldRanks.{base_fits, type_fits, types_fit}
 use Rattle.type_faults.specs.Ranking.{IsShown, falls, rank}
@@ -155,11 +155,21 @@ module _ (heads : List TypeHead) (bodies : List TypeBody) (ranks : List ℕ) (fi
       (all_fresh (low x) [] (x ∷ bases heads x) (both (low x x) (list_all (low x) (bases heads x)) itself (line_low x (length heads) (base heads x) (base_low x x itself))))
 
   held_low : (x : ℕ) → list_all (λ u. nat_lt (rank ranks u) (rank ranks x)) (held_types heads bodies x) ≡ true
-  held_low x =
-      all_mapped (low x) (λ u. nat_lt (rank ranks u) (rank ranks x)) (λ y. fields_of heads ((body bodies y).own ++ (body bodies y).more))
-      (λ y h. all_weaker (λ u. nat_lt (rank ranks u) (rank ranks y)) (λ u. nat_lt (rank ranks u) (rank ranks x))
-      (λ u k. fall_more (rank ranks u) (rank ranks y) (rank ranks x) k h) (fields_of heads ((body bodies y).own ++ (body bodies y).more)) (fields_are y))
-      (family heads bodies x) (family_low x)
+  held_low x = by (has_members (form heads x))
+    where
+      own : ℕ → List ℕ
+      own y = fields_of heads ((body bodies y).own ++ (body bodies y).more)
+
+      falling : list_all (λ u. nat_lt (rank ranks u) (rank ranks x)) (flat_map own (family heads bodies x)) ≡ true
+      falling =
+          all_mapped (low x) (λ u. nat_lt (rank ranks u) (rank ranks x)) own
+          (λ y h. all_weaker (λ u. nat_lt (rank ranks u) (rank ranks y)) (λ u. nat_lt (rank ranks u) (rank ranks x))
+          (λ u k. fall_more (rank ranks u) (rank ranks y) (rank ranks x) k h) (own y) (fields_are y))
+          (family heads bodies x) (family_low x)
+
+      by : (b : Bool) → list_all (λ u. nat_lt (rank ranks u) (rank ranks x)) (cond b (flat_map own (family heads bodies x)) []) ≡ true
+      by true = falling
+      by false = refl
 
   never_held : (t : ℕ) → returns (length heads) (held_types heads bodies) t ≡ false
   never_held t =

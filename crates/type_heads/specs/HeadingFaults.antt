@@ -2,18 +2,18 @@
 use Rattle.std.specs.Prelude.{ℕ, suc, ◌+◌, ◌&&◌, ◌||◌, Bool, true, false, not, cond, List, [], ◌∷◌, ◌++◌, Option, Some, None, map, length, nat_eq, nat_lt, bytes_eq, is_none, is_some, flat_map, filter_map, option_and_then}
 use Rattle.std.specs.Option.{option_map_or}
 use Rattle.std.specs.List.{list_any}
-use Rattle.osc_base.specs.declared.fault.Place.{Place}
-use Rattle.osc_base.specs.declared.fault.FaultCode.{FaultCode}
-use Rattle.osc_base.specs.FaultRows.{FaultRow, row}
-use Rattle.dsl_tree.specs.declared.parts.Ident.{Ident}
-use Rattle.dsl_tree.specs.declared.parts.QName.{QName}
-use Rattle.dsl_tree.specs.declared.units.BasePart.{BasePart}
-use Rattle.dsl_tree.specs.declared.units.UnitDecl.{UnitDecl}
-use Rattle.dsl_tree.specs.declared.enums.EnumItem.{EnumItem}
-use Rattle.dsl_tree.specs.declared.compounds.ConditionValue.{ConditionValue}
-use Rattle.dsl_tree.specs.declared.compounds.HeirCondition.{HeirCondition}
-use Rattle.dsl_tree.specs.declared.compounds.Heir.{Heir}
-use Rattle.dsl_tree.specs.FileTree.{FieldTree, MemberTree, CompoundTree, DeclarationTree}
+use Rattle.units_si.specs.osc_base.declared.fault.Place.{Place}
+use Rattle.units_si.specs.osc_base.declared.fault.FaultCode.{FaultCode}
+use Rattle.units_si.specs.osc_base.FaultRows.{FaultRow, row}
+use Rattle.name_scope.specs.dsl_tree.declared.parts.Ident.{Ident}
+use Rattle.name_scope.specs.dsl_tree.declared.parts.QName.{QName}
+use Rattle.name_scope.specs.dsl_tree.declared.units.BasePart.{BasePart}
+use Rattle.name_scope.specs.dsl_tree.declared.units.UnitDecl.{UnitDecl}
+use Rattle.name_scope.specs.dsl_tree.declared.enums.EnumItem.{EnumItem}
+use Rattle.name_scope.specs.dsl_tree.declared.compounds.ConditionValue.{ConditionValue}
+use Rattle.name_scope.specs.dsl_tree.declared.compounds.HeirCondition.{HeirCondition}
+use Rattle.name_scope.specs.dsl_tree.declared.compounds.Heir.{Heir}
+use Rattle.name_scope.specs.dsl_tree.FileTree.{FieldTree, MemberTree, CompoundTree, DeclarationTree}
 use Rattle.name_scope.specs.declared.ids.NameKind.{NameKind}
 use Rattle.name_scope.specs.Declaring.{DeclaredName, named as name_as, compound_name, same_owner}
 use Rattle.units_si.specs.declared.units.Exponents.{Exponents}
@@ -209,10 +209,12 @@ field_types heads w (MemberTree.Do place phase) = []
 abbrev pub family : List TypeHead → List TypeBody → ℕ → List ℕ
 family heads bodies t = reached (suc (length heads)) (subtypes heads bodies) [] (fresh [] (t ∷ bases heads t))
 
--- the types of the fields that these declare
+-- the types that a type holds: those of the fields that its family declares; a type without members holds none
 abbrev pub held_types : List TypeHead → List TypeBody → ℕ → List ℕ
 held_types heads bodies t =
-    flat_map (λ u. flat_map (λ (w : Written). field_types heads w w.member) ((body bodies u).own ++ (body bodies u).more)) (family heads bodies t)
+    cond (has_members (form heads t))
+    (flat_map (λ u. flat_map (λ (w : Written). field_types heads w w.member) ((body bodies u).own ++ (body bodies u).more)) (family heads bodies t))
+    []
 
 -- a type with members that inherits from itself or holds itself
 abbrev pub cycle_row : List TypeHead → List TypeBody → ℕ → FaultRow
