@@ -40,4 +40,4 @@ pub use ways::Turn;
 
 // Crates below, for the crates above.
 pub use type_model;
-pub use type_model::{type_faults, units_si};
+pub use type_model::units_si;
