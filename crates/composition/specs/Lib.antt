@@ -30,4 +30,5 @@ pub use Rattle.cond_inherit.specs.dsl_tree as dsl_tree
 pub use Rattle.expr_nodes.specs as expr_nodes
 pub use Rattle.keep_rules.specs as keep_rules
 pub use Rattle.keep_rules.specs.path_index as path_index
+pub use Rattle.expr_nodes.specs.type_faults as type_faults
 pub use Rattle.cond_inherit.specs.type_heads as type_heads
