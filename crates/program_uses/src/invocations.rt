@@ -15,8 +15,8 @@ ghost use Rattle.program_fields.specs.SeenFields.{seen_do};
 ghost use Rattle.program_uses.specs.SeenTexts.{Tells};
 
 use crate::program_texts::ProgramTexts;
+use composition::type_model::{TypeId, TypeKind, Types};
 use dsl_tree::Phase;
-use expr_nodes::type_model::{TypeId, TypeKind, Types};
 use fault_sets::{Ranking, Steps};
 use name_scope::with_fault;
 use osc_base::{Fault, FaultCode, Row};
