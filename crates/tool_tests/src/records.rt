@@ -1,5 +1,6 @@
 //! What `command` says of records, of listings and of programs that are made.
-use crate::answers::{Outside, SOUND, answer, answers_are};
+use crate::answers::answers_are;
+use answer_tests::{Outside, SOUND, answer};
 use std::process::Abort;
 use std::test::Fail;
 
@@ -127,17 +128,13 @@ fn listings(rt: HostRuntime) -> Result<(), Fail> {
 /// The program for N vehicles loads, and its run has 1 + N + N * N phases and ends at tick 5 * N.
 #[test]
 fn made_programs(rt: HostRuntime) -> Result<(), Fail> {
-    let ample = Outside {
-        room: 65536,
-        ..SOUND
-    };
     let rows: [(&str, &str); 3] = [
         ("1", "make 1 phases 3 end 5 check yes\n"),
         ("2", "make 2 phases 7 end 10 check yes\n"),
         ("3", "make 3 phases 13 end 15 check yes\n"),
     ];
     for (count, last) in rows {
-        let got = answer(rt.alloc(), &["make", count], &[], ample)?;
+        let got = answer(rt.alloc(), &["make", count], &[], SOUND)?;
         let got = got.as_str();
         assert!(rt; got.starts_with("0 {\"choices\":[]"), "{count}");
         assert!(rt; got.ends_with(last), "{count}");
