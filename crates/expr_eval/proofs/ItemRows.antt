@@ -6,11 +6,11 @@ use Rattle.osc_base.specs.declared.fault.Fault.{Fault}
 use Rattle.osc_base.specs.FaultRows.{FaultRow, first_of, first_fault}
 use Rattle.dsl_tree.specs.ExprTree.{ExprTree, row_of}
 use Rattle.expr_typing.specs.type_heads.Table.{Table}
-use Rattle.expr_typing.specs.expr_nodes.Scope.{Scope}
-use Rattle.expr_typing.specs.expr_nodes.Typed as Nodes
-use Rattle.expr_typing.specs.expr_nodes.Typed.{Typed}
-use Rattle.expr_typing.specs.expr_nodes.Operators.{part_rows}
-use Rattle.expr_typing.specs.expr_nodes.Typing.{typed, typed_row, expr_rows, items_rows}
+use Rattle.expr_nodes.specs.Scope.{Scope}
+use Rattle.expr_nodes.specs.Typed as Nodes
+use Rattle.expr_nodes.specs.Typed.{Typed}
+use Rattle.expr_nodes.specs.Operators.{part_rows}
+use Rattle.expr_nodes.specs.Typing.{typed, typed_row, expr_rows, items_rows}
 use Rattle.expr_typing.proofs.Firsts.{first_assoc, first_append}
 use Rattle.expr_eval.specs.ItemChecks.{more_items, item_before, one_value, typed_items}
 

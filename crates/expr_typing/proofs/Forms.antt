@@ -1,7 +1,7 @@
 -- What the answers of types say of fields and enums.
 use Rattle.std.proofs.Common.{◌≡◌, ◌∙◌, refl, sym, ap, ap₂, ℕ, true, List, [], ◌∷◌, Option, Some, None}
 use Rattle.std.specs.Prelude.{ℤ, pos, option_map}
-use Rattle.expr_nodes.specs.dsl_tree.declared.parts.Ident.{Ident}
+use Rattle.dsl_tree.specs.declared.parts.Ident.{Ident}
 use Rattle.osc_base.specs.declared.fault.Place.{Place}
 use Rattle.osc_base.specs.declared.path.Path.{Path}
 use Rattle.expr_nodes.specs.type_heads.Form.{Form}

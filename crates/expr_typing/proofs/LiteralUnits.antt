@@ -6,7 +6,7 @@ use Rattle.osc_base.specs.declared.fault.Fault.{Fault}
 use Rattle.osc_base.specs.declared.fault.FaultCode.{FaultCode}
 use Rattle.osc_base.specs.FaultRows.{row, row_fault, first_fault}
 use Rattle.osc_base.specs.LowestTerms.{lowest}
-use Rattle.expr_nodes.specs.dsl_tree.declared.parts.Digits.{Digits}
+use Rattle.dsl_tree.specs.declared.parts.Digits.{Digits}
 use Rattle.expr_nodes.specs.type_heads.Table.{Table, TableUnit, unit}
 use Rattle.expr_nodes.specs.type_heads.Shown.{UnitParts, unit_parts}
 use Rattle.expr_nodes.specs.Kinds.{ValueKind}

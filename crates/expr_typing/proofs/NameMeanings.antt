@@ -8,7 +8,7 @@ use Rattle.osc_base.specs.declared.fault.FaultCode.{FaultCode}
 use Rattle.osc_base.specs.declared.path.Path.{Path}
 use Rattle.osc_base.specs.FaultRows.{row, first_fault}
 use Rattle.osc_base.specs.Paths.{root, then_name}
-use Rattle.expr_nodes.specs.dsl_tree.declared.parts.Ident.{Ident}
+use Rattle.dsl_tree.specs.declared.parts.Ident.{Ident}
 use Rattle.expr_nodes.specs.type_heads.declared.kinds.FieldType.{FieldType}
 use Rattle.expr_nodes.specs.type_heads.Shown.{shown_field}
 use Rattle.expr_nodes.specs.type_heads.Table.{Table, TableField, form, field_of, is_behaviour}

@@ -2,8 +2,8 @@
 
 ghost use Rattle.std.specs.Prelude.{◌≡◌, IfOk};
 ghost use Rattle.osc_base.specs.FaultRows.{first_of};
-ghost use Rattle.expr_nodes.specs.dsl_tree.ExprTree.{ExprTree};
-ghost use Rattle.expr_nodes.specs.dsl_tree.Views.{expr_tree};
+ghost use Rattle.dsl_tree.specs.ExprTree.{ExprTree};
+ghost use Rattle.dsl_tree.specs.Views.{expr_tree};
 ghost use Rattle.expr_nodes.specs.type_heads.Table.{Table};
 ghost use Rattle.expr_nodes.specs.Scope.{Scope};
 ghost use Rattle.expr_nodes.specs.Checks.{IsChecked};

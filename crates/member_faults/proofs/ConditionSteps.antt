@@ -4,7 +4,7 @@ use Rattle.std.specs.Prelude.{filter, option_map, option_and_then}
 use Rattle.std.specs.Option.{option_map_or}
 use Rattle.type_members.specs.osc_base.declared.fault.FaultCode.{FaultCode}
 use Rattle.type_members.specs.osc_base.FaultRows.{FaultRow, row}
-use Rattle.type_members.specs.dsl_tree.declared.compounds.HeirCondition.{HeirCondition}
+use Rattle.dsl_tree.specs.declared.compounds.HeirCondition.{HeirCondition}
 use Rattle.type_members.specs.type_heads.Table.{TypeHead, base, bases}
 use Rattle.type_members.specs.type_heads.Types.{TypeBody, Member, Field, Types}
 use Rattle.type_members.specs.type_heads.Members.{field, heir_condition, is_conditional}

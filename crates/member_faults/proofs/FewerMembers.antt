@@ -3,8 +3,8 @@ use Rattle.std.proofs.Common.{◌≡◌, ◌∙◌, refl, sym, ap, ◌⊎◌, in
 use Rattle.std.specs.Prelude.{codes}
 use Rattle.std.specs.List.{cons_option, list_any}
 use Rattle.type_members.specs.osc_base.FaultRows.{FaultRow}
-use Rattle.type_members.specs.dsl_tree.declared.compounds.CompoundKind.{CompoundKind}
-use Rattle.type_members.specs.dsl_tree.declared.parts.Ident.{Ident}
+use Rattle.dsl_tree.specs.declared.compounds.CompoundKind.{CompoundKind}
+use Rattle.dsl_tree.specs.declared.parts.Ident.{Ident}
 use Rattle.type_members.specs.type_heads.Form.{Form}
 use Rattle.type_members.specs.type_heads.Table.{TypeHead, is_scenario}
 use Rattle.type_members.specs.type_heads.Types.{Do, Member}

@@ -10,8 +10,8 @@ use Rattle.type_members.specs.osc_base.declared.fault.Fault.{Fault}
 use Rattle.type_members.specs.osc_base.declared.fault.FaultCode.{FaultCode}
 use Rattle.type_members.specs.osc_base.FaultRows.{FaultRow, first_from, row}
 use Rattle.type_members.proofs.of_osc_base.FaultRows.{first_from_joined}
-use Rattle.type_members.specs.dsl_tree.declared.compounds.CompoundKind.{CompoundKind}
-use Rattle.type_members.specs.dsl_tree.declared.parts.Ident.{Ident}
+use Rattle.dsl_tree.specs.declared.compounds.CompoundKind.{CompoundKind}
+use Rattle.dsl_tree.specs.declared.parts.Ident.{Ident}
 use Rattle.type_members.specs.type_heads.Form.{Form}
 use Rattle.type_members.specs.type_heads.Table.{TypeHead, form, is_behaviour, is_scenario}
 use Rattle.type_members.specs.type_heads.Types.{Do, Member, Types}

@@ -8,9 +8,9 @@ use Rattle.std.proofs.lemmas.List.Concat.{flat_map-append}
 use Rattle.std.proofs.lemmas.List.Elements.{filter_map-append}
 use Rattle.std.proofs.lemmas.List.Folds.{list_any-append}
 use Rattle.type_members.specs.osc_base.FaultRows.{FaultRow}
-use Rattle.type_members.specs.dsl_tree.declared.compounds.CompoundKind.{CompoundKind}
-use Rattle.type_members.specs.dsl_tree.declared.parts.Ident.{Ident}
-use Rattle.type_members.specs.dsl_tree.FileTree.{MemberTree}
+use Rattle.dsl_tree.specs.declared.compounds.CompoundKind.{CompoundKind}
+use Rattle.dsl_tree.specs.declared.parts.Ident.{Ident}
+use Rattle.dsl_tree.specs.FileTree.{MemberTree}
 use Rattle.type_members.specs.type_heads.Form.{Form}
 use Rattle.type_members.specs.type_heads.Table.{TypeHead, is_scenario}
 use Rattle.type_members.specs.type_heads.Types.{Do, Member}

@@ -6,8 +6,8 @@ use Rattle.std.specs.List.{list_any}
 use Rattle.std.proofs.lemmas.Bool.Decides.{nat_tests}
 use Rattle.std.proofs.lemmas.List.{take-append-drop}
 use Rattle.std.proofs.lemmas.List.Folds.{list_any-append}
-use Rattle.type_members.specs.dsl_tree.declared.parts.Ident.{Ident}
-use Rattle.type_members.specs.dsl_tree.FileTree.{MemberTree}
+use Rattle.dsl_tree.specs.declared.parts.Ident.{Ident}
+use Rattle.dsl_tree.specs.FileTree.{MemberTree}
 use Rattle.type_members.specs.name_scope.Declaring.{first_place}
 use Rattle.type_members.specs.type_heads.Types.{Field, Member}
 use Rattle.type_members.specs.type_heads.Members.{fields_declared}

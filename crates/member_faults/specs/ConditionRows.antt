@@ -3,7 +3,7 @@ use Rattle.std.specs.Prelude.{ℕ, ◌||◌, not, List, [], ◌∷◌, Option, S
 use Rattle.std.specs.Option.{option_map_or}
 use Rattle.type_members.specs.osc_base.declared.fault.FaultCode.{FaultCode}
 use Rattle.type_members.specs.osc_base.FaultRows.{FaultRow, row}
-use Rattle.type_members.specs.dsl_tree.declared.compounds.HeirCondition.{HeirCondition}
+use Rattle.dsl_tree.specs.declared.compounds.HeirCondition.{HeirCondition}
 use Rattle.type_members.specs.type_heads.Table.{TypeHead, form, named}
 use Rattle.type_members.specs.type_heads.MemberFaults.{can_decide, held_rows}
 use Rattle.member_faults.specs.ListedRows.{FoundField}

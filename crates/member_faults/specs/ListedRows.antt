@@ -1,9 +1,9 @@
 -- The members of types in the lists that the code holds, and the fields found there.
 use Rattle.std.specs.Prelude.{ℕ, List, [], ◌++◌, Option, None, bytes_eq, find, option_and_then, option_map, option_to_list, slice_index_or}
 use Rattle.std.specs.Option.{option_map_or}
-use Rattle.type_members.specs.dsl_tree.declared.compounds.HeirCondition.{HeirCondition}
-use Rattle.type_members.specs.dsl_tree.Views.{field_tree}
-use Rattle.type_members.specs.dsl_tree.FileTree.{FieldTree}
+use Rattle.dsl_tree.specs.declared.compounds.HeirCondition.{HeirCondition}
+use Rattle.dsl_tree.specs.Views.{field_tree}
+use Rattle.dsl_tree.specs.FileTree.{FieldTree}
 use Rattle.type_members.specs.type_heads.Table.{TypeHead, base}
 use Rattle.type_members.specs.type_heads.Members.{fields_among, fields_declared, heir_condition}
 use Rattle.type_members.specs.type_heads.Types.{TypeBody, Member, Field, Types}

@@ -5,7 +5,7 @@ use Rattle.std.specs.Option.{option_map_or}
 use Rattle.std.specs.List.{list_any}
 use Rattle.indexmap.specs.IndexMap.{get_by}
 use Rattle.type_members.specs.osc_base.FaultRows.{first_fault}
-use Rattle.type_members.specs.dsl_tree.declared.parts.Ident.{Ident}
+use Rattle.dsl_tree.specs.declared.parts.Ident.{Ident}
 use Rattle.type_members.specs.name_scope.Declaring.{first_place}
 use Rattle.type_members.specs.type_heads.Types.{Member}
 use Rattle.type_members.specs.type_heads.MemberFaults.{member_names, names_among, repeated_rows}

@@ -3,8 +3,8 @@ use Rattle.std.specs.Prelude.{◌≡◌, ℕ, ◌&&◌, ◌||◌, Bool, true, fa
 use Rattle.std.specs.Option.{option_map_or}
 use Rattle.std.specs.List.{list_all, list_any}
 use Rattle.type_members.specs.osc_base.FaultRows.{FaultRow, first_fault}
-use Rattle.type_members.specs.dsl_tree.declared.parts.Ident.{Ident}
-use Rattle.type_members.specs.dsl_tree.declared.compounds.CompoundKind.{CompoundKind}
+use Rattle.dsl_tree.specs.declared.parts.Ident.{Ident}
+use Rattle.dsl_tree.specs.declared.compounds.CompoundKind.{CompoundKind}
 use Rattle.type_members.specs.type_heads.Form.{Form}
 use Rattle.type_members.specs.type_heads.Table.{TypeHead, is_behaviour, is_scenario}
 use Rattle.type_members.specs.type_heads.Types.{Do, Member}

@@ -8,7 +8,7 @@ ghost use Rattle.type_members.specs.type_heads.Seen.{seen_form};
 ghost use Rattle.type_members.specs.type_heads.Table.{enum_members, enum_number, form, named};
 ghost use Rattle.type_members.specs.type_heads.MemberFaults.{can_decide as decides, held_rows};
 
-use type_members::dsl_tree::{ConditionValue, FieldDecl, HeirCondition, Ident};
+use dsl_tree::{ConditionValue, FieldDecl, HeirCondition, Ident};
 use type_members::name_scope::with_fault;
 use type_members::osc_base::{Fault, FaultCode};
 use type_members::type_heads::{Form, Heads, TypeId};

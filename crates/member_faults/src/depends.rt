@@ -12,9 +12,9 @@ ghost use Rattle.member_faults.specs.NamePlaces.{AreRowPlaces};
 
 use crate::fields::{FieldHit, condition_field};
 use crate::name_places::NamePlaces;
+use dsl_tree::HeirCondition;
 use fault_sets::push_types;
 use std::alloc::{AllocError, Global};
-use type_members::dsl_tree::HeirCondition;
 use type_members::type_heads::{Body, Heads, TypeId, line};
 use type_members::{MemberLists, heir_condition};
 

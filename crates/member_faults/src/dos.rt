@@ -12,7 +12,7 @@ ghost use Rattle.type_members.specs.Listed.{seen_listed, seen_row};
 ghost use Rattle.type_members.specs.Shared.{fronts_in, members_at, members_in_parts, under_inside};
 ghost use Rattle.member_faults.specs.RowFacts.{dos_among};
 
-use type_members::dsl_tree::Member;
+use dsl_tree::Member;
 use type_members::name_scope::with_fault;
 use type_members::osc_base::{Fault, FaultCode, Place};
 use type_members::type_heads::Form;

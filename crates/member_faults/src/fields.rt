@@ -2,7 +2,7 @@
 
 ghost use Rattle.std.specs.Prelude.{◌≡◌, None, Some, [], bytes_eq, cond, find, map, option_and_then, option_map, slice_get, slice_index_or};
 ghost use Rattle.std.specs.List.{list_any};
-ghost use Rattle.type_members.specs.dsl_tree.Views.{field_tree};
+ghost use Rattle.dsl_tree.specs.Views.{field_tree};
 ghost use Rattle.type_members.specs.type_heads.Members.{fields_among};
 ghost use Rattle.type_members.specs.type_heads.Table.{base};
 ghost use Rattle.type_members.specs.Listed.{lists_of, seen_listed, seen_row};
@@ -11,7 +11,7 @@ ghost use Rattle.member_faults.specs.ListedRows.{field_declared, field_found, fo
 ghost use Rattle.member_faults.specs.NamePlaces.{ArePlaces, AreRowPlaces};
 
 use crate::name_places::NamePlaces;
-use type_members::dsl_tree::{FieldDecl, HeirCondition, Ident, Member};
+use dsl_tree::{FieldDecl, HeirCondition, Ident, Member};
 use type_members::type_heads::{Heads, TypeId};
 use type_members::{ListedMember, MemberLists, Part};
 

@@ -10,9 +10,9 @@ ghost use Rattle.member_faults.specs.NamePlaces.{are_distinct as are_distinct_na
 ghost use Rattle.fault_sets.specs.NameRows.{ContinuesNames, HasTexts};
 
 use crate::labels::names_among;
+use dsl_tree::Ident;
 use fault_sets::TextSet;
 use std::alloc::{AllocError, Global};
-use type_members::dsl_tree::Ident;
 use type_members::name_scope::with_fault;
 use type_members::osc_base::{Fault, FaultCode};
 use type_members::type_heads::Form;

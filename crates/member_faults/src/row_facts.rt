@@ -2,7 +2,7 @@
 
 ghost use Rattle.std.specs.Prelude.{◌≡◌, codes, is_some, map, slice_index_or, IfOk};
 ghost use Rattle.std.specs.List.{list_any};
-ghost use Rattle.type_members.specs.dsl_tree.Views.{member_tree};
+ghost use Rattle.dsl_tree.specs.Views.{member_tree};
 ghost use Rattle.type_members.specs.type_heads.Seen.{seen_form};
 ghost use Rattle.type_members.specs.type_heads.Types.{Member as TypeMember};
 ghost use Rattle.type_members.specs.type_heads.Members.{do_declared};
@@ -15,8 +15,8 @@ use crate::dos::{AfterDos, with_dos};
 use crate::initial::with_initials;
 use crate::labels::names_among;
 use crate::name_places::{NamePlaces, may_meet};
+use dsl_tree::{CompoundKind, Ident, Member};
 use std::alloc::{AllocError, Global};
-use type_members::dsl_tree::{CompoundKind, Ident, Member};
 use type_members::type_heads::{Form, Heads};
 use type_members::{ListedMember, MemberRow, Start};
 

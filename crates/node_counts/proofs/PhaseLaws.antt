@@ -18,7 +18,7 @@ use Rattle.scene_expansion.specs.composition.Tokens.{arguments_tokens}
 use Rattle.scene_expansion.specs.expansion_laws.Counts.{total, given_rules, given_tokens, modifier_tokens}
 use Rattle.scene_expansion.specs.expansion_laws.WorkNodes.{node_of}
 use Rattle.scene_expansion.specs.expansion_laws.Works as Works
-use Rattle.scene_expansion.specs.expr_nodes.Scope.{It}
+use Rattle.expr_nodes.specs.Scope.{It}
 use Rattle.scene_expansion.specs.AllCounts.{counts_of}
 use Rattle.work_counts.specs.declared.tally.Tally.{Tally}
 use Rattle.work_counts.specs.Amounts.{Amount, amount_of, kept, no_amount, plus, sum_of}

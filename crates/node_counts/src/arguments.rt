@@ -7,12 +7,12 @@ ghost use Rattle.work_counts.specs.program_fields.Tables.{fields_in};
 ghost use Rattle.work_counts.specs.program_texts.SeenTexts.{types_in};
 ghost use Rattle.type_heads.specs.Members.{fields as fields_of};
 ghost use Rattle.work_counts.specs.Amounts.{kept};
-ghost use Rattle.scene_expansion.specs.expr_nodes.Seen.{seen_part};
+ghost use Rattle.expr_nodes.specs.Seen.{seen_part};
 ghost use Rattle.node_counts.specs.Arguments.{argument_amount, arguments_amount, duration_amount, field_amount, is_duration_argument, is_parameter as takes_value, named_amount, reads_one};
 
 use dsl_tree::{Argument, Expr, Ident};
+use expr_nodes::{It, Scope, Typed};
 use osc_base::{Boxed, Place};
-use scene_expansion::expr_nodes::{It, Scope, Typed};
 use scene_expansion::expr_typing::others::it;
 use scene_expansion::expr_typing::steps::pointed;
 use scene_expansion::program_calls::first_place;

@@ -14,11 +14,11 @@ use Rattle.scene_expansion.specs.composition.Expansion.{Calling, actor_binding, 
 use Rattle.scene_expansion.specs.composition.Givens.{Here, from_root, steps_from}
 use Rattle.scene_expansion.specs.composition.Homes.{home}
 use Rattle.scene_expansion.specs.composition.Scenes.{Binding}
-use Rattle.expr_eval.specs.expr_nodes.Names.{is_duration}
-use Rattle.expr_eval.specs.expr_nodes.Scope.{It, Scope}
-use Rattle.expr_eval.specs.expr_nodes.Typed as Nodes
-use Rattle.expr_eval.specs.expr_nodes.Typed.{Typed, moved}
-use Rattle.expr_eval.specs.expr_nodes.Typing.{typed}
+use Rattle.expr_nodes.specs.Names.{is_duration}
+use Rattle.expr_nodes.specs.Scope.{It, Scope}
+use Rattle.expr_nodes.specs.Typed as Nodes
+use Rattle.expr_nodes.specs.Typed.{Typed, moved}
+use Rattle.expr_nodes.specs.Typing.{typed}
 use Rattle.osc_base.specs.declared.path.Step.{Step}
 use Rattle.osc_base.specs.Paths.{path_of}
 use Rattle.scene_expansion.specs.scene_texts.Moving.{path_under, steps_under}

@@ -10,10 +10,10 @@ use Rattle.scene_expansion.specs.composition.Calls.{Assigned, Callee, without_la
 use Rattle.scene_expansion.specs.composition.Expansion.{Calling, object_at}
 use Rattle.scene_expansion.specs.composition.Homes.{home}
 use Rattle.scene_expansion.specs.composition.Scenes.{Binding}
-use Rattle.expr_eval.specs.expr_nodes.Names.{is_duration}
-use Rattle.expr_eval.specs.expr_nodes.Scope.{Scope}
-use Rattle.expr_eval.specs.expr_nodes.Typed.{Typed}
-use Rattle.expr_eval.specs.expr_nodes.Typing.{typed}
+use Rattle.expr_nodes.specs.Names.{is_duration}
+use Rattle.expr_nodes.specs.Scope.{Scope}
+use Rattle.expr_nodes.specs.Typed.{Typed}
+use Rattle.expr_nodes.specs.Typing.{typed}
 use Rattle.program_texts.specs.program_fields.SeenFields.{has_name}
 use Rattle.scene_expansion.specs.scene_texts.Moving.{path_under}
 

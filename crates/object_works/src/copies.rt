@@ -2,7 +2,7 @@
 
 ghost use Rattle.std.specs.Prelude.{◌≡◌, IfOk};
 
-use expr_eval::expr_nodes::Turn;
+use expr_nodes::Turn;
 use osc_base::Row;
 use scene_expansion::composition::{Binding, Guard, ValueRange};
 use std::alloc::{AllocError, Global};

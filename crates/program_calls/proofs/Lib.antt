@@ -10,4 +10,4 @@ mod PhaseLabels
 mod PhaseLists
 mod WayLaws
 -- Crates below, for the crates above.
-pub use Rattle.composition.proofs.of_expr_nodes as of_expr_nodes
+pub use Rattle.expr_nodes.proofs as of_expr_nodes

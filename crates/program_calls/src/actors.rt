@@ -2,17 +2,17 @@
 
 ghost use Rattle.std.specs.Prelude.{◌≡◌, IfOk};
 ghost use Rattle.composition.specs.Calls.{actor_type as actor_in, without_labels as scope_without};
-ghost use Rattle.composition.specs.expr_nodes.Checks.{IsChecked};
-ghost use Rattle.composition.specs.expr_nodes.Seen.{seen_part};
-ghost use Rattle.composition.specs.expr_nodes.SeenNames.{seen_scope};
-ghost use Rattle.composition.specs.expr_nodes.Typing.{first as first_in, typed as typed_in};
+ghost use Rattle.expr_nodes.specs.Checks.{IsChecked};
+ghost use Rattle.expr_nodes.specs.Seen.{seen_part};
+ghost use Rattle.expr_nodes.specs.SeenNames.{seen_scope};
+ghost use Rattle.expr_nodes.specs.Typing.{first as first_in, typed as typed_in};
 ghost use Rattle.program_calls.specs.SeenCallees.{actor_tree, called_in, head_tree, seen_callee};
 
 use crate::callees::{Callee, actor_of, behaviour_named};
 use crate::owned::owned_behaviour;
-use composition::expr_nodes::{Checked, Scope, Typed};
 use composition::type_model::{TypeId, Types};
 use dsl_tree::{Ident, InvokeHead};
+use expr_nodes::{Checked, Scope, Typed};
 use expr_typing::meanings::name;
 use expr_typing::others::actor;
 use expr_typing::steps::pointed;

@@ -3,12 +3,12 @@
 ghost use Rattle.std.specs.Prelude.{◌≡◌, map, option_map};
 ghost use Rattle.composition.specs.type_heads.Types.{Types};
 ghost use Rattle.composition.specs.Calls.{scope_at as scope_in};
-ghost use Rattle.composition.specs.expr_nodes.SeenNames.{seen_it, seen_scope};
+ghost use Rattle.expr_nodes.specs.SeenNames.{seen_it, seen_scope};
 ghost use Rattle.program_calls.specs.PlacedPhases.{seen_turn};
 ghost use Rattle.program_calls.specs.SeenLabels.{do_labels, seen_labels};
 
-use composition::expr_nodes::{It, LabelTable, Scope, Turn};
 use composition::type_model::TypeId;
+use expr_nodes::{It, LabelTable, Scope, Turn};
 
 /// The scope of an expression in the text of a type, as it is seen from a way. The labels are those of the type's
 /// `do`.

@@ -11,9 +11,9 @@ use Rattle.dsl_tree.specs.PhaseTree.{ArgumentTree}
 use Rattle.fault_sets.specs.NameRows.{HasTexts}
 use Rattle.type_heads.specs.Table.{Table}
 use Rattle.type_heads.specs.Types.{Field}
-use Rattle.composition.specs.expr_nodes.Fits.{duration_fit_rows}
-use Rattle.composition.specs.expr_nodes.Scope.{Scope}
-use Rattle.composition.specs.expr_nodes.Typing.{typed, expr_rows, first as begins}
+use Rattle.expr_nodes.specs.Fits.{duration_fit_rows}
+use Rattle.expr_nodes.specs.Scope.{Scope}
+use Rattle.expr_nodes.specs.Typing.{typed, expr_rows, first as begins}
 use Rattle.composition.specs.Calls.{Assigned}
 use Rattle.composition.specs.Uses.{among, argument_place, assigned_rows, name_assigned}
 use Rattle.program_uses.specs.ArgumentRows.{Continues, arguments_in, assigned_in, field_value_rows}

@@ -3,11 +3,11 @@
 ghost use Rattle.std.specs.Prelude.{◌≡◌, ◌||◌, [], None, Some, cond, is_some, map, not, IfOk};
 ghost use Rattle.osc_base.specs.FaultRows.{first_from};
 ghost use Rattle.dsl_tree.specs.Views.{argument_tree, expr_tree, field_tree};
-ghost use Rattle.composition.specs.expr_nodes.Fits.{duration_fit_rows};
-ghost use Rattle.composition.specs.expr_nodes.Parts.{of_one};
-ghost use Rattle.composition.specs.expr_nodes.Seen.{seen_part};
-ghost use Rattle.composition.specs.expr_nodes.SeenNames.{seen_scope};
-ghost use Rattle.composition.specs.expr_nodes.Typing.{first as first_in, typed};
+ghost use Rattle.expr_nodes.specs.Fits.{duration_fit_rows};
+ghost use Rattle.expr_nodes.specs.Parts.{of_one};
+ghost use Rattle.expr_nodes.specs.Seen.{seen_part};
+ghost use Rattle.expr_nodes.specs.SeenNames.{seen_scope};
+ghost use Rattle.expr_nodes.specs.Typing.{first as first_in, typed};
 ghost use Rattle.composition.specs.Calls.{Assigned as AssignedTo};
 ghost use Rattle.composition.specs.Uses.{argument_place as place_of_argument, given_rows, is_object_of, object_rows};
 ghost use Rattle.program_uses.specs.ArgumentRows.{Continues, arguments_in, assigned_in, field_value_rows, seen_assigned, value_rows};
@@ -17,10 +17,10 @@ ghost use Rattle.program_uses.specs.TableTypes.{of_table};
 
 use crate::held::{held_in, holds_object};
 use crate::rules::with_expr;
-use composition::expr_nodes::{Scope, Typed};
 use composition::type_model::{TypeId, Types};
 use dsl_tree::{Argument, Expr, FieldDecl, Ident};
 use expr_eval::checked;
+use expr_nodes::{Scope, Typed};
 use fault_sets::TextSet;
 use name_scope::with_fault;
 use osc_base::{Boxed, Fault, FaultCode, Place};

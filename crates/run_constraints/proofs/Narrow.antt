@@ -15,7 +15,7 @@ use Rattle.osc_base.specs.LowestTerms.{lcm}
 use Rattle.osc_base.specs.Modifiers.{metres, metres_a_second, lanes}
 use Rattle.run_values.specs.modifier_rules.Ends.{AreComparable, AreEnds, HasEnds}
 use Rattle.run_values.specs.modifier_rules.Relations.{position_scale}
-use Rattle.scene_conditions.specs.expr_nodes.Typed.{Typed, scale, reach}
+use Rattle.expr_nodes.specs.Typed.{Typed, scale, reach}
 use Rattle.run_values.proofs.of_expr_value.Worths.{counted_worth}
 use Rattle.scene_conditions.specs.composition.declared.setting.Setting.{Setting}
 use Rattle.scene_conditions.specs.composition.TimedRuns.{TimedRun, samples_in}

@@ -5,10 +5,10 @@ use Rattle.std.specs.Option.{option_map_or}
 use Rattle.std.specs.List.{list_all}
 use Rattle.osc_base.specs.declared.mark.Strength.{Strength}
 use Rattle.osc_base.specs.declared.path.Path.{Path}
-use Rattle.scene_conditions.specs.expr_nodes.Kinds.{is_number, is_truth}
-use Rattle.scene_conditions.specs.expr_nodes.Typed.{Typed, Info, kind}
-use Rattle.scene_conditions.specs.expr_nodes.Parts.{is_scalar}
-use Rattle.scene_conditions.specs.expr_nodes.Sound.{is_sound, each_read}
+use Rattle.expr_nodes.specs.Kinds.{is_number, is_truth}
+use Rattle.expr_nodes.specs.Typed.{Typed, Info, kind}
+use Rattle.expr_nodes.specs.Parts.{is_scalar}
+use Rattle.expr_nodes.specs.Sound.{is_sound, each_read}
 use Rattle.run_values.specs.expr_value.Held.{in_reach}
 use Rattle.scene_conditions.specs.composition.TimedRuns.{TimedRun}
 use Rattle.scene_conditions.specs.composition.Scenes.{Scene, Occurrence, ModifierSpot, source}

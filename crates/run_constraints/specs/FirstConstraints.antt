@@ -8,7 +8,7 @@ use Rattle.scene_conditions.specs.composition.Scenes.{Scene, Occurrence, marks}
 use Rattle.scene_conditions.specs.composition.There.{is_asked}
 use Rattle.scene_conditions.specs.composition.Items.{is_satisfied, is_overridden}
 use Rattle.scene_conditions.specs.composition.Invariants.{is_expression}
-use Rattle.scene_conditions.specs.expr_nodes.Typed.{Typed}
+use Rattle.expr_nodes.specs.Typed.{Typed}
 
 -- a constraint asks for something in every run in which it is there
 abbrev pub is_hard_one : Strength → Bool

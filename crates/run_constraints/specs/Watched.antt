@@ -4,7 +4,7 @@ use Rattle.osc_base.specs.Number.{Number, IsSame}
 use Rattle.osc_base.specs.Fraction.{value}
 use Rattle.osc_base.specs.Comparisons.{greatest_part}
 use Rattle.osc_base.specs.Modifiers.{holds_of, is_moment}
-use Rattle.scene_conditions.specs.expr_nodes.Typed.{Typed}
+use Rattle.expr_nodes.specs.Typed.{Typed}
 use Rattle.run_values.specs.modifier_rules.Ends.{HasEnds}
 use Rattle.run_values.specs.field_flatten.Rules.{scale_of}
 use Rattle.run_values.specs.field_flatten.Exactness.{end_reach}

@@ -2,7 +2,7 @@
 
 ghost use Rattle.std.specs.Prelude.{◌≡◌, ◌+◌, ℕ, false, map, option_map, slice_get, true, unwrap_or, IfOk};
 ghost use Rattle.std.specs.List.{list_any};
-ghost use Rattle.scene_conditions.specs.expr_nodes.Seen.{seen_part};
+ghost use Rattle.expr_nodes.specs.Seen.{seen_part};
 ghost use Rattle.scene_conditions.specs.keep_rules.Overriding.{is_default as is_default_one, overriders};
 ghost use Rattle.scene_conditions.specs.keep_rules.TargetLists.{later_of};
 ghost use Rattle.scene_conditions.specs.composition.Items.{is_overridden as overridden_in};

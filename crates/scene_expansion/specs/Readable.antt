@@ -2,8 +2,8 @@
 use Rattle.std.specs.Prelude.{Bool}
 use Rattle.std.specs.List.{list_all}
 use Rattle.osc_base.specs.declared.path.Path.{Path}
-use Rattle.program_calls.specs.expr_nodes.Typed.{Typed, TypedRow, reads, reads_of}
-use Rattle.program_calls.specs.expr_nodes.Seen.{Reached}
+use Rattle.expr_nodes.specs.Typed.{Typed, TypedRow, reads, reads_of}
+use Rattle.expr_nodes.specs.Seen.{Reached}
 use Rattle.program_calls.specs.composition.declared.scene.Scene.{Scene}
 use Rattle.program_calls.specs.composition.SeenScenes.{seen_scene}
 use Rattle.program_calls.specs.composition.Expanded.{is_readable}

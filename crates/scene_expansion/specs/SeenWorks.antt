@@ -1,6 +1,6 @@
 -- What the program's own works stand for in the definitions.
 use Rattle.std.specs.Prelude.{length, map}
-use Rattle.program_calls.specs.dsl_tree.Views.{argument_tree, expr_tree, part_tree}
+use Rattle.dsl_tree.specs.Views.{argument_tree, expr_tree, part_tree}
 use Rattle.program_calls.specs.composition.Expansion.{Calling}
 use Rattle.program_calls.specs.composition.SeenParts.{seen_binding}
 use Rattle.program_calls.specs.PlacedPhases.{seen_turn}

@@ -1,9 +1,9 @@
 //! What is left to lay out while a scenario is expanded.
 
+use dsl_tree::{CompNode, InvokeNode, WaitNode};
+use expr_nodes::Turn;
 use osc_base::{Path, Row};
 use program_calls::composition::{Binding, Guard, ValueRange};
-use program_calls::dsl_tree::{CompNode, InvokeNode, WaitNode};
-use program_calls::expr_nodes::Turn;
 use program_calls::type_model::TypeId;
 
 /// A phase of an object: the object and its bindings, the type that holds the text of its `do`, the turns on the

@@ -10,10 +10,10 @@ use Rattle.osc_base.specs.Comparisons.{greatest_part}
 use Rattle.osc_base.specs.LowestTerms.{lcm}
 use Rattle.osc_base.specs.Paths.{same_path}
 use Rattle.scene_slots.specs.modifier_rules.Relations.{position_scale}
-use Rattle.scene_conditions.specs.expr_nodes.Kinds.{is_truth, is_number}
-use Rattle.scene_conditions.specs.expr_nodes.Typed.{Typed, kind, scale, reach}
-use Rattle.scene_conditions.specs.expr_nodes.Parts.{is_scalar}
-use Rattle.scene_conditions.specs.expr_nodes.Sound.{is_sound, each_read}
+use Rattle.expr_nodes.specs.Kinds.{is_truth, is_number}
+use Rattle.expr_nodes.specs.Typed.{Typed, kind, scale, reach}
+use Rattle.expr_nodes.specs.Parts.{is_scalar}
+use Rattle.expr_nodes.specs.Sound.{is_sound, each_read}
 use Rattle.scene_conditions.specs.composition.Scenes.{Scene, Occurrence, ModifierSpot, vehicles, has_phase, source}
 use Rattle.scene_conditions.specs.composition.Invariants.{is_read, is_expression, is_occurrence, is_end, has_range, has_other, is_modifier, is_target}
 use Rattle.scene_slots.specs.field_flatten.Rules.{layout, scale_of}

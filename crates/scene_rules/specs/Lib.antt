@@ -4,4 +4,4 @@ pub mod Rooms
 pub mod Sides
 -- Crates below, for the crates above.
 pub use Rattle.scene_conditions.specs.composition as composition
-pub use Rattle.scene_conditions.specs.expr_nodes as expr_nodes
+pub use Rattle.expr_nodes.specs as expr_nodes

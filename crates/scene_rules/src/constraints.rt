@@ -2,7 +2,7 @@
 
 ghost use Rattle.std.specs.Prelude.{◌≡◌, ◌∷◌, [], ◌++◌, true, map, IfOk};
 ghost use Rattle.box_eval.specs.FlatRules.{flat_rule, any_of};
-ghost use Rattle.scene_conditions.specs.expr_nodes.Seen.{seen_part};
+ghost use Rattle.expr_nodes.specs.Seen.{seen_part};
 ghost use Rattle.scene_conditions.specs.composition.Invariants.{is_occurrence};
 ghost use Rattle.scene_conditions.specs.composition.SeenParts.{seen_occurrence};
 ghost use Rattle.scene_conditions.specs.composition.There.{presence as presence_in};
@@ -12,8 +12,8 @@ ghost use Rattle.scene_slots.specs.SeenSlots.{layout_of, scene_of};
 
 use crate::conditions::{condition_row, under};
 use box_eval::Rule;
+use expr_nodes::Typed;
 use scene_conditions::composition::Occurrence;
-use scene_conditions::expr_nodes::Typed;
 use scene_conditions::presence;
 use scene_slots::SceneSlots;
 use scene_slots::flat_shapes::rule;

@@ -2,7 +2,7 @@
 use Rattle.std.proofs.Common.{◌≡◌, ◌∙◌, refl, sym, ap, ap₂, ℕ, List, [], ◌∷◌, ◌++◌, ◌&&◌, map, take, slice_index_or}
 use Rattle.std.specs.Prelude.{None, filter_map}
 use Rattle.std.specs.Option.{option_or}
-use Rattle.type_members.specs.dsl_tree.FileTree.{MemberTree}
+use Rattle.dsl_tree.specs.FileTree.{MemberTree}
 use Rattle.type_members.specs.type_heads.Members.{fields_declared, table_field, table_fields}
 use Rattle.type_members.specs.type_heads.Table.{TypeHead, named}
 use Rattle.type_members.specs.type_heads.Types.{Member}

@@ -1,8 +1,8 @@
 -- The conditions of conditional subtypes, among the members of their bases.
 use Rattle.std.specs.Prelude.{ℕ, Bool, true, List, [], Option, None, bytes_eq, find, is_some, option_map, option_and_then, slice_index_or}
 use Rattle.std.specs.List.{list_all}
-use Rattle.type_members.specs.dsl_tree.FileTree.{MemberTree}
-use Rattle.type_members.specs.dsl_tree.declared.compounds.HeirCondition.{HeirCondition}
+use Rattle.dsl_tree.specs.FileTree.{MemberTree}
+use Rattle.dsl_tree.specs.declared.compounds.HeirCondition.{HeirCondition}
 use Rattle.type_members.specs.type_heads.Table.{TypeHead, TableField, base, field_in, form, named}
 use Rattle.type_members.specs.type_heads.Types.{TypeBody, Member, Field}
 use Rattle.type_members.specs.type_heads.Members.{fields_among, heir_condition}

@@ -10,8 +10,8 @@ ghost use Rattle.type_tables.specs.Looked.{condition_by, condition_of, condition
 
 use crate::FieldLists;
 use crate::field_types::{all_have_types, listed_type};
+use dsl_tree::{ConditionValue, HeirCondition};
 use std::alloc::{AllocError, Global};
-use type_members::dsl_tree::{ConditionValue, HeirCondition};
 use type_members::osc_base::Text;
 use type_members::type_heads::{Body, ConditionEntry, Form, Heads, TypeId};
 use type_members::{MemberLists, heir_condition};

@@ -7,10 +7,10 @@ use Rattle.dsl_tree.specs.ExprTree.{ExprTree}
 use Rattle.dsl_tree.specs.PhaseTree.{ModifierTree, PartTree}
 use Rattle.object_works.specs.type_heads.Table.{Table}
 use Rattle.object_works.specs.type_heads.Types.{Types}
-use Rattle.object_works.specs.expr_nodes.Scope.{It, Scope}
-use Rattle.object_works.specs.expr_nodes.Typed as Nodes
-use Rattle.object_works.specs.expr_nodes.Typed.{Typed, moved}
-use Rattle.object_works.specs.expr_nodes.Typing.{typed}
+use Rattle.expr_nodes.specs.Scope.{It, Scope}
+use Rattle.expr_nodes.specs.Typed as Nodes
+use Rattle.expr_nodes.specs.Typed.{Typed, moved}
+use Rattle.expr_nodes.specs.Typing.{typed}
 use Rattle.object_works.specs.composition.Expansion.{Calling, given_modifier, here_in, high_end, low_end, object_at, part_modifier}
 use Rattle.object_works.specs.composition.Givens.{Here, from_root, typed_here}
 use Rattle.object_works.specs.composition.Homes.{home}

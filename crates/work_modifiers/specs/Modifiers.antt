@@ -4,9 +4,9 @@ use Rattle.osc_base.specs.declared.path.Path.{Path}
 use Rattle.osc_base.specs.Paths.{then_name}
 use Rattle.dsl_tree.specs.PhaseTree.{ModifierTree, PartTree}
 use Rattle.object_works.specs.type_heads.Table.{Table}
-use Rattle.object_works.specs.expr_nodes.Scope.{Scope}
-use Rattle.object_works.specs.expr_nodes.Typed.{Typed, moved}
-use Rattle.object_works.specs.expr_nodes.Typing.{typed}
+use Rattle.expr_nodes.specs.Scope.{Scope}
+use Rattle.expr_nodes.specs.Typed.{Typed, moved}
+use Rattle.expr_nodes.specs.Typing.{typed}
 use Rattle.object_works.specs.composition.Expansion.{Calling, high_end, low_end, object_at}
 use Rattle.object_works.specs.composition.Homes.{home}
 use Rattle.object_works.specs.composition.ModifierLines.{ModifierForm, modifier_form}

@@ -5,9 +5,9 @@ ghost use Rattle.object_works.specs.composition.Expansion.{object_at as object_i
 ghost use Rattle.object_works.specs.composition.SeenParts.{seen_modifier};
 ghost use Rattle.object_works.specs.composition.SeenScenes.{seen_scene};
 ghost use Rattle.dsl_tree.specs.Views.{modifier_tree};
-ghost use Rattle.object_works.specs.expr_nodes.Seen.{seen_part};
-ghost use Rattle.object_works.specs.expr_nodes.SeenNames.{seen_scope};
-ghost use Rattle.object_works.specs.expr_nodes.Typing.{typed as typed_in};
+ghost use Rattle.expr_nodes.specs.Seen.{seen_part};
+ghost use Rattle.expr_nodes.specs.SeenNames.{seen_scope};
+ghost use Rattle.expr_nodes.specs.Typing.{typed as typed_in};
 ghost use Rattle.object_works.specs.program_calls.SeenModifiers.{seen_form, seen_value};
 ghost use Rattle.object_works.specs.scene_expansion.SeenWorks.{seen_call};
 ghost use Rattle.scene_places.specs.Placed.{place_in};
@@ -15,8 +15,8 @@ ghost use Rattle.work_modifiers.specs.Modifiers.{actor_home, high_at as high_of,
 
 use crate::ends::{high_at, low_at, typed_part, vehicle_at};
 use dsl_tree::{Expr, ModifierNode};
+use expr_nodes::{Scope, Typed};
 use object_works::composition::ModifierSpot;
-use object_works::expr_nodes::{Scope, Typed};
 use object_works::program_calls::ModifierForm;
 use object_works::scene_expansion::Call;
 use object_works::type_model::Types;

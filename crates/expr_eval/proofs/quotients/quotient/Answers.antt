@@ -1,5 +1,5 @@
-use Rattle.expr_typing.specs.expr_nodes.Operators.{quotient_rows}
-use Rattle.expr_typing.specs.expr_nodes.Seen.{seen_part}
+use Rattle.expr_nodes.specs.Operators.{quotient_rows}
+use Rattle.expr_nodes.specs.Seen.{seen_part}
 use Rattle.expr_typing.proofs.Settled.{refused, settled}
 use Rattle.expr_eval.proofs.quotients.quotient.Goals as goal
 

@@ -1,6 +1,6 @@
 use Rattle.std.proofs.Common.{◌∙◌, ◌+◌, ap, drop, flat_map, map}
 use Rattle.type_members.specs.osc_base.FaultRows.{first_from}
-use Rattle.type_members.specs.dsl_tree.Views.{member_tree}
+use Rattle.dsl_tree.specs.Views.{member_tree}
 use Rattle.type_members.specs.type_heads.Types.{Member}
 use Rattle.type_members.specs.type_heads.MemberFaults.{initial_rows}
 use Rattle.type_members.specs.Listed.{seen_listed}

@@ -1,5 +1,5 @@
 use Rattle.std.proofs.Common.{◌≡◌, ◌++◌, drop, flat_map, map}
-use Rattle.type_members.specs.dsl_tree.Views.{comp_tree, phase_tree}
+use Rattle.dsl_tree.specs.Views.{comp_tree, phase_tree}
 use Rattle.type_members.specs.type_heads.MemberFaults.{labels_in}
 use Rattle.member_faults.specs.NamePlaces.{lent_names}
 use Rattle.member_faults.proofs.labels.+labels.Given as goal

@@ -1,7 +1,7 @@
 use Rattle.std.proofs.Common.{◌∙◌, [], ap, append-nil, map, sym}
 use Rattle.std.specs.Prelude.{is_none}
 use Rattle.type_members.specs.osc_base.FaultRows.{first_fault}
-use Rattle.type_members.specs.dsl_tree.declared.compounds.CompoundKind.{CompoundKind}
+use Rattle.dsl_tree.specs.declared.compounds.CompoundKind.{CompoundKind}
 use Rattle.type_members.specs.type_heads.Form.{Form}
 use Rattle.type_members.specs.type_heads.MemberFaults.{do_rows}
 use Rattle.type_members.specs.Listed.{seen_listed}

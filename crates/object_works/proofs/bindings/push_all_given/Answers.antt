@@ -2,8 +2,8 @@ use Rattle.std.proofs.Common.{◌≡◌, ◌∙◌, ◌++◌, ap, map, Some, Non
 use Rattle.scene_expansion.specs.composition.Expansion.{argument_binding, here_in, of_arguments}
 use Rattle.scene_expansion.specs.composition.SeenParts.{seen_binding}
 use Rattle.dsl_tree.specs.Views.{argument_tree}
-use Rattle.expr_eval.specs.expr_nodes.Scope.{It}
-use Rattle.expr_eval.specs.expr_nodes.SeenNames.{seen_scope}
+use Rattle.expr_nodes.specs.Scope.{It}
+use Rattle.expr_nodes.specs.SeenNames.{seen_scope}
 use Rattle.program_texts.specs.program_fields.Tables.{fields_in}
 use Rattle.program_texts.specs.SeenTexts.{types_in}
 use Rattle.scene_expansion.specs.SeenWorks.{seen_call}

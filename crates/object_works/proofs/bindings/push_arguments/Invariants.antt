@@ -1,7 +1,7 @@
 use Rattle.std.proofs.Common.{◌≡◌, ◌++◌, drop, map}
 use Rattle.scene_expansion.specs.composition.SeenParts.{seen_binding}
 use Rattle.dsl_tree.specs.Views.{argument_tree}
-use Rattle.expr_eval.specs.expr_nodes.SeenNames.{seen_scope}
+use Rattle.expr_nodes.specs.SeenNames.{seen_scope}
 use Rattle.program_texts.specs.program_fields.Tables.{fields_in}
 use Rattle.program_texts.specs.SeenTexts.{types_in}
 use Rattle.scene_expansion.specs.SeenWorks.{seen_call}

@@ -2,7 +2,7 @@ use Rattle.std.proofs.Common.{◌≡◌, ◌++◌, drop, map}
 use Rattle.object_works.specs.composition.SeenParts.{seen_modifier}
 use Rattle.object_works.specs.composition.SeenScenes.{seen_scene}
 use Rattle.dsl_tree.specs.Views.{part_tree}
-use Rattle.object_works.specs.expr_nodes.SeenNames.{seen_scope}
+use Rattle.expr_nodes.specs.SeenNames.{seen_scope}
 use Rattle.object_works.specs.scene_expansion.SeenWorks.{seen_call}
 use Rattle.scene_places.specs.Placed.{place_in}
 use Rattle.work_modifiers.specs.Modifiers.{actor_home, parts_there}
