@@ -1,6 +1,6 @@
 use crate::Trail;
+use box_eval::osc_base::Row;
 use box_eval::{Bounds, Ends, Pair};
-use osc_base::Row;
 
 #[test]
 fn two_sets_and_their_undoing(rt: HostRuntime) {

@@ -13,7 +13,6 @@ pub mod Pushes
 pub mod ReadBounds
 pub mod Reaches
 pub mod Reading
-pub mod Rows
 pub mod Settled
 pub mod SlotLists
 pub mod Smaller

@@ -22,5 +22,5 @@ pub use rule::{Rule, Term};
 pub use slots::slots_of;
 pub use verdict::Verdict;
 
-#[cfg(test)]
-mod tests;
+// Crates below, for the crates above.
+pub use osc_base;

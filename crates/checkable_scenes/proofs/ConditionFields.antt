@@ -15,7 +15,7 @@ use Rattle.type_heads.specs.Conditions.{Condition, condition_value, condition_on
 use Rattle.type_heads.specs.MemberFaults.{can_decide, condition_field, depends_on, decided_rows, field_rows}
 use Rattle.type_heads.specs.Cycles.{returns}
 use Rattle.expr_nodes.specs.Parts.{any_holds}
-use Rattle.field_flatten.proofs.Tests.{two_ways, In, in_left, in_right, in_map, map_in, in_flat_map, flat_map_in, in_filter, filter_in, found_in}
+use Rattle.run_values.proofs.of_field_flatten.Tests.{two_ways, In, in_left, in_right, in_map, map_in, in_flat_map, flat_map_in, in_filter, filter_in, found_in}
 use Rattle.scene_laws.proofs.FaultRows.{no_left, no_right, not_so}
 use Rattle.scene_laws.proofs.FieldNames.{AreCounted, less, more}
 use Rattle.scene_laws.proofs.WrittenMembers.{members_written}

@@ -14,9 +14,9 @@ use Rattle.type_heads.specs.Types.{Types, Member, Field}
 use Rattle.type_heads.specs.Members.{heir_condition, is_conditional, members, fields, field}
 use Rattle.type_heads.specs.Conditions.{Condition, condition}
 use Rattle.type_heads.specs.MemberFaults.{condition_field, depends_on}
-use Rattle.cond_inherit.specs.Conditions.{same_condition, once_after, conditions_within, conditions}
+use Rattle.composition.specs.cond_inherit.Conditions.{same_condition, once_after, conditions_within, conditions}
 use Rattle.composition.specs.declared.guard.Guard.{Guard}
-use Rattle.field_flatten.proofs.Tests.{left_of, right_of, two_ways, In, in_left, in_either, flat_map_in, in_filter, found_in, any_at}
+use Rattle.run_values.proofs.of_field_flatten.Tests.{left_of, right_of, two_ways, In, in_left, in_either, flat_map_in, in_filter, found_in, any_at}
 use Rattle.scene_laws.proofs.Picked.{of_option, filter_map_in}
 use Rattle.scene_laws.proofs.FieldNames.{Pairs}
 use Rattle.scene_laws.proofs.Acyclic.{Differ, few_below, Reach, reach_more, no_return}

@@ -22,7 +22,7 @@ use Rattle.composition.specs.Homes.{is_bound}
 use Rattle.composition.specs.Givens.{Given, guards_under, own_givens}
 use Rattle.composition.specs.Expansion.{GivenModifier, Expansion, Value, in_row, Maker, value_parts, field_parts, Calling, calling, here_in, argument_named, given_duration, given_argument, part_rule, part_modifier, of_arguments, invocation, phase_part, do_parts, expand_within, own_actor, expansion}
 use Rattle.composition.specs.Expanded.{givens_of, givens_in, modifiers_of, modifiers_in, bindings_of, bindings_in}
-use Rattle.field_flatten.proofs.Tests.{In, in_either, map_in, flat_map_in, in_filter}
+use Rattle.run_values.proofs.of_field_flatten.Tests.{In, in_either, map_in, flat_map_in, in_filter}
 use Rattle.scene_laws.proofs.Picked.{of_option}
 use Rattle.scene_laws.proofs.EachSpot.{value_spots, call_bindings}
 

@@ -24,7 +24,7 @@ use Rattle.composition.specs.Expansion.{calling, expansion}
 use Rattle.composition.specs.Expanded.{scene, scene_from, spots_of}
 use Rattle.composition.specs.SceneFaults.{is_too_large, object_count, most_slots}
 use Rattle.composition.specs.Invariants.{is_member, are_choices, are_members}
-use Rattle.field_flatten.proofs.Tests.{left_of, right_of, In, in_map, all_at, all_from, any_at, path_is}
+use Rattle.run_values.proofs.of_field_flatten.Tests.{left_of, right_of, In, in_map, all_at, all_from, any_at, path_is}
 use Rattle.scene_laws.specs.Premises.{is_free}
 use Rattle.scene_laws.proofs.FaultRows.{no_left, no_right}
 use Rattle.scene_laws.proofs.LowestTerms.{below}

@@ -18,7 +18,7 @@ use Rattle.type_heads.specs.Table.{form, owner, is_object}
 use Rattle.type_heads.specs.Types.{Types, Field, Do}
 use Rattle.type_heads.specs.Members.{fields, field, field_type, the_do}
 use Rattle.type_heads.specs.Conditions.{Condition, condition_value}
-use Rattle.cond_inherit.specs.Conditions.{conditions}
+use Rattle.composition.specs.cond_inherit.Conditions.{conditions}
 use Rattle.composition.specs.declared.guard.Guard.{Guard}
 use Rattle.composition.specs.declared.setting.Setting.{Setting}
 use Rattle.composition.specs.declared.spot.ChoiceSpot.{ChoiceSpot}
@@ -34,8 +34,8 @@ use Rattle.composition.specs.Givens.{guards_under}
 use Rattle.composition.specs.Expansion.{Expansion, Maker, Calling, from_object, calling, composition_kind, phase_part, expand_within, expansion}
 use Rattle.composition.specs.Expanded.{spot, spots_of, scene}
 use Rattle.composition.specs.Invariants.{value_at, is_numeric, is_guard, are_grounded}
-use Rattle.field_flatten.proofs.Tests.{both, In, in_left, in_right, in_either, map_in, all_from, any_from, path_is, path_self, number_self, finds, found_in}
-use Rattle.field_flatten.proofs.Presence.{same_number_self}
+use Rattle.run_values.proofs.of_field_flatten.Tests.{both, In, in_left, in_right, in_either, map_in, all_from, any_from, path_is, path_self, number_self, finds, found_in}
+use Rattle.run_values.proofs.of_field_flatten.Presence.{same_number_self}
 use Rattle.scene_laws.specs.Premises.{is_free}
 use Rattle.scene_laws.proofs.Picked.{filter_map_in}
 use Rattle.scene_laws.proofs.EachSpot.{value_paths, call_bindings, each_spot}

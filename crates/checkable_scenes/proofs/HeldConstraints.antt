@@ -23,8 +23,8 @@ use Rattle.composition.specs.Givens.{Here, Given, guards_under, FieldHere, field
 use Rattle.composition.specs.Expansion.{Calling, calling, here_in, given_argument, part_rule, of_arguments, given_duration, parameter, expansion}
 use Rattle.composition.specs.Expanded.{is_vehicle, spot, spots_of, givens_of, bindings_of, occurrence_of, can_be_asked, scene_from}
 use Rattle.composition.specs.Invariants.{are_grounded}
-use Rattle.field_flatten.proofs.Tests.{In, in_either, map_in, flat_map_in, in_filter, all_from}
-use Rattle.field_flatten.proofs.Presence.{guards_grounded}
+use Rattle.run_values.proofs.of_field_flatten.Tests.{In, in_either, map_in, flat_map_in, in_filter, all_from}
+use Rattle.run_values.proofs.of_field_flatten.Presence.{guards_grounded}
 use Rattle.scene_laws.specs.Premises.{is_free, are_held}
 use Rattle.scene_laws.proofs.FieldNames.{Pairs, NamesDiffer}
 use Rattle.scene_laws.proofs.DistinctPaths.{spot_guards}

@@ -19,7 +19,7 @@ use Rattle.expr_nodes.specs.Typing.{typed, expr_rows}
 use Rattle.expr_eval.proofs.TypedForms.{typed_or_refused}
 use Rattle.composition.specs.Calls.{PhaseHere, phases_in, Callee, last_of, callee, actor_type, owned_behaviour, behaviour_named, without_labels, invoked, called, scope_at}
 use Rattle.composition.specs.Uses.{begins_with_label, callee_rows, call_rows, part_rows, it_made, phase_rows, member_use_rows, text_rows, invocation_row, use_rows}
-use Rattle.field_flatten.proofs.Tests.{In, in_left, in_right}
+use Rattle.run_values.proofs.of_field_flatten.Tests.{In, in_left, in_right}
 use Rattle.scene_laws.proofs.FaultRows.{no_left, no_right, rows_left, rows_among}
 use Rattle.scene_laws.proofs.FieldNames.{number_in}
 use Rattle.scene_laws.proofs.WrittenMembers.{IsWrittenIn, members_written}

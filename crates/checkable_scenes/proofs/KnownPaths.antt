@@ -22,7 +22,7 @@ use Rattle.expr_nodes.specs.Operators.{not_rows, not_typed, logic_rows, and_type
 use Rattle.expr_nodes.specs.Typing.{typed, typed_row, expr_rows, items_rows}
 use Rattle.composition.specs.Calls.{Turn, PhaseHere, phases_in, made, labels_at, leads_into, label_of, scope_at}
 use Rattle.composition.specs.Givens.{steps_from, from_root}
-use Rattle.field_flatten.proofs.Tests.{In, flat_map_in}
+use Rattle.run_values.proofs.of_field_flatten.Tests.{In, flat_map_in}
 use Rattle.scene_laws.specs.Premises.{is_free}
 use Rattle.scene_laws.proofs.FaultRows.{no_left, rows_left, rows_right}
 use Rattle.scene_laws.proofs.Picked.{of_option, filter_map_in}

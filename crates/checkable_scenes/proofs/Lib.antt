@@ -32,3 +32,6 @@ pub mod SoundFields
 pub mod SoundConditions
 pub mod SoundTexts
 pub mod TypedScenes
+-- Crates below, for the crates above.
+pub use Rattle.run_values.proofs.of_field_flatten as of_field_flatten
+pub use Rattle.scene_laws.proofs as of_scene_laws

@@ -11,7 +11,7 @@ use Rattle.composition.specs.ModifierLines.{ModifierLine, NamedValue, named_valu
 use Rattle.composition.specs.Uses as Uses
 use Rattle.composition.specs.Uses.{compared_exprs}
 use Rattle.composition.specs.Invariants.{has_range, has_other}
-use Rattle.field_flatten.proofs.Tests.{left_of, right_of, In, in_flat_map, in_filter, all_at, found_in}
+use Rattle.run_values.proofs.of_field_flatten.Tests.{left_of, right_of, In, in_flat_map, in_filter, all_at, found_in}
 use Rattle.scene_laws.proofs.FaultRows.{not_from}
 use Rattle.scene_laws.proofs.Picked.{filter_map_in}
 use Rattle.checkable_scenes.proofs.ShortTexts.{of_arguments}

@@ -31,8 +31,8 @@ use Rattle.composition.specs.Scenes.{Binding}
 use Rattle.composition.specs.Givens.{from_root, typed_here}
 use Rattle.composition.specs.Expansion.{GivenModifier, Calling, calling, here_in, low_end, high_end, given_modifier, part_modifier, expansion}
 use Rattle.composition.specs.Expanded.{modifiers_of, modifier_of, bindings_of, can_apply, scene_from, scene}
-use Rattle.field_flatten.specs.Exactness.{is_narrow_range}
-use Rattle.field_flatten.proofs.Tests.{left_of, right_of, In, in_right, in_flat_map, map_in, flat_map_in, in_filter, all_from}
+use Rattle.run_values.specs.field_flatten.Exactness.{is_narrow_range}
+use Rattle.run_values.proofs.of_field_flatten.Tests.{left_of, right_of, In, in_right, in_flat_map, map_in, flat_map_in, in_filter, all_from}
 use Rattle.scene_laws.specs.Premises.{IsSmallTable, are_short}
 use Rattle.scene_laws.proofs.FaultRows.{no_left, no_right, rows_left, rows_right, rows_among, holds_not}
 use Rattle.scene_laws.proofs.Picked.{of_option}

@@ -7,10 +7,10 @@ use Rattle.osc_base.specs.LowestTerms.{gcd, lcm}
 use Rattle.expr_nodes.specs.Typed.{scale, reach}
 use Rattle.expr_nodes.specs.Sizes.{Size, joined, is_wide}
 use Rattle.expr_nodes.specs.Fits.{sample_size}
-use Rattle.modifier_rules.specs.Relations.{position_scale}
-use Rattle.field_flatten.specs.Exactness.{quantity_reach}
-use Rattle.field_flatten.proofs.Tests.{both}
-use Rattle.field_flatten.proofs.Multiples.{gcd_is, Common, common, share_of, lcm_swap}
+use Rattle.run_values.specs.modifier_rules.Relations.{position_scale}
+use Rattle.run_values.specs.field_flatten.Exactness.{quantity_reach}
+use Rattle.run_values.proofs.of_field_flatten.Tests.{both}
+use Rattle.run_values.proofs.of_field_flatten.Multiples.{gcd_is, Common, common, share_of, lcm_swap}
 use Rattle.scene_laws.proofs.FaultRows.{no_right, not_so}
 use Rattle.scene_laws.proofs.LowestTerms.{below, within}
 

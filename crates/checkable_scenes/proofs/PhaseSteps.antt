@@ -8,7 +8,7 @@ use Rattle.osc_base.specs.declared.path.Step.TheVariants.{Name, Index, Member}
 use Rattle.osc_base.specs.Paths.{path_of, same_step, steps_after}
 use Rattle.composition.specs.Scenes.{Binding}
 use Rattle.composition.specs.Homes.{home}
-use Rattle.field_flatten.proofs.Tests.{In, path_is}
+use Rattle.run_values.proofs.of_field_flatten.Tests.{In, path_is}
 use Rattle.scene_laws.proofs.Steps.{joined_again}
 
 -- the steps of a phase's path are `do`s and members

@@ -9,7 +9,7 @@ use Rattle.dsl_tree.specs.declared.phases.CompKind.{CompKind}
 use Rattle.dsl_tree.specs.PhaseTree as Tree
 use Rattle.dsl_tree.specs.PhaseTree.{ArgumentTree, PhaseTree, Comp, Invoke, Wait, PhaseRow, phases_of}
 use Rattle.composition.specs.Calls.{Turn, turns, PhaseHere, phases_at, phases_among, phases_in}
-use Rattle.field_flatten.proofs.Tests.{In, in_left, in_right, in_either}
+use Rattle.run_values.proofs.of_field_flatten.Tests.{In, in_left, in_right, in_either}
 use Rattle.scene_laws.proofs.Steps.{joined_again}
 
 -- a `one_of` with its members

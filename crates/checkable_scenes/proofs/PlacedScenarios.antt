@@ -11,7 +11,7 @@ use Rattle.composition.specs.Scenes.{Spot}
 use Rattle.composition.specs.Expansion.{Expansion, field_parts, do_parts, expand_within, own_actor, expansion}
 use Rattle.composition.specs.Expanded.{spots_of}
 use Rattle.composition.specs.SceneFaults.{named_scenario}
-use Rattle.field_flatten.proofs.Tests.{In, in_left, in_map}
+use Rattle.run_values.proofs.of_field_flatten.Tests.{In, in_left, in_map}
 use Rattle.scene_laws.proofs.OwnedHeads.{HaveActors}
 use Rattle.scene_laws.proofs.HeldTypes.{named_below}
 use Rattle.scene_laws.proofs.PlacedObjects.{IsAcyclic, Placed, placed_from, first_fuel, spots_row, scenario_behaves}

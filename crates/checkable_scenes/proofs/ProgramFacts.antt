@@ -24,7 +24,7 @@ use Rattle.type_heads.specs.HeadingFaults.{bracket_rows, unit_rows, declaration_
 use Rattle.type_heads.specs.DeclaredTypes.{Placed, placed, placed_in, placed_from, Declared, basic_types, type_declared, all_declared, meant, items_with, form_with, heads_from, bodies_from, declared_heads, types_of}
 use Rattle.expr_nodes.specs.Kinds.{ValueKind, plain, kind_of}
 use Rattle.expr_nodes.specs.Parts.{any_holds}
-use Rattle.field_flatten.proofs.Tests.{both, two_ways, In, in_left, in_right, in_either, flat_map_in, found_in}
+use Rattle.run_values.proofs.of_field_flatten.Tests.{both, two_ways, In, in_left, in_right, in_either, flat_map_in, found_in}
 use Rattle.scene_laws.proofs.FaultRows.{NoFaults, no_left, no_right, rows_left, rows_right, rows_among, row_among, holds_not, not_so}
 use Rattle.scene_laws.proofs.Picked.{filter_map_in}
 use Rattle.scene_laws.proofs.FieldNames.{AreCounted, program_counted, number_in, less, more, type_no_fault, field_found}

@@ -17,7 +17,7 @@ use Rattle.type_heads.specs.Members.{list_length, members, members_of, fields, f
 use Rattle.type_heads.specs.HeadingFaults.{can_hold, member_rows, meant_row, fits_base, name_rows, heir_rows, compound_rows, declaration_rows, heading_rows, twice_rows, basic_names, name_declared, enum_rows_from, cycle_row, owner_rows}
 use Rattle.type_heads.specs.DeclaredTypes.{Placed, placed, Declared, basic_types, type_declared, all_declared, meant, items_with, form_with, heads_from, bodies_from, declared_heads, types_of}
 use Rattle.expr_nodes.specs.Parts.{any_holds}
-use Rattle.field_flatten.proofs.Tests.{left_of, two_ways, In, in_either, flat_map_in, map_in, found_in, all_from}
+use Rattle.run_values.proofs.of_field_flatten.Tests.{left_of, two_ways, In, in_either, flat_map_in, map_in, found_in, all_from}
 use Rattle.scene_laws.specs.Premises.{is_free}
 use Rattle.scene_laws.proofs.FaultRows.{no_left, no_right, not_so, not_from, holds_not, rows_left, rows_right, rows_among}
 use Rattle.scene_laws.proofs.Picked.{filter_map_in}

@@ -28,7 +28,7 @@ use Rattle.composition.specs.Scenes.{Binding}
 use Rattle.composition.specs.Homes.{home}
 use Rattle.composition.specs.Givens.{Here, from_root, typed_here}
 use Rattle.composition.specs.Expansion.{Calling, calling, here_in, object_at, binding, argument_binding, actor_binding, of_arguments}
-use Rattle.field_flatten.proofs.Tests.{In, in_either, map_in, found_in}
+use Rattle.run_values.proofs.of_field_flatten.Tests.{In, in_either, map_in, found_in}
 use Rattle.scene_laws.specs.Premises.{is_free}
 use Rattle.scene_laws.proofs.FaultRows.{no_left, no_right, rows_left, rows_right, holds_not}
 use Rattle.scene_laws.proofs.Picked.{of_option}

@@ -30,8 +30,8 @@ use Rattle.composition.specs.Calls.{scope_at}
 use Rattle.composition.specs.Expansion.{GivenModifier, Calling, calling, here_in, low_end, high_end, expansion}
 use Rattle.composition.specs.Expanded.{spots_of, givens_of, modifiers_of, bindings_of, occurrence_of, modifier_of, scene_from, is_readable, is_driven, can_be_asked, can_apply, scene}
 use Rattle.composition.specs.Invariants.{value_at, is_read, is_target}
-use Rattle.field_flatten.specs.Exactness.{expressions}
-use Rattle.field_flatten.proofs.Tests.{left_of, right_of, both, In, in_either, in_filter, map_in, in_flat_map, flat_map_in, all_from, all_append, any_at, path_is, found_in}
+use Rattle.run_values.specs.field_flatten.Exactness.{expressions}
+use Rattle.run_values.proofs.of_field_flatten.Tests.{left_of, right_of, both, In, in_either, in_filter, map_in, in_flat_map, flat_map_in, all_from, all_append, any_at, path_is, found_in}
 use Rattle.scene_laws.proofs.Picked.{of_option, filter_map_in}
 use Rattle.scene_laws.proofs.EachSpot.{value_paths, each_spot}
 use Rattle.expr_nodes.specs.Scope.{It}

@@ -22,7 +22,7 @@ use Rattle.composition.specs.declared.guard.Guard.{Guard}
 use Rattle.composition.specs.Calls.{Assigned, assigned, scope_at}
 use Rattle.composition.specs.Givens.{Here, Given, from_root, typed_here, read_at, guards_under, FieldHere, field_here, given_rule, given_initial, given_initials, given_elements, equals, element, value_tree, given_condition, given_conditions, given_field, given_member, own_givens, required, given_required}
 use Rattle.composition.specs.Expansion.{Calling, here_in, given_argument, part_rule, of_arguments, given_duration, parameter}
-use Rattle.field_flatten.proofs.Tests.{In, in_either, map_in, flat_map_in, found_in}
+use Rattle.run_values.proofs.of_field_flatten.Tests.{In, in_either, map_in, flat_map_in, found_in}
 use Rattle.scene_laws.proofs.Picked.{of_option}
 use Rattle.checkable_scenes.proofs.PhaseSteps.{OnlyPhases}
 use Rattle.checkable_scenes.proofs.TypedShapes.{FitRead, FieldsKnown, PathsKnown, Shape, ShapeRow, typed_shape}

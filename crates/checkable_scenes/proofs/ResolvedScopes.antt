@@ -12,7 +12,7 @@ use Rattle.expr_nodes.specs.Kinds.{Made, ValueKind, kind_of}
 use Rattle.expr_nodes.specs.Scope.{It, Label}
 use Rattle.expr_eval.specs.Resolved.{is_told, is_told_it, IsResolved}
 use Rattle.composition.specs.Calls.{Turn, PhaseHere, phases_in, label_of, made, leads_into, labels_at, without_labels, scope_at}
-use Rattle.field_flatten.proofs.Tests.{In, all_from, flat_map_in}
+use Rattle.run_values.proofs.of_field_flatten.Tests.{In, all_from, flat_map_in}
 use Rattle.scene_laws.proofs.Picked.{of_option, filter_map_in}
 use Rattle.scene_laws.proofs.MemberPhases.{Resolves}
 

@@ -18,7 +18,7 @@ use Rattle.type_heads.specs.Members.{members, do_declared, the_do}
 use Rattle.type_heads.specs.DeclaredTypes.{types_of}
 use Rattle.composition.specs.Calls.{Turn, turns, PhaseHere, phases_at, phases_among, phases_in}
 use Rattle.composition.specs.ModifierLines.{ModifierLine, NamedValue, named_value, unnamed_value, is_at, moment_of, ModifierForm, is_line, modifier_lines, form_on_line, form_of_arguments, modifier_form}
-use Rattle.field_flatten.proofs.Tests.{right_of, In, in_left, in_right, in_either, in_flat_map, in_filter, all_at}
+use Rattle.run_values.proofs.of_field_flatten.Tests.{right_of, In, in_left, in_right, in_either, in_flat_map, in_filter, all_at}
 use Rattle.scene_laws.specs.Premises.{is_formed, are_short, is_spelled_program}
 use Rattle.scene_laws.proofs.Picked.{filter_map_in}
 use Rattle.scene_laws.proofs.WrittenMembers.{all_members}

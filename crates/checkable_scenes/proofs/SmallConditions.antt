@@ -14,7 +14,7 @@ use Rattle.type_heads.specs.Table.{form, owner, is_object, number_of, enum_membe
 use Rattle.type_heads.specs.Types.{Types, Field, Do}
 use Rattle.type_heads.specs.Members.{fields, field_type, the_do}
 use Rattle.type_heads.specs.Conditions.{condition_value}
-use Rattle.cond_inherit.specs.Conditions.{conditions}
+use Rattle.composition.specs.cond_inherit.Conditions.{conditions}
 use Rattle.expr_nodes.specs.Sizes.{field_reach}
 use Rattle.composition.specs.declared.guard.Guard.{Guard}
 use Rattle.composition.specs.declared.setting.Setting.{Setting}
@@ -27,8 +27,8 @@ use Rattle.composition.specs.Expansion.{from_object, calling, given_duration, ex
 use Rattle.composition.specs.Expanded.{spots_of, givens_of, bindings_of, occurrence_of, can_be_asked, scene_from, scene}
 use Rattle.composition.specs.SceneFaults.{is_too_large, most_slots}
 use Rattle.composition.specs.Invariants.{is_small}
-use Rattle.field_flatten.specs.Exactness.{is_small_guard, are_small_guards}
-use Rattle.field_flatten.proofs.Tests.{both, In, in_filter, map_in, all_from, all_append}
+use Rattle.run_values.specs.field_flatten.Exactness.{is_small_guard, are_small_guards}
+use Rattle.run_values.proofs.of_field_flatten.Tests.{both, In, in_filter, map_in, all_from, all_append}
 use Rattle.scene_laws.specs.Premises.{is_free, IsSmallTable}
 use Rattle.scene_laws.proofs.EachSpot.{call_bindings, each_spot}
 use Rattle.scene_laws.proofs.FieldNames.{Pairs, NamesDiffer}

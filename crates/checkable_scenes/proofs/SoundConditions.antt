@@ -35,7 +35,7 @@ use Rattle.expr_nodes.specs.Typed.{Typed, Read, Whole}
 use Rattle.expr_nodes.specs.Typing.{typed, first}
 use Rattle.composition.specs.Givens.{FieldHere, field_here, value_tree, given_condition}
 use Rattle.composition.specs.Tokens.{value_tokens}
-use Rattle.field_flatten.proofs.Tests.{number_self, In, in_either, found_in}
+use Rattle.run_values.proofs.of_field_flatten.Tests.{number_self, In, in_either, found_in}
 use Rattle.scene_laws.specs.Premises.{are_short}
 use Rattle.scene_laws.proofs.FaultRows.{no_left, no_right}
 use Rattle.scene_laws.proofs.HeldTypes.{named_below}

@@ -29,8 +29,8 @@ use Rattle.composition.specs.declared.guard.Guard.{Guard}
 use Rattle.composition.specs.Uses.{isnt_path_to, default_rows, rule_rows}
 use Rattle.composition.specs.Givens.{Here, Given, from_root, typed_here, read_at, strength_of, given_rule, required, given_required}
 use Rattle.composition.specs.Expansion.{Calling, here_in, given_duration}
-use Rattle.field_flatten.specs.Seen.{has_values}
-use Rattle.field_flatten.proofs.Tests.{left_of, right_of, both, In}
+use Rattle.run_values.specs.field_flatten.Seen.{has_values}
+use Rattle.run_values.proofs.of_field_flatten.Tests.{left_of, right_of, both, In}
 use Rattle.scene_laws.specs.Premises.{IsSmallTable, are_short}
 use Rattle.scene_laws.proofs.FaultRows.{no_left, no_right, rows_left, rows_right, holds_not}
 use Rattle.scene_laws.proofs.MovedPaths.{kind_moved, scalar_moved, sound_moved, values_moved}

@@ -34,7 +34,7 @@ use Rattle.composition.specs.Calls.{scope_at}
 use Rattle.composition.specs.Givens.{Here, Given, FieldHere, from_root, given_keep, equals, it_of, field_here, given_initial, given_initials, given_elements, element}
 use Rattle.composition.specs.Tokens.{tokens}
 use Rattle.composition.specs.Uses.{values_rows, values_given}
-use Rattle.field_flatten.proofs.Tests.{left_of, right_of, In}
+use Rattle.run_values.proofs.of_field_flatten.Tests.{left_of, right_of, In}
 use Rattle.scene_laws.specs.Premises.{IsSmallTable, are_short, row_is_short}
 use Rattle.scene_laws.proofs.FaultRows.{no_left, no_right, rows_left, rows_right, rows_among, holds_not}
 use Rattle.scene_laws.proofs.IsSound.{IsGood, comparison_good}

@@ -39,9 +39,9 @@ use Rattle.composition.specs.Givens.{from_root, typed_here}
 use Rattle.composition.specs.Expansion.{GivenModifier, Calling, calling, here_in, object_at, low_end, high_end, invocation, phase_part, expand_within, expansion}
 use Rattle.composition.specs.Expanded.{is_vehicle, spot, spots_of, modifiers_of, modifier_of, bindings_of, is_driven, is_readable, can_apply, scene_from, scene}
 use Rattle.composition.specs.Invariants.{is_read, has_range, has_other, is_end, is_modifier}
-use Rattle.field_flatten.specs.Exactness.{expressions}
-use Rattle.field_flatten.specs.Seen.{has_values}
-use Rattle.field_flatten.proofs.Tests.{left_of, right_of, both, two_ways, In, in_left, in_right, in_either, in_map, map_in, in_flat_map, flat_map_in, in_filter, all_at, all_from, any_from, path_self}
+use Rattle.run_values.specs.field_flatten.Exactness.{expressions}
+use Rattle.run_values.specs.field_flatten.Seen.{has_values}
+use Rattle.run_values.proofs.of_field_flatten.Tests.{left_of, right_of, both, two_ways, In, in_left, in_right, in_either, in_map, map_in, in_flat_map, flat_map_in, in_filter, all_at, all_from, any_from, path_self}
 use Rattle.scene_laws.specs.Premises.{IsSmallTable}
 use Rattle.scene_laws.proofs.FaultRows.{no_left, no_right, rows_left, rows_right, rows_among, holds_not}
 use Rattle.scene_laws.proofs.EachSpot.{invoked_kind, invoked_members}

@@ -34,7 +34,7 @@ use Rattle.composition.specs.Expanded.{givens_of}
 use Rattle.composition.specs.Expansion.{Calling, calling, here_in, argument_named, given_argument, given_duration, of_arguments, parameter, part_rule, expansion}
 use Rattle.composition.specs.Givens.{Here, Given, field_here, from_root, given_condition, given_conditions, given_field, given_initials, given_member, given_required, given_rule, guards_under, own_givens, read_at, typed_here}
 use Rattle.composition.specs.Uses.{among, arguments_rows, assigned_rows, call_rows, callee_rows, composition_rows, field_scope, field_use_rows, given_rows, initial_value_rows, it_made, member_use_rows, name_assigned, named_rows, object_rows, part_rows, phase_rows, rule_rows, values_given, values_rows, with_kind}
-use Rattle.field_flatten.proofs.Tests.{In, in_either, in_flat_map, in_left, in_right, flat_map_in, map_in, found_in}
+use Rattle.run_values.proofs.of_field_flatten.Tests.{In, in_either, in_flat_map, in_left, in_right, flat_map_in, map_in, found_in}
 use Rattle.scene_laws.specs.Premises.{are_short}
 use Rattle.scene_laws.proofs.FaultRows.{no_left, no_right, rows_left, rows_right, rows_among}
 use Rattle.scene_laws.proofs.OwnedHeads.{invoked_behaviour}

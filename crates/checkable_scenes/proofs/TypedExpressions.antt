@@ -25,7 +25,7 @@ use Rattle.expr_eval.proofs.TypedForms.{typed_or_refused}
 use Rattle.composition.specs.Calls.{Turn, PhaseHere, phases_in, Callee, callee, actor_type, owned_behaviour, without_labels, invoked, scope_at, assigned}
 use Rattle.composition.specs.ModifierLines.{is_modifier, modifier_form}
 use Rattle.composition.specs.Uses.{among, takes_overlap, is_overlap, named_rows, composition_rows, isnt_path_to, default_rows, rule_rows, initial_value_rows, field_scope, begins_with_label, assigned_rows, name_assigned, arguments_rows, is_drive, form_rows, compared_exprs, modifier_rows, callee_rows, part_rows, call_rows, it_made, phase_rows, member_use_rows, text_rows, invocation_row, use_rows}
-use Rattle.field_flatten.proofs.Tests.{In, in_either, map_in, flat_map_in}
+use Rattle.run_values.proofs.of_field_flatten.Tests.{In, in_either, map_in, flat_map_in}
 use Rattle.scene_laws.proofs.FaultRows.{no_right, rows_left, rows_right, rows_among}
 use Rattle.scene_laws.proofs.MemberPhases.{Resolves}
 use Rattle.checkable_scenes.specs.JudgedTexts.{Judged, stated_exprs, judged_in, part_compared, actor_paths, phase_judged, member_judged, text_judged, all_judged, IsTypedIn}

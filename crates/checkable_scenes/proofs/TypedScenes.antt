@@ -18,9 +18,9 @@ use Rattle.composition.specs.Homes.{home}
 use Rattle.composition.specs.Invariants.{is_expression, is_occurrence, is_read, is_target}
 use Rattle.composition.specs.Scenes.{Binding, ModifierSpot, Occurrence, Scene, source}
 use Rattle.composition.specs.There.{read_by, removed}
-use Rattle.field_flatten.specs.Exactness.{expressions}
-use Rattle.field_flatten.specs.Seen.{has_values}
-use Rattle.field_flatten.proofs.Tests.{all_at, all_from, both, In, in_either, in_filter, in_flat_map, in_left, flat_map_in, left_of, map_in}
+use Rattle.run_values.specs.field_flatten.Exactness.{expressions}
+use Rattle.run_values.specs.field_flatten.Seen.{has_values}
+use Rattle.run_values.proofs.of_field_flatten.Tests.{all_at, all_from, both, In, in_either, in_filter, in_flat_map, in_left, flat_map_in, left_of, map_in}
 use Rattle.scene_laws.proofs.MovedPaths.{kind_moved, scalar_moved, sound_moved, values_moved}
 use Rattle.scene_laws.proofs.Picked.{of_option}
 use Rattle.checkable_scenes.proofs.Inherited.{option_in}

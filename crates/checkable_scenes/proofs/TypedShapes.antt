@@ -10,7 +10,7 @@ use Rattle.osc_base.specs.declared.path.Step.TheVariants.{Name, Index}
 use Rattle.osc_base.specs.FaultRows.{FaultRow}
 use Rattle.osc_base.specs.LowestTerms.{lowest}
 use Rattle.osc_base.specs.Number.{whole}
-use Rattle.name_scope.specs.Declaring.{first_place}
+use Rattle.scene_laws.specs.name_scope.Declaring.{first_place}
 use Rattle.osc_base.specs.Paths.{path_of, root, then_name, then_duration}
 use Rattle.dsl_tree.specs.declared.parts.Ident.{Ident}
 use Rattle.dsl_tree.specs.declared.parts.Digits.{Digits}
@@ -33,7 +33,7 @@ use Rattle.expr_nodes.specs.Parts.{any_holds, unless}
 use Rattle.expr_nodes.specs.Names.{per_of, elements_from, held_at, duration_at, Something, typed_meaning, is_duration, member_at, member_meant, label_named, label_at, meaning_by_duration, meaning_by_label, meaning_by_field, meaning, name_rows, it_at, enum_named, duration_if, member_of_object, member_made, member_of_phase, member_of_whole, after_point}
 use Rattle.expr_nodes.specs.Operators.{number_rows, row_kind, constant_at, count_in, truth_at, not_rows, logic_rows, minus_rows, sum_rows, sum_of, product_rows, product_of, quotient_rows, reciprocal_of, factor_typed, comparison_rows, comparison_typed, compare_of, within_rows, within_typed, relation_typed, part_rows, span_rows, span_typed, item_typed, list_typed, index_of, element, index_typed, group_typed, physical_typed}
 use Rattle.expr_nodes.specs.Typing.{typed, typed_row}
-use Rattle.field_flatten.proofs.Tests.{right_of, In, found_in}
+use Rattle.run_values.proofs.of_field_flatten.Tests.{right_of, In, found_in}
 use Rattle.scene_laws.proofs.FaultRows.{one_made, two_made}
 use Rattle.scene_laws.proofs.IsSound.{sized}
 use Rattle.checkable_scenes.proofs.PhaseSteps.{OnlyPhases, IsTimed, IsThing, named_thing, index_untimed}

@@ -12,7 +12,7 @@ use Rattle.dsl_tree.specs.FileTree.{FieldTree, MemberTree}
 use Rattle.type_heads.specs.Table.{form, named, owner, bases, is_kind_of}
 use Rattle.type_heads.specs.Types.{Types, Field, Member, Written}
 use Rattle.type_heads.specs.Members.{has, body, list_length, items_in, members, fields_declared, fields, field_type}
-use Rattle.cond_inherit.specs.Conditions.{conditions_within, conditions, once_after}
+use Rattle.composition.specs.cond_inherit.Conditions.{conditions_within, conditions, once_after}
 use Rattle.composition.specs.declared.guard.Guard.{Guard}
 use Rattle.composition.specs.declared.setting.Setting.{Setting}
 use Rattle.composition.specs.declared.spot.ValueRange.{ValueRange}
@@ -22,7 +22,7 @@ use Rattle.composition.specs.Givens.{guards_under}
 use Rattle.composition.specs.Expansion.{expansion}
 use Rattle.composition.specs.Expanded.{is_vehicle, spot, spots_of, scene}
 use Rattle.composition.specs.Invariants.{is_numeric, is_limit, is_limited, same_guards}
-use Rattle.field_flatten.proofs.Tests.{left_of, right_of, both, In, in_map, in_flat_map, all_from, any_at}
+use Rattle.run_values.proofs.of_field_flatten.Tests.{left_of, right_of, both, In, in_map, in_flat_map, all_from, any_at}
 use Rattle.scene_laws.specs.Premises.{is_free}
 use Rattle.scene_laws.proofs.Picked.{filter_map_in}
 use Rattle.scene_laws.proofs.EachSpot.{value_paths, each_spot}

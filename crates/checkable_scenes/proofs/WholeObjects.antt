@@ -26,7 +26,7 @@ use Rattle.expr_nodes.specs.Parts.{any_holds, unless}
 use Rattle.expr_nodes.specs.Names.{per_of, elements_from, held_at, duration_at, Something, typed_meaning, is_duration, member_at, member_meant, label_named, label_at, meaning_by_duration, meaning_by_label, meaning_by_field, meaning, name_rows, it_at, duration_if, member_of_object, member_made, member_of_whole, after_point}
 use Rattle.expr_nodes.specs.Operators.{index_of, element, index_typed}
 use Rattle.expr_nodes.specs.Typing.{typed, is_path}
-use Rattle.field_flatten.proofs.Tests.{In, map_in, flat_map_in}
+use Rattle.run_values.proofs.of_field_flatten.Tests.{In, map_in, flat_map_in}
 use Rattle.scene_laws.proofs.FaultRows.{no_left, no_right, not_from, holds_not}
 use Rattle.scene_laws.proofs.WrittenMembers.{all_members}
 use Rattle.checkable_scenes.proofs.ReadFacts.{holds_right, members_right, used_rows}

@@ -16,8 +16,8 @@ use Rattle.composition.specs.Expanded.{scene}
 use Rattle.composition.specs.SceneFaults.{named_scenario, is_too_large}
 use Rattle.composition.specs.StaticFaults.{declaration_fault}
 use Rattle.composition.specs.Invariants.{are_grounded, are_members, is_limited, is_read, is_occurrence, is_modifier, is_setting}
-use Rattle.field_flatten.specs.Seen.{has_values}
-use Rattle.field_flatten.specs.Exactness.{IsExpanded, IsLimited, is_narrow_range, expressions}
+use Rattle.run_values.specs.field_flatten.Seen.{has_values}
+use Rattle.run_values.specs.field_flatten.Exactness.{IsExpanded, IsLimited, is_narrow_range, expressions}
 use Rattle.run_values.specs.Frames.{IsCheckable}
 use Rattle.scene_laws.specs.Premises.{is_spelled_program, are_held}
 use Rattle.checkable_scenes.specs.JudgedTexts.{IsTypedIn, all_judged}

@@ -2,8 +2,8 @@
 use Rattle.std.specs.Prelude.{◌≡◌, ◌^◌, Bool, true, false, ◌&&◌, List, [], ◌∷◌, unsigned_abs}
 use Rattle.std.proofs.Common.{refl}
 use Rattle.std.proofs.lemmas.Bool.{and_parts, ltb-true, lt-ltb}
-use Rattle.box_eval.specs.declared.record.Line.{Line}
-use Rattle.box_eval.specs.declared.record.Line.TheVariants as L
+use Rattle.record_text.specs.box_eval.declared.record.Line.{Line}
+use Rattle.record_text.specs.box_eval.declared.record.Line.TheVariants as L
 use Rattle.record_text.specs.Written.{HasShortValue, HaveShortValues}
 use Rattle.command_replies.specs.ShortRecords.{are_short, is_short}
 

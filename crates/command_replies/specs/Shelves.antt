@@ -1,6 +1,6 @@
 -- An answer of a command that reads a text from a shelf, or the reply of a shelf that failed.
 use Rattle.std.specs.Prelude.{◌≡◌, ◌⊎◌, ℕ, List}
-use Rattle.outside_io.specs.Counts.{Rises}
+use Rattle.record_text.specs.outside_io.Counts.{Rises}
 use Rattle.command_replies.specs.Reply.{Answer}
 use Rattle.command_replies.specs.Replies.{failed_shelf}
 

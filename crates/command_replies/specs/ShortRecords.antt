@@ -1,7 +1,7 @@
 -- Records whose cuts have values of at most 18 digits, as a test.
 use Rattle.std.specs.Prelude.{nat_lt, ◌^◌, Bool, true, ◌&&◌, List, [], ◌∷◌, unsigned_abs}
-use Rattle.box_eval.specs.declared.record.Line.{Line}
-use Rattle.box_eval.specs.declared.record.Line.TheVariants as L
+use Rattle.record_text.specs.box_eval.declared.record.Line.{Line}
+use Rattle.record_text.specs.box_eval.declared.record.Line.TheVariants as L
 
 abbrev pub is_short : Line → Bool
 is_short (L.Low slot value) = nat_lt (unsigned_abs value) (10 ^ 18)

@@ -1,8 +1,8 @@
 ghost use Rattle.std.specs.Prelude.{◌≡◌, true};
 ghost use Rattle.command_replies.specs.ShortRecords.{are_short};
 
-use box_eval::Record;
 use osc_base::Text;
+use record_text::box_eval::Record;
 
 /// What is written.
 #[derive(Drop)]

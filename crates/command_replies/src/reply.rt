@@ -1,15 +1,15 @@
 ghost use Rattle.std.specs.Prelude.{◌≡◌, ◌≤◌, is_some, OnOk, OnErr};
 ghost use Rattle.std.specs.Io.KnownBytes.{append_known};
-ghost use Rattle.outside_io.specs.Bytes.{AppendsPart};
-ghost use Rattle.outside_io.specs.Counts.{Rises};
+ghost use Rattle.record_text.specs.outside_io.Bytes.{AppendsPart};
+ghost use Rattle.record_text.specs.outside_io.Counts.{Rises};
 ghost use Rattle.record_text.specs.Written.{HaveShortValues};
 ghost use Rattle.command_replies.specs.Replies.{refutation, undecided};
 
 use crate::body::{Body, ShortRecord};
 use crate::status::Status;
-use box_eval::Record;
 use osc_base::Text;
-use outside_io::{Sink, SinkStop, write_all};
+use record_text::box_eval::Record;
+use record_text::outside_io::{Sink, SinkStop, write_all};
 use record_text::write_record;
 use std::marker::Model;
 

@@ -15,6 +15,3 @@ pub use requests::{
 pub use texts::{
     check_help, flat_help, general_help, generate_help, make_help, verify_help, version_text,
 };
-
-#[cfg(test)]
-mod tests;

@@ -6,8 +6,8 @@ use Rattle.std.proofs.lemmas.List.{take_more}
 use Rattle.osc_base.specs.declared.path.Path.{Path}
 use Rattle.osc_base.specs.declared.path.Step.{Step}
 use Rattle.osc_base.specs.Paths.{path_of, same_path, same_step, same_steps, steps_after}
-use Rattle.path_index.specs.declared.index.PathIndex.{PathIndex}
-use Rattle.path_index.specs.Places.{first_place, place_at, Places}
+use Rattle.keep_rules.specs.path_index.declared.index.PathIndex.{PathIndex}
+use Rattle.keep_rules.specs.path_index.Places.{first_place, place_at, Places}
 use Rattle.composition.specs.declared.part.Binding.{Binding}
 use Rattle.composition.specs.SeenParts.{seen_binding}
 use Rattle.composition.specs.SeenHomes.{leads, moved_on, least_place}

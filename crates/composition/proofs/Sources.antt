@@ -8,7 +8,7 @@ use Rattle.osc_base.specs.declared.path.Step.{Step}
 use Rattle.osc_base.specs.declared.path.Step.TheVariants.{Name, Index, Member}
 use Rattle.osc_base.specs.Paths.{path_of, same_path, then_duration, timed_part}
 use Rattle.osc_base.proofs.PathEquality.{path_is}
-use Rattle.path_index.proofs.Durations.{timed_find}
+use Rattle.keep_rules.proofs.of_path_index.Durations.{timed_find}
 use Rattle.composition.specs.declared.part.Spot.{Spot}
 use Rattle.composition.specs.declared.spot.PhaseSpot.{PhaseSpot}
 use Rattle.composition.specs.SeenParts.{seen_spot}

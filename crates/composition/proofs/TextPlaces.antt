@@ -3,7 +3,7 @@ use Rattle.std.proofs.Common.{◌≡◌, ◌∙◌, refl, sym, ap, ℕ, ◌+◌,
 use Rattle.std.specs.Prelude.{◌||◌, is_some}
 use Rattle.std.specs.List.{position, position_from, list_any}
 use Rattle.std.proofs.lemmas.Iterator.Adapters.{position_from-zero}
-use Rattle.name_scope.specs.Declaring.{first_place}
+use Rattle.cond_inherit.specs.name_scope.Declaring.{first_place}
 
 module _ {X : Type 0} (test : X → Bool) where
   place_from : (n : ℕ) (xs : List X) → first_place test n xs ≡ position_from test n xs

@@ -5,14 +5,14 @@ use Rattle.std.specs.List.{list_all, list_any}
 use Rattle.osc_base.specs.declared.fault.Place.{Place}
 use Rattle.osc_base.specs.declared.path.Path.{Path}
 use Rattle.osc_base.specs.Paths.{root, same_path, then_do, then_member}
-use Rattle.dsl_tree.specs.declared.parts.Ident.{Ident}
-use Rattle.dsl_tree.specs.declared.phases.CompKind.{CompKind}
-use Rattle.dsl_tree.specs.declared.phases.InvokeHead.{InvokeHead}
-use Rattle.dsl_tree.specs.ExprTree.{ExprTree}
-use Rattle.dsl_tree.specs.PhaseTree.{PhaseTree, Comp, Invoke, Wait, PhaseRow, End, Phase}
-use Rattle.type_heads.specs.Table.{TypeHead, head, form, bases, named, is_actor, is_behaviour}
-use Rattle.type_heads.specs.Types.{Types, Field, Do}
-use Rattle.type_heads.specs.Members.{fields, field, the_do}
+use Rattle.cond_inherit.specs.dsl_tree.declared.parts.Ident.{Ident}
+use Rattle.cond_inherit.specs.dsl_tree.declared.phases.CompKind.{CompKind}
+use Rattle.cond_inherit.specs.dsl_tree.declared.phases.InvokeHead.{InvokeHead}
+use Rattle.cond_inherit.specs.dsl_tree.ExprTree.{ExprTree}
+use Rattle.cond_inherit.specs.dsl_tree.PhaseTree.{PhaseTree, Comp, Invoke, Wait, PhaseRow, End, Phase}
+use Rattle.cond_inherit.specs.type_heads.Table.{TypeHead, head, form, bases, named, is_actor, is_behaviour}
+use Rattle.cond_inherit.specs.type_heads.Types.{Types, Field, Do}
+use Rattle.cond_inherit.specs.type_heads.Members.{fields, field, the_do}
 use Rattle.expr_nodes.specs.Kinds.{Made, object_type}
 use Rattle.expr_nodes.specs.Typed.{Typed, kind}
 use Rattle.expr_nodes.specs.Scope.{It, Label, Scope}

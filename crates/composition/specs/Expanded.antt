@@ -4,8 +4,8 @@ use Rattle.std.specs.Option.{option_map_or}
 use Rattle.std.specs.List.{list_any, list_all}
 use Rattle.osc_base.specs.declared.path.Path.{Path}
 use Rattle.osc_base.specs.Paths.{same_path}
-use Rattle.type_heads.specs.Table.{named, is_kind_of}
-use Rattle.type_heads.specs.Types.{Types}
+use Rattle.cond_inherit.specs.type_heads.Table.{named, is_kind_of}
+use Rattle.cond_inherit.specs.type_heads.Types.{Types}
 use Rattle.expr_nodes.specs.Typed.{moved}
 use Rattle.composition.specs.declared.guard.Guard.{Guard}
 use Rattle.composition.specs.declared.setting.Setting.{Setting}

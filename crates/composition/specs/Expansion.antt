@@ -4,14 +4,14 @@ use Rattle.std.specs.Option.{option_map_or}
 use Rattle.std.specs.List.{range_with_len}
 use Rattle.osc_base.specs.declared.path.Path.{Path}
 use Rattle.osc_base.specs.Paths.{path_of, root, then_name, then_index, then_member, then_duration, then_do}
-use Rattle.dsl_tree.specs.declared.parts.Ident.{Ident}
-use Rattle.dsl_tree.specs.declared.phases.CompKind.{CompKind}
-use Rattle.dsl_tree.specs.declared.phases.InvokeHead.{InvokeHead}
-use Rattle.dsl_tree.specs.ExprTree.{ExprTree}
-use Rattle.dsl_tree.specs.PhaseTree.{ArgumentTree, ModifierTree, PartTree, PhaseTree, Comp, Invoke, Wait, phases_of}
-use Rattle.type_heads.specs.Table.{form, owner, is_object}
-use Rattle.type_heads.specs.Types.{Types, Field, Do}
-use Rattle.type_heads.specs.Members.{fields, field_type, list_length, the_do}
+use Rattle.cond_inherit.specs.dsl_tree.declared.parts.Ident.{Ident}
+use Rattle.cond_inherit.specs.dsl_tree.declared.phases.CompKind.{CompKind}
+use Rattle.cond_inherit.specs.dsl_tree.declared.phases.InvokeHead.{InvokeHead}
+use Rattle.cond_inherit.specs.dsl_tree.ExprTree.{ExprTree}
+use Rattle.cond_inherit.specs.dsl_tree.PhaseTree.{ArgumentTree, ModifierTree, PartTree, PhaseTree, Comp, Invoke, Wait, phases_of}
+use Rattle.cond_inherit.specs.type_heads.Table.{form, owner, is_object}
+use Rattle.cond_inherit.specs.type_heads.Types.{Types, Field, Do}
+use Rattle.cond_inherit.specs.type_heads.Members.{fields, field_type, list_length, the_do}
 use Rattle.expr_nodes.specs.Typed.{Typed, Whole, Span}
 use Rattle.expr_nodes.specs.Names.{duration_at}
 use Rattle.expr_nodes.specs.Scope.{It}

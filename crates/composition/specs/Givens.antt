@@ -8,18 +8,18 @@ use Rattle.osc_base.specs.declared.path.Step.{Step}
 use Rattle.osc_base.specs.declared.path.Step.TheVariants.{Name}
 use Rattle.osc_base.specs.declared.mark.Strength.{Strength}
 use Rattle.osc_base.specs.Paths.{path_of, same_step, then_name}
-use Rattle.dsl_tree.specs.declared.parts.Ident.{Ident}
-use Rattle.dsl_tree.specs.declared.expr.RelationSign.{RelationSign}
-use Rattle.dsl_tree.specs.declared.rules.KeepKind.{KeepKind}
-use Rattle.dsl_tree.specs.declared.compounds.ConditionValue.{ConditionValue}
-use Rattle.dsl_tree.specs.declared.compounds.HeirCondition.{HeirCondition}
-use Rattle.dsl_tree.specs.ExprTree.{ExprTree, items_of}
-use Rattle.dsl_tree.specs.PhaseTree.{RuleTree}
-use Rattle.dsl_tree.specs.FileTree.{MemberTree}
-use Rattle.type_heads.specs.Table.{bases}
-use Rattle.type_heads.specs.Types.{Types, Member, Field}
-use Rattle.type_heads.specs.Members.{heir_condition, members, field, field_type, fields_declared, list_length}
-use Rattle.type_heads.specs.Conditions.{Condition}
+use Rattle.cond_inherit.specs.dsl_tree.declared.parts.Ident.{Ident}
+use Rattle.cond_inherit.specs.dsl_tree.declared.expr.RelationSign.{RelationSign}
+use Rattle.cond_inherit.specs.dsl_tree.declared.rules.KeepKind.{KeepKind}
+use Rattle.cond_inherit.specs.dsl_tree.declared.compounds.ConditionValue.{ConditionValue}
+use Rattle.cond_inherit.specs.dsl_tree.declared.compounds.HeirCondition.{HeirCondition}
+use Rattle.cond_inherit.specs.dsl_tree.ExprTree.{ExprTree, items_of}
+use Rattle.cond_inherit.specs.dsl_tree.PhaseTree.{RuleTree}
+use Rattle.cond_inherit.specs.dsl_tree.FileTree.{MemberTree}
+use Rattle.cond_inherit.specs.type_heads.Table.{bases}
+use Rattle.cond_inherit.specs.type_heads.Types.{Types, Member, Field}
+use Rattle.cond_inherit.specs.type_heads.Members.{heir_condition, members, field, field_type, fields_declared, list_length}
+use Rattle.cond_inherit.specs.type_heads.Conditions.{Condition}
 use Rattle.cond_inherit.specs.Conditions.{conditions}
 use Rattle.expr_nodes.specs.declared.compare.Compare.{Compare}
 use Rattle.expr_nodes.specs.Typed.{Typed, Read, Span, Relation, Within, moved}

@@ -24,3 +24,10 @@ pub mod SceneFaults
 pub mod Invariants
 pub mod Uses
 pub mod StaticFaults
+-- Crates below, for the crates above.
+pub use Rattle.cond_inherit.specs as cond_inherit
+pub use Rattle.cond_inherit.specs.dsl_tree as dsl_tree
+pub use Rattle.expr_nodes.specs as expr_nodes
+pub use Rattle.keep_rules.specs as keep_rules
+pub use Rattle.keep_rules.specs.path_index as path_index
+pub use Rattle.cond_inherit.specs.type_heads as type_heads

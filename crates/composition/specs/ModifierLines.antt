@@ -4,9 +4,9 @@ use Rattle.std.specs.Option.{option_map_or}
 use Rattle.std.specs.List.{list_any}
 use Rattle.osc_base.specs.declared.modifier.Kind.{Kind}
 use Rattle.osc_base.specs.declared.modifier.Moment.{Moment}
-use Rattle.dsl_tree.specs.declared.parts.Ident.{Ident}
-use Rattle.dsl_tree.specs.ExprTree.{ExprTree}
-use Rattle.dsl_tree.specs.PhaseTree.{ArgumentTree, ModifierTree}
+use Rattle.cond_inherit.specs.dsl_tree.declared.parts.Ident.{Ident}
+use Rattle.cond_inherit.specs.dsl_tree.ExprTree.{ExprTree}
+use Rattle.cond_inherit.specs.dsl_tree.PhaseTree.{ArgumentTree, ModifierTree}
 
 -- A line of the table of modifiers: the modifier's name, whether it has a value or range, the name of the argument for the other vehicle if it has
 -- one, and what it says.

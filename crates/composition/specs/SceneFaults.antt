@@ -3,9 +3,9 @@ use Rattle.std.specs.Prelude.{ℕ, ◌+◌, ◌*◌, ◌||◌, Bool, true, false
 use Rattle.osc_base.specs.declared.fault.Place.{Place}
 use Rattle.osc_base.specs.declared.fault.FaultCode.{FaultCode}
 use Rattle.osc_base.specs.FaultRows.{FaultRow, row}
-use Rattle.type_heads.specs.Table.{form, named, is_scenario}
-use Rattle.type_heads.specs.Types.{Types}
-use Rattle.type_heads.specs.Members.{body}
+use Rattle.cond_inherit.specs.type_heads.Table.{form, named, is_scenario}
+use Rattle.cond_inherit.specs.type_heads.Types.{Types}
+use Rattle.cond_inherit.specs.type_heads.Members.{body}
 use Rattle.composition.specs.declared.setting.Setting.{Setting}
 use Rattle.composition.specs.Scenes.{Content, Spot, Scene}
 use Rattle.composition.specs.Slots.{slot_names}

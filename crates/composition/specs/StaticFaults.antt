@@ -4,9 +4,9 @@ use Rattle.std.specs.Option.{option_or}
 use Rattle.osc_base.specs.declared.fault.Place.{Place}
 use Rattle.osc_base.specs.declared.fault.Fault.{Fault}
 use Rattle.osc_base.specs.FaultRows.{first_fault}
-use Rattle.type_heads.specs.Types.{Program, Types}
-use Rattle.type_heads.specs.HeadingFaults.{heading_rows}
-use Rattle.type_heads.specs.MemberFaults.{member_fault_rows}
+use Rattle.cond_inherit.specs.type_heads.Types.{Program, Types}
+use Rattle.cond_inherit.specs.type_heads.HeadingFaults.{heading_rows}
+use Rattle.cond_inherit.specs.type_heads.MemberFaults.{member_fault_rows}
 use Rattle.composition.specs.declared.setting.Setting.{Setting}
 use Rattle.composition.specs.Uses.{use_rows}
 use Rattle.composition.specs.SceneFaults.{scene_rows}

@@ -1,9 +1,9 @@
 -- The number of tokens of an expression.
 use Rattle.std.specs.Prelude.{ℕ, ◌+◌, List, [], ◌∷◌}
 use Rattle.std.specs.Option.{option_map_or}
-use Rattle.dsl_tree.specs.declared.compounds.ConditionValue.{ConditionValue}
-use Rattle.dsl_tree.specs.ExprTree.{ExprTree, ExprRow, Implies, Or, And, Not, Relation, Sum, Product, Minus, Dot, Index, Number, Physical, Chars, Truth, It, Actor, Name, EnumName, Group, Span, Listed, RangeCall, Start, End, Item}
-use Rattle.dsl_tree.specs.PhaseTree.{ArgumentTree}
+use Rattle.cond_inherit.specs.dsl_tree.declared.compounds.ConditionValue.{ConditionValue}
+use Rattle.cond_inherit.specs.dsl_tree.ExprTree.{ExprTree, ExprRow, Implies, Or, And, Not, Relation, Sum, Product, Minus, Dot, Index, Number, Physical, Chars, Truth, It, Actor, Name, EnumName, Group, Span, Listed, RangeCall, Start, End, Item}
+use Rattle.cond_inherit.specs.dsl_tree.PhaseTree.{ArgumentTree}
 
 abbrev mutual
   -- the tokens of an expression

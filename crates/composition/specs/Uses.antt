@@ -6,16 +6,16 @@ use Rattle.osc_base.specs.declared.fault.Place.{Place}
 use Rattle.osc_base.specs.declared.fault.FaultCode.{FaultCode}
 use Rattle.osc_base.specs.declared.modifier.Kind.{Kind}
 use Rattle.osc_base.specs.FaultRows.{FaultRow, row}
-use Rattle.dsl_tree.specs.declared.parts.Ident.{Ident}
-use Rattle.dsl_tree.specs.declared.rules.KeepKind.{KeepKind}
-use Rattle.dsl_tree.specs.declared.phases.CompKind.{CompKind}
-use Rattle.dsl_tree.specs.ExprTree.{ExprTree, items_of}
-use Rattle.dsl_tree.specs.PhaseTree.{RuleTree, ArgumentTree, ModifierTree, PartTree, PhaseTree, Comp, Invoke, Wait}
-use Rattle.dsl_tree.specs.FileTree.{FieldTree, MemberTree}
-use Rattle.type_heads.specs.Table.{Table, TypeHead, form, named, is_kind_of, is_object, is_scenario, all_types}
-use Rattle.type_heads.specs.Types.{Written, Do, Types}
-use Rattle.type_heads.specs.Members.{body, list_length, declared_type, field_type, the_do}
-use Rattle.type_heads.specs.Cycles.{returns}
+use Rattle.cond_inherit.specs.dsl_tree.declared.parts.Ident.{Ident}
+use Rattle.cond_inherit.specs.dsl_tree.declared.rules.KeepKind.{KeepKind}
+use Rattle.cond_inherit.specs.dsl_tree.declared.phases.CompKind.{CompKind}
+use Rattle.cond_inherit.specs.dsl_tree.ExprTree.{ExprTree, items_of}
+use Rattle.cond_inherit.specs.dsl_tree.PhaseTree.{RuleTree, ArgumentTree, ModifierTree, PartTree, PhaseTree, Comp, Invoke, Wait}
+use Rattle.cond_inherit.specs.dsl_tree.FileTree.{FieldTree, MemberTree}
+use Rattle.cond_inherit.specs.type_heads.Table.{Table, TypeHead, form, named, is_kind_of, is_object, is_scenario, all_types}
+use Rattle.cond_inherit.specs.type_heads.Types.{Written, Do, Types}
+use Rattle.cond_inherit.specs.type_heads.Members.{body, list_length, declared_type, field_type, the_do}
+use Rattle.cond_inherit.specs.type_heads.Cycles.{returns}
 use Rattle.expr_nodes.specs.Kinds.{ValueKind, plain, no_exponents, kind_of, object_type, is_truth}
 use Rattle.expr_nodes.specs.Typed.{Typed, kind}
 use Rattle.expr_nodes.specs.Scope.{It, Scope}

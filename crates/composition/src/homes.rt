@@ -5,13 +5,13 @@ ghost use Rattle.composition.specs.SeenHomes as seen;
 ghost use Rattle.composition.specs.SeenHomes.{leads, moved_on, least_place};
 ghost use Rattle.composition.specs.SeenScenes.{seen_scene};
 ghost use Rattle.composition.specs.Homes as homes;
-ghost use Rattle.path_index.specs.Places.{first_place};
+ghost use Rattle.keep_rules.specs.path_index.Places.{first_place};
 
 use crate::part::Binding;
 use crate::scene::Scene;
 use crate::source::Source;
+use keep_rules::path_index::found;
 use osc_base::{Path, Row, Step};
-use path_index::found;
 use std::alloc::{AllocError, Global};
 
 impl Scene {

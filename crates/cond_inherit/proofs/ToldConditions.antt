@@ -3,13 +3,13 @@ use Rattle.std.proofs.Common.{◌≡◌, ◌∙◌, refl, ap, ℕ, zero, suc, �
 use Rattle.std.specs.Prelude.{ℤ, filter, filter_map, is_some, option_and_then, option_map, slice_index_or}
 use Rattle.std.specs.Option.{option_map_or}
 use Rattle.std.specs.List.{cons_option}
-use Rattle.dsl_tree.specs.declared.compounds.HeirCondition.{HeirCondition}
-use Rattle.type_heads.specs.Form.{Form}
-use Rattle.type_heads.specs.Table.{base, numbers_from}
-use Rattle.type_heads.specs.Types.{Types}
-use Rattle.type_heads.specs.Members.{heir_condition, is_conditional, subtypes}
-use Rattle.type_heads.specs.Conditions.{Condition, condition, condition_on, condition_value, field_form}
-use Rattle.type_heads.specs.Told.{told}
+use Rattle.type_model.specs.dsl_tree.declared.compounds.HeirCondition.{HeirCondition}
+use Rattle.type_model.specs.type_heads.Form.{Form}
+use Rattle.type_model.specs.type_heads.Table.{base, numbers_from}
+use Rattle.type_model.specs.type_heads.Types.{Types}
+use Rattle.type_model.specs.type_heads.Members.{heir_condition, is_conditional, subtypes}
+use Rattle.type_model.specs.type_heads.Conditions.{Condition, condition, condition_on, condition_value, field_form}
+use Rattle.type_model.specs.type_heads.Told.{told}
 use Rattle.cond_inherit.specs.SubtypeConditions.{condition_at, condition_under, conditions_on}
 
 abbrev with_subtype : ℕ → Condition → Condition

@@ -2,9 +2,9 @@
 use Rattle.std.specs.Prelude.{ℕ, zero, suc, ◌&&◌, Bool, cond, List, [], ◌∷◌, ◌++◌, length, bytes_eq, flat_map, filter_map, option_to_list}
 use Rattle.std.specs.List.{list_any}
 use Rattle.std.specs.Ordering.{int_eq}
-use Rattle.type_heads.specs.Types.{Types}
-use Rattle.type_heads.specs.Members.{field}
-use Rattle.type_heads.specs.Conditions.{Condition, condition}
+use Rattle.type_model.specs.type_heads.Types.{Types}
+use Rattle.type_model.specs.type_heads.Members.{field}
+use Rattle.type_model.specs.type_heads.Conditions.{Condition, condition}
 
 -- two conditions ask for one value of one field
 abbrev pub same_condition : Condition → Condition → Bool

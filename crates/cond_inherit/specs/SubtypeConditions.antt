@@ -1,10 +1,10 @@
 -- The conditions of the conditional subtypes of a type, by what is told of types.
 use Rattle.std.specs.Prelude.{◌≡◌, ℕ, false, cond, List, [], Option, None, map, nat_eq, filter_map, option_map, slice_index_or}
 use Rattle.std.specs.Option.{option_map_or}
-use Rattle.type_heads.specs.Table.{all_types, base}
-use Rattle.type_heads.specs.Conditions.{Condition}
-use Rattle.type_heads.specs.Told.{Told, told}
-use Rattle.type_heads.specs.Shown.{condition_told}
+use Rattle.type_model.specs.type_heads.Table.{all_types, base}
+use Rattle.type_model.specs.type_heads.Conditions.{Condition}
+use Rattle.type_model.specs.type_heads.Told.{Told, told}
+use Rattle.type_model.specs.type_heads.Shown.{condition_told}
 use Rattle.cond_inherit.specs.declared.condition.Condition.{Condition as OwnCondition}
 use Rattle.cond_inherit.specs.declared.subtypes.Subtypes.{Subtypes}
 

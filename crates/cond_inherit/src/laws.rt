@@ -1,10 +1,10 @@
 //! The law of what is told of conditions.
 
 ghost use Rattle.std.specs.Prelude.{◌≡◌, ℕ, filter_map};
-ghost use Rattle.type_heads.specs.Conditions.{condition};
-ghost use Rattle.type_heads.specs.Members.{subtypes};
-ghost use Rattle.type_heads.specs.Told.{told};
-ghost use Rattle.type_heads.specs.Types.{Types};
+ghost use Rattle.type_model.specs.type_heads.Conditions.{condition};
+ghost use Rattle.type_model.specs.type_heads.Members.{subtypes};
+ghost use Rattle.type_model.specs.type_heads.Told.{told};
+ghost use Rattle.type_model.specs.type_heads.Types.{Types};
 ghost use Rattle.cond_inherit.specs.SubtypeConditions.{conditions_on};
 
 /// What is told of the conditions on a type are the conditions of its conditional subtypes, in load order.

@@ -5,8 +5,8 @@
 
 use crate::candidates as kinds;
 use crate::candidates::Candidate;
-use dsl_lexer::{LexStop, lex};
-use dsl_parser::{ParseStop, parse};
+use program_load::dsl_lexer::{LexStop, lex};
+use program_load::dsl_parser::{ParseStop, parse};
 use std::alloc::{AllocError, Global};
 
 /// The longest text before the place, in bytes: it is read once for each kind of token.

@@ -1,7 +1,7 @@
 -- The words of the libraries below that the readers of the grammar speak of, in one place.
 pub use Rattle.std.specs.Prelude.{[], List, Err, IfOk, false, length, true, ℕ, Ok, IfErr, None, Option, Result, Some, Bool, drop, nat_lt, suc, zero, cond, max}
 pub use Rattle.std.specs.Result.{IsErr, IsErrAnd}
-pub use Rattle.osc_base.specs.{declared.fault.Place.Place, declared.stop.Stop.Stop, declared.stop.Stop.TheVariants.Memory, declared.stop.Stop.TheVariants.At}
+pub use Rattle.dsl_tree.specs.osc_base.{declared.fault.Place.Place, declared.stop.Stop.Stop, declared.stop.Stop.TheVariants.Memory, declared.stop.Stop.TheVariants.At}
 pub use Rattle.dsl_tree.specs.Codes.{code, has, mark_code, word_code, factor_text, si_text, offset_text, other_name, physical_code, si_name, small_number, text_code, factor_name, large_number, name_code, offset_name, point_number}
 pub use Rattle.dsl_tree.specs.Forest.{nil, Forest, sub, seen, bare, wrong, AnyRule, Follows, Spells}
 pub use Rattle.dsl_tree.specs.Grammar.{Part, rules, Symbol, Of, Bare, Seen, dedent, indent, name, newline}

@@ -6,7 +6,7 @@ ghost use Rattle.dsl_cursor.specs.Words.{[], List, length, drop, Err, IfOk, IfEr
 use crate::signs::Sign;
 use crate::stop::Stop;
 use crate::tokens::Cursor;
-use osc_base::Row;
+use dsl_tree::osc_base::Row;
 use std::alloc::{AllocError, Global};
 
 /// What stands in rows.

@@ -2,4 +2,4 @@
 ///
 /// `At` counts the tokens from the wrong one to the end. So it has one meaning for a reader and for
 /// the one that called it.
-pub type Stop = osc_base::Stop<usize>;
+pub type Stop = dsl_tree::osc_base::Stop<usize>;

@@ -7,8 +7,8 @@ ghost use Rattle.dsl_cursor.specs.Words.{[], length, false, Stop, TokenKind, cod
 
 use crate::signs::{Sign, is_sign};
 use crate::stop::Stop;
+use dsl_tree::osc_base::{Place, Text};
 use dsl_tree::{Digits, Ident, Token, TokenKind};
-use osc_base::{Place, Text};
 use std::alloc::Global;
 use std::marker::Model;
 

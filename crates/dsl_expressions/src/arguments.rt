@@ -8,8 +8,8 @@ ghost use Rattle.dsl_tree.specs.WrittenPhases as written;
 use crate::expressions::expr;
 use dsl_cursor::Sign::Mark;
 use dsl_cursor::{Cursor, Repeated, Stop, is_sign, with_rest};
+use dsl_tree::osc_base::Row;
 use dsl_tree::{Argument, MarkKind, TokenKind};
-use osc_base::Row;
 use std::alloc::Global;
 
 /// Whether the tokens begin with a name and a colon.

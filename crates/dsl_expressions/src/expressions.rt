@@ -13,8 +13,8 @@ use crate::levels::{RowLevel, begins_operator, row_of, take_operator, take_sign,
 use crate::operands::leaf;
 use dsl_cursor::Sign::{Mark, Word};
 use dsl_cursor::{Cursor, Stop};
+use dsl_tree::osc_base::{Boxed, Place, Row};
 use dsl_tree::{Expr, Further, MarkKind, Suffix, TokenKind, WordKind};
-use osc_base::{Boxed, Place, Row};
 use std::alloc::Global;
 
 /// An expression.

@@ -6,8 +6,8 @@ ghost use Rattle.dsl_expressions.specs.Words.{operator_kind, sign_kind, operator
 
 use dsl_cursor::Cursor;
 use dsl_cursor::Sign::{Mark, Word};
+use dsl_tree::osc_base::{Boxed, Place, Row};
 use dsl_tree::{Expr, Further, MarkKind, Operator, RelationSign, Suffix, TokenKind, WordKind};
-use osc_base::{Boxed, Place, Row};
 
 /// A row of operators: `or`, `and`, `+` and `-`, or `*` and `/`.
 #[derive(Clone, Copy)]

@@ -5,8 +5,8 @@ ghost use Rattle.dsl_cursor.specs.Words.{true, false, code, has, nil, seen, sub,
 ghost use Rattle.dsl_expressions.specs.Words.{at_level, bracket_codes, truth_codes, value_codes};
 
 use dsl_cursor::{Cursor, Stop, enum_member};
+use dsl_tree::osc_base::Place;
 use dsl_tree::{Expr, Ident, TokenKind, WordKind};
-use osc_base::Place;
 use std::alloc::Global;
 
 /// The operand that is the token, if it is a word that is one.

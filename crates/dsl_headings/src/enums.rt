@@ -6,8 +6,8 @@ ghost use Rattle.dsl_tree.specs.WrittenFile as written;
 use dsl_cursor::Sign::{self, Mark, Word};
 use dsl_cursor::{Cursor, Repeated, Stop, row_from};
 use dsl_tree::WordKind::EnumWord;
+use dsl_tree::osc_base::Row;
 use dsl_tree::{Digits, EnumDecl, EnumItem, MarkKind};
-use osc_base::Row;
 use std::alloc::Global;
 
 #[tactic(auto, using(dsl_cursor::proofs::ReadSteps::read_step))]

@@ -11,10 +11,10 @@ use dsl_tree::WordKind::{
     ActionWord, ActorWord, FalseWord, InheritsWord, ScenarioWord, StructWord, TrueWord, TypeWord,
     UnitWord,
 };
+use dsl_tree::osc_base::Place;
 use dsl_tree::{
     CompoundKind, ConditionValue, Heir, HeirCondition, Ident, MarkKind, QName, TokenKind,
 };
-use osc_base::Place;
 use std::alloc::Global;
 
 #[tactic(auto, using(dsl_cursor::proofs::ReadSteps::read_step))]

@@ -7,8 +7,8 @@ ghost use Rattle.dsl_tree.specs.WrittenFile as written;
 
 use dsl_cursor::Sign::{self, Mark, Word};
 use dsl_cursor::{Cursor, Item, Repeated, Stop, items, row_of, with_rest};
+use dsl_tree::osc_base::Row;
 use dsl_tree::{Ident, Import, MarkKind, WordKind};
-use osc_base::Row;
 use std::alloc::Global;
 
 /// Names, each after a point.

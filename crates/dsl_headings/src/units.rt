@@ -8,8 +8,8 @@ ghost use Rattle.dsl_headings.specs.Units as rest;
 
 use dsl_cursor::Sign::{self, Mark, Word};
 use dsl_cursor::{Cursor, Repeated, Stop, row_from, row_of};
+use dsl_tree::osc_base::{Place, Row};
 use dsl_tree::{BasePart, Digits, Ident, MarkKind, PhysicalDecl, Signed, UnitDecl, WordKind};
-use osc_base::{Place, Row};
 use std::alloc::Global;
 
 #[tactic(auto, using(dsl_cursor::proofs::ReadSteps::read_step))]

@@ -11,8 +11,6 @@ mod scan;
 mod shape;
 mod spot;
 mod stop;
-#[cfg(test)]
-mod tests;
 mod widths;
 mod words;
 

@@ -27,3 +27,5 @@ pub mod PartTrees
 pub mod Cuts
 pub mod Inverse
 pub mod Tops
+-- Crates below, for the crates above.
+pub use Rattle.osc_base.proofs as of_osc_base

@@ -14,3 +14,5 @@ pub mod Examples
 pub mod PartLists
 pub mod Lookahead
 pub mod Reading
+-- Crates below, for the crates above.
+pub use Rattle.osc_base.specs as osc_base

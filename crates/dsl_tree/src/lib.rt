@@ -30,3 +30,6 @@ pub use phases::{
 pub use rules::{KeepKind, PathHead, PathNode, RuleDecl};
 pub use token::{ExcludedWord, MarkKind, Token, TokenKind, Tokens, WordKind};
 pub use units::{BasePart, PhysicalDecl, UnitDecl};
+
+// Crates below, for the crates above.
+pub use osc_base;

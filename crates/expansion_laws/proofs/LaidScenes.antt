@@ -1,7 +1,7 @@
 -- The scene of a scenario is that of its parts, and is too large if they pass a limit.
 use Rattle.std.proofs.Common.{◌≡◌, ℕ, ◌+◌, ◌*◌, ◌<◌, Bool, true, List, [], ◌∷◌, ◌∙◌, length, map, refl, ap, ap₂, sym, add-one, arith, length-append}
 use Rattle.std.proofs.lemmas.List.{length-map}
-use Rattle.type_heads.specs.Types.{Types}
+use Rattle.composition.specs.type_heads.Types.{Types}
 use Rattle.composition.specs.declared.setting.Setting.{Setting}
 use Rattle.composition.specs.Scenes.{Spot, Binding, Scene}
 use Rattle.composition.specs.Givens.{Given}

@@ -1,7 +1,7 @@
 -- The lists of an expansion are those of its nodes.
 use Rattle.std.proofs.Common.{◌≡◌, List, [], ◌∷◌, ◌++◌, ◌∙◌, map, flat_map, refl, ap, ap₂, sym, append_assoc}
 use Rattle.std.proofs.lemmas.List.{map-append, append-nil}
-use Rattle.type_heads.specs.Types.{Types}
+use Rattle.composition.specs.type_heads.Types.{Types}
 use Rattle.composition.specs.Scenes.{Spot, Binding}
 use Rattle.composition.specs.Givens.{Given}
 use Rattle.composition.specs.Expansion.{GivenModifier, Expansion, Expansions, Object, Value, Phase, End, Part}

@@ -1,6 +1,6 @@
 -- A scenario is too large if the counts of its parts pass a limit.
 use Rattle.std.proofs.Common.{◌≡◌, ℕ, ◌+◌, ◌*◌, List, [], ◌∷◌, ◌++◌, ◌∙◌, length, map, flat_map, refl, ap, ap₂, sym, arith}
-use Rattle.type_heads.specs.Types.{Types}
+use Rattle.composition.specs.type_heads.Types.{Types}
 use Rattle.composition.specs.declared.setting.Setting.{Setting}
 use Rattle.composition.specs.Expansion.{GivenModifier, Expansion, Expansions, Object, Value, Phase, End, Part, expansion}
 use Rattle.composition.specs.SceneFaults.{is_too_large}

@@ -1,7 +1,7 @@
 -- Whether a scene is too large, by its counts.
 use Rattle.std.proofs.Common.{◌≡◌, ℕ, ◌+◌, ◌*◌, ◌<◌, ◌≤◌, true, List, [], ◌∷◌, ◌∙◌, length, map, refl, ap, ap₂, arith}
 use Rattle.std.proofs.lemmas.Bool.Decides.{nat_tests}
-use Rattle.type_heads.specs.Types.{Types}
+use Rattle.composition.specs.type_heads.Types.{Types}
 use Rattle.composition.specs.declared.setting.Setting.{Setting}
 use Rattle.composition.specs.Scenes.{Occurrence, ModifierSpot}
 use Rattle.composition.specs.Expansion.{GivenModifier, Expansion}

@@ -4,8 +4,8 @@ use Rattle.osc_base.specs.declared.fault.Place.{Place}
 use Rattle.osc_base.specs.declared.fault.FaultCode.{FaultCode}
 use Rattle.osc_base.specs.declared.fault.Fault.{Fault}
 use Rattle.osc_base.specs.FaultRows.{row, first_fault}
-use Rattle.type_heads.specs.Types.{Types}
-use Rattle.type_heads.specs.Members.{body}
+use Rattle.composition.specs.type_heads.Types.{Types}
+use Rattle.composition.specs.type_heads.Members.{body}
 use Rattle.composition.specs.declared.setting.Setting.{Setting}
 use Rattle.composition.specs.SceneFaults.{named_scenario, is_too_large, rows_of, scene_rows}
 

@@ -5,11 +5,11 @@ use Rattle.std.specs.Prelude.{◌&&◌, not, option_to_list, codes}
 use Rattle.std.specs.List.{range_with_len}
 use Rattle.osc_base.specs.declared.path.Path.{Path}
 use Rattle.osc_base.specs.Paths.{root, then_name, then_index}
-use Rattle.dsl_tree.specs.PhaseTree as PhaseTrees
-use Rattle.dsl_tree.specs.PhaseTree.{PhaseTree}
-use Rattle.type_heads.specs.Table.{form, owner, is_object}
-use Rattle.type_heads.specs.Types.{Types, Field, Do}
-use Rattle.type_heads.specs.Members.{fields, field_type, list_length, the_do}
+use Rattle.composition.specs.dsl_tree.PhaseTree as PhaseTrees
+use Rattle.composition.specs.dsl_tree.PhaseTree.{PhaseTree}
+use Rattle.composition.specs.type_heads.Table.{form, owner, is_object}
+use Rattle.composition.specs.type_heads.Types.{Types, Field, Do}
+use Rattle.composition.specs.type_heads.Members.{fields, field_type, list_length, the_do}
 use Rattle.composition.specs.declared.guard.Guard.{Guard}
 use Rattle.composition.specs.declared.spot.ValueRange.{ValueRange}
 use Rattle.composition.specs.Scenes.{Binding}

@@ -4,3 +4,6 @@ pub mod WorkNodes
 pub mod Counts
 pub mod NodeCounts
 pub mod Laid
+-- Crates below, for the crates above.
+pub use Rattle.composition.specs as composition
+pub use Rattle.composition.specs.expr_nodes as expr_nodes

@@ -1,7 +1,7 @@
 -- The parts of an expansion as lists, in the two orders in which they are listed.
 use Rattle.std.specs.Prelude.{ℕ, List, [], ◌∷◌, ◌++◌}
 use Rattle.osc_base.specs.declared.path.Path.{Path}
-use Rattle.type_heads.specs.Types.{Types}
+use Rattle.composition.specs.type_heads.Types.{Types}
 use Rattle.composition.specs.declared.guard.Guard.{Guard}
 use Rattle.composition.specs.declared.spot.ValueRange.{ValueRange}
 use Rattle.composition.specs.declared.spot.PhaseKind.{PhaseKind}

@@ -3,9 +3,9 @@ use Rattle.std.specs.Prelude.{ℕ, zero, suc, cond, List, [], ◌∷◌, ◌++�
 use Rattle.std.specs.List.{range_with_len}
 use Rattle.osc_base.specs.declared.path.Path.{Path}
 use Rattle.osc_base.specs.Paths.{root, then_member, then_do}
-use Rattle.type_heads.specs.Types.{Types}
-use Rattle.type_heads.specs.Members.{the_do}
-use Rattle.expr_nodes.specs.Scope.{It}
+use Rattle.composition.specs.type_heads.Types.{Types}
+use Rattle.composition.specs.type_heads.Members.{the_do}
+use Rattle.composition.specs.expr_nodes.Scope.{It}
 use Rattle.composition.specs.declared.spot.PhaseKind.{PhaseKind}
 use Rattle.composition.specs.Givens.{Given, own_givens}
 use Rattle.composition.specs.Expansion.{here_in, argument_named, composition_kind, given_duration, given_argument, of_arguments, part_rule, part_modifier}

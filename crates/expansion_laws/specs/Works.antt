@@ -3,16 +3,16 @@ use Rattle.std.specs.Prelude.{ℕ, zero, suc, ◌&&◌, not, cond, List, [], ◌
 use Rattle.std.specs.List.{range_with_len}
 use Rattle.osc_base.specs.declared.path.Path.{Path}
 use Rattle.osc_base.specs.Paths.{root, then_name, then_index, then_member, then_do}
-use Rattle.dsl_tree.specs.declared.parts.Ident.{Ident}
-use Rattle.dsl_tree.specs.declared.phases.CompKind.{CompKind}
-use Rattle.dsl_tree.specs.declared.phases.InvokeHead.{InvokeHead}
-use Rattle.dsl_tree.specs.ExprTree.{ExprTree}
-use Rattle.dsl_tree.specs.PhaseTree as PhaseTrees
-use Rattle.dsl_tree.specs.PhaseTree.{ArgumentTree, PartTree, PhaseTree, phases_of}
-use Rattle.type_heads.specs.Table.{form, owner, is_object}
-use Rattle.type_heads.specs.Types.{Types, Field, Do}
-use Rattle.type_heads.specs.Members.{fields, field_type, list_length, the_do}
-use Rattle.expr_nodes.specs.Scope.{It}
+use Rattle.composition.specs.dsl_tree.declared.parts.Ident.{Ident}
+use Rattle.composition.specs.dsl_tree.declared.phases.CompKind.{CompKind}
+use Rattle.composition.specs.dsl_tree.declared.phases.InvokeHead.{InvokeHead}
+use Rattle.composition.specs.dsl_tree.ExprTree.{ExprTree}
+use Rattle.composition.specs.dsl_tree.PhaseTree as PhaseTrees
+use Rattle.composition.specs.dsl_tree.PhaseTree.{ArgumentTree, PartTree, PhaseTree, phases_of}
+use Rattle.composition.specs.type_heads.Table.{form, owner, is_object}
+use Rattle.composition.specs.type_heads.Types.{Types, Field, Do}
+use Rattle.composition.specs.type_heads.Members.{fields, field_type, list_length, the_do}
+use Rattle.composition.specs.expr_nodes.Scope.{It}
 use Rattle.composition.specs.declared.guard.Guard.{Guard}
 use Rattle.composition.specs.declared.spot.ValueRange.{ValueRange}
 use Rattle.composition.specs.declared.spot.PhaseKind.{PhaseKind}

@@ -15,11 +15,11 @@ use Rattle.dsl_tree.specs.declared.expr.Operator.{Operator}
 use Rattle.dsl_tree.specs.declared.expr.RelationSign.{RelationSign}
 use Rattle.dsl_tree.specs.ExprTree as Trees
 use Rattle.dsl_tree.specs.ExprTree.{ExprTree, ExprRow}
-use Rattle.units_si.specs.declared.units.Exponents.{Exponents}
-use Rattle.units_si.specs.ExponentTests.{is_exponent, are_exponents}
-use Rattle.type_heads.specs.Form.{Form}
-use Rattle.type_heads.specs.Table.{Table, TableField, TableUnit, form, unit, owner, field_of, is_behaviour, has_members, enum_number, enums_with}
-use Rattle.type_heads.specs.Units.{digits_number}
+use Rattle.expr_nodes.specs.units_si.declared.units.Exponents.{Exponents}
+use Rattle.expr_nodes.specs.units_si.ExponentTests.{is_exponent, are_exponents}
+use Rattle.expr_nodes.specs.type_heads.Form.{Form}
+use Rattle.expr_nodes.specs.type_heads.Table.{Table, TableField, TableUnit, form, unit, owner, field_of, is_behaviour, has_members, enum_number, enums_with}
+use Rattle.expr_nodes.specs.type_heads.Units.{digits_number}
 use Rattle.expr_nodes.specs.declared.compare.Compare.{Compare}
 use Rattle.expr_nodes.specs.Kinds.{ValueKind, Made, kind_of, plain}
 use Rattle.expr_nodes.specs.Typed.{Typed, Constant, Read, Whole, Listed, Span, Minus, Not, Sum, Times, And, Or, Implies, Relation, Within, TypedRow, End, Item, items_of, info, begun_at, place_of, kind}

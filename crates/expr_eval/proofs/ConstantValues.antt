@@ -9,7 +9,7 @@ use Rattle.osc_base.specs.Fraction.{value}
 use Rattle.osc_base.specs.LowestTerms.{lowest}
 use Rattle.osc_base.proofs.Integers.{abs_above}
 use Rattle.dsl_tree.specs.ExprTree.{ExprTree}
-use Rattle.type_heads.specs.Table.{Table}
+use Rattle.expr_nodes.specs.type_heads.Table.{Table}
 use Rattle.expr_nodes.specs.declared.node.Typed.{Typed}
 use Rattle.expr_nodes.specs.Typed.{scale, reach}
 use Rattle.expr_nodes.specs.Value.{worth}

@@ -9,7 +9,7 @@ use Rattle.osc_base.specs.declared.fault.Fault.{Fault}
 use Rattle.osc_base.specs.declared.fault.FaultCode.{FaultCode}
 use Rattle.osc_base.specs.FaultRows.{FaultRow, row, first_fault}
 use Rattle.osc_base.specs.Number.{Number}
-use Rattle.units_si.specs.ExponentTests.{are_exponents}
+use Rattle.expr_nodes.specs.units_si.ExponentTests.{are_exponents}
 use Rattle.expr_nodes.specs.declared.node.Typed.{Typed as Node}
 use Rattle.expr_nodes.specs.Typed.{Typed}
 use Rattle.expr_nodes.specs.Sizes.{size, multiplied, divided, is_wide}

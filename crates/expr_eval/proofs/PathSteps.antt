@@ -8,7 +8,7 @@ use Rattle.dsl_tree.specs.declared.rules.PathHead.{PathHead}
 use Rattle.dsl_tree.specs.declared.rules.PathNode.{PathNode}
 use Rattle.dsl_tree.specs.ExprTree.{ExprTree}
 use Rattle.dsl_tree.specs.Views.{SuffixTree, Named, At, with_suffixes, suffix_tree, head_tree, path_row, path_tree}
-use Rattle.type_heads.specs.Table.{Table}
+use Rattle.expr_nodes.specs.type_heads.Table.{Table}
 use Rattle.expr_nodes.specs.Scope.{Scope}
 use Rattle.expr_nodes.specs.Checks.{IsChecked}
 use Rattle.expr_nodes.specs.Typing.{first, is_path}

@@ -4,8 +4,8 @@ use Rattle.std.specs.Prelude.{◌||◌, ℤ}
 use Rattle.std.proofs.lemmas.Bool.Decides.{nat_tests}
 use Rattle.std.proofs.lemmas.Int.{ints}
 use Rattle.osc_base.specs.Comparisons.{same_number}
-use Rattle.units_si.specs.declared.units.Exponents.{Exponents}
-use Rattle.units_si.specs.ExponentTests.{same_exponents}
+use Rattle.expr_nodes.specs.units_si.declared.units.Exponents.{Exponents}
+use Rattle.expr_nodes.specs.units_si.ExponentTests.{same_exponents}
 use Rattle.expr_nodes.specs.Kinds.{ValueKind, is_number, same_units}
 use Rattle.expr_nodes.specs.Typed.{Info}
 use Rattle.expr_nodes.specs.Sizes.{Size, is_wide}

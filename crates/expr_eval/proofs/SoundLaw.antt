@@ -5,8 +5,8 @@ use Rattle.osc_base.specs.declared.fault.Place.{Place}
 use Rattle.dsl_tree.specs.declared.expr.Operator.{Operator}
 use Rattle.dsl_tree.specs.ExprTree as Trees
 use Rattle.dsl_tree.specs.ExprTree.{ExprTree, ExprRow}
-use Rattle.type_heads.specs.Table.{Table}
-use Rattle.type_heads.specs.Table as Tables
+use Rattle.expr_nodes.specs.type_heads.Table.{Table}
+use Rattle.expr_nodes.specs.type_heads.Table as Tables
 use Rattle.expr_nodes.specs.Scope.{Scope}
 use Rattle.expr_nodes.specs.Typed.{Typed, Constant, Read, Whole, Listed, Span, Minus, Not, Sum, Times, And, Or, Implies, Relation, Within, TypedRow, End, Item, items_of, begun_at, place_of}
 use Rattle.expr_nodes.specs.Parts.{is_scalar}

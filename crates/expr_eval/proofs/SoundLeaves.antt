@@ -16,10 +16,10 @@ use Rattle.osc_base.proofs.Multiples.{lowest_terms}
 use Rattle.dsl_tree.specs.declared.compounds.CompoundKind.{CompoundKind}
 use Rattle.dsl_tree.specs.declared.parts.Digits.{Digits}
 use Rattle.dsl_tree.specs.declared.parts.Ident.{Ident}
-use Rattle.units_si.specs.declared.units.Exponents.{Exponents}
-use Rattle.name_scope.specs.Declaring.{first_place}
-use Rattle.type_heads.specs.Form.{Form}
-use Rattle.type_heads.specs.Table.{Table, TableField, TableUnit, form, field_of, enum_number, enums_with, is_behaviour, unit}
+use Rattle.expr_nodes.specs.units_si.declared.units.Exponents.{Exponents}
+use Rattle.expr_nodes.specs.name_scope.Declaring.{first_place}
+use Rattle.expr_nodes.specs.type_heads.Form.{Form}
+use Rattle.expr_nodes.specs.type_heads.Table.{Table, TableField, TableUnit, form, field_of, enum_number, enums_with, is_behaviour, unit}
 use Rattle.expr_nodes.specs.Kinds.{ValueKind, Made, is_truth, plain}
 use Rattle.expr_nodes.specs.Typed.{Typed, Constant, Read, Whole, Listed, Span, Minus, Not, Sum, Times, And, Or, Implies, Relation, Within}
 use Rattle.expr_nodes.specs.Sizes.{info_at, constant_size, unit_size, is_wide}

@@ -3,7 +3,7 @@ use Rattle.std.proofs.Common.{◌≡◌, ◌∙◌, sym, ap, true, false, Option
 use Rattle.std.specs.Prelude.{is_some}
 use Rattle.osc_base.specs.FaultRows.{first_fault}
 use Rattle.dsl_tree.specs.ExprTree.{ExprTree}
-use Rattle.type_heads.specs.Table.{Table}
+use Rattle.expr_nodes.specs.type_heads.Table.{Table}
 use Rattle.expr_nodes.specs.declared.node.Typed.{Typed}
 use Rattle.expr_nodes.specs.declared.parts.Checked.{Checked}
 use Rattle.expr_nodes.specs.Typed as Nodes

@@ -2,10 +2,10 @@
 use Rattle.std.specs.Prelude.{◌≡◌, ℕ, ◌&&◌, Bool, true, List, Some}
 use Rattle.std.specs.List.{list_all}
 use Rattle.dsl_tree.specs.ExprTree.{ExprTree}
-use Rattle.units_si.specs.declared.units.Exponents.{Exponents}
-use Rattle.units_si.specs.ExponentTests.{are_exponents}
-use Rattle.type_heads.specs.Form.{Form}
-use Rattle.type_heads.specs.Table.{Table, TableUnit, form, unit}
+use Rattle.expr_nodes.specs.units_si.declared.units.Exponents.{Exponents}
+use Rattle.expr_nodes.specs.units_si.ExponentTests.{are_exponents}
+use Rattle.expr_nodes.specs.type_heads.Form.{Form}
+use Rattle.expr_nodes.specs.type_heads.Table.{Table, TableUnit, form, unit}
 use Rattle.expr_nodes.specs.Kinds.{ValueKind}
 use Rattle.expr_nodes.specs.Typed.{Typed, Listed, kind, items_of}
 use Rattle.expr_nodes.specs.Scope.{Scope}

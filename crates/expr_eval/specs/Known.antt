@@ -1,7 +1,7 @@
 -- What is known of an expression, as one word. It is opaque, so that no search opens the tree of an expression.
 use Rattle.dsl_tree.specs.declared.expr.Expr.{Expr}
 use Rattle.dsl_tree.specs.Views.{expr_tree}
-use Rattle.type_heads.specs.Table.{Table}
+use Rattle.expr_nodes.specs.type_heads.Table.{Table}
 use Rattle.expr_nodes.specs.declared.parts.Checked.{Checked}
 use Rattle.expr_nodes.specs.Scope.{Scope}
 use Rattle.expr_nodes.specs.Checks.{IsChecked}

@@ -6,3 +6,5 @@ pub mod Known
 pub mod DivisorValues
 pub mod Resolved
 pub mod Bounded
+-- Crates below, for the crates above.
+pub use Rattle.expr_nodes.specs as expr_nodes

@@ -2,7 +2,7 @@
 use Rattle.std.specs.Prelude.{◌≡◌, ℕ, Bool, true, false, List, Option, Some, is_some}
 use Rattle.std.specs.List.{list_all}
 use Rattle.dsl_tree.specs.ExprTree.{ExprTree}
-use Rattle.type_heads.specs.Table.{Table, TableUnit, form, unit}
+use Rattle.expr_nodes.specs.type_heads.Table.{Table, TableUnit, form, unit}
 use Rattle.expr_nodes.specs.Kinds.{Made, ValueKind, kind_of}
 use Rattle.expr_nodes.specs.Typed.{Typed, Whole, Listed, items_of}
 use Rattle.expr_nodes.specs.Scope.{It, Label, Scope}

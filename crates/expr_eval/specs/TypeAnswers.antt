@@ -6,7 +6,7 @@ use Rattle.osc_base.specs.declared.stop.Stop.{Stop}
 use Rattle.osc_base.specs.FaultRows.{first_fault}
 use Rattle.osc_base.specs.Stops.{OnStop}
 use Rattle.dsl_tree.specs.ExprTree.{ExprTree}
-use Rattle.type_heads.specs.Table.{Table}
+use Rattle.expr_nodes.specs.type_heads.Table.{Table}
 use Rattle.expr_nodes.specs.declared.node.Typed.{Typed}
 use Rattle.expr_nodes.specs.Scope.{Scope}
 use Rattle.expr_nodes.specs.Typing.{typed, expr_rows}

@@ -17,9 +17,9 @@ use dsl_tree::{Expr, Further, Suffix};
 use expr_nodes::Scope;
 use expr_nodes::parts::Checked;
 use expr_nodes::steps::{grouped, indexed, negated, opposed, pointed};
+use expr_nodes::type_model::Types;
 use osc_base::Place;
 use std::alloc::{AllocError, Global};
-use type_model::Types;
 
 /// What is known of an expression.
 #[cycle(checks)]

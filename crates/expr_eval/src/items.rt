@@ -2,7 +2,7 @@
 
 ghost use Rattle.std.specs.Prelude.{◌≡◌, ◌∷◌, ◌++◌, [], List, map, option_map, IfOk};
 ghost use Rattle.dsl_tree.specs.ExprTree.{ExprTree, row_of as tree_row};
-ghost use Rattle.type_heads.specs.Table.{Table};
+ghost use Rattle.expr_nodes.specs.type_heads.Table.{Table};
 ghost use Rattle.expr_nodes.specs.Scope.{Scope};
 ghost use Rattle.expr_nodes.specs.Typed.{row_of};
 ghost use Rattle.expr_nodes.specs.Operators.{list_typed};

@@ -2,7 +2,7 @@
 
 ghost use Rattle.std.specs.Prelude.{◌≡◌, None, Some, IfOk};
 ghost use Rattle.dsl_tree.specs.ExprTree.{ExprTree};
-ghost use Rattle.type_heads.specs.Table.{Table};
+ghost use Rattle.expr_nodes.specs.type_heads.Table.{Table};
 ghost use Rattle.expr_nodes.specs.Scope.{Scope as Names};
 ghost use Rattle.expr_nodes.specs.Checks.{IsChecked};
 ghost use Rattle.expr_nodes.specs.Seen.{seen, seen_part};
@@ -10,10 +10,10 @@ ghost use Rattle.expr_nodes.specs.SeenNames.{seen_scope};
 
 use dsl_tree::{Digits, Ident};
 use expr_nodes::parts::Checked;
+use expr_nodes::type_model::Types;
 use expr_nodes::{Scope, Typed, literals, meanings, others, physical};
 use osc_base::{Boxed, Place};
 use std::alloc::{AllocError, Global};
-use type_model::Types;
 
 /// An expression without a fault.
 fn faultless(alloc: Global, typed: Typed) -> Result<Checked, AllocError>

@@ -2,7 +2,7 @@
 
 ghost use Rattle.std.specs.Prelude.{◌≡◌, true, IfOk};
 ghost use Rattle.dsl_tree.specs.ExprTree.{ExprTree};
-ghost use Rattle.type_heads.specs.Table.{Table};
+ghost use Rattle.expr_nodes.specs.type_heads.Table.{Table};
 ghost use Rattle.expr_nodes.specs.Scope.{Scope};
 ghost use Rattle.expr_nodes.specs.Checks.{IsChecked};
 ghost use Rattle.expr_nodes.specs.Seen.{seen_part};

@@ -15,9 +15,9 @@ use expr_nodes::meanings::name;
 use expr_nodes::others::{actor, it};
 use expr_nodes::parts::Checked;
 use expr_nodes::steps::{indexed, pointed};
+use expr_nodes::type_model::Types;
 use osc_base::Place;
 use std::alloc::{AllocError, Global};
-use type_model::Types;
 
 /// What a path begins with, as an expression.
 fn head_checked(

@@ -3,7 +3,7 @@
 ghost use Rattle.std.specs.Prelude.{◌≡◌, true, Some, None, is_some};
 ghost use Rattle.dsl_tree.specs.ExprTree.{ExprTree};
 ghost use Rattle.dsl_tree.specs.Views.{expr_tree};
-ghost use Rattle.type_heads.specs.Table.{Table};
+ghost use Rattle.expr_nodes.specs.type_heads.Table.{Table};
 ghost use Rattle.expr_nodes.specs.Checks.{IsChecked};
 ghost use Rattle.expr_nodes.specs.Scope.{Scope as Names};
 ghost use Rattle.expr_nodes.specs.Seen.{seen, seen_part};
@@ -14,10 +14,10 @@ ghost use Rattle.expr_eval.specs.TypeAnswers.{IsTyped};
 use crate::checks::checked;
 use dsl_tree::Expr;
 use expr_nodes::parts::Checked;
+use expr_nodes::type_model::Types;
 use expr_nodes::{Scope, Typed};
 use osc_base::{Boxed, Fault, Stop};
 use std::alloc::Global;
-use type_model::Types;
 
 /// Why an expression has no typed form: its first fault, or out of memory.
 pub type TypeStop = Stop<Fault>;

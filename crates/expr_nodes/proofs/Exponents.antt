@@ -3,9 +3,9 @@ use Rattle.std.proofs.Common.{◌≡◌, refl, ap, Bool, true, false, ◌&&◌, 
 use Rattle.std.specs.Prelude.{negsuc}
 use Rattle.std.specs.Option.{SomeIff}
 use Rattle.std.proofs.lemmas.Int.{ints}
-use Rattle.units_si.specs.declared.units.Exponents.{Exponents}
-use Rattle.units_si.specs.Units.{IsExponent, AreExponents}
-use Rattle.units_si.specs.ExponentTests.{is_exponent, are_exponents}
+use Rattle.type_model.specs.units_si.declared.units.Exponents.{Exponents}
+use Rattle.type_model.specs.units_si.Units.{IsExponent, AreExponents}
+use Rattle.type_model.specs.units_si.ExponentTests.{is_exponent, are_exponents}
 
 -- both of two tests
 left_of : (a b : Bool) → (a && b) ≡ true → a ≡ true

@@ -1,13 +1,13 @@
 -- What the answers of types say of fields and enums.
 use Rattle.std.proofs.Common.{◌≡◌, ◌∙◌, refl, sym, ap, ap₂, ℕ, true, List, [], ◌∷◌, Option, Some, None}
 use Rattle.std.specs.Prelude.{ℤ, pos, option_map}
-use Rattle.dsl_tree.specs.declared.parts.Ident.{Ident}
+use Rattle.type_model.specs.dsl_tree.declared.parts.Ident.{Ident}
 use Rattle.osc_base.specs.declared.fault.Place.{Place}
 use Rattle.osc_base.specs.declared.path.Path.{Path}
-use Rattle.type_heads.specs.Form.{Form}
-use Rattle.type_heads.specs.declared.kinds.EnumHit.{EnumHit}
-use Rattle.type_heads.specs.Shown.{bare, hit_of}
-use Rattle.type_heads.specs.Table.{Table, is_behaviour, is_enum, enum_number}
+use Rattle.type_model.specs.type_heads.Form.{Form}
+use Rattle.type_model.specs.type_heads.declared.kinds.EnumHit.{EnumHit}
+use Rattle.type_model.specs.type_heads.Shown.{bare, hit_of}
+use Rattle.type_model.specs.type_heads.Table.{Table, is_behaviour, is_enum, enum_number}
 use Rattle.expr_nodes.specs.Kinds.{ValueKind, kind_of}
 use Rattle.expr_nodes.specs.Typed.{Typed, TypedRow, Read, Listed}
 use Rattle.expr_nodes.specs.Sizes.{Size, info_at, unit_size, field_size}

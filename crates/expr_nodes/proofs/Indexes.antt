@@ -2,16 +2,16 @@
 use Rattle.std.proofs.Common.{◌≡◌, ◌∙◌, refl, sym, ap, ℕ, zero, suc, List, [], ◌∷◌, map, Option, None}
 use Rattle.std.specs.Prelude.{option_map, slice_get, Bool, true}
 use Rattle.osc_base.specs.declared.fault.Place.{Place}
-use Rattle.dsl_tree.specs.declared.parts.Digits.{Digits}
-use Rattle.dsl_tree.specs.declared.expr.Operator.{Operator}
-use Rattle.dsl_tree.specs.declared.expr.Expr.{Expr}
-use Rattle.dsl_tree.specs.declared.expr.Suffix.{Suffix}
-use Rattle.dsl_tree.specs.declared.expr.Further.{Further}
-use Rattle.dsl_tree.specs.declared.expr.Expr.TheOpen.{Expr-F}
-use Rattle.dsl_tree.specs.declared.expr.Expr.TheFolds.{fold-roll-Expr, ind-Expr, map-Expr}
-use Rattle.dsl_tree.specs.declared.expr.Expr.TheViews.{roll-Expr}
-use Rattle.dsl_tree.specs.ExprTree.{ExprTree}
-use Rattle.dsl_tree.specs.Views.{SuffixTree, FurtherTree, Named, At, grouped, with_suffixes, named_row, indexed_row, expr_step, suffix_step, further_step, expr_tree, suffix_tree, further_tree}
+use Rattle.type_model.specs.dsl_tree.declared.parts.Digits.{Digits}
+use Rattle.type_model.specs.dsl_tree.declared.expr.Operator.{Operator}
+use Rattle.type_model.specs.dsl_tree.declared.expr.Expr.{Expr}
+use Rattle.type_model.specs.dsl_tree.declared.expr.Suffix.{Suffix}
+use Rattle.type_model.specs.dsl_tree.declared.expr.Further.{Further}
+use Rattle.type_model.specs.dsl_tree.declared.expr.Expr.TheOpen.{Expr-F}
+use Rattle.type_model.specs.dsl_tree.declared.expr.Expr.TheFolds.{fold-roll-Expr, ind-Expr, map-Expr}
+use Rattle.type_model.specs.dsl_tree.declared.expr.Expr.TheViews.{roll-Expr}
+use Rattle.type_model.specs.dsl_tree.ExprTree.{ExprTree}
+use Rattle.type_model.specs.dsl_tree.Views.{SuffixTree, FurtherTree, Named, At, grouped, with_suffixes, named_row, indexed_row, expr_step, suffix_step, further_step, expr_tree, suffix_tree, further_tree}
 use Rattle.expr_nodes.specs.declared.node.Info.{Info}
 use Rattle.expr_nodes.specs.declared.node.Typed.{Typed}
 use Rattle.expr_nodes.specs.declared.node.Typed.TheViews as Nodes

@@ -4,7 +4,7 @@ use Rattle.std.specs.Prelude.{slice_get, find, option_and_then, option_map}
 use Rattle.std.specs.Slice.{IsItemAt}
 use Rattle.std.proofs.lemmas.Slice.Eq.{bytes_eq-Decides}
 use Rattle.std.proofs.lemmas.Option.{slice_get_past, slice_get-get_or}
-use Rattle.name_scope.specs.Declaring.{first_place}
+use Rattle.type_model.specs.name_scope.Declaring.{first_place}
 use Rattle.expr_nodes.specs.declared.labels.Label.{Label}
 use Rattle.expr_nodes.specs.declared.ways.Turn.{Turn}
 use Rattle.expr_nodes.specs.Scope as Seen

@@ -6,9 +6,9 @@ use Rattle.osc_base.specs.declared.fault.Fault.{Fault}
 use Rattle.osc_base.specs.declared.fault.FaultCode.{FaultCode}
 use Rattle.osc_base.specs.FaultRows.{row, row_fault, first_fault}
 use Rattle.osc_base.specs.LowestTerms.{lowest}
-use Rattle.dsl_tree.specs.declared.parts.Digits.{Digits}
-use Rattle.type_heads.specs.Table.{Table, TableUnit, unit}
-use Rattle.type_heads.specs.Shown.{UnitParts, unit_parts}
+use Rattle.type_model.specs.dsl_tree.declared.parts.Digits.{Digits}
+use Rattle.type_model.specs.type_heads.Table.{Table, TableUnit, unit}
+use Rattle.type_model.specs.type_heads.Shown.{UnitParts, unit_parts}
 use Rattle.expr_nodes.specs.Kinds.{ValueKind}
 use Rattle.expr_nodes.specs.Typed.{Typed}
 use Rattle.expr_nodes.specs.Operators.{constant_at, count_in, physical_rows, physical_typed}

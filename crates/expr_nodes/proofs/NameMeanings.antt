@@ -8,10 +8,10 @@ use Rattle.osc_base.specs.declared.fault.FaultCode.{FaultCode}
 use Rattle.osc_base.specs.declared.path.Path.{Path}
 use Rattle.osc_base.specs.FaultRows.{row, first_fault}
 use Rattle.osc_base.specs.Paths.{root, then_name}
-use Rattle.dsl_tree.specs.declared.parts.Ident.{Ident}
-use Rattle.type_heads.specs.declared.kinds.FieldType.{FieldType}
-use Rattle.type_heads.specs.Shown.{shown_field}
-use Rattle.type_heads.specs.Table.{Table, TableField, form, field_of, is_behaviour}
+use Rattle.type_model.specs.dsl_tree.declared.parts.Ident.{Ident}
+use Rattle.type_model.specs.type_heads.declared.kinds.FieldType.{FieldType}
+use Rattle.type_model.specs.type_heads.Shown.{shown_field}
+use Rattle.type_model.specs.type_heads.Table.{Table, TableField, form, field_of, is_behaviour}
 use Rattle.expr_nodes.specs.Scope.{Scope}
 use Rattle.expr_nodes.specs.Names.{Meaning, Something, held_at, is_duration, duration_if, label_named, meaning, meaning_by_field, meaning_by_label, member_of_object, is_nothing, is_several, is_hidden, name_rows}
 

@@ -1,6 +1,6 @@
 -- What two parts make, if both are there.
 use Rattle.std.proofs.Common.{◌≡◌, true, false, not, Option, Some, IfOk, Result}
-use Rattle.units_si.specs.ExponentTests.{are_exponents}
+use Rattle.type_model.specs.units_si.ExponentTests.{are_exponents}
 use Rattle.expr_nodes.specs.Typed.{Typed}
 use Rattle.expr_nodes.specs.declared.node.Typed.{Typed as Node}
 use Rattle.expr_nodes.specs.Sizes.{size, multiplied, is_wide}

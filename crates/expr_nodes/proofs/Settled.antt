@@ -5,7 +5,7 @@ use Rattle.osc_base.specs.declared.fault.Place.{Place}
 use Rattle.osc_base.specs.declared.fault.FaultCode.{FaultCode}
 use Rattle.osc_base.specs.declared.fault.Fault.{Fault}
 use Rattle.osc_base.specs.FaultRows.{FaultRow, row, is_before, first_of, first_from, first_fault}
-use Rattle.units_si.specs.ExponentTests.{are_exponents}
+use Rattle.type_model.specs.units_si.ExponentTests.{are_exponents}
 use Rattle.expr_nodes.specs.Kinds.{same_units}
 use Rattle.expr_nodes.specs.Typed.{Typed, kind}
 use Rattle.expr_nodes.specs.Sizes.{size, joined, multiplied, is_wide}

@@ -15,9 +15,9 @@ use Rattle.osc_base.proofs.Integers.{le_cancel, lt_cancel}
 use Rattle.osc_base.proofs.Numbers.{floor_is}
 use Rattle.osc_base.proofs.Fractions.{widened_num, widened_same, den_above}
 use Rattle.osc_base.proofs.Multiples.{is_least_common_multiple, lowest_same}
-use Rattle.units_si.specs.declared.units.Unit.{Unit}
-use Rattle.units_si.specs.Units.{IsSlotValue, LiteralExactly}
-use Rattle.units_si.specs.Literals.{times, add, nearest_thousandth, slot_value, literal_count}
+use Rattle.type_model.specs.units_si.declared.units.Unit.{Unit}
+use Rattle.type_model.specs.units_si.Units.{IsSlotValue, LiteralExactly}
+use Rattle.type_model.specs.units_si.Literals.{times, add, nearest_thousandth, slot_value, literal_count}
 use Rattle.expr_nodes.proofs.Divisors.{lcm_is}
 
 -- Tests of the limit

@@ -1,8 +1,8 @@
 -- What is known of an expression: its first fault, and its typed form.
 use Rattle.std.specs.Prelude.{◌≡◌}
 use Rattle.osc_base.specs.FaultRows.{first_fault}
-use Rattle.dsl_tree.specs.ExprTree.{ExprTree}
-use Rattle.type_heads.specs.Table.{Table}
+use Rattle.type_model.specs.dsl_tree.ExprTree.{ExprTree}
+use Rattle.type_model.specs.type_heads.Table.{Table}
 use Rattle.expr_nodes.specs.declared.parts.Checked.{Checked}
 use Rattle.expr_nodes.specs.Scope.{Scope}
 use Rattle.expr_nodes.specs.Typing.{typed, expr_rows}

@@ -1,8 +1,8 @@
 -- The kinds of expressions.
 use Rattle.std.specs.Prelude.{ℕ, pos, Bool, true, false, Option, Some, None, nat_eq, option_map}
-use Rattle.units_si.specs.declared.units.Exponents.{Exponents}
-use Rattle.type_heads.specs.Form.{Form}
-use Rattle.units_si.specs.ExponentTests.{same_exponents}
+use Rattle.type_model.specs.units_si.declared.units.Exponents.{Exponents}
+use Rattle.type_model.specs.type_heads.Form.{Form}
+use Rattle.type_model.specs.units_si.ExponentTests.{same_exponents}
 
 -- what a phase with a label makes: nothing, the object of an action or scenario, or what its invocation doesn't tell
 pub data Made : Type 0 where

@@ -7,9 +7,9 @@ use Rattle.osc_base.specs.declared.path.Path.{Path}
 use Rattle.osc_base.specs.Number.{whole}
 use Rattle.osc_base.specs.FaultRows.{FaultRow, row}
 use Rattle.osc_base.specs.Paths.{root, then_name, then_index, then_duration}
-use Rattle.dsl_tree.specs.declared.parts.Ident.{Ident}
-use Rattle.type_heads.specs.Form.{Form}
-use Rattle.type_heads.specs.Table.{Table, TableField, form, named, owner, field_of, is_behaviour, has_members, is_enum, enum_number, enums_with}
+use Rattle.type_model.specs.dsl_tree.declared.parts.Ident.{Ident}
+use Rattle.type_model.specs.type_heads.Form.{Form}
+use Rattle.type_model.specs.type_heads.Table.{Table, TableField, form, named, owner, field_of, is_behaviour, has_members, is_enum, enum_number, enums_with}
 use Rattle.expr_nodes.specs.Kinds.{ValueKind, Made, kind_of, seconds}
 use Rattle.expr_nodes.specs.Typed.{Typed, Constant, Read, Whole, Listed, TypedRow, Item, End}
 use Rattle.expr_nodes.specs.Scope.{It, Label, Scope}

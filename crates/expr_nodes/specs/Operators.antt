@@ -10,17 +10,17 @@ use Rattle.osc_base.specs.declared.fault.FaultCode.{FaultCode}
 use Rattle.osc_base.specs.Number.{Number, whole}
 use Rattle.osc_base.specs.LowestTerms.{lowest}
 use Rattle.osc_base.specs.FaultRows.{FaultRow, row}
-use Rattle.dsl_tree.specs.declared.parts.Digits.{Digits}
-use Rattle.dsl_tree.specs.declared.expr.Operator.{Operator}
-use Rattle.dsl_tree.specs.declared.expr.RelationSign.{RelationSign}
-use Rattle.dsl_tree.specs.ExprTree.{ExprTree}
-use Rattle.units_si.specs.declared.units.Exponents.{Exponents}
-use Rattle.units_si.specs.Units.{each}
-use Rattle.units_si.specs.ExponentTests.{are_exponents}
-use Rattle.units_si.specs.Literals.{literal_count}
-use Rattle.name_scope.specs.Declaring.{first_place}
-use Rattle.type_heads.specs.Table.{Table, TableUnit, unit}
-use Rattle.type_heads.specs.Units.{digits_number}
+use Rattle.type_model.specs.dsl_tree.declared.parts.Digits.{Digits}
+use Rattle.type_model.specs.dsl_tree.declared.expr.Operator.{Operator}
+use Rattle.type_model.specs.dsl_tree.declared.expr.RelationSign.{RelationSign}
+use Rattle.type_model.specs.dsl_tree.ExprTree.{ExprTree}
+use Rattle.type_model.specs.units_si.declared.units.Exponents.{Exponents}
+use Rattle.type_model.specs.units_si.Units.{each}
+use Rattle.type_model.specs.units_si.ExponentTests.{are_exponents}
+use Rattle.type_model.specs.units_si.Literals.{literal_count}
+use Rattle.type_model.specs.name_scope.Declaring.{first_place}
+use Rattle.type_model.specs.type_heads.Table.{Table, TableUnit, unit}
+use Rattle.type_model.specs.type_heads.Units.{digits_number}
 use Rattle.expr_nodes.specs.declared.compare.Compare.{Compare}
 use Rattle.expr_nodes.specs.declared.compare.Compare.TheVariants.{Below as is_below}
 use Rattle.expr_nodes.specs.Kinds.{ValueKind, plain, no_exponents, is_number, is_truth, same_units, are_alike}

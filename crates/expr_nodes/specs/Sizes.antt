@@ -4,7 +4,7 @@ use Rattle.osc_base.specs.declared.fault.Place.{Place}
 use Rattle.osc_base.specs.Number.{Number}
 use Rattle.osc_base.specs.LowestTerms.{lcm}
 use Rattle.osc_base.specs.Comparisons.{greatest_part}
-use Rattle.type_heads.specs.Form.{greatest_value}
+use Rattle.type_model.specs.type_heads.Form.{greatest_value}
 use Rattle.expr_nodes.specs.Kinds.{ValueKind}
 use Rattle.expr_nodes.specs.Typed.{Typed, Info, scale, reach}
 

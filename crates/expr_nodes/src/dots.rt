@@ -11,9 +11,9 @@ use crate::meanings::{field_meant, typed_of};
 use crate::names::{Meaning, duration_at, is_behaviour, is_duration};
 use crate::parts::{Checked, fault_if};
 use crate::{Made, Typed, ValueKind};
-use dsl_tree::Ident;
 use osc_base::{Boxed, FaultCode, Path, Place, Text};
 use std::alloc::{AllocError, Global};
+use type_model::dsl_tree::Ident;
 use type_model::{TypeId, Types};
 
 /// The duration of what stands at a path, if it has one.

@@ -2,8 +2,8 @@
 
 ghost use Rattle.std.specs.Prelude.{◌≡◌, ◌<◌, Some, IfOk};
 ghost use Rattle.osc_base.specs.Paths.{then_name, then_index};
-ghost use Rattle.type_heads.specs.Shown.{kind_form};
-ghost use Rattle.type_heads.specs.Table.{has_members as of_compound};
+ghost use Rattle.type_model.specs.type_heads.Shown.{kind_form};
+ghost use Rattle.type_model.specs.type_heads.Table.{has_members as of_compound};
 ghost use Rattle.expr_nodes.specs.Kinds.{kind_of};
 ghost use Rattle.expr_nodes.specs.Typed as Nodes;
 ghost use Rattle.expr_nodes.specs.Sizes.{info_at, field_size, unit_size};
@@ -14,8 +14,8 @@ ghost use Rattle.expr_nodes.specs.SeenNames.{single_in};
 use crate::{Info, Size, Typed, ValueKind};
 use osc_base::{Path, Place, Step, Text};
 use std::alloc::{AllocError, Global};
+use type_model::units_si::Exponents;
 use type_model::{TypeId, TypeKind, Types};
-use units_si::Exponents;
 
 /// The exponents of a number without a unit.
 pub(crate) const NO_EXPONENTS: Exponents = Exponents {

@@ -1,7 +1,7 @@
 //! What is held at paths: single values, objects and lists.
 
 ghost use Rattle.std.specs.Prelude.{◌≡◌, Some, map, IfOk};
-ghost use Rattle.type_heads.specs.Shown.{kind_form};
+ghost use Rattle.type_model.specs.type_heads.Shown.{kind_form};
 ghost use Rattle.expr_nodes.specs.Typed as Nodes;
 ghost use Rattle.expr_nodes.specs.Typed.{row_of};
 ghost use Rattle.expr_nodes.specs.Names.{list_field as field_list, held_at as field_held, elements_from};

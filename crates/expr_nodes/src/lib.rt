@@ -37,3 +37,7 @@ pub use node::{Earlier, Info, Join, Typed};
 pub use scope::{It, Scope};
 pub use size::Size;
 pub use ways::Turn;
+
+// Crates below, for the crates above.
+pub use type_model;
+pub use type_model::{type_faults, units_si};

@@ -3,7 +3,7 @@
 ghost use Rattle.std.specs.Prelude.{◌≡◌, Some, false, is_none, map, option_copied, option_map, option_and_then, slice_get, IfOk};
 ghost use Rattle.std.specs.Option.{option_map_or};
 ghost use Rattle.osc_base.specs.FaultRows.{first_fault};
-ghost use Rattle.dsl_tree.specs.Views.{expr_tree};
+ghost use Rattle.type_model.specs.dsl_tree.Views.{expr_tree};
 ghost use Rattle.expr_nodes.specs.Typed.{row_of, place_of, begun_at};
 ghost use Rattle.expr_nodes.specs.Parts.{of_one};
 ghost use Rattle.expr_nodes.specs.Operators.{row_kind as kind_of_row, list_typed, index_of as number_in, element as element_in, index_rows, index_typed};
@@ -14,9 +14,9 @@ use crate::held::listed;
 use crate::parts::{Checked, fault_if, least};
 use crate::spans::begun;
 use crate::{Info, Size, Typed, ValueKind};
-use dsl_tree::Expr;
 use osc_base::{Boxed, Fault, FaultCode, Place, Row};
 use std::alloc::{AllocError, Global};
+use type_model::dsl_tree::Expr;
 
 /// The kind of a list is that of its first item.
 fn row_kind(items: &[Typed]) -> ValueKind

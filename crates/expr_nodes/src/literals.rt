@@ -12,10 +12,10 @@ use crate::parts::{Checked, fault_if};
 use crate::size::gcd;
 use crate::truths::truth_at;
 use crate::{Info, Size, Typed, ValueKind};
-use dsl_tree::Digits;
 use osc_base::{Boxed, FaultCode, Fraction, Place};
 use std::alloc::{AllocError, Global};
 use type_model::Types;
+use type_model::dsl_tree::Digits;
 
 /// The most places that a number may have. A token of a source has at most 18 digits.
 const MOST_PLACES: u8 = 18;

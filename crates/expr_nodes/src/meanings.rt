@@ -4,7 +4,7 @@ ghost use Rattle.std.specs.Prelude.{◌≡◌, ◌&&◌, ◌∷◌, [], false, I
 ghost use Rattle.std.specs.Option.{option_map_or};
 ghost use Rattle.osc_base.specs.FaultRows.{first_fault, row};
 ghost use Rattle.osc_base.specs.declared.fault.FaultCode.{FaultCode};
-ghost use Rattle.type_heads.specs.Table.{form, is_behaviour as of_behaviour};
+ghost use Rattle.type_model.specs.type_heads.Table.{form, is_behaviour as of_behaviour};
 ghost use Rattle.expr_nodes.specs.Names as Names;
 ghost use Rattle.expr_nodes.specs.Names.{is_duration as named_duration, held_at as field_held, label_named, meaning_by_duration, meaning_by_label, meaning as meant, typed_meaning, is_nothing, is_several, is_hidden as label_hidden, name_rows, name_typed};
 ghost use Rattle.expr_nodes.specs.Seen.{seen_part};
@@ -17,9 +17,9 @@ use crate::names::{
 use crate::parts::{Checked, fault_if, least};
 use crate::ways::leads_into;
 use crate::{Scope, Typed};
-use dsl_tree::Ident;
 use osc_base::{Boxed, Fault, FaultCode, Path, Place};
 use std::alloc::{AllocError, Global};
+use type_model::dsl_tree::Ident;
 use type_model::{FieldType, Types};
 
 /// A field at a path.

@@ -4,8 +4,8 @@ ghost use Rattle.std.specs.Prelude.{◌≡◌, [], false, true, option_copied, o
 ghost use Rattle.std.specs.Option.{option_map_or};
 ghost use Rattle.osc_base.specs.Number.{whole};
 ghost use Rattle.osc_base.specs.Paths.{root, then_name};
-ghost use Rattle.type_heads.specs.Table.{enums_with, form, is_behaviour as of_behaviour, enum_number};
-ghost use Rattle.type_heads.specs.Shown.{kind_form};
+ghost use Rattle.type_model.specs.type_heads.Table.{enums_with, form, is_behaviour as of_behaviour, enum_number};
+ghost use Rattle.type_model.specs.type_heads.Shown.{kind_form};
 ghost use Rattle.expr_nodes.specs.Kinds as Kinds;
 ghost use Rattle.expr_nodes.specs.Typed as Nodes;
 ghost use Rattle.expr_nodes.specs.Sizes.{info_at, constant_size};
@@ -15,11 +15,11 @@ ghost use Rattle.expr_nodes.specs.SeenNames.{seen_label, seen_meaning, seen_scop
 
 use crate::fields::with_name;
 use crate::{Info, Label, Scope, Size, Typed, ValueKind};
-use dsl_tree::Ident;
 use osc_base::{Boxed, Fraction, Path, Place, Row, Text};
 use std::alloc::{AllocError, Global};
+use type_model::dsl_tree::Ident;
+use type_model::units_si::Exponents;
 use type_model::{EnumHit, TypeId, TypeKind, Types};
-use units_si::Exponents;
 
 /// The kind of a duration.
 const SECONDS: Exponents = Exponents {

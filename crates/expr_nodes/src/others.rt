@@ -3,8 +3,8 @@
 ghost use Rattle.std.specs.Prelude.{◌≡◌, false, is_none, option_map, IfOk};
 ghost use Rattle.std.specs.Option.{option_map_or};
 ghost use Rattle.osc_base.specs.FaultRows.{first_fault};
-ghost use Rattle.type_heads.specs.Shown.{kind_form};
-ghost use Rattle.type_heads.specs.Table.{enum_number, form, is_enum as of_enum};
+ghost use Rattle.type_model.specs.type_heads.Shown.{kind_form};
+ghost use Rattle.type_model.specs.type_heads.Table.{enum_number, form, is_enum as of_enum};
 ghost use Rattle.expr_nodes.specs.Names.{it_rows, it_typed, it_at as it_node, actor_rows, actor_typed, member_at as member_node, enum_named as named_enum, enum_name_rows, enum_name_typed};
 ghost use Rattle.expr_nodes.specs.Seen.{seen, seen_part};
 ghost use Rattle.expr_nodes.specs.SeenNames.{seen_it, seen_scope};
@@ -14,9 +14,9 @@ use crate::held::held_at;
 use crate::names::{member_at, path_of};
 use crate::parts::{Checked, fault_if, least};
 use crate::{It, Scope, Typed, ValueKind};
-use dsl_tree::Ident;
 use osc_base::{Boxed, Fault, FaultCode, Place};
 use std::alloc::{AllocError, Global};
+use type_model::dsl_tree::Ident;
 use type_model::{TypeId, TypeKind, Types};
 
 /// What `it` stands for, at its path.

@@ -4,8 +4,8 @@ ghost use Rattle.std.specs.Prelude.{◌≡◌, ◌≤◌, ◌^◌, unsigned_abs,
 ghost use Rattle.osc_base.specs.Fraction.{value};
 ghost use Rattle.osc_base.specs.FaultRows.{first_fault};
 ghost use Rattle.osc_base.specs.LowestTerms.{lowest};
-ghost use Rattle.units_si.specs.Literals.{literal_count};
-ghost use Rattle.type_heads.specs.Shown.{shown_unit};
+ghost use Rattle.type_model.specs.units_si.Literals.{literal_count};
+ghost use Rattle.type_model.specs.type_heads.Shown.{shown_unit};
 ghost use Rattle.expr_nodes.specs.Operators.{physical_rows, physical_typed};
 ghost use Rattle.expr_nodes.specs.Seen.{seen, seen_part};
 ghost use Rattle.expr_nodes.specs.SeenNames.{count_of, physical_of};
@@ -14,11 +14,11 @@ use crate::literals::{constant_at, decimal, is_long};
 use crate::parts::{Checked, fault_if};
 use crate::size::gcd;
 use crate::{Typed, ValueKind};
-use dsl_tree::Digits;
 use osc_base::{Boxed, FaultCode, Fraction};
 use std::alloc::{AllocError, Global};
 use type_model::Types;
-use units_si::{Unit, literal};
+use type_model::dsl_tree::Digits;
+use type_model::units_si::{Unit, literal};
 
 /// The slot value of a literal.
 fn slot_value(number: &Fraction, unit: &Unit) -> Option<i64>

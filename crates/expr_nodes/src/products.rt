@@ -2,7 +2,7 @@
 
 ghost use Rattle.std.specs.Prelude.{◌≡◌, ◌&&◌, false, true, not, cond, Some, None, IfOk};
 ghost use Rattle.osc_base.specs.FaultRows.{first_fault};
-ghost use Rattle.units_si.specs.ExponentTests.{are_exponents};
+ghost use Rattle.type_model.specs.units_si.ExponentTests.{are_exponents};
 ghost use Rattle.expr_nodes.specs.Sizes.{size, multiplied, is_wide};
 ghost use Rattle.expr_nodes.specs.Parts.{on_two, of_two, both_numbers};
 ghost use Rattle.expr_nodes.specs.Operators.{exponents_in, product_exponents as exponents_of_product, product_rows, product_typed, product_of as product_node};
@@ -14,7 +14,7 @@ use crate::rows::with_part;
 use crate::{Info, Join, Typed, ValueKind};
 use osc_base::{Boxed, Fault, FaultCode, Place};
 use std::alloc::{AllocError, Global};
-use units_si::Exponents;
+use type_model::units_si::Exponents;
 
 /// The exponents of a number.
 pub fn exponents_of(kind: &ValueKind) -> Exponents

@@ -1,7 +1,7 @@
 //! The tests that quotients ask of their parts.
 
 ghost use Rattle.std.specs.Prelude.{◌≡◌, ◌&&◌, not, cond, Some, None};
-ghost use Rattle.units_si.specs.ExponentTests.{are_exponents};
+ghost use Rattle.type_model.specs.units_si.ExponentTests.{are_exponents};
 ghost use Rattle.expr_nodes.specs.Parts.{of_one, of_two, both_numbers};
 ghost use Rattle.expr_nodes.specs.Operators.{has_quotient, is_constant as constant, quotient_exponents as exponents_of_quotient, reciprocal_exponents as exponents_over};
 ghost use Rattle.expr_nodes.specs.Seen.{seen, seen_part};
@@ -12,7 +12,7 @@ use crate::fields::NO_EXPONENTS;
 use crate::parts::are_numbers;
 use crate::products::exponents_of;
 use osc_base::Boxed;
-use units_si::Exponents;
+use type_model::units_si::Exponents;
 
 /// A quotient subtracts exponents. `None` when one leaves its limits.
 pub fn quotient_exponents(left: &Typed, right: &Typed) -> Option<Exponents>

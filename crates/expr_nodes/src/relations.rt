@@ -13,9 +13,9 @@ use crate::parts::{
 use crate::truths::truth_at;
 use crate::within::within;
 use crate::{Compare, Typed};
-use dsl_tree::RelationSign;
 use osc_base::{Boxed, Fault, FaultCode, Place};
 use std::alloc::{AllocError, Global};
+use type_model::dsl_tree::RelationSign;
 
 /// The comparison of a sign other than `in`.
 pub(crate) fn compare_of(sign: RelationSign) -> Option<Compare>

@@ -2,9 +2,9 @@
 
 ghost use Rattle.std.specs.Prelude.{◌≡◌, IfOk};
 ghost use Rattle.osc_base.specs.FaultRows.{first_of};
-ghost use Rattle.dsl_tree.specs.ExprTree.{ExprTree};
-ghost use Rattle.dsl_tree.specs.Views.{expr_tree};
-ghost use Rattle.type_heads.specs.Table.{Table};
+ghost use Rattle.type_model.specs.dsl_tree.ExprTree.{ExprTree};
+ghost use Rattle.type_model.specs.dsl_tree.Views.{expr_tree};
+ghost use Rattle.type_model.specs.type_heads.Table.{Table};
 ghost use Rattle.expr_nodes.specs.Scope.{Scope};
 ghost use Rattle.expr_nodes.specs.Checks.{IsChecked};
 
@@ -16,10 +16,10 @@ use crate::relations::relation;
 use crate::spans::{group, span};
 use crate::sums::{minus, sum};
 use crate::truths::{implies, logic, not};
-use dsl_tree::{Expr, Ident, Operator, RelationSign};
 use osc_base::{Fault, Place};
 use std::alloc::{AllocError, Global};
 use type_model::Types;
+use type_model::dsl_tree::{Expr, Ident, Operator, RelationSign};
 
 /// What is known of an operator, with the faults of its parts.
 pub fn with_parts(own: Checked, left: Option<Fault>, right: Option<Fault>) -> Checked

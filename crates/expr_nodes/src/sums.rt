@@ -14,9 +14,9 @@ use crate::parts::{
 };
 use crate::rows::with_part;
 use crate::{Info, Join, Typed};
-use dsl_tree::Operator;
 use osc_base::{Boxed, Fault, FaultCode, Place};
 use std::alloc::{AllocError, Global};
+use type_model::dsl_tree::Operator;
 
 fn minus_fault(place: Place, part: &Option<Boxed<Typed>>) -> Option<Fault>
     ensures { result ≡ first_fault (minus_rows place (seen_part part.now)) }

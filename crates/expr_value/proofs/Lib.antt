@@ -8,3 +8,5 @@ pub mod Scales
 pub mod Worths
 pub mod HeldParts
 pub mod ValueLaws
+-- Crates below, for the crates above.
+pub use Rattle.expr_nodes.proofs as of_expr_nodes

@@ -6,11 +6,11 @@ use Rattle.std.specs.List.{list_any, list_all}
 use Rattle.osc_base.specs.declared.path.Path.{Path}
 use Rattle.osc_base.specs.declared.listing.SlotName.{SlotName}
 use Rattle.box_eval.specs.FlatRules.{FlatRule, Equal, Slot, Whole, holds_at, all_of, any_of, under}
-use Rattle.expr_nodes.specs.Kinds.{is_truth}
-use Rattle.expr_nodes.specs.Typed.{Typed, Info, reads, kind}
-use Rattle.expr_nodes.specs.Value.{worth, value, is_one}
-use Rattle.expr_nodes.specs.Parts.{is_scalar}
-use Rattle.expr_nodes.specs.Sound.{is_sound, each_read}
+use Rattle.composition.specs.expr_nodes.Kinds.{is_truth}
+use Rattle.composition.specs.expr_nodes.Typed.{Typed, Info, reads, kind}
+use Rattle.composition.specs.expr_nodes.Value.{worth, value, is_one}
+use Rattle.composition.specs.expr_nodes.Parts.{is_scalar}
+use Rattle.composition.specs.expr_nodes.Sound.{is_sound, each_read}
 use Rattle.composition.specs.declared.guard.Guard.{Guard}
 use Rattle.composition.specs.declared.spot.ValueSpot.{ValueSpot}
 use Rattle.composition.specs.declared.spot.ValueRange.{ValueRange}

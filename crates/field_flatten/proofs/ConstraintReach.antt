@@ -12,11 +12,11 @@ use Rattle.osc_base.specs.Paths.{same_path, path_of, timed_part}
 use Rattle.box_eval.specs.declared.bounds.Pair.{Pair}
 use Rattle.box_eval.specs.Box.{pair}
 use Rattle.box_eval.specs.FlatRules.{FlatRule, Whole, Slot, Equal, AtMost, all_of, any_of, under}
-use Rattle.expr_nodes.specs.Kinds.{is_truth}
-use Rattle.expr_nodes.specs.Typed.{Typed, kind}
-use Rattle.expr_nodes.specs.Sizes.{field_reach}
-use Rattle.expr_nodes.specs.Parts.{is_scalar}
-use Rattle.expr_nodes.specs.Sound.{is_sound, each_read}
+use Rattle.composition.specs.expr_nodes.Kinds.{is_truth}
+use Rattle.composition.specs.expr_nodes.Typed.{Typed, kind}
+use Rattle.composition.specs.expr_nodes.Sizes.{field_reach}
+use Rattle.composition.specs.expr_nodes.Parts.{is_scalar}
+use Rattle.composition.specs.expr_nodes.Sound.{is_sound, each_read}
 use Rattle.composition.specs.declared.guard.Guard.{Guard}
 use Rattle.composition.specs.declared.spot.ChoiceSpot.{ChoiceSpot}
 use Rattle.composition.specs.declared.spot.ValueSpot.{ValueSpot}

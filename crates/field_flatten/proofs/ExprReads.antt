@@ -5,10 +5,10 @@ use Rattle.std.specs.List.{list_all}
 use Rattle.osc_base.specs.declared.path.Path.{Path}
 use Rattle.osc_base.specs.Number.{Number, plus, product}
 use Rattle.osc_base.specs.Comparisons.{is_same, is_between}
-use Rattle.expr_nodes.specs.Kinds.{is_number}
-use Rattle.expr_nodes.specs.Typed.{Typed, Info, Constant, Read, Whole, Listed, Span, Minus, Not, Sum, Times, And, Or, Implies, Relation, Within, TypedRow, End, Item, reads, reads_of}
-use Rattle.expr_nodes.specs.Value.{opposite, of_truth, is_one, compares, worth, is_in, is_item, value}
-use Rattle.expr_nodes.specs.Sound.{each_read, each_read_of}
+use Rattle.composition.specs.expr_nodes.Kinds.{is_number}
+use Rattle.composition.specs.expr_nodes.Typed.{Typed, Info, Constant, Read, Whole, Listed, Span, Minus, Not, Sum, Times, And, Or, Implies, Relation, Within, TypedRow, End, Item, reads, reads_of}
+use Rattle.composition.specs.expr_nodes.Value.{opposite, of_truth, is_one, compares, worth, is_in, is_item, value}
+use Rattle.composition.specs.expr_nodes.Sound.{each_read, each_read_of}
 use Rattle.field_flatten.specs.Seen.{has_values, have_values}
 use Rattle.field_flatten.proofs.Tests.{left_of, right_of, In, in_left, in_right, in_either, all_from}
 

@@ -13,7 +13,7 @@ use Rattle.osc_base.specs.declared.listing.SlotName.{SlotName}
 use Rattle.osc_base.specs.Comparisons.{same_number}
 use Rattle.osc_base.specs.Paths.{same_path}
 use Rattle.box_eval.specs.Box.{pair}
-use Rattle.type_heads.specs.Bounds.{least_of, greatest_of}
+use Rattle.composition.specs.type_heads.Bounds.{least_of, greatest_of}
 use Rattle.composition.specs.declared.clause.Clause.{Clause}
 use Rattle.composition.specs.declared.guard.Guard.{Guard}
 use Rattle.composition.specs.declared.spot.ChoiceSpot.{ChoiceSpot}

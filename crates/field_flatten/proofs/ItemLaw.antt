@@ -9,7 +9,7 @@ use Rattle.osc_base.specs.declared.mark.Strength.{Strength}
 use Rattle.osc_base.specs.declared.listing.SlotName.{SlotName}
 use Rattle.osc_base.specs.Paths.{same_path}
 use Rattle.box_eval.specs.FlatRules.{holds_at}
-use Rattle.keep_rules.specs.Overriding.{is_default, same_target, with_target, overriders_from, overriders}
+use Rattle.composition.specs.keep_rules.Overriding.{is_default, same_target, with_target, overriders_from, overriders}
 use Rattle.composition.specs.declared.spot.ValueSpot.{ValueSpot}
 use Rattle.composition.specs.declared.spot.ValueRange.{ValueRange}
 use Rattle.composition.specs.declared.spot.PhaseSpot.{PhaseSpot}

@@ -12,10 +12,10 @@ use Rattle.osc_base.specs.Paths.{same_path}
 use Rattle.box_eval.specs.declared.bounds.Pair.{Pair}
 use Rattle.box_eval.specs.Box.{pair}
 use Rattle.box_eval.specs.FlatRules.{FlatTerm, Slot, Less, times}
-use Rattle.type_heads.specs.Bounds.{least_of, greatest_of}
-use Rattle.expr_nodes.specs.Typed.{Info}
-use Rattle.expr_nodes.specs.Sizes.{field_reach, field_size, duration_reach, duration_size, duration_scale}
-use Rattle.expr_nodes.specs.Sound.{has_size}
+use Rattle.composition.specs.type_heads.Bounds.{least_of, greatest_of}
+use Rattle.composition.specs.expr_nodes.Typed.{Info}
+use Rattle.composition.specs.expr_nodes.Sizes.{field_reach, field_size, duration_reach, duration_size, duration_scale}
+use Rattle.composition.specs.expr_nodes.Sound.{has_size}
 use Rattle.composition.specs.declared.spot.ValueSpot.{ValueSpot}
 use Rattle.composition.specs.declared.spot.ValueRange.{ValueRange}
 use Rattle.composition.specs.declared.spot.PhaseSpot.{PhaseSpot}

@@ -34,3 +34,5 @@ pub mod SlotLaw
 pub mod Tests
 pub mod Times
 pub mod Worked
+-- Crates below, for the crates above.
+pub use Rattle.composition.proofs.of_expr_nodes as of_expr_nodes

@@ -12,11 +12,11 @@ use Rattle.osc_base.specs.Paths.{same_path}
 use Rattle.osc_base.specs.Modifiers.{holds_of, is_moment}
 use Rattle.box_eval.specs.FlatRules.{FlatRule, worth_at, holds_at}
 use Rattle.modifier_rules.specs.Relations.{position_scale, relation_at, moment_at}
-use Rattle.expr_nodes.specs.Kinds.{is_number}
-use Rattle.expr_nodes.specs.Typed.{Typed, reads, kind, scale}
-use Rattle.expr_nodes.specs.Value.{worth}
-use Rattle.expr_nodes.specs.Parts.{is_scalar}
-use Rattle.expr_nodes.specs.Sound.{is_sound, each_read}
+use Rattle.composition.specs.expr_nodes.Kinds.{is_number}
+use Rattle.composition.specs.expr_nodes.Typed.{Typed, reads, kind, scale}
+use Rattle.composition.specs.expr_nodes.Value.{worth}
+use Rattle.composition.specs.expr_nodes.Parts.{is_scalar}
+use Rattle.composition.specs.expr_nodes.Sound.{is_sound, each_read}
 use Rattle.composition.specs.TimedRuns.{TimedRun}
 use Rattle.composition.specs.Scenes.{Scene, Occurrence, ModifierSpot, guards, vehicles, has_phase}
 use Rattle.composition.specs.There.{are_met, read_by, modifier_presence}

@@ -15,11 +15,11 @@ use Rattle.osc_base.specs.Paths.{same_path}
 use Rattle.box_eval.specs.declared.bounds.Pair.{Pair}
 use Rattle.box_eval.specs.FlatRules.{FlatTerm, FlatRule, Whole, Slot, Sum, Less, Equal, AtMost, Below, times}
 use Rattle.modifier_rules.specs.Relations.{position_scale, speed_scale, lane_scale, between, relation_at, moment_at}
-use Rattle.expr_nodes.specs.Kinds.{is_number}
-use Rattle.expr_nodes.specs.Typed.{Typed, kind, scale, reach}
-use Rattle.expr_nodes.specs.Sizes.{field_reach}
-use Rattle.expr_nodes.specs.Parts.{is_scalar}
-use Rattle.expr_nodes.specs.Sound.{is_sound, each_read}
+use Rattle.composition.specs.expr_nodes.Kinds.{is_number}
+use Rattle.composition.specs.expr_nodes.Typed.{Typed, kind, scale, reach}
+use Rattle.composition.specs.expr_nodes.Sizes.{field_reach}
+use Rattle.composition.specs.expr_nodes.Parts.{is_scalar}
+use Rattle.composition.specs.expr_nodes.Sound.{is_sound, each_read}
 use Rattle.composition.specs.Scenes.{Scene, Occurrence, ModifierSpot, vehicles, has_phase}
 use Rattle.composition.specs.There.{modifier_presence}
 use Rattle.composition.specs.Items.{other_of}

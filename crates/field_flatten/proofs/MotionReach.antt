@@ -10,7 +10,7 @@ use Rattle.osc_base.specs.Comparisons.{greatest_part}
 use Rattle.box_eval.specs.declared.bounds.Pair.{Pair}
 use Rattle.box_eval.specs.Box.{pair}
 use Rattle.box_eval.specs.FlatRules.{FlatTerm, FlatRule, Whole, Slot, Sum, Less, AtMost, Below, under, times}
-use Rattle.expr_nodes.specs.Sizes.{field_reach, duration_reach}
+use Rattle.composition.specs.expr_nodes.Sizes.{field_reach, duration_reach}
 use Rattle.composition.specs.declared.spot.ValueSpot.{ValueSpot}
 use Rattle.composition.specs.Scenes.{Scene, vehicles, guards, max_speed, max_acceleration}
 use Rattle.composition.specs.Slots.{slot_names}

@@ -11,7 +11,7 @@ use Rattle.osc_base.specs.declared.listing.SlotName.{SlotName}
 use Rattle.osc_base.specs.Paths.{same_path, path_of, root, timed_part}
 use Rattle.box_eval.specs.Box.{value_of}
 use Rattle.box_eval.specs.FlatRules.{worth_at}
-use Rattle.expr_nodes.specs.Typed.{Info}
+use Rattle.composition.specs.expr_nodes.Typed.{Info}
 use Rattle.composition.specs.declared.spot.ValueSpot.{ValueSpot}
 use Rattle.composition.specs.declared.spot.ValueRange.{ValueRange}
 use Rattle.composition.specs.declared.spot.PhaseSpot.{PhaseSpot}

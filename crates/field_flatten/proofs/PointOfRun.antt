@@ -13,7 +13,7 @@ use Rattle.osc_base.specs.Comparisons.{same_number}
 use Rattle.osc_base.specs.Paths.{same_path}
 use Rattle.box_eval.specs.declared.bounds.Pair.{Pair}
 use Rattle.box_eval.specs.Box.{pair, value_of, IsPointOf}
-use Rattle.type_heads.specs.Bounds.{least_of, greatest_of}
+use Rattle.composition.specs.type_heads.Bounds.{least_of, greatest_of}
 use Rattle.composition.specs.declared.spot.ChoiceSpot.{ChoiceSpot}
 use Rattle.composition.specs.declared.spot.ValueSpot.{ValueSpot}
 use Rattle.composition.specs.declared.spot.ValueRange.{ValueRange}
@@ -29,7 +29,7 @@ use Rattle.composition.specs.Ranges.{lies_between, in_range}
 use Rattle.composition.specs.Claims.{road_end, top_speed, sample_in_range}
 use Rattle.composition.specs.Slots.{slot_names}
 use Rattle.composition.specs.Invariants.{is_range, is_small, is_from_to}
-use Rattle.expr_nodes.specs.Sizes.{duration_reach}
+use Rattle.composition.specs.expr_nodes.Sizes.{duration_reach}
 use Rattle.field_flatten.specs.Ends.{slot_in, ends_of, range_ends, no_ends, tick_ends, bounds}
 use Rattle.field_flatten.specs.Points.{slot_value, entry_of, filled, point_of}
 use Rattle.field_flatten.specs.Exactness.{IsExpanded}

@@ -15,14 +15,14 @@ use Rattle.box_eval.specs.Box.{value_of}
 use Rattle.box_eval.specs.Truth.{as_number}
 use Rattle.box_eval.specs.FlatRules.{FlatTerm, FlatRule, worth_at, holds_at, times, all_of, any_of}
 use Rattle.box_eval.specs.FlatRules as Flat
-use Rattle.expr_nodes.specs.declared.compare.Compare.{Compare}
-use Rattle.expr_nodes.specs.Kinds.{ValueKind, is_number, is_truth, same_units}
-use Rattle.expr_nodes.specs.Typed.{Typed, Info, Constant, Read, Whole, Listed, Span, Minus, Not, Sum, Times, And, Or, Implies, Relation, Within, TypedRow, End, Item, info, kind, scale}
-use Rattle.expr_nodes.specs.Value.{opposite, of_truth, is_one, compares, worth, is_in, is_item}
-use Rattle.expr_nodes.specs.Sizes.{Size, size, constant_size, field_size, duration_size, unit_size, joined, multiplied, is_wide}
-use Rattle.expr_nodes.specs.Parts.{is_scalar, parts_of}
-use Rattle.expr_nodes.specs.Operators.{fit_for, fits_in, is_range_or_list}
-use Rattle.expr_nodes.specs.Sound.{same_size, has_size, is_lowest, is_constant_of, is_per, are_truths, is_truth_info, can_join, is_sound, are_sound}
+use Rattle.composition.specs.expr_nodes.declared.compare.Compare.{Compare}
+use Rattle.composition.specs.expr_nodes.Kinds.{ValueKind, is_number, is_truth, same_units}
+use Rattle.composition.specs.expr_nodes.Typed.{Typed, Info, Constant, Read, Whole, Listed, Span, Minus, Not, Sum, Times, And, Or, Implies, Relation, Within, TypedRow, End, Item, info, kind, scale}
+use Rattle.composition.specs.expr_nodes.Value.{opposite, of_truth, is_one, compares, worth, is_in, is_item}
+use Rattle.composition.specs.expr_nodes.Sizes.{Size, size, constant_size, field_size, duration_size, unit_size, joined, multiplied, is_wide}
+use Rattle.composition.specs.expr_nodes.Parts.{is_scalar, parts_of}
+use Rattle.composition.specs.expr_nodes.Operators.{fit_for, fits_in, is_range_or_list}
+use Rattle.composition.specs.expr_nodes.Sound.{same_size, has_size, is_lowest, is_constant_of, is_per, are_truths, is_truth_info, can_join, is_sound, are_sound}
 use Rattle.composition.specs.Scenes.{Source, OfRun, OfPhase, OfValue}
 use Rattle.field_flatten.specs.Shapes.{Layout, Shape, of_rule, of_term, sum_of, product_of, constant_term, of_constant, phase_start, phase_end, read_term, compared, at_common, relation, in_span, in_list, shape, shapes}
 use Rattle.field_flatten.specs.Seen.{has_values, have_values, source_value, seen}

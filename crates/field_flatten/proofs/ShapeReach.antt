@@ -11,14 +11,14 @@ use Rattle.osc_base.specs.Comparisons.{greatest_part}
 use Rattle.box_eval.specs.declared.bounds.Pair.{Pair}
 use Rattle.box_eval.specs.FlatRules.{FlatTerm, FlatRule, times, all_of, any_of}
 use Rattle.box_eval.specs.FlatRules as Flat
-use Rattle.expr_nodes.specs.declared.compare.Compare.{Compare}
-use Rattle.expr_nodes.specs.Kinds.{is_number, is_truth, same_units}
-use Rattle.expr_nodes.specs.Typed.{Typed, Info, Constant, Read, Whole, Listed, Span, Minus, Not, Sum, Times, And, Or, Implies, Relation, Within, TypedRow, End, Item, info, kind, scale, reach, items_of}
-use Rattle.expr_nodes.specs.Value.{is_one}
-use Rattle.expr_nodes.specs.Sizes.{Size, size, constant_size, field_size, duration_size, unit_size, joined, multiplied, is_wide}
-use Rattle.expr_nodes.specs.Parts.{is_scalar, parts_of}
-use Rattle.expr_nodes.specs.Operators.{fit_for, fits_in, is_range_or_list}
-use Rattle.expr_nodes.specs.Sound.{same_size, has_size, is_constant_of, is_per, are_truths, is_truth_info, can_join, is_sound, are_sound, each_read, each_read_of}
+use Rattle.composition.specs.expr_nodes.declared.compare.Compare.{Compare}
+use Rattle.composition.specs.expr_nodes.Kinds.{is_number, is_truth, same_units}
+use Rattle.composition.specs.expr_nodes.Typed.{Typed, Info, Constant, Read, Whole, Listed, Span, Minus, Not, Sum, Times, And, Or, Implies, Relation, Within, TypedRow, End, Item, info, kind, scale, reach, items_of}
+use Rattle.composition.specs.expr_nodes.Value.{is_one}
+use Rattle.composition.specs.expr_nodes.Sizes.{Size, size, constant_size, field_size, duration_size, unit_size, joined, multiplied, is_wide}
+use Rattle.composition.specs.expr_nodes.Parts.{is_scalar, parts_of}
+use Rattle.composition.specs.expr_nodes.Operators.{fit_for, fits_in, is_range_or_list}
+use Rattle.composition.specs.expr_nodes.Sound.{same_size, has_size, is_constant_of, is_per, are_truths, is_truth_info, can_join, is_sound, are_sound, each_read, each_read_of}
 use Rattle.field_flatten.specs.Seen.{has_values, have_values}
 use Rattle.field_flatten.specs.Shapes.{Layout, Shape, of_one, of_rule, of_term, sum_of, product_of, constant_term, of_constant, read_term, compared, at_common, relation, in_span, in_list, shape, shapes}
 use Rattle.field_flatten.proofs.Tests.{left_of, right_of, two_ways, number_is, In, in_either}

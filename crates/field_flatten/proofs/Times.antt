@@ -6,7 +6,7 @@ use Rattle.std.proofs.lemmas.Int.{ints, by_lt_z}
 use Rattle.osc_base.specs.Number.{Number, plus, product}
 use Rattle.osc_base.specs.Comparisons.{same_number, is_same, is_less, is_at_most}
 use Rattle.osc_base.proofs.Integers.{assoc, spread, swap_last, lt_times, lt_cancel, product_above}
-use Rattle.expr_nodes.specs.Value.{opposite}
+use Rattle.composition.specs.expr_nodes.Value.{opposite}
 
 pub record IsTimes (x : Number) (scale : ℕ) (n : ℤ) : Type 0 where
   pub above : pos 1 ≤ℤ x.denominator

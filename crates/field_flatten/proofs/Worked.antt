@@ -8,11 +8,11 @@ use Rattle.osc_base.specs.LowestTerms.{gcd, lcm}
 use Rattle.osc_base.specs.Number.{whole, half}
 use Rattle.osc_base.specs.Paths.{root}
 use Rattle.box_eval.specs.FlatRules.{Whole as Fixed, holds_at}
-use Rattle.expr_nodes.specs.declared.compare.Compare.{Compare}
-use Rattle.expr_nodes.specs.Kinds.{ValueKind, plain}
-use Rattle.expr_nodes.specs.Typed.{Typed, Info, Constant, Whole, Times, Relation}
-use Rattle.expr_nodes.specs.Value.{is_one, worth, value}
-use Rattle.expr_nodes.specs.Sound.{is_sound}
+use Rattle.composition.specs.expr_nodes.declared.compare.Compare.{Compare}
+use Rattle.composition.specs.expr_nodes.Kinds.{ValueKind, plain}
+use Rattle.composition.specs.expr_nodes.Typed.{Typed, Info, Constant, Whole, Times, Relation}
+use Rattle.composition.specs.expr_nodes.Value.{is_one, worth, value}
+use Rattle.composition.specs.expr_nodes.Sound.{is_sound}
 use Rattle.composition.specs.Scenes.{OfValue}
 use Rattle.field_flatten.specs.Shapes.{Layout, shape}
 use Rattle.field_flatten.specs.Seen.{has_values}

@@ -7,7 +7,7 @@ use Rattle.osc_base.specs.SlotNames.{same_slot}
 use Rattle.composition.specs.declared.spot.ValueRange.{ValueRange}
 use Rattle.composition.specs.declared.setting.Setting.{Setting}
 use Rattle.composition.specs.Scenes.{Scene, choices, values}
-use Rattle.type_heads.specs.Bounds.{least_of, greatest_of}
+use Rattle.composition.specs.type_heads.Bounds.{least_of, greatest_of}
 use Rattle.composition.specs.Slots.{slot_names}
 use Rattle.composition.specs.Claims.{road_end, top_speed}
 use Rattle.box_eval.specs.declared.bounds.Pair.{Pair}

@@ -9,8 +9,8 @@ use Rattle.box_eval.specs.Box.{IsPointOf}
 use Rattle.box_eval.specs.declared.flat.Flat.{Flat}
 use Rattle.box_eval.specs.Rules.{Meets, IsEmpty, IsFlat}
 use Rattle.box_eval.specs.FlatRules.{holds_at, flat_rule}
-use Rattle.expr_nodes.specs.Typed.{Typed, reach}
-use Rattle.expr_nodes.specs.Sizes.{field_reach}
+use Rattle.composition.specs.expr_nodes.Typed.{Typed, reach}
+use Rattle.composition.specs.expr_nodes.Sizes.{field_reach}
 use Rattle.composition.specs.declared.guard.Guard.{Guard}
 use Rattle.composition.specs.declared.spot.PhaseSpot.{PhaseSpot}
 use Rattle.composition.specs.There.{presence, modifier_presence}

@@ -9,7 +9,7 @@ use Rattle.osc_base.specs.Paths.{same_path}
 use Rattle.box_eval.specs.declared.bounds.Pair.{Pair}
 use Rattle.box_eval.specs.FlatRules.{FlatTerm, FlatRule, Whole, Slot, Sum, Less, Below, AtMost, Equal, Both, all_of, any_of, under, times}
 use Rattle.modifier_rules.specs.Relations.{position_scale, relation_at, moment_at}
-use Rattle.expr_nodes.specs.Typed.{Typed, scale}
+use Rattle.composition.specs.expr_nodes.Typed.{Typed, scale}
 use Rattle.composition.specs.declared.guard.Guard.{Guard}
 use Rattle.composition.specs.declared.spot.PhaseSpot.{PhaseSpot}
 use Rattle.composition.specs.declared.spot.PhaseKind.{PhaseKind}

@@ -4,8 +4,8 @@ use Rattle.osc_base.specs.declared.path.Path.{Path}
 use Rattle.osc_base.specs.declared.listing.SlotName.{SlotName}
 use Rattle.box_eval.specs.Box.{value_of}
 use Rattle.box_eval.specs.FlatRules.{worth_at}
-use Rattle.expr_nodes.specs.Kinds.{is_number}
-use Rattle.expr_nodes.specs.Typed.{Typed, Constant, Read, Whole, Listed, Span, Minus, Not, Sum, Times, And, Or, Implies, Relation, Within, TypedRow, End, Item}
+use Rattle.composition.specs.expr_nodes.Kinds.{is_number}
+use Rattle.composition.specs.expr_nodes.Typed.{Typed, Constant, Read, Whole, Listed, Span, Minus, Not, Sum, Times, And, Or, Implies, Relation, Within, TypedRow, End, Item}
 use Rattle.composition.specs.Scenes.{Source, OfRun, OfPhase, OfValue}
 use Rattle.composition.specs.Numbers.{thousandths}
 use Rattle.field_flatten.specs.Shapes.{Layout}

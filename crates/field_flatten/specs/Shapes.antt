@@ -6,9 +6,9 @@ use Rattle.osc_base.specs.Number.{Number}
 use Rattle.osc_base.specs.LowestTerms.{lcm}
 use Rattle.box_eval.specs.FlatRules.{FlatTerm, FlatRule, joined, times, all_of, any_of}
 use Rattle.box_eval.specs.FlatRules as Flat
-use Rattle.expr_nodes.specs.declared.compare.Compare.{Compare}
-use Rattle.expr_nodes.specs.Typed.{Typed, Constant, Read, Whole, Listed, Span, Minus, Not, Sum, Times, And, Or, Implies, Relation, Within, TypedRow, End, Item}
-use Rattle.expr_nodes.specs.Value.{is_one}
+use Rattle.composition.specs.expr_nodes.declared.compare.Compare.{Compare}
+use Rattle.composition.specs.expr_nodes.Typed.{Typed, Constant, Read, Whole, Listed, Span, Minus, Not, Sum, Times, And, Or, Implies, Relation, Within, TypedRow, End, Item}
+use Rattle.composition.specs.expr_nodes.Value.{is_one}
 use Rattle.composition.specs.Scenes.{Source, OfRun, OfPhase, OfValue}
 
 -- What the slots of a scene are called by: the slot of each name, what is read at each path, the term of the run's end, and the length of a

@@ -3,11 +3,11 @@ use Rattle.std.proofs.Common.{◌≡◌, ℕ, refl, sym, ap, ap₂, ◌∙◌, L
 use Rattle.std.specs.Prelude.{flat_map}
 use Rattle.std.proofs.lemmas.List.{map-append}
 use Rattle.osc_base.specs.declared.path.Path.{Path}
-use Rattle.composition.specs.declared.spot.ValueSpot.{ValueSpot}
-use Rattle.composition.specs.declared.spot.PhaseSpot.{PhaseSpot}
-use Rattle.composition.specs.Scenes.{Scene, ModifierSpot, values, phases, vehicles}
-use Rattle.composition.specs.Slots.{ticks_of}
-use Rattle.composition.specs.Items.{Item, OfPhase, OfModifier, OfMotion, occurrence_items, typed_item, items}
+use Rattle.scene_rules.specs.composition.declared.spot.ValueSpot.{ValueSpot}
+use Rattle.scene_rules.specs.composition.declared.spot.PhaseSpot.{PhaseSpot}
+use Rattle.scene_rules.specs.composition.Scenes.{Scene, ModifierSpot, values, phases, vehicles}
+use Rattle.scene_rules.specs.composition.Slots.{ticks_of}
+use Rattle.scene_rules.specs.composition.Items.{Item, OfPhase, OfModifier, OfMotion, occurrence_items, typed_item, items}
 
 mapped_each : {A B C : Type 0} (f : B → C) (g : A → List B) (xs : List A) → map f (flat_map g xs) ≡ flat_map (λ x. map f (g x)) xs
 mapped_each f g [] = refl

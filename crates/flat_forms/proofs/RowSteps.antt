@@ -4,7 +4,7 @@ use Rattle.std.specs.List.{list_all, range_with_len}
 use Rattle.std.proofs.lemmas.List.{append_assoc, map-append, take_more}
 use Rattle.box_eval.specs.declared.rule.Rule.{Rule}
 use Rattle.box_eval.specs.FlatRules.{FlatRule, flat_rule}
-use Rattle.field_flatten.proofs.Tests.{left_of, right_of}
+use Rattle.slot_ends.proofs.of_field_flatten.Tests.{left_of, right_of}
 
 -- what holds of all holds of each
 pub item_of : {A B : Type 0} (see : A → B) (p : B → Bool) (xs : List A) (i : ℕ) (x : A) → i < length xs → x ≡ get_or xs i x → list_all p (map see xs) ≡ true → p (see x) ≡ true

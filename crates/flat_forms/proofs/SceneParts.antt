@@ -2,14 +2,14 @@
 use Rattle.std.proofs.Common.{◌≡◌, ℕ, ◌*◌, ◌≤◌, ◌<◌, ◌^◌, refl, Bool, true, false, ◌&&◌, List, [], ◌∷◌, ◌++◌, Option, Some, None, arith}
 use Rattle.std.specs.Prelude.{nat_le, nat_lt, option_to_list, flat_map}
 use Rattle.std.specs.List.{list_all}
-use Rattle.expr_nodes.specs.Typed.{Typed}
-use Rattle.composition.specs.declared.setting.Setting.{Setting}
-use Rattle.composition.specs.Scenes.{Scene, Occurrence, ModifierSpot}
-use Rattle.composition.specs.Invariants.{is_from_to, is_occurrence, is_modifier}
-use Rattle.field_flatten.specs.Seen.{has_values}
-use Rattle.field_flatten.specs.Exactness.{IsExpanded, IsLimited, is_narrow_range}
-use Rattle.field_flatten.proofs.Tests.{left_of, right_of}
-use Rattle.scene_slots.specs.Numbers.{past}
+use Rattle.scene_rules.specs.expr_nodes.Typed.{Typed}
+use Rattle.scene_rules.specs.composition.declared.setting.Setting.{Setting}
+use Rattle.scene_rules.specs.composition.Scenes.{Scene, Occurrence, ModifierSpot}
+use Rattle.scene_rules.specs.composition.Invariants.{is_from_to, is_occurrence, is_modifier}
+use Rattle.slot_ends.specs.field_flatten.Seen.{has_values}
+use Rattle.slot_ends.specs.field_flatten.Exactness.{IsExpanded, IsLimited, is_narrow_range}
+use Rattle.slot_ends.proofs.of_field_flatten.Tests.{left_of, right_of}
+use Rattle.slot_ends.specs.scene_slots.Numbers.{past}
 use Rattle.scene_rules.specs.Rooms.{are_values}
 use Rattle.flat_forms.specs.SoundParts.{is_sound_occurrence, is_sound_modifier}
 

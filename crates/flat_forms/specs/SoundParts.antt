@@ -1,8 +1,8 @@
 -- Constraints and modifiers that have rules within the limit of scales and reaches.
 use Rattle.std.specs.Prelude.{Bool, ◌&&◌}
-use Rattle.composition.specs.Scenes.{Scene, Occurrence, ModifierSpot}
-use Rattle.composition.specs.Invariants.{is_occurrence, is_modifier}
-use Rattle.field_flatten.specs.Exactness.{is_narrow_range}
+use Rattle.scene_rules.specs.composition.Scenes.{Scene, Occurrence, ModifierSpot}
+use Rattle.scene_rules.specs.composition.Invariants.{is_occurrence, is_modifier}
+use Rattle.slot_ends.specs.field_flatten.Exactness.{is_narrow_range}
 use Rattle.scene_rules.specs.Rooms.{are_values}
 
 -- a sound constraint, each part of whose expression is a value

@@ -5,20 +5,20 @@ ghost use Rattle.std.specs.List.{list_all};
 ghost use Rattle.box_eval.specs.FlatRules.{flat_rule};
 ghost use Rattle.keep_rules.specs.Overriding.{overriders};
 ghost use Rattle.keep_rules.specs.TargetLists.{later_of};
-ghost use Rattle.composition.specs.Items.{occurrence_item, occurrence_items};
-ghost use Rattle.composition.specs.Scenes.{marks as all_marks};
-ghost use Rattle.composition.specs.SeenParts.{seen_occurrence};
-ghost use Rattle.field_flatten.specs.Rules.{item_rule};
+ghost use Rattle.scene_rules.specs.composition.Items.{occurrence_item, occurrence_items};
+ghost use Rattle.scene_rules.specs.composition.Scenes.{marks as all_marks};
+ghost use Rattle.scene_rules.specs.composition.SeenParts.{seen_occurrence};
+ghost use Rattle.slot_ends.specs.field_flatten.Rules.{item_rule};
 ghost use Rattle.flat_forms.specs.SoundParts.{is_sound_occurrence};
-ghost use Rattle.scene_slots.specs.SeenSlots.{layout_of, scene_of};
+ghost use Rattle.slot_ends.specs.scene_slots.SeenSlots.{layout_of, scene_of};
 
 use crate::marks::{next_number, targets_of};
 use box_eval::Rule;
-use composition::Occurrence;
 use keep_rules::Targets;
 use osc_base::{Row, Strength};
+use scene_rules::composition::Occurrence;
 use scene_rules::{default_rule, hard_rule};
-use scene_slots::SceneSlots;
+use slot_ends::scene_slots::SceneSlots;
 use std::alloc::{AllocError, Global};
 
 /// Puts the rule of a constraint at the end: none for a `remove_default`.

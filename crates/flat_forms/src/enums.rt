@@ -3,11 +3,11 @@
 ghost use Rattle.std.specs.Prelude.{◌≡◌, ◌-◌, ◌-ℤ◌, pos, cond, option_map, option_to_list, Some, None, map};
 ghost use Rattle.osc_base.specs.Comparisons.{same_number};
 ghost use Rattle.osc_base.specs.declared.path.Path.{Path};
-ghost use Rattle.composition.specs.Items.{OfTyped, typed_item};
-ghost use Rattle.composition.specs.Ranges.{has_gap as leaves_out};
+ghost use Rattle.scene_rules.specs.composition.Items.{OfTyped, typed_item};
+ghost use Rattle.scene_rules.specs.composition.Ranges.{has_gap as leaves_out};
 
 use box_eval::Pair;
-use composition::ValueRange;
+use scene_rules::composition::ValueRange;
 use slot_ends::number_ends;
 
 /// They are one number.

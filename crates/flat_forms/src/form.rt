@@ -2,12 +2,12 @@
 
 ghost use Rattle.std.specs.Prelude.{IfOk};
 ghost use Rattle.box_eval.specs.Rules.{IsFlat};
-ghost use Rattle.composition.specs.SeenScenes.{seen_scene};
-ghost use Rattle.field_flatten.specs.Exactness.{IsExpanded, IsLimited, IsFlatOf};
+ghost use Rattle.scene_rules.specs.composition.SeenScenes.{seen_scene};
+ghost use Rattle.slot_ends.specs.field_flatten.Exactness.{IsExpanded, IsLimited, IsFlatOf};
 
 use crate::rules::rules_of;
 use box_eval::Flat;
-use composition::Scene;
+use scene_rules::composition::Scene;
 use slot_ends::bounds;
 use std::alloc::{AllocError, Global};
 

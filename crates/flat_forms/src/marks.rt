@@ -5,13 +5,13 @@ ghost use Rattle.std.specs.List.{list_any};
 ghost use Rattle.osc_base.specs.declared.mark.Mark.{Mark as AnyMark};
 ghost use Rattle.keep_rules.specs.Overriding.{is_default as default_strength, overriders};
 ghost use Rattle.keep_rules.specs.TargetLists.{later_of};
-ghost use Rattle.composition.specs.Scenes.{marks as all_marks};
-ghost use Rattle.composition.specs.SeenParts.{seen_occurrence};
-ghost use Rattle.composition.specs.SeenScenes.{seen_scene};
+ghost use Rattle.scene_rules.specs.composition.Scenes.{marks as all_marks};
+ghost use Rattle.scene_rules.specs.composition.SeenParts.{seen_occurrence};
+ghost use Rattle.scene_rules.specs.composition.SeenScenes.{seen_scene};
 
-use composition::{Occurrence, Scene};
 use keep_rules::Targets;
 use osc_base::{Mark, Row, Strength};
+use scene_rules::composition::{Occurrence, Scene};
 use std::alloc::{AllocError, Global};
 
 /// An equal mark.

@@ -2,17 +2,17 @@
 
 ghost use Rattle.std.specs.Prelude.{◌≡◌, ◌<◌, ◌≤◌, ◌^◌, ◌++◌, ◌+◌, ℕ, flat_map, map, IfOk, OnOk};
 ghost use Rattle.std.specs.List.{range_with_len};
-ghost use Rattle.composition.specs.Items.{item_name, occurrence_item, occurrence_items, typed_item, rule_names as names_of};
-ghost use Rattle.composition.specs.Scenes.{Scene as SeenScene};
-ghost use Rattle.composition.specs.SeenParts.{seen_occurrence, seen_modifier};
-ghost use Rattle.composition.specs.SeenScenes.{seen_scene};
-ghost use Rattle.composition.specs.declared.spot.ValueSpot.{ValueSpot};
-ghost use Rattle.composition.specs.declared.spot.PhaseSpot.{PhaseSpot};
+ghost use Rattle.scene_rules.specs.composition.Items.{item_name, occurrence_item, occurrence_items, typed_item, rule_names as names_of};
+ghost use Rattle.scene_rules.specs.composition.Scenes.{Scene as SeenScene};
+ghost use Rattle.scene_rules.specs.composition.SeenParts.{seen_occurrence, seen_modifier};
+ghost use Rattle.scene_rules.specs.composition.SeenScenes.{seen_scene};
+ghost use Rattle.scene_rules.specs.composition.declared.spot.ValueSpot.{ValueSpot};
+ghost use Rattle.scene_rules.specs.composition.declared.spot.PhaseSpot.{PhaseSpot};
 ghost use Rattle.osc_base.specs.declared.listing.RuleName.{RuleName};
 
 use crate::enums::gapped;
-use composition::{ModifierSpot, Occurrence, PhaseSpot, Scene, ValueSpot};
 use osc_base::{Path, Row, RuleName, Strength};
+use scene_rules::composition::{ModifierSpot, Occurrence, PhaseSpot, Scene, ValueSpot};
 use std::alloc::{AllocError, Global};
 
 /// Puts the name of a constraint's rule at the end: none for a `remove_default`.

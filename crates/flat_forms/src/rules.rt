@@ -3,23 +3,23 @@
 ghost use Rattle.std.specs.Prelude.{◌≡◌, ◌<◌, ◌≤◌, ◌^◌, ◌++◌, flat_map, true, map, IfOk, OnOk};
 ghost use Rattle.std.specs.List.{list_all};
 ghost use Rattle.box_eval.specs.FlatRules.{flat_rule};
-ghost use Rattle.composition.specs.Items.{typed_item};
-ghost use Rattle.composition.specs.SeenParts.{seen_modifier};
-ghost use Rattle.composition.specs.SeenScenes.{seen_scene};
-ghost use Rattle.composition.specs.Slots.{ticks_of};
-ghost use Rattle.composition.specs.declared.spot.ValueSpot.{ValueSpot};
-ghost use Rattle.field_flatten.specs.Rules.{item_rule, arranged_rule as rule_of_phase, modifier_rule, motion_rule, rules as all_rules};
+ghost use Rattle.scene_rules.specs.composition.Items.{typed_item};
+ghost use Rattle.scene_rules.specs.composition.SeenParts.{seen_modifier};
+ghost use Rattle.scene_rules.specs.composition.SeenScenes.{seen_scene};
+ghost use Rattle.scene_rules.specs.composition.Slots.{ticks_of};
+ghost use Rattle.scene_rules.specs.composition.declared.spot.ValueSpot.{ValueSpot};
+ghost use Rattle.slot_ends.specs.field_flatten.Rules.{item_rule, arranged_rule as rule_of_phase, modifier_rule, motion_rule, rules as all_rules};
 ghost use Rattle.flat_forms.specs.SoundParts.{is_sound_occurrence, is_sound_modifier};
-ghost use Rattle.scene_slots.specs.Numbers.{past as all_slots};
-ghost use Rattle.scene_slots.specs.SeenSlots.{layout_of, scene_of};
+ghost use Rattle.slot_ends.specs.scene_slots.Numbers.{past as all_slots};
+ghost use Rattle.slot_ends.specs.scene_slots.SeenSlots.{layout_of, scene_of};
 
 use crate::constraints::push_constraints;
 use crate::enums::gapped;
 use box_eval::Rule;
-use composition::{ModifierSpot, PhaseSpot, Scene, ValueSpot};
 use osc_base::{Path, Row};
+use scene_rules::composition::{ModifierSpot, PhaseSpot, Scene, ValueSpot};
 use scene_rules::{arranged_rule, enum_rule, modifier_rules, motion_rules};
-use scene_slots::SceneSlots;
+use slot_ends::scene_slots::SceneSlots;
 use std::alloc::{AllocError, Global};
 
 /// Puts the rule of a value at the end, if it is of an enum with numbers left out.

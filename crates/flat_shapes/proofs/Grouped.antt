@@ -2,11 +2,11 @@
 use Rattle.std.proofs.Common.{◌≡◌, ℕ, refl, sym, ◌∙◌, List, [], ◌∷◌, ◌++◌, map, Bool, true, false, ◌&&◌}
 use Rattle.std.specs.List.{list_all}
 use Rattle.std.proofs.lemmas.List.{append_assoc, append-nil}
-use Rattle.expr_nodes.specs.declared.node.Join.{Join}
-use Rattle.expr_nodes.specs.Typed.{Typed, Sum, Times, And, Or}
-use Rattle.expr_nodes.specs.Seen.{Reached, grouped}
-use Rattle.field_flatten.specs.Shapes.{Layout, shape}
-use Rattle.field_flatten.proofs.Tests.{left_of, right_of}
+use Rattle.expr_value.specs.expr_nodes.declared.node.Join.{Join}
+use Rattle.expr_value.specs.expr_nodes.Typed.{Typed, Sum, Times, And, Or}
+use Rattle.expr_value.specs.expr_nodes.Seen.{Reached, grouped}
+use Rattle.flat_terms.specs.field_flatten.Shapes.{Layout, shape}
+use Rattle.flat_terms.proofs.of_field_flatten.Tests.{left_of, right_of}
 use Rattle.flat_shapes.specs.Room.{own_scale, is_small, has_room}
 
 module _ (at : Layout) where

@@ -4,3 +4,5 @@ pub mod NodeRooms
 pub mod NodeShapes
 pub mod Rooms
 pub mod RowCases
+-- Crates below, for the crates above.
+pub use Rattle.flat_terms.proofs.of_field_flatten as of_field_flatten

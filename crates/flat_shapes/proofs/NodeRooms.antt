@@ -2,17 +2,17 @@
 use Rattle.std.proofs.Common.{◌≡◌, ℕ, refl, sym, ap, ap₂, ◌∙◌, subst, List, [], ◌∷◌, map, length, get_or, Bool, true, ◌&&◌, ◌<◌, zero, suc, arith}
 use Rattle.std.specs.List.{list_all}
 use Rattle.osc_base.specs.LowestTerms.{lcm}
-use Rattle.expr_nodes.specs.declared.compare.Compare.{Compare}
-use Rattle.expr_nodes.specs.declared.node.Join.{Join}
-use Rattle.expr_nodes.specs.declared.node.Info.{Info}
-use Rattle.expr_nodes.specs.declared.node.Earlier.{Earlier}
-use Rattle.expr_nodes.specs.declared.node.Typed.{Typed}
-use Rattle.expr_nodes.specs.declared.node.Typed.TheViews
-use Rattle.expr_nodes.specs.Typed as Nodes
-use Rattle.expr_nodes.specs.Seen.{Reached, seen, seen_info, reached}
-use Rattle.expr_nodes.proofs.SeenNodes.{seen_joined, seen_listed, reached_is}
+use Rattle.expr_value.specs.expr_nodes.declared.compare.Compare.{Compare}
+use Rattle.expr_value.specs.expr_nodes.declared.node.Join.{Join}
+use Rattle.expr_value.specs.expr_nodes.declared.node.Info.{Info}
+use Rattle.expr_value.specs.expr_nodes.declared.node.Earlier.{Earlier}
+use Rattle.expr_value.specs.expr_nodes.declared.node.Typed.{Typed}
+use Rattle.expr_value.specs.expr_nodes.declared.node.Typed.TheViews
+use Rattle.expr_value.specs.expr_nodes.Typed as Nodes
+use Rattle.expr_value.specs.expr_nodes.Seen.{Reached, seen, seen_info, reached}
+use Rattle.expr_value.proofs.of_expr_nodes.SeenNodes.{seen_joined, seen_listed, reached_is}
 use Rattle.expr_value.proofs.Shapes.{seen_implies, seen_relation, seen_within, seen_span}
-use Rattle.field_flatten.proofs.Tests.{left_of, right_of}
+use Rattle.flat_terms.proofs.of_field_flatten.Tests.{left_of, right_of}
 use Rattle.flat_terms.specs.declared.rows.TermRow.{TermRow}
 use Rattle.flat_terms.specs.declared.rows.RuleRow.{RuleRow}
 use Rattle.flat_shapes.specs.Room.{own_scale, is_small, has_room, can_equal}

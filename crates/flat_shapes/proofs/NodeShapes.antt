@@ -1,17 +1,17 @@
 -- What a node makes, by what its parts make.
 use Rattle.std.proofs.Common.{◌≡◌, ℕ, ◌+◌, refl, sym, ap, ap₂, ◌∙◌, List, [], ◌∷◌, ◌++◌, map, take, length, get_or, Bool, true, ◌<◌}
 use Rattle.std.proofs.lemmas.List.{take_more, map-append, append_assoc}
-use Rattle.box_eval.specs.FlatRules.{FlatTerm, FlatRule, any_of}
-use Rattle.expr_nodes.specs.declared.compare.Compare.{Compare}
-use Rattle.expr_nodes.specs.declared.node.Join.{Join}
-use Rattle.expr_nodes.specs.declared.node.Info.{Info}
-use Rattle.expr_nodes.specs.declared.node.Earlier.{Earlier}
-use Rattle.expr_nodes.specs.declared.node.Typed.{Typed}
-use Rattle.expr_nodes.specs.declared.node.Typed.TheViews
-use Rattle.expr_nodes.specs.Typed as Nodes
-use Rattle.expr_nodes.specs.Seen.{Reached, seen, seen_info, reached}
-use Rattle.expr_nodes.proofs.SeenNodes.{seen_joined, seen_listed, reached_is}
-use Rattle.field_flatten.specs.Shapes.{Layout, Shape, shape, shapes, relation, at_common}
+use Rattle.flat_terms.specs.box_eval.FlatRules.{FlatTerm, FlatRule, any_of}
+use Rattle.expr_value.specs.expr_nodes.declared.compare.Compare.{Compare}
+use Rattle.expr_value.specs.expr_nodes.declared.node.Join.{Join}
+use Rattle.expr_value.specs.expr_nodes.declared.node.Info.{Info}
+use Rattle.expr_value.specs.expr_nodes.declared.node.Earlier.{Earlier}
+use Rattle.expr_value.specs.expr_nodes.declared.node.Typed.{Typed}
+use Rattle.expr_value.specs.expr_nodes.declared.node.Typed.TheViews
+use Rattle.expr_value.specs.expr_nodes.Typed as Nodes
+use Rattle.expr_value.specs.expr_nodes.Seen.{Reached, seen, seen_info, reached}
+use Rattle.expr_value.proofs.of_expr_nodes.SeenNodes.{seen_joined, seen_listed, reached_is}
+use Rattle.flat_terms.specs.field_flatten.Shapes.{Layout, Shape, shape, shapes, relation, at_common}
 use Rattle.flat_terms.specs.declared.rows.TermRow.{TermRow}
 use Rattle.flat_terms.specs.declared.rows.RuleRow.{RuleRow}
 use Rattle.flat_shapes.specs.Nodes.{part_term, first_parts, has_terms, first_rules_of, has_rules, is_in, equalities}

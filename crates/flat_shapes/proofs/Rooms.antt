@@ -6,18 +6,18 @@ use Rattle.std.proofs.Math.Nat.{mul_assoc, add-mul, mul-le-mul_right}
 use Rattle.osc_base.specs.Number.{Number}
 use Rattle.osc_base.specs.LowestTerms.{lcm}
 use Rattle.osc_base.specs.Comparisons.{greatest_part}
-use Rattle.expr_nodes.specs.Kinds.{is_number, is_truth, same_units}
-use Rattle.expr_nodes.specs.Typed.{Typed, Info, Constant, Read, Whole, Listed, Span, Minus, Not, Sum, Times, And, Or, Implies, Relation, Within, TypedRow, End, Item, info, kind, scale, reach, items_of}
-use Rattle.expr_nodes.specs.Sizes.{Size, size, constant_size, field_size, duration_size, unit_size, joined, multiplied, is_wide}
-use Rattle.expr_nodes.specs.Parts.{is_scalar, parts_of}
-use Rattle.expr_nodes.specs.Operators.{fit_for, fits_in, is_range_or_list}
-use Rattle.expr_nodes.specs.Sound.{same_size, has_size, is_lowest, is_constant_of, is_per, are_truths, is_truth_info, can_join, is_sound, are_sound}
-use Rattle.field_flatten.specs.Seen.{has_values, have_values}
-use Rattle.field_flatten.specs.Shapes.{Layout}
-use Rattle.field_flatten.proofs.Tests.{left_of, right_of, two_ways, number_is}
-use Rattle.field_flatten.proofs.Multiples.{common, share_of, product_positive, lcm_swap}
-use Rattle.field_flatten.proofs.ShapeLaw.{scale_is, law, per_law, read_scale, number_no_truth, units_no_truth}
-use Rattle.field_flatten.proofs.ShapeReach.{reach_is}
+use Rattle.expr_value.specs.expr_nodes.Kinds.{is_number, is_truth, same_units}
+use Rattle.expr_value.specs.expr_nodes.Typed.{Typed, Info, Constant, Read, Whole, Listed, Span, Minus, Not, Sum, Times, And, Or, Implies, Relation, Within, TypedRow, End, Item, info, kind, scale, reach, items_of}
+use Rattle.expr_value.specs.expr_nodes.Sizes.{Size, size, constant_size, field_size, duration_size, unit_size, joined, multiplied, is_wide}
+use Rattle.expr_value.specs.expr_nodes.Parts.{is_scalar, parts_of}
+use Rattle.expr_value.specs.expr_nodes.Operators.{fit_for, fits_in, is_range_or_list}
+use Rattle.expr_value.specs.expr_nodes.Sound.{same_size, has_size, is_lowest, is_constant_of, is_per, are_truths, is_truth_info, can_join, is_sound, are_sound}
+use Rattle.flat_terms.specs.field_flatten.Seen.{has_values, have_values}
+use Rattle.flat_terms.specs.field_flatten.Shapes.{Layout}
+use Rattle.flat_terms.proofs.of_field_flatten.Tests.{left_of, right_of, two_ways, number_is}
+use Rattle.flat_terms.proofs.of_field_flatten.Multiples.{common, share_of, product_positive, lcm_swap}
+use Rattle.flat_terms.proofs.of_field_flatten.ShapeLaw.{scale_is, law, per_law, read_scale, number_no_truth, units_no_truth}
+use Rattle.flat_terms.proofs.of_field_flatten.ShapeReach.{reach_is}
 use Rattle.flat_shapes.specs.Room.{longest_tick, is_small, own_scale, can_meet, has_room, can_hold, can_equal}
 
 -- a factor above 0 of a number above 0

@@ -1,11 +1,11 @@
 -- The rows of a chain, case by case: what its parts need, and what they make.
 use Rattle.std.proofs.Common.{◌≡◌, ℕ, refl, sym, ap, List, [], ◌∷◌, ◌++◌, map, Bool, true, false, ◌&&◌, true≢false}
 use Rattle.std.specs.List.{list_all}
-use Rattle.expr_nodes.specs.declared.node.Join.{Join}
-use Rattle.expr_nodes.specs.Typed.{Typed, Info, Constant, Read, Whole, Listed, Span, Minus, Not, Sum, Times, And, Or, Implies, Relation, Within}
-use Rattle.expr_nodes.specs.Seen.{Reached, joined, grouped}
-use Rattle.field_flatten.specs.Shapes.{Layout, shape}
-use Rattle.field_flatten.proofs.Tests.{left_of, right_of}
+use Rattle.expr_value.specs.expr_nodes.declared.node.Join.{Join}
+use Rattle.expr_value.specs.expr_nodes.Typed.{Typed, Info, Constant, Read, Whole, Listed, Span, Minus, Not, Sum, Times, And, Or, Implies, Relation, Within}
+use Rattle.expr_value.specs.expr_nodes.Seen.{Reached, joined, grouped}
+use Rattle.flat_terms.specs.field_flatten.Shapes.{Layout, shape}
+use Rattle.flat_terms.proofs.of_field_flatten.Tests.{left_of, right_of}
 use Rattle.flat_terms.specs.declared.rows.TermRow.{TermRow}
 use Rattle.flat_terms.specs.declared.rows.RuleRow.{RuleRow}
 use Rattle.flat_shapes.specs.Room.{own_scale, is_small, has_room}

@@ -1,6 +1,6 @@
 -- The term of what is read, by the slots in which it stands.
 use Rattle.std.specs.Prelude.{ℕ, ◌*◌, ◌/◌, pos, Some, None}
-use Rattle.box_eval.specs.FlatRules.{FlatTerm, Whole, Slot, Less, times}
+use Rattle.flat_terms.specs.box_eval.FlatRules.{FlatTerm, Whole, Slot, Less, times}
 use Rattle.flat_shapes.specs.declared.slots.Found.{Found}
 
 -- what is read over `per`, at scale e

@@ -1,10 +1,10 @@
 -- The rows that go on to the left, and what their parts need.
 use Rattle.std.specs.Prelude.{ℕ, Bool, true, false, ◌&&◌, List, map}
-use Rattle.box_eval.specs.FlatRules.{FlatTerm, FlatRule}
-use Rattle.box_eval.specs.FlatRules as Flat
-use Rattle.expr_nodes.specs.declared.compare.Compare.{Compare}
-use Rattle.expr_nodes.specs.Typed.{Typed, Not, Sum, Times, And, Or, Implies, Relation, Within}
-use Rattle.field_flatten.specs.Shapes.{Layout, Shape, shape, relation}
+use Rattle.flat_terms.specs.box_eval.FlatRules.{FlatTerm, FlatRule}
+use Rattle.flat_terms.specs.box_eval.FlatRules as Flat
+use Rattle.expr_value.specs.expr_nodes.declared.compare.Compare.{Compare}
+use Rattle.expr_value.specs.expr_nodes.Typed.{Typed, Not, Sum, Times, And, Or, Implies, Relation, Within}
+use Rattle.flat_terms.specs.field_flatten.Shapes.{Layout, Shape, shape, relation}
 use Rattle.flat_terms.specs.declared.rows.TermRow.{TermRow}
 use Rattle.flat_terms.specs.declared.rows.RuleRow.{RuleRow}
 use Rattle.flat_shapes.specs.Room.{own_scale, has_room, can_meet, can_hold}

@@ -1,12 +1,12 @@
 //! The term of what is read.
 
 ghost use Rattle.std.specs.Prelude.{◌≡◌, ◌<◌, ◌≤◌, ◌*◌, ◌/◌, ◌^◌, IfOk};
-ghost use Rattle.box_eval.specs.FlatRules.{flat_term};
+ghost use Rattle.flat_terms.specs.box_eval.FlatRules.{flat_term};
 ghost use Rattle.flat_shapes.specs.Founds.{found_term};
 ghost use Rattle.flat_shapes.specs.Room.{longest_tick};
 
 use crate::slots::Found;
-use box_eval::Term;
+use flat_terms::box_eval::Term;
 use flat_terms::terms::{less, times};
 use std::alloc::{AllocError, Global};
 

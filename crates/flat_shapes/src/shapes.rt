@@ -5,17 +5,17 @@
 
 ghost use Rattle.std.specs.Prelude.{◌≡◌, ◌∷◌, [], ◌++◌, ◌<◌, true, map, IfOk};
 ghost use Rattle.std.specs.List.{list_all};
-ghost use Rattle.box_eval.specs.FlatRules as Flat;
-ghost use Rattle.box_eval.specs.FlatRules.{flat_rule, flat_term};
-ghost use Rattle.expr_nodes.specs.Seen.{Reached, seen, reached};
-ghost use Rattle.field_flatten.specs.Shapes.{Layout, shape, relation};
+ghost use Rattle.flat_terms.specs.box_eval.FlatRules as Flat;
+ghost use Rattle.flat_terms.specs.box_eval.FlatRules.{flat_rule, flat_term};
+ghost use Rattle.expr_value.specs.expr_nodes.Seen.{Reached, seen, reached};
+ghost use Rattle.flat_terms.specs.field_flatten.Shapes.{Layout, shape, relation};
 ghost use Rattle.flat_shapes.specs.Room.{has_room, own_scale as own};
 ghost use Rattle.flat_shapes.specs.Nodes.{part_scale, part_term, first_parts, is_row_of, has_terms, first_rules_of, is_rules_of, has_rules as have_rules, is_logic, can_relate, can_be_in, is_in, is_between, equalities};
 
 use crate::reads::read;
 use crate::slots::Slots;
-use box_eval::{Rule, Term};
-use expr_nodes::{Compare, Earlier, Join, Typed};
+use expr_value::expr_nodes::{Compare, Earlier, Join, Typed};
+use flat_terms::box_eval::{Rule, Term};
 use flat_terms::rows::{self, RuleRow, TermRow};
 use flat_terms::scales::common_scale;
 use flat_terms::terms;

@@ -1,7 +1,7 @@
 //! Where the slots stand that expressions read.
 
 ghost use Rattle.std.specs.Prelude.{◌≡◌, ℕ, ◌≤◌};
-ghost use Rattle.field_flatten.specs.Shapes.{Layout, read_term};
+ghost use Rattle.flat_terms.specs.field_flatten.Shapes.{Layout, read_term};
 ghost use Rattle.flat_shapes.specs.Founds.{found_term};
 ghost use Rattle.flat_shapes.specs.Room.{longest_tick};
 

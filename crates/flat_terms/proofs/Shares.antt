@@ -1,8 +1,8 @@
 -- Common scales, and shares of them.
 use Rattle.std.proofs.Common.{◌≡◌, ℕ, ◌*◌, ◌/◌, ◌≤◌, ◌<◌}
 use Rattle.std.proofs.Math.Nat.{mul-le-mul_left}
-use Rattle.osc_base.specs.LowestTerms.{gcd, lcm}
-use Rattle.expr_nodes.proofs.Divisors.{gcd_above, lcm_is}
+use Rattle.field_flatten.specs.osc_base.LowestTerms.{gcd, lcm}
+use Rattle.field_flatten.proofs.of_expr_nodes.Divisors.{gcd_above, lcm_is}
 
 pub divisor_above : (a b : ℕ) → 0 < a → 0 < gcd a b
 divisor_above a b h = gcd_above a b h

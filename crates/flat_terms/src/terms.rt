@@ -3,14 +3,14 @@
 ghost use Rattle.std.specs.Prelude.{◌≡◌, ℕ, ◌<◌, ◌≤◌, ◌*◌, ◌/◌, ◌^◌, cond, pos, unsigned_abs, map, IfOk};
 ghost use Rattle.box_eval.specs.FlatRules as Flat;
 ghost use Rattle.box_eval.specs.FlatRules.{flat_rule, flat_term, times as so_often};
-ghost use Rattle.expr_nodes.specs.Value.{is_one as says_one};
+ghost use Rattle.field_flatten.specs.expr_nodes.Value.{is_one as says_one};
 ghost use Rattle.field_flatten.specs.Shapes.{compared as compared_by, constant_term, product_of};
-ghost use Rattle.osc_base.specs.Fraction.{value};
+ghost use Rattle.field_flatten.specs.osc_base.Fraction.{value};
 
 use crate::rows;
 use box_eval::{Rule, Term};
-use expr_nodes::Compare;
-use osc_base::{Boxed, Fraction};
+use field_flatten::expr_nodes::Compare;
+use field_flatten::osc_base::{Boxed, Fraction};
 use std::alloc::{AllocError, Global};
 
 /// A number of times a term.

@@ -6,28 +6,28 @@ use Rattle.std.specs.List.{list_all}
 use Rattle.osc_base.specs.declared.mark.Strength.{Strength}
 use Rattle.osc_base.specs.declared.path.Path.{Path}
 use Rattle.osc_base.specs.Paths.{same_path}
-use Rattle.keep_rules.specs.Overriding.{overriders, is_default}
-use Rattle.composition.specs.declared.clause.Clause.{Clause}
-use Rattle.composition.specs.declared.spot.PhaseSpot.{PhaseSpot}
-use Rattle.composition.specs.declared.spot.ValueRange.{ValueRange}
-use Rattle.composition.specs.declared.spot.ValueSpot.{ValueSpot}
-use Rattle.composition.specs.TimedRuns.{TimedRun}
-use Rattle.composition.specs.Scenes.{Scene, Occurrence, ModifierSpot, marks, choices, values, phases, vehicles}
-use Rattle.composition.specs.Ranges.{has_gap}
-use Rattle.composition.specs.declared.run.Choice.{Choice}
-use Rattle.composition.specs.declared.run.Value.{Value}
-use Rattle.composition.specs.declared.run.Span.{Span}
-use Rattle.composition.specs.declared.run.Trace.{Trace}
-use Rattle.composition.specs.declared.spot.ChoiceSpot.{ChoiceSpot}
-use Rattle.composition.specs.There.{is_there, is_asked}
-use Rattle.composition.specs.Slots.{ticks_of}
-use Rattle.composition.specs.Claims.{Claim, claim, claim_at, listed, those_there, listed_claims, end_claim, bounds_claims, choice_in_range, value_in_range, span_in_range, sample_in_range, item_claim, item_claims}
-use Rattle.composition.specs.Items.{Item, OfTyped, OfPhase, OfModifier, OfMotion, item_holds, is_hard, hard_holds, default_holds, arranged_holds, modifier_holds, motion_holds, is_satisfied, is_overridden, occurrence_item, occurrence_items, typed_item, items}
+use Rattle.run_check.specs.keep_rules.Overriding.{overriders, is_default}
+use Rattle.run_check.specs.composition.declared.clause.Clause.{Clause}
+use Rattle.run_check.specs.composition.declared.spot.PhaseSpot.{PhaseSpot}
+use Rattle.run_check.specs.composition.declared.spot.ValueRange.{ValueRange}
+use Rattle.run_check.specs.composition.declared.spot.ValueSpot.{ValueSpot}
+use Rattle.run_check.specs.composition.TimedRuns.{TimedRun}
+use Rattle.run_check.specs.composition.Scenes.{Scene, Occurrence, ModifierSpot, marks, choices, values, phases, vehicles}
+use Rattle.run_check.specs.composition.Ranges.{has_gap}
+use Rattle.run_check.specs.composition.declared.run.Choice.{Choice}
+use Rattle.run_check.specs.composition.declared.run.Value.{Value}
+use Rattle.run_check.specs.composition.declared.run.Span.{Span}
+use Rattle.run_check.specs.composition.declared.run.Trace.{Trace}
+use Rattle.run_check.specs.composition.declared.spot.ChoiceSpot.{ChoiceSpot}
+use Rattle.run_check.specs.composition.There.{is_there, is_asked}
+use Rattle.run_check.specs.composition.Slots.{ticks_of}
+use Rattle.run_check.specs.composition.Claims.{Claim, claim, claim_at, listed, those_there, listed_claims, end_claim, bounds_claims, choice_in_range, value_in_range, span_in_range, sample_in_range, item_claim, item_claims}
+use Rattle.run_check.specs.composition.Items.{Item, OfTyped, OfPhase, OfModifier, OfMotion, item_holds, is_hard, hard_holds, default_holds, arranged_holds, modifier_holds, motion_holds, is_satisfied, is_overridden, occurrence_item, occurrence_items, typed_item, items}
 use Rattle.run_check.specs.declared.wrong.Wrong.{Wrong}
 use Rattle.run_check.specs.Answers.{wrong_of, first_wrong}
 use Rattle.instance_check.specs.FirstWrong.{first_of, wrong_at, first_path_unlisted, first_path_out, hard_wrong, default_wrong, phase_wrong, modifier_wrong, motion_wrong}
 use Rattle.run_constraints.specs.FirstConstraints.{is_hard_one, is_untrue, first_hard, first_default}
-use Rattle.run_clauses.specs.Listing.{first_path, later, begins_at, first_unlisted}
+use Rattle.run_constraints.specs.run_clauses.Listing.{first_path, later, begins_at, first_unlisted}
 
 -- ---- lists of claims
 

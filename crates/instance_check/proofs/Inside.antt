@@ -1,14 +1,14 @@
 -- A run of which the lists, the end and the bounds don't fail.
 use Rattle.std.proofs.Common.{◌≡◌, ◌∙◌, refl, sym, ap, Bool, true, false, ◌&&◌, [], ◌∷◌, Option, Some, None, Result, Ok, Err}
 use Rattle.std.specs.Prelude.{IfOk, not, find, option_map}
-use Rattle.composition.specs.declared.clause.Clause.{Clause}
-use Rattle.composition.specs.declared.spot.PhaseSpot.{PhaseSpot}
+use Rattle.run_check.specs.composition.declared.clause.Clause.{Clause}
+use Rattle.run_check.specs.composition.declared.spot.PhaseSpot.{PhaseSpot}
 use Rattle.std.specs.Option.{option_or}
 use Rattle.std.specs.List.{list_all}
-use Rattle.composition.specs.TimedRuns.{TimedRun}
-use Rattle.composition.specs.Scenes.{Scene, phases}
-use Rattle.composition.specs.Claims.{Claim, claim, end_claim, bounds_claims}
-use Rattle.composition.specs.Items.{arranged_holds}
+use Rattle.run_check.specs.composition.TimedRuns.{TimedRun}
+use Rattle.run_check.specs.composition.Scenes.{Scene, phases}
+use Rattle.run_check.specs.composition.Claims.{Claim, claim, end_claim, bounds_claims}
+use Rattle.run_check.specs.composition.Items.{arranged_holds}
 use Rattle.run_check.specs.declared.wrong.Wrong.{Wrong}
 use Rattle.run_check.specs.Answers.{first_wrong, wrong_of}
 use Rattle.instance_check.specs.FirstWrong.{listed_wrong, end_wrong, bounds_wrong, inner_wrong, phase_wrong}

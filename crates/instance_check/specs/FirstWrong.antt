@@ -3,24 +3,24 @@ use Rattle.std.specs.Prelude.{◌+◌, false, cond, not, List, [], ◌∷◌, Op
 use Rattle.std.specs.Option.{option_or}
 use Rattle.std.specs.List.{list_all}
 use Rattle.osc_base.specs.declared.path.Path.{Path}
-use Rattle.composition.specs.declared.clause.Clause.{Clause}
-use Rattle.composition.specs.declared.run.Choice.{Choice}
-use Rattle.composition.specs.declared.run.Value.{Value}
-use Rattle.composition.specs.declared.run.Span.{Span}
-use Rattle.composition.specs.declared.run.Trace.{Trace}
-use Rattle.composition.specs.declared.spot.ChoiceSpot.{ChoiceSpot}
-use Rattle.composition.specs.declared.spot.ValueSpot.{ValueSpot}
-use Rattle.composition.specs.declared.spot.PhaseSpot.{PhaseSpot}
+use Rattle.run_check.specs.composition.declared.clause.Clause.{Clause}
+use Rattle.run_check.specs.composition.declared.run.Choice.{Choice}
+use Rattle.run_check.specs.composition.declared.run.Value.{Value}
+use Rattle.run_check.specs.composition.declared.run.Span.{Span}
+use Rattle.run_check.specs.composition.declared.run.Trace.{Trace}
+use Rattle.run_check.specs.composition.declared.spot.ChoiceSpot.{ChoiceSpot}
+use Rattle.run_check.specs.composition.declared.spot.ValueSpot.{ValueSpot}
+use Rattle.run_check.specs.composition.declared.spot.PhaseSpot.{PhaseSpot}
 use Rattle.osc_base.specs.Paths.{root}
-use Rattle.composition.specs.TimedRuns.{TimedRun}
-use Rattle.composition.specs.Scenes.{Scene, Occurrence, ModifierSpot, choices, values, phases, vehicles, root_do, has_root_do}
-use Rattle.composition.specs.There.{is_there}
-use Rattle.composition.specs.Slots.{ticks_of}
-use Rattle.composition.specs.Claims.{Claim, end_claim, claim, claim_at, choice_in_range, value_in_range, span_in_range, sample_in_range}
-use Rattle.composition.specs.Items.{arranged_holds, modifier_holds, motion_holds}
+use Rattle.run_check.specs.composition.TimedRuns.{TimedRun}
+use Rattle.run_check.specs.composition.Scenes.{Scene, Occurrence, ModifierSpot, choices, values, phases, vehicles, root_do, has_root_do}
+use Rattle.run_check.specs.composition.There.{is_there}
+use Rattle.run_check.specs.composition.Slots.{ticks_of}
+use Rattle.run_check.specs.composition.Claims.{Claim, end_claim, claim, claim_at, choice_in_range, value_in_range, span_in_range, sample_in_range}
+use Rattle.run_check.specs.composition.Items.{arranged_holds, modifier_holds, motion_holds}
 use Rattle.run_check.specs.declared.wrong.Wrong.{Wrong}
 use Rattle.run_check.specs.Answers.{wrong_of}
-use Rattle.run_clauses.specs.Listing.{first_unlisted}
+use Rattle.run_constraints.specs.run_clauses.Listing.{first_unlisted}
 use Rattle.run_constraints.specs.FirstConstraints.{first_hard, first_default}
 
 -- the first claim that fails, as the answer tells it

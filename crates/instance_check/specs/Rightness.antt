@@ -1,8 +1,8 @@
 -- With which runs nothing is wrong.
 use Rattle.std.specs.Prelude.{◌≡◌, None}
-use Rattle.composition.specs.TimedRuns.{TimedRun}
-use Rattle.composition.specs.Scenes.{Scene}
-use Rattle.composition.specs.Claims.{IsInstance}
+use Rattle.run_check.specs.composition.TimedRuns.{TimedRun}
+use Rattle.run_check.specs.composition.Scenes.{Scene}
+use Rattle.run_check.specs.composition.Claims.{IsInstance}
 use Rattle.run_check.specs.Answers.{first_wrong}
 
 -- nothing is wrong with a run exactly if it is an instance of the scene

@@ -2,19 +2,19 @@
 
 ghost use Rattle.std.specs.Prelude.{◌≡◌, IfOk};
 ghost use Rattle.std.specs.Option.{option_or};
-ghost use Rattle.composition.specs.SeenScenes.{seen_scene};
-ghost use Rattle.run_entries.specs.SeenRuns.{seen_run};
-ghost use Rattle.run_values.specs.Frames.{IsWithin};
-ghost use Rattle.run_values.specs.SeenNumbers.{scene_in, run_in};
+ghost use Rattle.run_check.specs.composition.SeenScenes.{seen_scene};
+ghost use Rattle.run_constraints.specs.run_entries.SeenRuns.{seen_run};
+ghost use Rattle.run_constraints.specs.run_values.Frames.{IsWithin};
+ghost use Rattle.run_constraints.specs.run_values.SeenNumbers.{scene_in, run_in};
 ghost use Rattle.instance_check.specs.FirstWrong as firsts;
 
 use crate::wrongs::{wrong, wrong_at};
-use composition::{Clause, Scene};
 use run_check::Wrong;
-use run_clauses::first_disarranged;
+use run_check::composition::{Clause, Scene};
+use run_constraints::run_clauses::first_disarranged;
+use run_constraints::run_entries::Entries;
+use run_constraints::run_values::Numbers;
 use run_constraints::{first_default, first_hard, first_modifier};
-use run_entries::Entries;
-use run_values::Numbers;
 use std::alloc::{AllocError, Global};
 
 /// What the first hard constraint that fails tells.

@@ -10,3 +10,7 @@ mod wrongs;
 pub use laws::instances_alone_are_right;
 pub use run_check::Wrong;
 pub use whole::check;
+
+// Crates below, for the crates above.
+pub use run_check;
+pub use run_check::composition;

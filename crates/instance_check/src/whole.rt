@@ -2,19 +2,19 @@
 
 ghost use Rattle.std.specs.Prelude.{◌≡◌, true, IfOk};
 ghost use Rattle.std.specs.List.{list_all};
-ghost use Rattle.composition.specs.Claims.{end_claim, bounds_claims};
-ghost use Rattle.composition.specs.SeenScenes.{seen_scene};
-ghost use Rattle.composition.specs.TimedRuns.{timed};
+ghost use Rattle.run_check.specs.composition.Claims.{end_claim, bounds_claims};
+ghost use Rattle.run_check.specs.composition.SeenScenes.{seen_scene};
+ghost use Rattle.run_check.specs.composition.TimedRuns.{timed};
 ghost use Rattle.run_check.specs.Answers.{first_wrong};
-ghost use Rattle.run_entries.specs.SeenRuns.{seen_run};
-ghost use Rattle.run_values.specs.Frames.{IsCheckable};
+ghost use Rattle.run_constraints.specs.run_entries.SeenRuns.{seen_run};
+ghost use Rattle.run_constraints.specs.run_values.Frames.{IsCheckable};
 ghost use Rattle.instance_check.specs.FirstWrong as firsts;
 
 use crate::inner::inner_wrong;
 use crate::outer::outer_wrong;
-use composition::{Run, Scene};
 use run_check::Wrong;
-use run_entries::Entries;
+use run_check::composition::{Run, Scene};
+use run_constraints::run_entries::Entries;
 use std::alloc::{AllocError, Global};
 
 /// Why a run, whose ticks are `tick` milliseconds long, is no instance of the scene: the first clause that fails, with

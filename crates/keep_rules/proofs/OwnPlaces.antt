@@ -3,10 +3,10 @@ use Rattle.std.proofs.Common.{◌≡◌, ◌∙◌, refl, sym, ap, ℕ, ◌+◌,
 use Prim.Native.Nat.{zero, suc}
 use Rattle.std.specs.Prelude.{slice_get}
 use Rattle.std.proofs.lemmas.List.{take_more}
-use Rattle.osc_base.specs.declared.path.Path.{Path}
-use Rattle.osc_base.specs.declared.mark.Mark.{Mark}
-use Rattle.osc_base.specs.declared.mark.Strength.{Strength}
-use Rattle.osc_base.proofs.PathEquality.{own_path, path_flip}
+use Rattle.path_index.specs.osc_base.declared.path.Path.{Path}
+use Rattle.path_index.specs.osc_base.declared.mark.Mark.{Mark}
+use Rattle.path_index.specs.osc_base.declared.mark.Strength.{Strength}
+use Rattle.path_index.proofs.of_osc_base.PathEquality.{own_path, path_flip}
 use Rattle.keep_rules.specs.declared.rows.TargetRows.{TargetRows}
 use Rattle.keep_rules.specs.declared.targets.Own.{Own}
 use Rattle.keep_rules.specs.declared.targets.Targets.{Targets}

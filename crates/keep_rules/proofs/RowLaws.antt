@@ -4,12 +4,12 @@ use Rattle.std.proofs.Common.{Result, Ok, Err, IfOk, OnOk}
 use Rattle.std.specs.Option.{option_map_or}
 use Rattle.std.specs.declared.alloc.AllocError.{AllocError}
 use Rattle.keep_rules.specs.declared.rows.Taken.{Taken}
-use Rattle.osc_base.specs.declared.path.Path.{Path}
-use Rattle.osc_base.specs.Paths.{same_path}
+use Rattle.path_index.specs.osc_base.declared.path.Path.{Path}
+use Rattle.path_index.specs.osc_base.Paths.{same_path}
 use Rattle.std.specs.Map.{lookup_key}
 use Rattle.indexmap.specs.IndexMap.{IndexMap, get_key_by}
-use Rattle.osc_base.specs.contracts.path.PathPartialEq.TheImpl as paths
-use Rattle.osc_base.proofs.PathEquality.{path_eq, path_is}
+use Rattle.path_index.specs.osc_base.contracts.path.PathPartialEq.TheImpl as paths
+use Rattle.path_index.proofs.of_osc_base.PathEquality.{path_eq, path_is}
 
 abbrev pub row_of : Option (List ℕ) → List ℕ
 row_of found = option_map_or (λ row. row) found []

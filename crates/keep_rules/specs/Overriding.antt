@@ -1,9 +1,9 @@
 -- Which later constraints override a default.
 use Rattle.std.specs.Prelude.{ℕ, ◌+◌, Bool, true, false, cond, List, [], ◌∷◌, Option, Some, None, drop, slice_get}
-use Rattle.osc_base.specs.declared.path.Path.{Path}
-use Rattle.osc_base.specs.declared.mark.Mark.{Mark}
-use Rattle.osc_base.specs.declared.mark.Strength.{Strength}
-use Rattle.osc_base.specs.Paths.{same_path}
+use Rattle.path_index.specs.osc_base.declared.path.Path.{Path}
+use Rattle.path_index.specs.osc_base.declared.mark.Mark.{Mark}
+use Rattle.path_index.specs.osc_base.declared.mark.Strength.{Strength}
+use Rattle.path_index.specs.osc_base.Paths.{same_path}
 
 -- it is a default
 abbrev pub is_default : Strength → Bool

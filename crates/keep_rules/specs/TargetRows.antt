@@ -2,10 +2,10 @@
 use Rattle.std.specs.Prelude.{ℕ, ◌+◌, cond, List, [], ◌∷◌, Option, Some, None, length}
 use Rattle.std.specs.Option.{option_map_or}
 use Rattle.indexmap.specs.IndexMap.{get_by}
-use Rattle.osc_base.specs.declared.path.Path.{Path}
-use Rattle.osc_base.specs.declared.mark.Mark.{Mark}
-use Rattle.osc_base.specs.declared.mark.Strength.{Strength}
-use Rattle.osc_base.specs.Paths.{same_path}
+use Rattle.path_index.specs.osc_base.declared.path.Path.{Path}
+use Rattle.path_index.specs.osc_base.declared.mark.Mark.{Mark}
+use Rattle.path_index.specs.osc_base.declared.mark.Strength.{Strength}
+use Rattle.path_index.specs.osc_base.Paths.{same_path}
 use Rattle.keep_rules.specs.declared.rows.TargetRows.{TargetRows}
 use Rattle.keep_rules.specs.declared.targets.Own.{Own}
 

@@ -5,3 +5,6 @@ mod rows;
 mod targets;
 
 pub use targets::Targets;
+
+// Crates below, for the crates above.
+pub use path_index;

@@ -1,12 +1,12 @@
 //! The numbers of the marks with each target.
 
 ghost use Rattle.std.specs.Prelude.{◌≡◌, ◌++◌, ◌∷◌, [], cond, IfOk, OnOk};
-ghost use Rattle.osc_base.specs.declared.path.Path.{Path};
-ghost use Rattle.osc_base.specs.Paths.{same_path};
+ghost use Rattle.path_index.specs.osc_base.declared.path.Path.{Path};
+ghost use Rattle.path_index.specs.osc_base.Paths.{same_path};
 ghost use Rattle.keep_rules.specs.TargetRows.{row_at};
 
 use indexmap::IndexMap;
-use osc_base::{Path, Row};
+use path_index::osc_base::{Path, Row};
 use std::alloc::{AllocError, Global};
 
 /// The numbers of the marks with each target, ascending.

@@ -1,13 +1,13 @@
 //! Which marks override a default.
 
 ghost use Rattle.std.specs.Prelude.{◌≡◌, ◌+◌, ◌++◌, ℕ, drop, IfOk, OnOk};
-ghost use Rattle.osc_base.specs.declared.path.Path.{Path};
+ghost use Rattle.path_index.specs.osc_base.declared.path.Path.{Path};
 ghost use Rattle.keep_rules.specs.Overriding.{overriders as definition};
 ghost use Rattle.keep_rules.specs.TargetRows.{row_at, own_at, added};
 ghost use Rattle.keep_rules.specs.TargetLists.{later_of};
 
 use crate::rows::TargetRows;
-use osc_base::{Mark, Path, Row, Strength};
+use path_index::osc_base::{Mark, Path, Row, Strength};
 use std::alloc::{AllocError, Global};
 
 /// Where a default stands among the marks with its target: those from `skip` on are later.

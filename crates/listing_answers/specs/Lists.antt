@@ -1,10 +1,10 @@
 -- What is replied of the flat form of a program's scene.
 use Rattle.std.specs.Prelude.{◌≡◌, List}
 use Rattle.name_scope.specs.FileNumbers.{AddedFile}
-use Rattle.composition.specs.Items.{rule_names}
-use Rattle.composition.specs.Scenes.{Scene}
-use Rattle.composition.specs.Slots.{slot_names}
-use Rattle.field_flatten.specs.Ends.{bounds}
+use Rattle.flat_forms.specs.composition.Items.{rule_names}
+use Rattle.flat_forms.specs.composition.Scenes.{Scene}
+use Rattle.flat_forms.specs.composition.Slots.{slot_names}
+use Rattle.flat_forms.specs.field_flatten.Ends.{bounds}
 use Rattle.flat_listing.specs.ListingText.{listing_text}
 use Rattle.command_replies.specs.Reply.{Answer}
 use Rattle.command_replies.specs.Replies.{done}

@@ -23,7 +23,7 @@ use Rattle.dsl_tree.proofs.FileValues.{heading_whole}
 use Rattle.dsl_tree.proofs.OneTrees.{is_is_whole}
 use Rattle.dsl_lexer.specs.Kinds.{is_word}
 use Rattle.type_heads.specs.Texts.{texts_in, texts_among, member_exprs, declaration_exprs}
-use Rattle.scene_laws.specs.Premises.{is_short, are_short, row_is_short, is_free, is_full, row_is_full, is_formed, is_written, is_spelled}
+use Rattle.checkable_scenes.specs.scene_laws.Premises.{is_short, are_short, row_is_short, is_free, is_full, row_is_full, is_formed, is_written, is_spelled}
 use Rattle.loaded_programs.specs.TokenLaws.{has_few_digits, is_no_word, is_string, all_kinds, count_strings}
 use Rattle.loaded_programs.specs.TreeLaws.{have_short_numbers, TreesAreShort, TreesAreFormed, TextsAreFew}
 use Rattle.loaded_programs.specs.TreeLaws as TreeLaws

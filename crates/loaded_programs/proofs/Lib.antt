@@ -11,3 +11,8 @@ pub mod LibraryTree
 pub mod LibraryThere
 pub mod LibraryLimits
 pub mod LoadedPrograms
+-- Crates below, for the crates above.
+pub use Rattle.checkable_scenes.proofs as of_checkable_scenes
+pub use Rattle.checkable_scenes.proofs.of_field_flatten as of_field_flatten
+pub use Rattle.program_load.proofs as of_program_load
+pub use Rattle.checkable_scenes.proofs.of_scene_laws as of_scene_laws

@@ -19,7 +19,7 @@ use Rattle.type_heads.specs.Types.{Program, Written, TypeBody}
 use Rattle.type_heads.specs.Members.{no_body, body}
 use Rattle.type_heads.specs.HeadingFaults.{name_declared, shares_name, basic_names, twice_rows}
 use Rattle.type_heads.specs.DeclaredTypes.{Placed, placed, placed_in, placed_from, Declared, basic_types, type_declared, all_declared, heads_from, bodies_from, declared_heads, types_of}
-use Rattle.expr_nodes.specs.Parts.{any_holds}
+use Rattle.checkable_scenes.specs.expr_nodes.Parts.{any_holds}
 use Rattle.checkable_scenes.specs.Premises.{holds_number, is_number_field, has_limits}
 use Rattle.loaded_programs.proofs.Booleans.{both, either, or_else, neither, no_left, no_right}
 use Rattle.loaded_programs.proofs.LibraryThere.{HasLibrary}

@@ -21,7 +21,7 @@ use Rattle.name_scope.proofs.Mentions.{there}
 use Rattle.program_load.specs.Loading.{IsTaken, AreTakenAfter, next_name}
 use Rattle.type_heads.specs.Texts.{with_text, texts_of}
 use Rattle.type_heads.specs.DeclaredTypes.{Placed, placed_in, placed_from}
-use Rattle.scene_laws.specs.Premises.{is_spelled}
+use Rattle.checkable_scenes.specs.scene_laws.Premises.{is_spelled}
 use Rattle.loaded_programs.specs.TreeLaws.{texts_among}
 use Rattle.loaded_programs.proofs.Booleans.{both}
 use Rattle.loaded_programs.proofs.SourceTokens.{numbers_are_short, names_are_no_words, strings_are_few}

@@ -9,8 +9,8 @@ use Rattle.type_heads.specs.Types.{Program}
 use Rattle.type_heads.specs.Texts.{texts_of}
 use Rattle.type_heads.specs.HeadingFaults.{name_declared, basic_names, twice_rows, declaration_rows, enum_rows_from, cycle_row, heading_rows}
 use Rattle.type_heads.specs.DeclaredTypes.{Placed, placed, all_declared, program_of, types_of}
-use Rattle.expr_nodes.specs.Parts.{any_holds}
-use Rattle.scene_laws.proofs.FaultRows.{rows_left, no_faults}
+use Rattle.checkable_scenes.specs.expr_nodes.Parts.{any_holds}
+use Rattle.checkable_scenes.proofs.of_scene_laws.FaultRows.{rows_left, no_faults}
 use Rattle.checkable_scenes.specs.Premises.{has_limits}
 use Rattle.loaded_programs.specs.LoadLaws.{LoadsAreLoadedPrograms}
 use Rattle.loaded_programs.proofs.Booleans.{either}

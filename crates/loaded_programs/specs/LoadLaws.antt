@@ -4,7 +4,7 @@ use Rattle.outside_io.specs.declared.shelf.NamedBytes.{NamedBytes}
 use Rattle.name_scope.specs.FileNumbers.{AddedFile}
 use Rattle.program_load.specs.Loading.{IsLoaded}
 use Rattle.type_heads.specs.DeclaredTypes.{program_of, types_of}
-use Rattle.composition.specs.StaticFaults.{declaration_fault}
+use Rattle.checkable_scenes.specs.composition.StaticFaults.{declaration_fault}
 use Rattle.checkable_scenes.specs.Premises.{IsLoadedProgram}
 
 -- of each program that is loaded and has no fault of declarations; with such a fault another file may take the name `vehicle`

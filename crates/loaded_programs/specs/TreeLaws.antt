@@ -8,7 +8,7 @@ use Rattle.dsl_tree.specs.Forest.{Forest, nil, seen, bare, sub, wrong}
 use Rattle.dsl_tree.specs.WrittenFile.{file}
 use Rattle.dsl_tree.specs.Language.{Spelled}
 use Rattle.type_heads.specs.Texts.{texts_in, declaration_exprs}
-use Rattle.scene_laws.specs.Premises.{are_short, is_spelled}
+use Rattle.checkable_scenes.specs.scene_laws.Premises.{are_short, is_spelled}
 use Rattle.loaded_programs.specs.TokenLaws.{has_few_digits, is_no_word, all_kinds, count_strings}
 
 -- the numbers in the expressions of declarations have at most 18 digits

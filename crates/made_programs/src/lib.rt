@@ -8,3 +8,6 @@ mod text;
 
 pub use program::{MadeLoad, made_program};
 pub use text::{made_line, made_text};
+
+// Crates below, for the crates above.
+pub use program_load;

@@ -2,13 +2,13 @@
 use Rattle.std.proofs.Common.{◌≡◌, ◌∙◌, sym, ap, ℕ, ◌+◌, ◌<◌, List, [], ◌∷◌, ◌++◌, Option, take, drop, length, get_or, append_assoc, append-nil, subst}
 use Rattle.std.proofs.lemmas.List.{take_more, drop_more}
 use Rattle.std.proofs.lemmas.List.Concat.{flat_map-append}
-use Rattle.osc_base.specs.declared.fault.Fault.{Fault}
+use Rattle.dsl_tree.specs.osc_base.declared.fault.Fault.{Fault}
 use Rattle.dsl_tree.specs.declared.file.Declaration.{Declaration}
 use Rattle.name_scope.specs.FileNumbers.{AddedFile}
 use Rattle.name_scope.specs.Declaring.{declared_name}
-use Rattle.osc_base.specs.FaultRows.{FaultRow, first_from}
+use Rattle.dsl_tree.specs.osc_base.FaultRows.{FaultRow, first_from}
 use Rattle.name_scope.specs.Headings.{declarations, twice_rows, reference_rows, rows_behind}
-use Rattle.osc_base.proofs.FaultRows.{first_from_joined}
+use Rattle.dsl_tree.proofs.of_osc_base.FaultRows.{first_from_joined}
 
 pub three : (first : Option Fault) (rs ss ts : List FaultRow) → first_from (first_from (first_from first rs) ss) ts ≡ first_from first (rs ++ ss ++ ts)
 three first rs ss ts = ap (λ f. first_from f ts) (sym (first_from_joined first rs ss)) ∙ sym (first_from_joined first (rs ++ ss) ts)

@@ -1,8 +1,8 @@
 -- Worked programs, by computation.
 use Rattle.std.proofs.Common.{◌≡◌, refl, ℕ, List, [], ◌∷◌, Option, Some, None, codes}
-use Rattle.osc_base.specs.declared.fault.Place.{Place}
-use Rattle.osc_base.specs.declared.fault.FaultCode.{FaultCode}
-use Rattle.osc_base.specs.declared.fault.Fault.{Fault}
+use Rattle.dsl_tree.specs.osc_base.declared.fault.Place.{Place}
+use Rattle.dsl_tree.specs.osc_base.declared.fault.FaultCode.{FaultCode}
+use Rattle.dsl_tree.specs.osc_base.declared.fault.Fault.{Fault}
 use Rattle.dsl_tree.specs.declared.parts.Ident.{Ident}
 use Rattle.dsl_tree.specs.declared.parts.QName.{QName}
 use Rattle.dsl_tree.specs.declared.compounds.CompoundKind.{CompoundKind}
@@ -13,7 +13,7 @@ use Rattle.name_scope.specs.declared.ids.NameKind.{NameKind}
 use Rattle.name_scope.specs.declared.names.FileName.{FileName}
 use Rattle.name_scope.specs.FileNumbers.{AddedFile, numbered_names, wanted_name, wanted_mention, adding_fault}
 use Rattle.name_scope.specs.Declaring.{found}
-use Rattle.osc_base.specs.FaultRows.{first_fault}
+use Rattle.dsl_tree.specs.osc_base.FaultRows.{first_fault}
 use Rattle.name_scope.specs.Headings.{heading_rows}
 
 abbrev at : ℕ → ℕ → Place

@@ -1,7 +1,7 @@
 -- The names that declarations declare, and which declaration a name means.
 use Rattle.std.specs.Prelude.{◌≡◌, ℕ, ◌+◌, ◌&&◌, Bool, true, false, cond, List, [], ◌∷◌, Option, Some, None, option_map, slice_get, bytes_eq}
 use Rattle.std.specs.Option.{option_or}
-use Rattle.osc_base.specs.declared.fault.Place.{Place}
+use Rattle.dsl_tree.specs.osc_base.declared.fault.Place.{Place}
 use Rattle.dsl_tree.specs.declared.parts.Ident.{Ident}
 use Rattle.dsl_tree.specs.declared.parts.QName.{QName}
 use Rattle.dsl_tree.specs.declared.compounds.CompoundKind.{CompoundKind}

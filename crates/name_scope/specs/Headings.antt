@@ -1,8 +1,8 @@
 -- The faults of names in headings: `Twice` when a name is declared before, `Unknown` when a name isn't declared.
 use Rattle.std.specs.Prelude.{ℕ, ◌&&◌, ◌||◌, Bool, not, List, [], ◌∷◌, ◌++◌, Option, Some, None, flat_map, codes, bytes_eq}
 use Rattle.std.specs.List.{list_any}
-use Rattle.osc_base.specs.declared.fault.FaultCode.{FaultCode}
-use Rattle.osc_base.specs.FaultRows.{FaultRow, row}
+use Rattle.dsl_tree.specs.osc_base.declared.fault.FaultCode.{FaultCode}
+use Rattle.dsl_tree.specs.osc_base.FaultRows.{FaultRow, row}
 use Rattle.dsl_tree.specs.declared.parts.Ident.{Ident}
 use Rattle.dsl_tree.specs.declared.compounds.ConditionValue.{ConditionValue}
 use Rattle.dsl_tree.specs.declared.compounds.HeirCondition.{HeirCondition}

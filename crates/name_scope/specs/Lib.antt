@@ -7,3 +7,5 @@ pub mod Tables
 pub mod Sources
 pub mod Seen
 pub mod Earlier
+-- Crates below, for the crates above.
+pub use Rattle.dsl_tree.specs as dsl_tree

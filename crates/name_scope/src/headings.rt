@@ -1,7 +1,7 @@
 //! The faults of names in headings.
 
 ghost use Rattle.std.specs.Prelude.{◌≡◌, [], ◌∷◌, ◌++◌, flat_map, Option, option_map};
-ghost use Rattle.osc_base.specs.FaultRows.{first_from, first_fault};
+ghost use Rattle.dsl_tree.specs.osc_base.FaultRows.{first_from, first_fault};
 ghost use Rattle.name_scope.specs.Declaring.{declared_name};
 ghost use Rattle.name_scope.specs.Headings.{declarations, twice_rows, unknown_row, unowned_row, qualified_rows, owner_rows, value_rows, condition_rows, heir_rows, member_rows, reference_rows, rows_behind, heading_rows};
 ghost use Rattle.name_scope.specs.Earlier.{earlier_of};
@@ -11,10 +11,10 @@ use crate::known::{Earlier, is_declared, is_owned_in, is_taken};
 use crate::least::with_fault;
 use crate::source::Source;
 use crate::table::{Declared, name_declared};
+use dsl_tree::osc_base::{Fault, FaultCode, Place};
 use dsl_tree::{
     CompoundDecl, ConditionValue, Declaration, Heir, HeirCondition, Ident, Member, QName,
 };
-use osc_base::{Fault, FaultCode, Place};
 
 fn place_of(declared: Declared<'_>) -> Place
     ensures { result ≡ (seen_name declared.entry).place }

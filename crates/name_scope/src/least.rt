@@ -1,9 +1,9 @@
 //! The first fault of a list.
 
 ghost use Rattle.std.specs.Prelude.{◌≡◌, Some};
-ghost use Rattle.osc_base.specs.FaultRows.{first_of, row, row_fault, is_before as precedes};
+ghost use Rattle.dsl_tree.specs.osc_base.FaultRows.{first_of, row, row_fault, is_before as precedes};
 
-use osc_base::{Fault, FaultCode, Place};
+use dsl_tree::osc_base::{Fault, FaultCode, Place};
 
 fn is_before(f: &Fault, g: &Fault) -> bool
     ensures { result ≡ precedes f.now g.now }

@@ -18,5 +18,5 @@ pub use library::library_text;
 pub use names::{FileName, Wanted};
 pub use program::{AddStop, Program};
 
-#[cfg(test)]
-mod tests;
+// Crates below, for the crates above.
+pub use dsl_tree;

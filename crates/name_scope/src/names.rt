@@ -1,13 +1,13 @@
 ghost use Rattle.std.specs.Prelude.{◌≡◌, ◌≤◌, [], ◌∷◌, ◌++◌, length, take, option_map, IfOk, IfErr, OnOk, OnErr};
 ghost use Rattle.name_scope.specs.FileNumbers.{meant_name, dotted_name, import_fault, first_import_fault, with_name, with_imports, same_name, is_meant, first_mention_in};
 ghost use Rattle.name_scope.specs.FileNumbers.{import_place as place_of, is_numbered as has_number};
-ghost use Rattle.osc_base.specs.declared.fault.Fault.{Fault};
-ghost use Rattle.osc_base.specs.declared.stop.Stop.{Stop};
+ghost use Rattle.dsl_tree.specs.osc_base.declared.fault.Fault.{Fault};
+ghost use Rattle.dsl_tree.specs.osc_base.declared.stop.Stop.{Stop};
 ghost use Rattle.name_scope.specs.Wanted.{file_name};
 
 use crate::program::AddStop;
+use dsl_tree::osc_base::{Fault, FaultCode, Place, Text};
 use dsl_tree::{Ident, Import};
-use osc_base::{Fault, FaultCode, Place, Text};
 use std::alloc::{AllocError, Global};
 
 /// The most files that a program has, including the library.

@@ -1,12 +1,12 @@
 ghost use Rattle.std.specs.Prelude.{◌≡◌, [], ◌∷◌, ◌++◌, ◌⊎◌, ◌<◌, ◌≤◌, Some, length, slice_get, option_map, option_copied, is_some, IfSome, IfOk, IfErr, OnOk, OnErr};
-ghost use Rattle.osc_base.specs.declared.fault.Fault.{Fault};
-ghost use Rattle.osc_base.specs.declared.stop.Stop.{Stop};
+ghost use Rattle.dsl_tree.specs.osc_base.declared.fault.Fault.{Fault};
+ghost use Rattle.dsl_tree.specs.osc_base.declared.stop.Stop.{Stop};
 ghost use Rattle.dsl_tree.specs.Language.{FollowsGrammar};
 ghost use Rattle.dsl_tree.specs.Views.{file_tree};
 ghost use Rattle.name_scope.specs.FileNumbers.{name_text, is_library_at, numbered_names, names_before, adding_fault, wanted_name, wanted_mention};
 ghost use Rattle.name_scope.specs.Wanted.{file_name};
 ghost use Rattle.name_scope.specs.Declaring.{found, IsDeclared};
-ghost use Rattle.osc_base.specs.FaultRows.{IsFault, IsFirst, first_fault};
+ghost use Rattle.dsl_tree.specs.osc_base.FaultRows.{IsFault, IsFirst, first_fault};
 ghost use Rattle.name_scope.specs.Headings.{heading_rows};
 ghost use Rattle.name_scope.specs.FileNumbers.{first_mention as mention_in};
 ghost use Rattle.name_scope.specs.Sources.{IsProgram};
@@ -18,7 +18,7 @@ use crate::names::{FileName, Wanted, first_mention, number_imports, push_name};
 use crate::source::Source;
 use crate::{DeclId, NameKind};
 use dsl_tree::File;
-use osc_base::{Fault, Place, Stop, Text};
+use dsl_tree::osc_base::{Fault, Place, Stop, Text};
 use std::alloc::{AllocError, Global};
 use std::marker::Model;
 

@@ -6,7 +6,7 @@ ghost use Rattle.name_scope.specs.Declaring.{declares, first_place};
 use crate::NameKind;
 use crate::table::DeclTable;
 use dsl_tree::File;
-use osc_base::Text;
+use dsl_tree::osc_base::Text;
 use std::alloc::{AllocError, Global};
 use std::marker::Model;
 

@@ -13,7 +13,7 @@ use Rattle.type_heads.specs.Told.{Told, told}
 use Rattle.type_heads.specs.HeadingFaults.{heading_rows}
 use Rattle.type_heads.specs.MemberFaults.{member_fault_rows}
 use Rattle.type_heads.specs.DeclaredTypes.{program_of}
-use Rattle.composition.specs.Uses.{use_rows}
+use Rattle.program_uses.specs.composition.Uses.{use_rows}
 use Rattle.named_scenario.specs.Declarations.{IsDeclaredBy, scenario_declared}
 use Rattle.named_scenario.specs.Naming.{fault_in, scenario_in, types_in}
 use Rattle.named_scenario.proofs.DeclaredScenario.{StandsFor, stands_for}

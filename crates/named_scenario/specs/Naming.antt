@@ -4,8 +4,8 @@ use Rattle.osc_base.specs.declared.fault.Fault.{Fault}
 use Rattle.name_scope.specs.FileNumbers.{AddedFile}
 use Rattle.type_heads.specs.Types.{Types}
 use Rattle.type_heads.specs.DeclaredTypes.{program_of, types_of}
-use Rattle.composition.specs.SceneFaults.{named_scenario}
-use Rattle.composition.specs.StaticFaults.{declaration_fault}
+use Rattle.program_uses.specs.composition.SceneFaults.{named_scenario}
+use Rattle.program_uses.specs.composition.StaticFaults.{declaration_fault}
 
 -- the types that the files declare
 abbrev pub types_in : List AddedFile → Types

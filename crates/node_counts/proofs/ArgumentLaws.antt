@@ -8,15 +8,15 @@ use Rattle.dsl_tree.specs.ExprTree.{ExprTree}
 use Rattle.dsl_tree.specs.PhaseTree.{ArgumentTree}
 use Rattle.type_heads.specs.Types.{Field, Types}
 use Rattle.type_heads.specs.Members.{fields}
-use Rattle.composition.specs.Calls.{Assigned, assigned}
-use Rattle.composition.specs.Expansion.{Calling, argument_named, given_argument, given_duration, here_in, of_arguments}
-use Rattle.composition.specs.Givens.{Given, Here, from_root, given_required, read_at}
-use Rattle.expr_nodes.specs.Fits.{is_read}
-use Rattle.expr_nodes.specs.Names.{is_duration}
-use Rattle.expr_nodes.specs.Scope.{It}
-use Rattle.expr_nodes.specs.Typed as Nodes
-use Rattle.expr_nodes.specs.Typed.{Typed, moved}
-use Rattle.expr_nodes.specs.Typing.{first, typed}
+use Rattle.scene_expansion.specs.composition.Calls.{Assigned, assigned}
+use Rattle.scene_expansion.specs.composition.Expansion.{Calling, argument_named, given_argument, given_duration, here_in, of_arguments}
+use Rattle.scene_expansion.specs.composition.Givens.{Given, Here, from_root, given_required, read_at}
+use Rattle.scene_expansion.specs.expr_nodes.Fits.{is_read}
+use Rattle.scene_expansion.specs.expr_nodes.Names.{is_duration}
+use Rattle.scene_expansion.specs.expr_nodes.Scope.{It}
+use Rattle.scene_expansion.specs.expr_nodes.Typed as Nodes
+use Rattle.scene_expansion.specs.expr_nodes.Typed.{Typed, moved}
+use Rattle.scene_expansion.specs.expr_nodes.Typing.{first, typed}
 use Rattle.work_counts.specs.Amounts.{Amount, amount_of, no_amount, plus}
 use Rattle.work_counts.specs.TextAmounts.{value_amount}
 use Rattle.work_counts.proofs.TextLaws.{amount_append}

@@ -5,7 +5,7 @@ use Rattle.std.specs.Int.{int_min, int_max}
 use Rattle.std.proofs.lemmas.Int.{ints, int_min_is, int_max_is}
 use Rattle.osc_base.specs.Comparisons.{same_number}
 use Rattle.type_heads.specs.Bounds.{least_of, greatest_of}
-use Rattle.composition.specs.Ranges.{has_gap}
+use Rattle.scene_expansion.specs.composition.Ranges.{has_gap}
 
 min_assoc : (a b c : ℤ) → int_min a (int_min b c) ≡ int_min (int_min a b) c
 min_assoc a b c = omega (arith, ints, int_min_is a (int_min b c), int_min_is b c, int_min_is (int_min a b) c, int_min_is a b)

@@ -1,18 +1,18 @@
 -- The counts of a node, by those of its spot and of its constraints.
 use Rattle.std.proofs.Common.{◌≡◌, ◌∙◌, refl, sym, ap, ℕ, ◌+◌, ◌*◌, ◌<◌, ◌^◌, true, false, cond, List, length, arith}
 use Rattle.osc_base.specs.declared.path.Path.{Path}
-use Rattle.composition.specs.declared.guard.Guard.{Guard}
-use Rattle.composition.specs.declared.spot.ValueRange.{ValueRange}
-use Rattle.composition.specs.Expanded.{is_vehicle}
-use Rattle.composition.specs.Scenes.{Binding}
-use Rattle.expansion_laws.specs.Counts.{total, given_rules, given_tokens, range_rules, spot_rules}
-use Rattle.expansion_laws.specs.NodeCounts.{node_objects, node_slots, node_tokens}
-use Rattle.expansion_laws.specs.Nodes.{Node, value_node}
-use Rattle.expansion_laws.specs.WorkNodes.{node_of, own_within}
-use Rattle.expansion_laws.specs.Works as Works
+use Rattle.scene_expansion.specs.composition.declared.guard.Guard.{Guard}
+use Rattle.scene_expansion.specs.composition.declared.spot.ValueRange.{ValueRange}
+use Rattle.scene_expansion.specs.composition.Expanded.{is_vehicle}
+use Rattle.scene_expansion.specs.composition.Scenes.{Binding}
+use Rattle.scene_expansion.specs.expansion_laws.Counts.{total, given_rules, given_tokens, range_rules, spot_rules}
+use Rattle.scene_expansion.specs.expansion_laws.NodeCounts.{node_objects, node_slots, node_tokens}
+use Rattle.scene_expansion.specs.expansion_laws.Nodes.{Node, value_node}
+use Rattle.scene_expansion.specs.expansion_laws.WorkNodes.{node_of, own_within}
+use Rattle.scene_expansion.specs.expansion_laws.Works as Works
 use Rattle.scene_expansion.specs.AllCounts.{counts_of}
-use Rattle.scene_texts.specs.Capped.{capped}
-use Rattle.scene_texts.proofs.Caps.{capped_right, capped_small}
+use Rattle.scene_expansion.specs.scene_texts.Capped.{capped}
+use Rattle.scene_expansion.proofs.of_scene_texts.Caps.{capped_right, capped_small}
 use Rattle.type_heads.specs.Types.{Types}
 use Rattle.work_counts.specs.declared.tally.Tally.{Tally}
 use Rattle.work_counts.specs.Amounts.{Amount, amount_of, kept, no_amount}

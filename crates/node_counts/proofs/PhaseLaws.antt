@@ -9,16 +9,16 @@ use Rattle.dsl_tree.specs.ExprTree.{ExprTree}
 use Rattle.dsl_tree.specs.PhaseTree.{ArgumentTree, ModifierTree, PartTree}
 use Rattle.type_heads.specs.Types.{Types}
 use Rattle.type_heads.specs.Members.{fields, the_do}
-use Rattle.composition.specs.declared.spot.PhaseKind.{PhaseKind}
-use Rattle.composition.specs.Expansion.{Calling, GivenModifier, argument_named, composition_kind, given_argument, given_duration, given_modifier, here_in, of_arguments, overlap_kind, part_modifier, part_rule}
-use Rattle.composition.specs.Givens.{Given, Here}
-use Rattle.composition.specs.ModifierLines.{ModifierForm, modifier_form}
-use Rattle.composition.specs.Scenes.{Binding, is_one_of}
-use Rattle.composition.specs.Tokens.{arguments_tokens}
-use Rattle.expansion_laws.specs.Counts.{total, given_rules, given_tokens, modifier_tokens}
-use Rattle.expansion_laws.specs.WorkNodes.{node_of}
-use Rattle.expansion_laws.specs.Works as Works
-use Rattle.expr_nodes.specs.Scope.{It}
+use Rattle.scene_expansion.specs.composition.declared.spot.PhaseKind.{PhaseKind}
+use Rattle.scene_expansion.specs.composition.Expansion.{Calling, GivenModifier, argument_named, composition_kind, given_argument, given_duration, given_modifier, here_in, of_arguments, overlap_kind, part_modifier, part_rule}
+use Rattle.scene_expansion.specs.composition.Givens.{Given, Here}
+use Rattle.scene_expansion.specs.composition.ModifierLines.{ModifierForm, modifier_form}
+use Rattle.scene_expansion.specs.composition.Scenes.{Binding, is_one_of}
+use Rattle.scene_expansion.specs.composition.Tokens.{arguments_tokens}
+use Rattle.scene_expansion.specs.expansion_laws.Counts.{total, given_rules, given_tokens, modifier_tokens}
+use Rattle.scene_expansion.specs.expansion_laws.WorkNodes.{node_of}
+use Rattle.scene_expansion.specs.expansion_laws.Works as Works
+use Rattle.scene_expansion.specs.expr_nodes.Scope.{It}
 use Rattle.scene_expansion.specs.AllCounts.{counts_of}
 use Rattle.work_counts.specs.declared.tally.Tally.{Tally}
 use Rattle.work_counts.specs.Amounts.{Amount, amount_of, kept, no_amount, plus, sum_of}

@@ -7,14 +7,14 @@ use Rattle.dsl_tree.specs.declared.phases.InvokeNode.{InvokeNode}
 use Rattle.dsl_tree.specs.declared.phases.WaitNode.{WaitNode}
 use Rattle.dsl_tree.specs.Views.{argument_tree, expr_tree, part_tree}
 use Rattle.type_heads.specs.Types.{Types}
-use Rattle.composition.specs.declared.guard.Guard.{Guard}
-use Rattle.composition.specs.declared.part.Binding.{Binding as OwnBinding}
-use Rattle.composition.specs.declared.spot.ValueRange.{ValueRange}
-use Rattle.composition.specs.Expansion.{Calling}
-use Rattle.composition.specs.Scenes.{Binding}
-use Rattle.composition.specs.SeenParts.{seen_binding}
-use Rattle.expansion_laws.specs.WorkNodes.{node_of}
-use Rattle.expansion_laws.specs.Works as Works
+use Rattle.scene_expansion.specs.composition.declared.guard.Guard.{Guard}
+use Rattle.scene_expansion.specs.composition.declared.part.Binding.{Binding as OwnBinding}
+use Rattle.scene_expansion.specs.composition.declared.spot.ValueRange.{ValueRange}
+use Rattle.scene_expansion.specs.composition.Expansion.{Calling}
+use Rattle.scene_expansion.specs.composition.Scenes.{Binding}
+use Rattle.scene_expansion.specs.composition.SeenParts.{seen_binding}
+use Rattle.scene_expansion.specs.expansion_laws.WorkNodes.{node_of}
+use Rattle.scene_expansion.specs.expansion_laws.Works as Works
 use Rattle.scene_expansion.specs.declared.counts.Counts.{Counts}
 use Rattle.scene_expansion.specs.declared.work.Call.{Call}
 use Rattle.scene_expansion.specs.declared.work.Work.{Work as OwnWork}

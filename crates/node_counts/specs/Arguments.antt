@@ -7,12 +7,12 @@ use Rattle.dsl_tree.specs.ExprTree.{ExprTree}
 use Rattle.dsl_tree.specs.PhaseTree.{ArgumentTree}
 use Rattle.type_heads.specs.Table.{Table}
 use Rattle.type_heads.specs.Types.{Field}
-use Rattle.expr_nodes.specs.Fits.{is_read}
-use Rattle.expr_nodes.specs.Names.{is_duration}
-use Rattle.expr_nodes.specs.Scope.{It, Scope}
-use Rattle.expr_nodes.specs.Typed.{Typed}
-use Rattle.expr_nodes.specs.Typing.{first, typed}
-use Rattle.program_fields.specs.SeenFields.{has_name}
+use Rattle.scene_expansion.specs.expr_nodes.Fits.{is_read}
+use Rattle.scene_expansion.specs.expr_nodes.Names.{is_duration}
+use Rattle.scene_expansion.specs.expr_nodes.Scope.{It, Scope}
+use Rattle.scene_expansion.specs.expr_nodes.Typed.{Typed}
+use Rattle.scene_expansion.specs.expr_nodes.Typing.{first, typed}
+use Rattle.work_counts.specs.program_fields.SeenFields.{has_name}
 use Rattle.work_counts.specs.Amounts.{Amount, no_amount, plus}
 use Rattle.work_counts.specs.TextAmounts.{value_amount}
 

@@ -1,7 +1,7 @@
 -- The counts of a part with its constraints.
 use Rattle.std.specs.Prelude.{ℕ, ◌+◌}
 use Rattle.scene_expansion.specs.declared.counts.Counts.{Counts}
-use Rattle.scene_texts.specs.Capped.{capped}
+use Rattle.scene_expansion.specs.scene_texts.Capped.{capped}
 use Rattle.work_counts.specs.declared.tally.Tally.{Tally}
 
 -- so many objects, slots and rules, and what its constraints have

@@ -3,8 +3,8 @@ use Rattle.std.specs.Prelude.{ℕ}
 use Rattle.std.specs.Option.{option_map_or}
 use Rattle.dsl_tree.specs.declared.phases.CompKind.{CompKind}
 use Rattle.dsl_tree.specs.PhaseTree.{ModifierTree, PartTree}
-use Rattle.composition.specs.ModifierLines.{ModifierForm, modifier_form}
-use Rattle.composition.specs.Tokens.{arguments_tokens}
+use Rattle.scene_expansion.specs.composition.ModifierLines.{ModifierForm, modifier_form}
+use Rattle.scene_expansion.specs.composition.Tokens.{arguments_tokens}
 use Rattle.work_counts.specs.Amounts.{Amount, no_amount}
 use Rattle.work_counts.specs.TextAmounts.{rule_amount, times_amount}
 

@@ -2,24 +2,24 @@
 
 ghost use Rattle.std.specs.Prelude.{◌≡◌, map, option_map, IfOk};
 ghost use Rattle.dsl_tree.specs.Views.{argument_tree, expr_tree};
-ghost use Rattle.program_fields.specs.SeenFields.{seen_field};
-ghost use Rattle.program_fields.specs.Tables.{fields_in};
-ghost use Rattle.program_texts.specs.SeenTexts.{types_in};
+ghost use Rattle.work_counts.specs.program_fields.SeenFields.{seen_field};
+ghost use Rattle.work_counts.specs.program_fields.Tables.{fields_in};
+ghost use Rattle.work_counts.specs.program_texts.SeenTexts.{types_in};
 ghost use Rattle.type_heads.specs.Members.{fields as fields_of};
 ghost use Rattle.work_counts.specs.Amounts.{kept};
-ghost use Rattle.expr_nodes.specs.Seen.{seen_part};
+ghost use Rattle.scene_expansion.specs.expr_nodes.Seen.{seen_part};
 ghost use Rattle.node_counts.specs.Arguments.{argument_amount, arguments_amount, duration_amount, field_amount, is_duration_argument, is_parameter as takes_value, named_amount, reads_one};
 
 use dsl_tree::{Argument, Expr, Ident};
-use expr_nodes::others::it;
-use expr_nodes::steps::pointed;
-use expr_nodes::{It, Scope, Typed};
 use osc_base::{Boxed, Place};
-use program_calls::first_place;
-use program_fields::{FieldsOf, TypeField};
-use program_texts::ProgramTexts;
+use scene_expansion::expr_nodes::others::it;
+use scene_expansion::expr_nodes::steps::pointed;
+use scene_expansion::expr_nodes::{It, Scope, Typed};
+use scene_expansion::program_calls::first_place;
+use scene_expansion::type_model::{FieldType, TypeId, Types};
 use std::alloc::{AllocError, Global};
-use type_model::{FieldType, TypeId, Types};
+use work_counts::program_fields::{FieldsOf, TypeField};
+use work_counts::program_texts::ProgramTexts;
 use work_counts::{Tally, value_tally};
 
 /// Whether one value is read.

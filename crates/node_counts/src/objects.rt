@@ -2,21 +2,21 @@
 
 ghost use Rattle.std.specs.Prelude.{◌≡◌, List};
 ghost use Rattle.osc_base.specs.declared.path.Path.{Path};
-ghost use Rattle.composition.specs.declared.guard.Guard.{Guard};
-ghost use Rattle.composition.specs.Scenes.{Binding};
-ghost use Rattle.expansion_laws.specs.Counts.{range_rules as rules_of_range};
-ghost use Rattle.expansion_laws.specs.WorkNodes.{node_of};
-ghost use Rattle.expansion_laws.specs.Works as Works;
-ghost use Rattle.program_texts.specs.SeenTexts.{types_in};
+ghost use Rattle.scene_expansion.specs.composition.declared.guard.Guard.{Guard};
+ghost use Rattle.scene_expansion.specs.composition.Scenes.{Binding};
+ghost use Rattle.scene_expansion.specs.expansion_laws.Counts.{range_rules as rules_of_range};
+ghost use Rattle.scene_expansion.specs.expansion_laws.WorkNodes.{node_of};
+ghost use Rattle.scene_expansion.specs.expansion_laws.Works as Works;
+ghost use Rattle.work_counts.specs.program_texts.SeenTexts.{types_in};
 ghost use Rattle.scene_expansion.specs.AllCounts.{counts_of};
 ghost use Rattle.type_heads.specs.Types.{Types};
 
 use crate::ranges::has_gap;
 use crate::with_own::{ticks_to, with_own};
-use composition::ValueRange;
-use program_texts::ProgramTexts;
 use scene_expansion::Counts;
-use type_model::TypeId;
+use scene_expansion::composition::ValueRange;
+use scene_expansion::type_model::TypeId;
+use work_counts::program_texts::ProgramTexts;
 use work_counts::{Tally, object_tally};
 
 /// An object of a type with so many steps left. A vehicle has three slots and a rule at each tick.

@@ -2,11 +2,11 @@
 
 ghost use Rattle.std.specs.Prelude.{◌≡◌, ℕ, List, map, IfOk};
 ghost use Rattle.dsl_tree.specs.Views.{argument_tree, expr_tree, modifier_tree, part_tree};
-ghost use Rattle.composition.specs.Expansion.{Calling};
-ghost use Rattle.composition.specs.Scenes.{Binding};
-ghost use Rattle.expansion_laws.specs.WorkNodes.{node_of};
-ghost use Rattle.expansion_laws.specs.Works as Works;
-ghost use Rattle.program_texts.specs.SeenTexts.{types_in};
+ghost use Rattle.scene_expansion.specs.composition.Expansion.{Calling};
+ghost use Rattle.scene_expansion.specs.composition.Scenes.{Binding};
+ghost use Rattle.scene_expansion.specs.expansion_laws.WorkNodes.{node_of};
+ghost use Rattle.scene_expansion.specs.expansion_laws.Works as Works;
+ghost use Rattle.work_counts.specs.program_texts.SeenTexts.{types_in};
 ghost use Rattle.scene_expansion.specs.AllCounts.{counts_of};
 ghost use Rattle.type_heads.specs.Types.{Types};
 ghost use Rattle.work_counts.specs.Amounts.{kept, sum_of};
@@ -15,12 +15,12 @@ ghost use Rattle.node_counts.specs.Parts.{composition_slots as slots_of, modifie
 use crate::arguments::{arguments_tally, duration_tally};
 use crate::with_own::{ticks_to, with_own};
 use dsl_tree::{CompKind, CompNode, InvokeNode, InvokePart, ModifierNode, WaitNode};
-use program_calls::modifier_form;
-use program_texts::ProgramTexts;
 use scene_expansion::Counts;
-use scene_texts::arguments_tokens;
+use scene_expansion::program_calls::modifier_form;
+use scene_expansion::scene_texts::arguments_tokens;
+use scene_expansion::type_model::TypeId;
 use std::alloc::{AllocError, Global};
-use type_model::TypeId;
+use work_counts::program_texts::ProgramTexts;
 use work_counts::{Tally, rule_tally, value_tally};
 
 /// The slots of a composition: a `one_of` has a further one.

@@ -2,7 +2,7 @@
 
 ghost use Rattle.std.specs.Prelude.{◌≡◌, ◌-ℤ◌, fold, not, pos};
 ghost use Rattle.std.specs.Int.{int_min, int_max};
-ghost use Rattle.composition.specs.Ranges.{has_gap as leaves_out};
+ghost use Rattle.scene_expansion.specs.composition.Ranges.{has_gap as leaves_out};
 ghost use Rattle.osc_base.specs.Comparisons.{same_number};
 
 /// Whether distinct numbers leave out a number between their least and their greatest.

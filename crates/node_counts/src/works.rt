@@ -1,16 +1,16 @@
 //! Works of any sort.
 
 ghost use Rattle.std.specs.Prelude.{◌≡◌, IfOk};
-ghost use Rattle.expansion_laws.specs.WorkNodes.{node_of};
-ghost use Rattle.program_texts.specs.SeenTexts.{types_in};
+ghost use Rattle.scene_expansion.specs.expansion_laws.WorkNodes.{node_of};
+ghost use Rattle.work_counts.specs.program_texts.SeenTexts.{types_in};
 ghost use Rattle.scene_expansion.specs.AllCounts.{counts_of};
 ghost use Rattle.scene_expansion.specs.SeenWorks.{seen_work};
 
 use crate::objects::{object_counts, value_counts};
 use crate::phases::{composition_counts, invocation_counts, wait_counts};
-use program_texts::ProgramTexts;
 use scene_expansion::{Counts, Work};
 use std::alloc::{AllocError, Global};
+use work_counts::program_texts::ProgramTexts;
 
 /// How many objects, slots, rules and tokens a work has by itself, given the last tick. Each count stops at the greatest
 /// number of 64 bits.

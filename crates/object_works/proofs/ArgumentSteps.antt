@@ -9,19 +9,19 @@ use Rattle.dsl_tree.specs.ExprTree.{ExprTree}
 use Rattle.dsl_tree.specs.PhaseTree.{ArgumentTree}
 use Rattle.type_heads.specs.Types.{Field, Types}
 use Rattle.type_heads.specs.Members.{fields}
-use Rattle.composition.specs.Calls.{Assigned, Callee, assigned, without_labels}
-use Rattle.composition.specs.Expansion.{Calling, actor_binding, argument_binding, binding, here_in, object_at, of_arguments}
-use Rattle.composition.specs.Givens.{Here, from_root, steps_from}
-use Rattle.composition.specs.Homes.{home}
-use Rattle.composition.specs.Scenes.{Binding}
-use Rattle.expr_nodes.specs.Names.{is_duration}
-use Rattle.expr_nodes.specs.Scope.{It, Scope}
-use Rattle.expr_nodes.specs.Typed as Nodes
-use Rattle.expr_nodes.specs.Typed.{Typed, moved}
-use Rattle.expr_nodes.specs.Typing.{typed}
+use Rattle.scene_expansion.specs.composition.Calls.{Assigned, Callee, assigned, without_labels}
+use Rattle.scene_expansion.specs.composition.Expansion.{Calling, actor_binding, argument_binding, binding, here_in, object_at, of_arguments}
+use Rattle.scene_expansion.specs.composition.Givens.{Here, from_root, steps_from}
+use Rattle.scene_expansion.specs.composition.Homes.{home}
+use Rattle.scene_expansion.specs.composition.Scenes.{Binding}
+use Rattle.expr_eval.specs.expr_nodes.Names.{is_duration}
+use Rattle.expr_eval.specs.expr_nodes.Scope.{It, Scope}
+use Rattle.expr_eval.specs.expr_nodes.Typed as Nodes
+use Rattle.expr_eval.specs.expr_nodes.Typed.{Typed, moved}
+use Rattle.expr_eval.specs.expr_nodes.Typing.{typed}
 use Rattle.osc_base.specs.declared.path.Step.{Step}
 use Rattle.osc_base.specs.Paths.{path_of}
-use Rattle.scene_texts.specs.Moving.{path_under, steps_under}
+use Rattle.scene_expansion.specs.scene_texts.Moving.{path_under, steps_under}
 use Rattle.object_works.specs.Arguments.{arguments_bound, actor_bound, assigned_field, binding_at, bindings_to, field_given}
 
 steps_are : (here : Here) (steps : List Step) → steps_from here steps ≡ steps_under here.object here.it steps

@@ -2,9 +2,9 @@
 use Rattle.std.proofs.Common.{◌≡◌, ◌∙◌, refl, ap, ℕ, ◌+◌, ◌||◌, Bool, true, false, cond, List, [], ◌∷◌, Option, Some, is_some, map}
 use Rattle.osc_base.specs.declared.path.Path.{Path}
 use Rattle.osc_base.specs.Paths.{same_path}
-use Rattle.composition.specs.declared.part.Binding.{Binding}
-use Rattle.composition.specs.Homes.{is_bound}
-use Rattle.composition.specs.SeenParts.{seen_binding}
+use Rattle.scene_expansion.specs.composition.declared.part.Binding.{Binding}
+use Rattle.scene_expansion.specs.composition.Homes.{is_bound}
+use Rattle.scene_expansion.specs.composition.SeenParts.{seen_binding}
 use Rattle.path_index.specs.Places.{first_place}
 
 first_bound : (path : Path) (n : ℕ) (bs : List Binding) → is_some (first_place (λ (b : Binding). same_path b.at path) n bs) ≡ is_bound (map seen_binding bs) path

@@ -3,9 +3,9 @@ use Rattle.std.proofs.Common.{◌≡◌, ◌∙◌, sym, ap, ℕ, suc, ◌+◌, 
 use Rattle.std.specs.List.{range_with_len}
 use Rattle.osc_base.specs.declared.path.Path.{Path}
 use Rattle.osc_base.specs.Paths.{then_index}
-use Rattle.composition.specs.declared.guard.Guard.{Guard}
-use Rattle.composition.specs.declared.spot.ValueRange.{ValueRange}
-use Rattle.expansion_laws.specs.Works.{Work, Value}
+use Rattle.scene_expansion.specs.composition.declared.guard.Guard.{Guard}
+use Rattle.scene_expansion.specs.composition.declared.spot.ValueRange.{ValueRange}
+use Rattle.scene_expansion.specs.expansion_laws.Works.{Work, Value}
 
 -- element n
 abbrev pub element_at : Path → List Guard → ValueRange → ℕ → Work

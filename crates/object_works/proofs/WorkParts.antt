@@ -16,17 +16,17 @@ use Rattle.dsl_tree.proofs.SeenPhases.{seen_comp, seen_invoke, seen_wait}
 use Rattle.type_heads.specs.Table.{form, is_object}
 use Rattle.type_heads.specs.Types.{Field, Types}
 use Rattle.type_heads.specs.Members.{field_type, list_length}
-use Rattle.composition.specs.declared.guard.Guard.{Guard}
-use Rattle.composition.specs.declared.spot.ValueRange.{ValueRange}
-use Rattle.composition.specs.Expansion.{Calling}
-use Rattle.composition.specs.Givens.{guards_under}
-use Rattle.composition.specs.Homes.{is_bound}
-use Rattle.composition.specs.Ranges.{range_of}
-use Rattle.composition.specs.Scenes.{Binding}
-use Rattle.composition.specs.Calls.{Callee, callee, called, invoked}
-use Rattle.program_calls.specs.SeenCallees.{called_in}
-use Rattle.expansion_laws.specs.Works as Works
-use Rattle.expansion_laws.specs.Works.{Work, Comp, Wait, actor_works, bindings_made, field_works, object_works, parts_of, phase_works, root_works, root_works_within, value_works}
+use Rattle.scene_expansion.specs.composition.declared.guard.Guard.{Guard}
+use Rattle.scene_expansion.specs.composition.declared.spot.ValueRange.{ValueRange}
+use Rattle.scene_expansion.specs.composition.Expansion.{Calling}
+use Rattle.scene_expansion.specs.composition.Givens.{guards_under}
+use Rattle.scene_expansion.specs.composition.Homes.{is_bound}
+use Rattle.scene_expansion.specs.composition.Ranges.{range_of}
+use Rattle.scene_expansion.specs.composition.Scenes.{Binding}
+use Rattle.scene_expansion.specs.composition.Calls.{Callee, callee, called, invoked}
+use Rattle.scene_expansion.specs.program_calls.SeenCallees.{called_in}
+use Rattle.scene_expansion.specs.expansion_laws.Works as Works
+use Rattle.scene_expansion.specs.expansion_laws.Works.{Work, Comp, Wait, actor_works, bindings_made, field_works, object_works, parts_of, phase_works, root_works, root_works_within, value_works}
 use Rattle.object_works.specs.Held.{held_works}
 use Rattle.object_works.specs.Phases.{invocation_works}
 

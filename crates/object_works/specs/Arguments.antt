@@ -6,16 +6,16 @@ use Rattle.dsl_tree.specs.declared.parts.Ident.{Ident}
 use Rattle.dsl_tree.specs.PhaseTree.{ArgumentTree}
 use Rattle.type_heads.specs.Table.{Table}
 use Rattle.type_heads.specs.Types.{Field}
-use Rattle.composition.specs.Calls.{Assigned, Callee, without_labels}
-use Rattle.composition.specs.Expansion.{Calling, object_at}
-use Rattle.composition.specs.Homes.{home}
-use Rattle.composition.specs.Scenes.{Binding}
-use Rattle.expr_nodes.specs.Names.{is_duration}
-use Rattle.expr_nodes.specs.Scope.{Scope}
-use Rattle.expr_nodes.specs.Typed.{Typed}
-use Rattle.expr_nodes.specs.Typing.{typed}
-use Rattle.program_fields.specs.SeenFields.{has_name}
-use Rattle.scene_texts.specs.Moving.{path_under}
+use Rattle.scene_expansion.specs.composition.Calls.{Assigned, Callee, without_labels}
+use Rattle.scene_expansion.specs.composition.Expansion.{Calling, object_at}
+use Rattle.scene_expansion.specs.composition.Homes.{home}
+use Rattle.scene_expansion.specs.composition.Scenes.{Binding}
+use Rattle.expr_eval.specs.expr_nodes.Names.{is_duration}
+use Rattle.expr_eval.specs.expr_nodes.Scope.{Scope}
+use Rattle.expr_eval.specs.expr_nodes.Typed.{Typed}
+use Rattle.expr_eval.specs.expr_nodes.Typing.{typed}
+use Rattle.program_texts.specs.program_fields.SeenFields.{has_name}
+use Rattle.scene_expansion.specs.scene_texts.Moving.{path_under}
 
 -- the field to which an argument goes
 abbrev pub field_given : Assigned → Option Field

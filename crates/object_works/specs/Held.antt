@@ -5,11 +5,11 @@ use Rattle.dsl_tree.specs.FileTree.{FieldTree}
 use Rattle.type_heads.specs.Table.{form, is_object}
 use Rattle.type_heads.specs.Types.{Types}
 use Rattle.type_heads.specs.Members.{list_length}
-use Rattle.composition.specs.declared.guard.Guard.{Guard}
-use Rattle.composition.specs.Homes.{is_bound}
-use Rattle.composition.specs.Ranges.{range_of}
-use Rattle.composition.specs.Scenes.{Binding}
-use Rattle.expansion_laws.specs.Works.{Work, Object, value_works}
+use Rattle.scene_expansion.specs.composition.declared.guard.Guard.{Guard}
+use Rattle.scene_expansion.specs.composition.Homes.{is_bound}
+use Rattle.scene_expansion.specs.composition.Ranges.{range_of}
+use Rattle.scene_expansion.specs.composition.Scenes.{Binding}
+use Rattle.scene_expansion.specs.expansion_laws.Works.{Work, Object, value_works}
 
 -- its object, unless it is bound
 abbrev pub held_objects : ℕ → Types → List Binding → Path → List Guard → ℕ → List Work

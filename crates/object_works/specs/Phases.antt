@@ -4,11 +4,11 @@ use Rattle.osc_base.specs.declared.path.Path.{Path}
 use Rattle.dsl_tree.specs.declared.phases.InvokeNode.{InvokeNode}
 use Rattle.dsl_tree.specs.Views.{argument_tree, part_tree}
 use Rattle.type_heads.specs.Types.{Do, Types}
-use Rattle.composition.specs.declared.guard.Guard.{Guard}
-use Rattle.composition.specs.Calls.{PhaseHere, Turn, invoked}
-use Rattle.composition.specs.Expansion.{Calling, calling, from_object}
-use Rattle.composition.specs.Scenes.{Binding}
-use Rattle.expansion_laws.specs.Works.{Work, Invoke, bindings_made, phase_works}
+use Rattle.scene_expansion.specs.composition.declared.guard.Guard.{Guard}
+use Rattle.scene_expansion.specs.composition.Calls.{PhaseHere, Turn, invoked}
+use Rattle.scene_expansion.specs.composition.Expansion.{Calling, calling, from_object}
+use Rattle.scene_expansion.specs.composition.Scenes.{Binding}
+use Rattle.scene_expansion.specs.expansion_laws.Works.{Work, Invoke, bindings_made, phase_works}
 
 -- the choice that a turn takes
 abbrev pub choice_of : Path → Turn → Guard

@@ -2,37 +2,37 @@
 
 ghost use Rattle.std.specs.Prelude.{◌≡◌, ◌++◌, None, Some, map, option_and_then, option_copied, option_map, IfOk, OnOk};
 ghost use Rattle.dsl_tree.specs.Views.{argument_tree, expr_tree};
-ghost use Rattle.composition.specs.Expansion as Expansion;
-ghost use Rattle.composition.specs.Expansion.{argument_binding, here_in, of_arguments};
-ghost use Rattle.composition.specs.SeenParts.{seen_binding};
-ghost use Rattle.expansion_laws.specs.Works.{bindings_made as bindings_of};
-ghost use Rattle.expr_nodes.specs.Scope as Scopes;
-ghost use Rattle.expr_nodes.specs.Seen.{seen, seen_part};
-ghost use Rattle.expr_nodes.specs.SeenNames.{seen_scope};
-ghost use Rattle.expr_nodes.specs.Typing.{typed as typed_in};
-ghost use Rattle.program_calls.specs.SeenCallees.{seen_callee};
-ghost use Rattle.program_calls.specs.SeenLabels.{do_labels, seen_labels};
+ghost use Rattle.scene_expansion.specs.composition.Expansion as Expansion;
+ghost use Rattle.scene_expansion.specs.composition.Expansion.{argument_binding, here_in, of_arguments};
+ghost use Rattle.scene_expansion.specs.composition.SeenParts.{seen_binding};
+ghost use Rattle.scene_expansion.specs.expansion_laws.Works.{bindings_made as bindings_of};
+ghost use Rattle.expr_eval.specs.expr_nodes.Scope as Scopes;
+ghost use Rattle.expr_eval.specs.expr_nodes.Seen.{seen, seen_part};
+ghost use Rattle.expr_eval.specs.expr_nodes.SeenNames.{seen_scope};
+ghost use Rattle.expr_eval.specs.expr_nodes.Typing.{typed as typed_in};
+ghost use Rattle.scene_expansion.specs.program_calls.SeenCallees.{seen_callee};
+ghost use Rattle.scene_expansion.specs.program_calls.SeenLabels.{do_labels, seen_labels};
 ghost use Rattle.type_heads.specs.Types.{Types};
 ghost use Rattle.scene_expansion.specs.SeenWorks.{seen_call};
-ghost use Rattle.scene_texts.specs.Moving.{seen_bound};
-ghost use Rattle.program_fields.specs.SeenFields.{seen_field};
-ghost use Rattle.program_fields.specs.Tables.{fields_in};
+ghost use Rattle.scene_expansion.specs.scene_texts.Moving.{seen_bound};
+ghost use Rattle.program_texts.specs.program_fields.SeenFields.{seen_field};
+ghost use Rattle.program_texts.specs.program_fields.Tables.{fields_in};
 ghost use Rattle.program_texts.specs.SeenTexts.{types_in};
 ghost use Rattle.object_works.specs.Arguments.{actor_bound, arguments_bound, assigned_field, binding_at, bindings_to};
 ghost use Rattle.object_works.specs.Arguments as arguments_of;
 
-use composition::Binding;
 use dsl_tree::{Argument, Ident, InvokeNode};
 use expr_eval::checked;
-use expr_nodes::{It, LabelTable, Scope, Typed};
+use expr_eval::expr_nodes::{It, LabelTable, Scope, Typed};
+use expr_eval::type_model::{FieldType, TypeId};
 use osc_base::{Boxed, Path, Row};
-use program_calls::{Callee, actor_checked, callee_of, scope_at};
-use program_fields::{FieldsOf, TypeField};
 use program_texts::ProgramTexts;
+use program_texts::program_fields::{FieldsOf, TypeField};
 use scene_expansion::Call;
-use scene_texts::{Bound, Moves, then_name};
+use scene_expansion::composition::Binding;
+use scene_expansion::program_calls::{Callee, actor_checked, callee_of, scope_at};
+use scene_expansion::scene_texts::{Bound, Moves, then_name};
 use std::alloc::{AllocError, Global};
-use type_model::{FieldType, TypeId};
 
 /// The scope of the arguments of a call, in which `it` is the object that the call makes. The labels are those of the
 /// `do` in which the call stands.

@@ -2,31 +2,31 @@
 
 ghost use Rattle.std.specs.Prelude.{◌≡◌, ◌++◌, ◌∷◌, [], flat_map, map, option_to_list, IfOk, OnOk};
 ghost use Rattle.dsl_tree.specs.Views.{phase_tree};
-ghost use Rattle.composition.specs.Calls.{PhaseHere};
-ghost use Rattle.composition.specs.Expansion.{calling as calling_of};
-ghost use Rattle.composition.specs.SeenParts.{seen_binding};
-ghost use Rattle.expansion_laws.specs.Works.{bindings_made as bindings_of, do_works, object_works, phase_works};
-ghost use Rattle.program_calls.specs.PlacedPhases.{seen_phase, seen_turn};
+ghost use Rattle.scene_expansion.specs.composition.Calls.{PhaseHere};
+ghost use Rattle.scene_expansion.specs.composition.Expansion.{calling as calling_of};
+ghost use Rattle.scene_expansion.specs.composition.SeenParts.{seen_binding};
+ghost use Rattle.scene_expansion.specs.expansion_laws.Works.{bindings_made as bindings_of, do_works, object_works, phase_works};
+ghost use Rattle.scene_expansion.specs.program_calls.PlacedPhases.{seen_phase, seen_turn};
 ghost use Rattle.type_heads.specs.Members.{the_do};
 ghost use Rattle.scene_expansion.specs.SeenWorks.{seen_call, seen_work};
-ghost use Rattle.program_fields.specs.SeenFields.{seen_do};
+ghost use Rattle.program_texts.specs.program_fields.SeenFields.{seen_do};
 ghost use Rattle.program_texts.specs.SeenTexts.{types_in};
 ghost use Rattle.object_works.specs.Phases.{choice_of, invocation_works, phase_here_works};
 
 use crate::bindings::bindings_made;
 use crate::copies::{copy_bindings, copy_guards, copy_way};
 use crate::within::Within;
-use composition::Guard;
 use dsl_tree::{InvokeNode, Phase};
-use expr_nodes::Turn;
+use expr_eval::expr_nodes::Turn;
+use expr_eval::type_model::TypeId;
 use osc_base::{Path, Row};
-use program_calls::{PlacedPhase, invoked, phases_in};
-use program_fields::TypeDo;
 use program_texts::ProgramTexts;
+use program_texts::program_fields::TypeDo;
+use scene_expansion::composition::Guard;
+use scene_expansion::program_calls::{PlacedPhase, invoked, phases_in};
+use scene_expansion::scene_texts::from_object;
 use scene_expansion::{Call, Work};
-use scene_texts::from_object;
 use std::alloc::{AllocError, Global};
-use type_model::TypeId;
 
 /// Puts the choices of a way at the end.
 fn push_choices(

@@ -1,29 +1,29 @@
 //! The objects and the values that the fields of an object hold.
 
 ghost use Rattle.std.specs.Prelude.{◌≡◌, ◌++◌, ◌∷◌, [], Some, flat_map, map, IfOk, OnOk};
-ghost use Rattle.composition.specs.Givens.{guards_under};
-ghost use Rattle.composition.specs.Homes as homes;
-ghost use Rattle.composition.specs.SeenParts.{seen_binding};
+ghost use Rattle.scene_expansion.specs.composition.Givens.{guards_under};
+ghost use Rattle.scene_expansion.specs.composition.Homes as homes;
+ghost use Rattle.scene_expansion.specs.composition.SeenParts.{seen_binding};
 ghost use Rattle.dsl_tree.specs.Views.{field_tree};
-ghost use Rattle.expansion_laws.specs.Works.{field_works, value_works};
-ghost use Rattle.expansion_laws.specs.Works as works;
+ghost use Rattle.scene_expansion.specs.expansion_laws.Works.{field_works, value_works};
+ghost use Rattle.scene_expansion.specs.expansion_laws.Works as works;
 ghost use Rattle.type_heads.specs.Members.{fields};
 ghost use Rattle.scene_expansion.specs.SeenWorks.{seen_work};
-ghost use Rattle.program_fields.specs.SeenFields.{seen_field};
+ghost use Rattle.program_texts.specs.program_fields.SeenFields.{seen_field};
 ghost use Rattle.program_texts.specs.SeenTexts.{types_in};
 ghost use Rattle.object_works.specs.Held.{held_objects, held_values, held_works};
 
 use crate::copies::{copy_guard, copy_guards, copy_range};
 use crate::within::Within;
-use composition::{Guard, ValueRange};
 use dsl_tree::FieldDecl;
+use expr_eval::type_model::TypeId;
 use osc_base::{Path, Row};
-use program_fields::TypeField;
+use program_texts::program_fields::TypeField;
 use program_texts::{ProgramTexts, list_length, range_of};
 use scene_expansion::Work;
-use scene_texts::{then_index, then_name};
+use scene_expansion::composition::{Guard, ValueRange};
+use scene_expansion::scene_texts::{then_index, then_name};
 use std::alloc::{AllocError, Global};
-use type_model::TypeId;
 
 impl Within<'_> {
     /// Whether a parameter is another name of its argument.

@@ -1,10 +1,10 @@
 //! The works in a work.
 
 ghost use Rattle.std.specs.Prelude.{◌≡◌, ◌++◌, ◌∷◌, [], map, IfOk, OnOk};
-ghost use Rattle.composition.specs.SeenParts.{seen_binding};
-ghost use Rattle.expansion_laws.specs.Works as works;
-ghost use Rattle.expansion_laws.specs.Works.{actor_works, parts_of, root_works};
-ghost use Rattle.expansion_laws.specs.WorkNodes.{node_of, root_node};
+ghost use Rattle.scene_expansion.specs.composition.SeenParts.{seen_binding};
+ghost use Rattle.scene_expansion.specs.expansion_laws.Works as works;
+ghost use Rattle.scene_expansion.specs.expansion_laws.Works.{actor_works, parts_of, root_works};
+ghost use Rattle.scene_expansion.specs.expansion_laws.WorkNodes.{node_of, root_node};
 ghost use Rattle.osc_base.specs.Paths as paths;
 ghost use Rattle.scene_expansion.specs.SeenWorks.{seen_call, seen_work};
 ghost use Rattle.program_texts.specs.SeenTexts.{types_in};
@@ -13,14 +13,14 @@ use crate::calls::push_dos;
 use crate::copies::{copy_bindings, copy_guards};
 use crate::fields::push_fields;
 use crate::within::Within;
-use composition::Binding;
+use expr_eval::type_model::TypeId;
 use osc_base::{Path, Row};
 use path_index::PathIndex;
 use program_texts::ProgramTexts;
+use scene_expansion::composition::Binding;
+use scene_expansion::scene_texts::then_name;
 use scene_expansion::{Call, Work};
-use scene_texts::then_name;
 use std::alloc::{AllocError, Global};
-use type_model::TypeId;
 
 /// Puts what an object holds beside an actor of its own at the end.
 fn push_parts<'p>(

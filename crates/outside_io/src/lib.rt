@@ -20,5 +20,5 @@ pub use out_sink::OutSink;
 pub use shelf::{NamedBytes, Shelf, ShelfFault};
 pub use sink::{Sink, SinkFault};
 
-#[cfg(test)]
-mod tests;
+// Crates below, for the crates above.
+pub use osc_base;

@@ -4,3 +4,6 @@
 mod index;
 
 pub use index::{HasPath, PathIndex, duration_of, found, found_timed};
+
+// Crates below, for the crates above.
+pub use osc_base;

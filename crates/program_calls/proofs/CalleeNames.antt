@@ -5,8 +5,8 @@ use Rattle.std.specs.List.{cons_option}
 use Rattle.dsl_tree.specs.declared.parts.Ident.{Ident}
 use Rattle.dsl_tree.specs.declared.phases.InvokeHead.{InvokeHead}
 use Rattle.dsl_tree.specs.ExprTree.{ExprTree}
-use Rattle.type_heads.specs.Table.{TypeHead, base, line_within}
-use Rattle.type_heads.proofs.LineSteps.{line_more}
+use Rattle.composition.specs.type_heads.Table.{TypeHead, base, line_within}
+use Rattle.composition.proofs.of_type_heads.LineSteps.{line_more}
 use Rattle.composition.specs.Calls.{Callee, callee, last_of}
 use Rattle.program_calls.specs.SeenCallees.{actor_tree, head_tree, owned_along, owned_at, with_names}
 

@@ -9,7 +9,7 @@ use Rattle.dsl_tree.specs.declared.expr.Expr.TheViews
 use Rattle.dsl_tree.specs.ExprTree.{ExprTree}
 use Rattle.dsl_tree.specs.Views.{FurtherTree, grouped, expr_tree, further_tree}
 use Rattle.dsl_tree.proofs.Seen.{seen_or, seen_and, seen_sum, seen_product}
-use Rattle.expr_nodes.specs.Typing.{first}
+use Rattle.composition.specs.expr_nodes.Typing.{first}
 use Rattle.program_calls.proofs.PathForms.{after_dot, after_index}
 
 -- a row of operators

@@ -3,9 +3,9 @@ use Rattle.std.proofs.Common.{◌≡◌, ◌∙◌, refl, ap, false, Some, None}
 use Rattle.std.specs.Option.{option_map_or}
 use Rattle.dsl_tree.specs.declared.parts.Ident.{Ident}
 use Rattle.dsl_tree.specs.ExprTree.{ExprTree}
-use Rattle.type_heads.specs.Table.{Table}
-use Rattle.expr_nodes.specs.Scope.{Scope}
-use Rattle.expr_nodes.specs.Names.{is_label}
+use Rattle.composition.specs.type_heads.Table.{Table}
+use Rattle.composition.specs.expr_nodes.Scope.{Scope}
+use Rattle.composition.specs.expr_nodes.Names.{is_label}
 use Rattle.composition.specs.Uses.{begins_with_label}
 use Rattle.program_calls.specs.NameExprs.{head_in}
 

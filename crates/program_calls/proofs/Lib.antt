@@ -9,3 +9,5 @@ mod PathTests
 mod PhaseLabels
 mod PhaseLists
 mod WayLaws
+-- Crates below, for the crates above.
+pub use Rattle.composition.proofs.of_expr_nodes as of_expr_nodes

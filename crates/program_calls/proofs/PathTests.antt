@@ -8,7 +8,7 @@ use Rattle.dsl_tree.specs.declared.expr.Further.{Further}
 use Rattle.dsl_tree.specs.declared.expr.Expr.TheViews
 use Rattle.dsl_tree.specs.ExprTree.{ExprTree}
 use Rattle.dsl_tree.specs.Views.{grouped, expr_tree, further_tree}
-use Rattle.expr_nodes.specs.Typing.{is_path}
+use Rattle.composition.specs.expr_nodes.Typing.{is_path}
 use Rattle.program_calls.specs.NameExprs.{is_nil}
 use Rattle.program_calls.proofs.PathForms.{after_dot, after_index, none_joined}
 

@@ -10,11 +10,11 @@ use Rattle.dsl_tree.specs.declared.phases.Phase.TheViews
 use Rattle.dsl_tree.specs.PhaseTree.{PhaseTree, Comp, Invoke, Wait}
 use Rattle.dsl_tree.specs.Views.{phase_tree}
 use Rattle.dsl_tree.proofs.SeenPhases.{seen_comp, seen_invoke, seen_wait}
-use Rattle.type_heads.specs.Table.{Table}
-use Rattle.type_heads.specs.Types.{Types, Do}
-use Rattle.type_heads.specs.Members.{the_do}
-use Rattle.expr_nodes.specs.Kinds.{Made}
-use Rattle.expr_nodes.specs.Scope.{It, Label, Scope}
+use Rattle.composition.specs.type_heads.Table.{Table}
+use Rattle.composition.specs.type_heads.Types.{Types, Do}
+use Rattle.composition.specs.type_heads.Members.{the_do}
+use Rattle.composition.specs.expr_nodes.Kinds.{Made}
+use Rattle.composition.specs.expr_nodes.Scope.{It, Label, Scope}
 use Rattle.composition.specs.Calls.{Callee, PhaseHere, Turn, callee, called, label_of, labels_at, leads_into, made, phases_in, scope_at}
 use Rattle.program_calls.specs.SeenCallees.{called_in}
 use Rattle.program_calls.specs.SeenLabels.{LabelHere, do_labels, label_seen_from, labelled, labels_here, made_in, made_of}

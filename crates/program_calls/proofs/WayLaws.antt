@@ -1,11 +1,11 @@
 -- The program's own ways and labels, as the definitions have them.
 use Rattle.std.proofs.Common.{◌≡◌, refl, ap, ap₂, ◌&&◌, ◌||◌, List, [], ◌∷◌, map, not}
 use Rattle.std.specs.List.{list_any}
-use Rattle.expr_nodes.specs.declared.labels.Label.{Label}
-use Rattle.expr_nodes.specs.declared.ways.Turn.{Turn}
-use Rattle.expr_nodes.specs.Seen.{seen_made}
-use Rattle.expr_nodes.specs.SeenNames.{seen_label}
-use Rattle.expr_nodes.specs.Ways as Ways
+use Rattle.composition.specs.expr_nodes.declared.labels.Label.{Label}
+use Rattle.composition.specs.expr_nodes.declared.ways.Turn.{Turn}
+use Rattle.composition.specs.expr_nodes.Seen.{seen_made}
+use Rattle.composition.specs.expr_nodes.SeenNames.{seen_label}
+use Rattle.composition.specs.expr_nodes.Ways as Ways
 use Rattle.composition.specs.Calls.{leads_into, same_turn}
 use Rattle.program_calls.specs.PlacedPhases.{seen_turn}
 use Rattle.program_calls.specs.SeenLabels.{label_seen_from, seen_phase_label}

@@ -1,7 +1,7 @@
 -- The types of the library, by the heads of types and by whether the library is there.
 use Rattle.std.specs.Prelude.{ℕ, ◌&&◌, Bool, false, List, Some, None, codes}
 use Rattle.std.specs.Option.{option_map_or}
-use Rattle.type_heads.specs.Table.{TypeHead, is_kind_of, named}
+use Rattle.composition.specs.type_heads.Table.{TypeHead, is_kind_of, named}
 
 -- the type is the library's `vehicle` or inherits from it
 abbrev pub is_library_vehicle : List TypeHead → Bool → ℕ → Bool

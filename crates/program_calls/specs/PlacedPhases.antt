@@ -7,7 +7,7 @@ use Rattle.dsl_tree.specs.declared.phases.CompNode.{CompNode}
 use Rattle.dsl_tree.specs.PhaseTree.{PhaseTree}
 use Rattle.dsl_tree.specs.Views.{phase_tree}
 use Rattle.composition.specs.Calls.{Turn, PhaseHere, phases_at, turns}
-use Rattle.expr_nodes.specs.declared.ways.Turn.{Turn as OwnTurn}
+use Rattle.composition.specs.expr_nodes.declared.ways.Turn.{Turn as OwnTurn}
 use Rattle.program_calls.specs.declared.phases.PlacedPhase.{PlacedPhase}
 
 -- a turn

@@ -3,8 +3,8 @@ use Rattle.std.specs.Prelude.{ℕ, List, [], ◌∷◌, Option, Some, None, find
 use Rattle.dsl_tree.specs.declared.parts.Ident.{Ident}
 use Rattle.dsl_tree.specs.declared.phases.InvokeHead.{InvokeHead}
 use Rattle.dsl_tree.specs.ExprTree.{ExprTree}
-use Rattle.type_heads.specs.Table.{Table, TypeHead, head, named}
-use Rattle.expr_nodes.specs.Typing.{typed}
+use Rattle.composition.specs.type_heads.Table.{Table, TypeHead, head, named}
+use Rattle.composition.specs.expr_nodes.Typing.{typed}
 use Rattle.composition.specs.Calls.{Callee, actor_type, behaviour_named, owned_behaviour, without_labels}
 use Rattle.program_calls.specs.declared.callees.Callee.{Callee as OwnCallee}
 

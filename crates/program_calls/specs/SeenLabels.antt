@@ -4,14 +4,14 @@ use Rattle.std.specs.Option.{option_map_or}
 use Rattle.osc_base.specs.declared.path.Path.{Path}
 use Rattle.dsl_tree.specs.declared.parts.Ident.{Ident}
 use Rattle.dsl_tree.specs.PhaseTree.{PhaseTree, Comp, Invoke, Wait}
-use Rattle.type_heads.specs.Table.{Table}
-use Rattle.type_heads.specs.Types.{Types, Do}
-use Rattle.type_heads.specs.Members.{the_do}
-use Rattle.expr_nodes.specs.Kinds.{Made}
-use Rattle.expr_nodes.specs.Scope.{Label}
-use Rattle.expr_nodes.specs.declared.labels.Label.{Label as OwnLabel}
-use Rattle.expr_nodes.specs.declared.labels.LabelTable.{LabelTable}
-use Rattle.expr_nodes.specs.Seen.{seen_made}
+use Rattle.composition.specs.type_heads.Table.{Table}
+use Rattle.composition.specs.type_heads.Types.{Types, Do}
+use Rattle.composition.specs.type_heads.Members.{the_do}
+use Rattle.composition.specs.expr_nodes.Kinds.{Made}
+use Rattle.composition.specs.expr_nodes.Scope.{Label}
+use Rattle.composition.specs.expr_nodes.declared.labels.Label.{Label as OwnLabel}
+use Rattle.composition.specs.expr_nodes.declared.labels.LabelTable.{LabelTable}
+use Rattle.composition.specs.expr_nodes.Seen.{seen_made}
 use Rattle.composition.specs.Calls.{PhaseHere, Turn, callee, label_of, leads_into, phases_in}
 use Rattle.program_calls.specs.PlacedPhases.{seen_turn}
 use Rattle.program_calls.specs.SeenCallees.{called_in}

@@ -2,23 +2,23 @@
 
 ghost use Rattle.std.specs.Prelude.{◌≡◌, IfOk};
 ghost use Rattle.composition.specs.Calls.{actor_type as actor_in, without_labels as scope_without};
-ghost use Rattle.expr_nodes.specs.Checks.{IsChecked};
-ghost use Rattle.expr_nodes.specs.Seen.{seen_part};
-ghost use Rattle.expr_nodes.specs.SeenNames.{seen_scope};
-ghost use Rattle.expr_nodes.specs.Typing.{first as first_in, typed as typed_in};
+ghost use Rattle.composition.specs.expr_nodes.Checks.{IsChecked};
+ghost use Rattle.composition.specs.expr_nodes.Seen.{seen_part};
+ghost use Rattle.composition.specs.expr_nodes.SeenNames.{seen_scope};
+ghost use Rattle.composition.specs.expr_nodes.Typing.{first as first_in, typed as typed_in};
 ghost use Rattle.program_calls.specs.SeenCallees.{actor_tree, called_in, head_tree, seen_callee};
 
 use crate::callees::{Callee, actor_of, behaviour_named};
 use crate::owned::owned_behaviour;
+use composition::expr_nodes::meanings::name;
+use composition::expr_nodes::others::actor;
+use composition::expr_nodes::parts::Checked;
+use composition::expr_nodes::steps::pointed;
+use composition::expr_nodes::{Scope, Typed};
+use composition::type_model::{TypeId, Types};
 use dsl_tree::{Ident, InvokeHead};
-use expr_nodes::meanings::name;
-use expr_nodes::others::actor;
-use expr_nodes::parts::Checked;
-use expr_nodes::steps::pointed;
-use expr_nodes::{Scope, Typed};
 use osc_base::{Boxed, Place};
 use std::alloc::{AllocError, Global};
-use type_model::{TypeId, Types};
 
 /// The head of an invocation, as an expression.
 fn head_checked(

@@ -2,7 +2,7 @@
 
 ghost use Rattle.std.specs.Prelude.{◌≡◌};
 ghost use Rattle.dsl_tree.specs.Views.{expr_tree};
-ghost use Rattle.expr_nodes.specs.Typing.{first as first_in};
+ghost use Rattle.composition.specs.expr_nodes.Typing.{first as first_in};
 
 use dsl_tree::Expr;
 use osc_base::Place;

@@ -2,15 +2,15 @@
 
 ghost use Rattle.std.specs.Prelude.{◌≡◌};
 ghost use Rattle.dsl_tree.specs.Views.{expr_tree};
-ghost use Rattle.expr_nodes.specs.Names.{is_label as of_label};
-ghost use Rattle.expr_nodes.specs.SeenNames.{seen_scope};
+ghost use Rattle.composition.specs.expr_nodes.Names.{is_label as of_label};
+ghost use Rattle.composition.specs.expr_nodes.SeenNames.{seen_scope};
 ghost use Rattle.composition.specs.Uses.{begins_with_label as begins_so};
 ghost use Rattle.program_calls.specs.SeenCallees.{head_tree};
 
 use crate::name_exprs::head_name;
+use composition::expr_nodes::{Scope, has_label};
+use composition::type_model::Types;
 use dsl_tree::{Expr, InvokeHead};
-use expr_nodes::{Scope, has_label};
-use type_model::Types;
 
 /// Whether a name is that of a label, and of no field.
 fn is_label(types: &Types, scope: &Scope<'_>, name: &str) -> bool

@@ -3,7 +3,7 @@
 ghost use Rattle.std.specs.Prelude.{◌≡◌, [], map, option_copied, IfOk};
 ghost use Rattle.dsl_tree.specs.Views.{phase_tree};
 ghost use Rattle.composition.specs.Calls.{callee, label_of as label_before, phases_in as all_phases};
-ghost use Rattle.expr_nodes.specs.Seen.{seen_made};
+ghost use Rattle.composition.specs.expr_nodes.Seen.{seen_made};
 ghost use Rattle.program_calls.specs.PlacedPhases.{seen_phase};
 ghost use Rattle.program_calls.specs.SeenCallees.{called_in};
 ghost use Rattle.program_calls.specs.SeenLabels.{labelled as label_with, labels_here, made_in, made_of, seen_labels, seen_phase_label};
@@ -11,11 +11,11 @@ ghost use Rattle.program_calls.specs.SeenLabels.{labelled as label_with, labels_
 use crate::actors::called;
 use crate::callees::callee_of;
 use crate::phases::{PlacedPhase, copy_way, phases_in};
+use composition::expr_nodes::{Label, LabelTable, Made};
+use composition::type_model::{TypeId, Types};
 use dsl_tree::{Ident, InvokeNode, Phase};
-use expr_nodes::{Label, LabelTable, Made};
 use osc_base::Text;
 use std::alloc::{AllocError, Global};
-use type_model::{TypeId, Types};
 
 /// The action or scenario that an invocation in the text of a type invokes.
 pub fn invoked(

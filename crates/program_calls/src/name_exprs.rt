@@ -2,7 +2,7 @@
 
 ghost use Rattle.std.specs.Prelude.{◌≡◌, option_copied};
 ghost use Rattle.dsl_tree.specs.Views.{expr_tree};
-ghost use Rattle.expr_nodes.specs.Typing.{is_path as of_path};
+ghost use Rattle.composition.specs.expr_nodes.Typing.{is_path as of_path};
 ghost use Rattle.program_calls.specs.NameExprs.{head_in, is_nil, name_in};
 
 use dsl_tree::{Expr, Further, Ident};

@@ -6,8 +6,8 @@ ghost use Rattle.dsl_tree.specs.Views.{phase_tree};
 ghost use Rattle.composition.specs.Calls.{phases_at, phases_in as all_phases, turns};
 ghost use Rattle.program_calls.specs.PlacedPhases.{members_placed, seen_phase, seen_turn};
 
+use composition::expr_nodes::Turn;
 use dsl_tree::{CompKind, CompNode, Phase};
-use expr_nodes::Turn;
 use osc_base::{Path, Row, Step, Text};
 use std::alloc::{AllocError, Global};
 

@@ -1,14 +1,14 @@
 //! The scopes of the expressions in a `do`.
 
 ghost use Rattle.std.specs.Prelude.{◌≡◌, map, option_map};
-ghost use Rattle.type_heads.specs.Types.{Types};
+ghost use Rattle.composition.specs.type_heads.Types.{Types};
 ghost use Rattle.composition.specs.Calls.{scope_at as scope_in};
-ghost use Rattle.expr_nodes.specs.SeenNames.{seen_it, seen_scope};
+ghost use Rattle.composition.specs.expr_nodes.SeenNames.{seen_it, seen_scope};
 ghost use Rattle.program_calls.specs.PlacedPhases.{seen_turn};
 ghost use Rattle.program_calls.specs.SeenLabels.{do_labels, seen_labels};
 
-use expr_nodes::{It, LabelTable, Scope, Turn};
-use type_model::TypeId;
+use composition::expr_nodes::{It, LabelTable, Scope, Turn};
+use composition::type_model::TypeId;
 
 /// The scope of an expression in the text of a type, as it is seen from a way. The labels are those of the type's
 /// `do`.

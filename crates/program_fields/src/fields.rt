@@ -1,7 +1,7 @@
 //! Fields and `do`s of types, with their trees.
 
+use dsl_tree::osc_base::Place;
 use dsl_tree::{FieldDecl, Ident, Phase};
-use osc_base::Place;
 use type_heads::TypeId;
 
 /// A field of a type: its name, its declaration, the number of the type in whose text that stands, and the conditional

@@ -11,7 +11,7 @@ use crate::fields::{TypeDo, TypeField};
 use crate::gathered::push_all;
 use crate::parts::first_part;
 use crate::views::FieldsOf;
-use osc_base::Row;
+use dsl_tree::osc_base::Row;
 use std::alloc::{AllocError, Global};
 use type_heads::TypeId;
 use type_members::{MemberLists, Part, Span};

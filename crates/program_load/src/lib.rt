@@ -12,5 +12,6 @@ pub use laws::{one_load, some_load};
 pub use loader::load;
 pub use stop::{LoadStop, Refusal};
 
-#[cfg(test)]
-mod tests;
+// Crates below, for the crates above.
+pub use dsl_lexer;
+pub use dsl_parser;

@@ -2,7 +2,7 @@
 use Rattle.std.proofs.Common.{◌≡◌, ◌∙◌, refl, sym, ap, arith, ℕ, zero, suc, ◌+◌, ◌≤◌, ◌<◌, Bool, true, false, cond, List, [], ◌∷◌, Option, Some, None, drop, length, add-one}
 use Rattle.std.specs.Prelude.{slice_get}
 use Rattle.std.specs.Option.{option_map_or}
-use Rattle.name_scope.specs.Declaring.{first_place}
+use Rattle.type_members.specs.name_scope.Declaring.{first_place}
 
 -- nothing stands at the end of a list that ends there
 none_left : {X : Type 0} (test : X → Bool) (n m : ℕ) (xs : List X) → slice_get xs n ≡ None → first_place test m (drop n xs) ≡ None

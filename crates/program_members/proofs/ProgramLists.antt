@@ -1,12 +1,12 @@
 -- The members of the types of a program.
 use Rattle.std.proofs.Common.{◌≡◌, ◌∙◌, refl, sym, ap, ap₂, ℕ, List, Option, map}
-use Rattle.name_scope.specs.FileNumbers.{AddedFile}
-use Rattle.type_heads.specs.Bodied.{all_bodies}
-use Rattle.type_heads.specs.DeclaredTypes.{Placed, placed, program_of, types_from, types_of}
-use Rattle.type_heads.specs.HeadsGrouped.{all_heads}
-use Rattle.type_heads.specs.Members.{members_of}
-use Rattle.type_heads.specs.Table.{TypeHead, all_types}
-use Rattle.type_heads.specs.Types.{Program, Types}
+use Rattle.type_members.specs.name_scope.FileNumbers.{AddedFile}
+use Rattle.type_members.specs.type_heads.Bodied.{all_bodies}
+use Rattle.type_members.specs.type_heads.DeclaredTypes.{Placed, placed, program_of, types_from, types_of}
+use Rattle.type_members.specs.type_heads.HeadsGrouped.{all_heads}
+use Rattle.type_members.specs.type_heads.Members.{members_of}
+use Rattle.type_members.specs.type_heads.Table.{TypeHead, all_types}
+use Rattle.type_members.specs.type_heads.Types.{Program, Types}
 use Rattle.program_members.specs.declared.members.ProgramMembers.{ProgramMembers}
 use Rattle.program_members.specs.MembersOf.{AreDeclaredMembers, AreMembersOf}
 

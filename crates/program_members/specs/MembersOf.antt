@@ -1,10 +1,10 @@
 -- What the program's own bodies and members of types are.
 use Rattle.std.specs.Prelude.{◌≡◌, ℕ, List, Option, map}
-use Rattle.type_heads.specs.Bodied.{all_bodies, seen_body}
-use Rattle.type_heads.specs.DeclaredTypes.{Placed}
-use Rattle.type_heads.specs.Members.{members_of}
-use Rattle.type_heads.specs.Table.{TypeHead, all_types}
-use Rattle.type_heads.specs.Types.{Types}
+use Rattle.type_members.specs.type_heads.Bodied.{all_bodies, seen_body}
+use Rattle.type_members.specs.type_heads.DeclaredTypes.{Placed}
+use Rattle.type_members.specs.type_heads.Members.{members_of}
+use Rattle.type_members.specs.type_heads.Table.{TypeHead, all_types}
+use Rattle.type_members.specs.type_heads.Types.{Types}
 use Rattle.type_members.specs.Listed.{lists_of}
 use Rattle.program_members.specs.declared.members.ProgramMembers.{ProgramMembers}
 

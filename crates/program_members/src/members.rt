@@ -1,19 +1,19 @@
 //! The members of each type of a program, with what they are under.
 
 ghost use Rattle.std.specs.Prelude.{◌≡◌, None, IfOk, map};
-ghost use Rattle.name_scope.specs.FileNumbers.{wanted_name};
-ghost use Rattle.type_heads.specs.Bodied.{seen_body};
-ghost use Rattle.type_heads.specs.DeclaredTypes.{program_of, types_of};
-ghost use Rattle.type_heads.specs.Gathered.{AreGathered, all_of};
-ghost use Rattle.type_heads.specs.Members.{members_of};
-ghost use Rattle.type_heads.specs.Table.{all_types};
+ghost use Rattle.type_members.specs.name_scope.FileNumbers.{wanted_name};
+ghost use Rattle.type_members.specs.type_heads.Bodied.{seen_body};
+ghost use Rattle.type_members.specs.type_heads.DeclaredTypes.{program_of, types_of};
+ghost use Rattle.type_members.specs.type_heads.Gathered.{AreGathered, all_of};
+ghost use Rattle.type_members.specs.type_heads.Members.{members_of};
+ghost use Rattle.type_members.specs.type_heads.Table.{all_types};
 ghost use Rattle.type_members.specs.Listed.{lists_of};
 ghost use Rattle.program_members.specs.MembersOf.{AreDeclaredMembers, AreMembersOf};
 
 use crate::library::library_of;
-use name_scope::Program;
 use std::alloc::{AllocError, Global};
-use type_heads::{Body, Declarations, Heads, bodies};
+use type_members::name_scope::Program;
+use type_members::type_heads::{Body, Declarations, Heads, bodies};
 use type_members::{MemberLists, Subtypes};
 
 /// The bodies and the members of the types of a program, and the number of the library's file.

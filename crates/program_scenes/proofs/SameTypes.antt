@@ -1,8 +1,8 @@
 -- The types that the texts of a program stand for are the program's.
 use Rattle.std.proofs.Common.{◌≡◌, ◌∙◌, sym, ap}
-use Rattle.program_members.specs.declared.members.ProgramMembers.{ProgramMembers}
-use Rattle.program_members.specs.MembersOf.{AreMembersOf}
-use Rattle.program_texts.specs.SeenTexts.{types_with}
+use Rattle.named_scenario.specs.program_members.declared.members.ProgramMembers.{ProgramMembers}
+use Rattle.named_scenario.specs.program_members.MembersOf.{AreMembersOf}
+use Rattle.node_counts.specs.program_texts.SeenTexts.{types_with}
 use Rattle.type_heads.specs.Told.{Told, told}
 use Rattle.type_heads.specs.Types.{Types}
 

@@ -2,11 +2,11 @@
 use Rattle.std.proofs.Common.{◌≡◌, ℕ, true, false, Option, Some, None, subst}
 use Rattle.std.specs.Prelude.{MatchOption}
 use Rattle.type_heads.specs.Types.{Types}
-use Rattle.composition.specs.declared.scene.Scene.{Scene}
-use Rattle.composition.specs.declared.setting.Setting.{Setting}
-use Rattle.composition.specs.Expanded.{scene}
-use Rattle.composition.specs.SceneFaults.{is_too_large}
-use Rattle.composition.specs.SeenScenes.{seen_scene}
+use Rattle.named_scenario.specs.composition.declared.scene.Scene.{Scene}
+use Rattle.named_scenario.specs.composition.declared.setting.Setting.{Setting}
+use Rattle.named_scenario.specs.composition.Expanded.{scene}
+use Rattle.named_scenario.specs.composition.SceneFaults.{is_too_large}
+use Rattle.named_scenario.specs.composition.SeenScenes.{seen_scene}
 use Rattle.program_scenes.specs.SceneFound.{IsSceneFound}
 
 -- by the types of a layout

@@ -1,11 +1,11 @@
 -- What is found for a scenario of a program: its scene, or none.
 use Rattle.std.specs.Prelude.{◌≡◌, ℕ, true, false, Option, Some, None}
 use Rattle.type_heads.specs.Types.{Types}
-use Rattle.composition.specs.declared.scene.Scene.{Scene}
-use Rattle.composition.specs.declared.setting.Setting.{Setting}
-use Rattle.composition.specs.Expanded.{scene}
-use Rattle.composition.specs.SceneFaults.{is_too_large}
-use Rattle.composition.specs.SeenScenes.{seen_scene}
+use Rattle.named_scenario.specs.composition.declared.scene.Scene.{Scene}
+use Rattle.named_scenario.specs.composition.declared.setting.Setting.{Setting}
+use Rattle.named_scenario.specs.composition.Expanded.{scene}
+use Rattle.named_scenario.specs.composition.SceneFaults.{is_too_large}
+use Rattle.named_scenario.specs.composition.SeenScenes.{seen_scene}
 
 -- none exactly if the scenario is too large; else the scene of the definition
 abbrev pub IsSceneFound : Types → ℕ → Setting → Option Scene → Type 0

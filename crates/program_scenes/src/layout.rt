@@ -1,21 +1,21 @@
 //! The works of a program.
 
 ghost use Rattle.std.specs.Prelude.{◌≡◌, IfOk};
-ghost use Rattle.program_texts.specs.SeenTexts.{types_in, types_with};
+ghost use Rattle.node_counts.specs.program_texts.SeenTexts.{types_in, types_with};
 ghost use Rattle.type_heads.specs.Told.{told};
 
-use composition::{Binding, ModifierSpot, Occurrence, Scene, Spot};
+use named_scenario::composition::{Binding, ModifierSpot, Occurrence, Scene, Spot};
+use named_scenario::program_members::ProgramMembers;
+use named_scenario::type_tables::TextTable;
 use node_counts::counts;
-use object_works::{parts, root, root_parts};
+use node_counts::program_texts::ProgramTexts;
+use node_counts::scene_expansion::{Counts, Layout, Work, WorkLayout};
 use osc_base::{Place, Row};
-use program_members::ProgramMembers;
-use program_texts::ProgramTexts;
-use scene_expansion::{Counts, Layout, Work, WorkLayout};
 use std::alloc::{AllocError, Global};
-use type_model::{TypeId, Types};
-use type_tables::TextTable;
 use work_constraints::push_occurrences;
+use work_constraints::type_model::{TypeId, Types};
 use work_modifiers::push_modifiers;
+use work_spots::object_works::{parts, root, root_parts};
 use work_spots::{push_bindings, spot, texts};
 
 /// The works of the scenarios of a program, read from its texts.
@@ -40,7 +40,7 @@ impl<'p> ProgramLayout<'p> {
 }
 
 impl<'p> WorkLayout<'p> for ProgramLayout<'p> {
-    ghost use Rattle.program_texts.specs.SeenTexts.{types_in};
+    ghost use Rattle.node_counts.specs.program_texts.SeenTexts.{types_in};
 
     ghost types = { λ l. types_in l.texts };
 

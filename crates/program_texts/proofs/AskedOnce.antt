@@ -9,7 +9,7 @@ use Rattle.std.proofs.lemmas.Bool.Decides.{Decides-int_eq}
 use Rattle.type_heads.specs.Conditions.{Condition, condition}
 use Rattle.type_heads.specs.Members.{field}
 use Rattle.type_heads.specs.Types.{Field, Types}
-use Rattle.cond_inherit.specs.Conditions.{conditions_within, once_after, same_condition}
+use Rattle.program_calls.specs.cond_inherit.Conditions.{conditions_within, once_after, same_condition}
 use Rattle.program_texts.specs.Asked.{adds, asks, is_done, once_more, seen_kept, steps_done, Covers, IsGathered}
 use Rattle.program_texts.specs.SeenConditions.{conditions_after, conditions_of_field, with_earlier}
 use Rattle.program_texts.specs.declared.asked.AskedConditions.{AskedConditions}

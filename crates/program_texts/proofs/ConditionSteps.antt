@@ -4,9 +4,9 @@ use Rattle.std.specs.List.{cons_option, list_any}
 use Rattle.std.proofs.lemmas.List.{drop_all, drop_more}
 use Rattle.type_heads.specs.Conditions.{Condition, condition}
 use Rattle.type_heads.specs.Types.{Types}
-use Rattle.cond_inherit.specs.Conditions.{conditions_within, once_after, same_condition}
-use Rattle.cond_inherit.specs.SubtypeConditions.{seen_condition}
-use Rattle.cond_inherit.specs.declared.condition.Condition.{Condition as OwnCondition}
+use Rattle.program_calls.specs.cond_inherit.Conditions.{conditions_within, once_after, same_condition}
+use Rattle.program_calls.specs.cond_inherit.SubtypeConditions.{seen_condition}
+use Rattle.program_calls.specs.cond_inherit.declared.condition.Condition.{Condition as OwnCondition}
 use Rattle.program_texts.specs.SeenConditions.{conditions_after, with_earlier}
 
 module _ {X Y Z : Type 0} (g : X → Option Y) (f : Y → List Z) where

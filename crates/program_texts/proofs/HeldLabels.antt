@@ -5,8 +5,8 @@ use Rattle.std.specs.Slice.{IsItemAt}
 use Rattle.std.proofs.lemmas.Option.{slice_get-get_or}
 use Rattle.type_heads.specs.Table.{Table}
 use Rattle.type_heads.specs.Types.{Do, Member, Types}
-use Rattle.composition.specs.Calls.{phases_in}
-use Rattle.expr_nodes.specs.declared.labels.LabelTable.{LabelTable}
+use Rattle.program_calls.specs.composition.Calls.{phases_in}
+use Rattle.program_calls.specs.expr_nodes.declared.labels.LabelTable.{LabelTable}
 use Rattle.program_calls.specs.SeenLabels.{LabelHere, do_labels, labels_here, seen_labels}
 use Rattle.program_texts.specs.OwnLabels.{labels_from, own_labels}
 use Rattle.program_fields.specs.SeenFields.{first_do_in}

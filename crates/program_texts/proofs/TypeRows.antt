@@ -12,9 +12,9 @@ use Rattle.type_heads.specs.Conditions.{Condition, condition, condition_on, cond
 use Rattle.type_heads.specs.Members.{heir_condition}
 use Rattle.type_heads.specs.Told.{told}
 use Rattle.type_heads.specs.declared.kinds.TypeKind.{TypeKind}
-use Rattle.cond_inherit.specs.SubtypeConditions.{condition_at}
-use Rattle.composition.specs.declared.spot.ValueRange.{ValueRange}
-use Rattle.composition.specs.Ranges.{range_of}
+use Rattle.program_calls.specs.cond_inherit.SubtypeConditions.{condition_at}
+use Rattle.program_calls.specs.composition.declared.spot.ValueRange.{ValueRange}
+use Rattle.program_calls.specs.composition.Ranges.{range_of}
 use Rattle.program_texts.specs.Ranges.{object_kind, range_by, scenario_kind}
 
 -- the item at a place of what is made of a list

@@ -5,8 +5,8 @@ use Rattle.std.specs.List.{list_all, list_any}
 use Rattle.indexmap.specs.IndexMap.{get}
 use Rattle.type_heads.specs.Conditions.{Condition}
 use Rattle.type_heads.specs.Types.{Types}
-use Rattle.cond_inherit.specs.Conditions.{same_condition}
-use Rattle.cond_inherit.specs.SubtypeConditions.{seen_condition}
+use Rattle.program_calls.specs.cond_inherit.Conditions.{same_condition}
+use Rattle.program_calls.specs.cond_inherit.SubtypeConditions.{seen_condition}
 use Rattle.program_texts.specs.SeenConditions.{conditions_after}
 use Rattle.program_texts.specs.declared.asked.AskedConditions.{AskedConditions}
 

@@ -2,7 +2,7 @@
 use Rattle.std.specs.Prelude.{ℕ, ◌+◌, nat_eq, cond, List, [], ◌∷◌, Option, Some, None}
 use Rattle.type_heads.specs.Table.{Table}
 use Rattle.type_heads.specs.Types.{Do, Member}
-use Rattle.composition.specs.Calls.{phases_in}
+use Rattle.program_calls.specs.composition.Calls.{phases_in}
 use Rattle.program_calls.specs.SeenLabels.{LabelHere, labels_here, seen_labels}
 use Rattle.program_fields.specs.SeenFields.{first_do_in}
 use Rattle.program_texts.specs.declared.labels.TypeLabels.{TypeLabels}

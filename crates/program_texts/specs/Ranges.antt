@@ -6,9 +6,9 @@ use Rattle.dsl_tree.specs.declared.expr.Expr.{Expr}
 use Rattle.dsl_tree.specs.ExprTree.{ExprTree, items_of}
 use Rattle.dsl_tree.specs.Views.{expr_tree}
 use Rattle.type_heads.specs.declared.kinds.TypeKind.{TypeKind}
-use Rattle.expr_nodes.specs.Sizes.{field_reach}
-use Rattle.composition.specs.declared.spot.ValueRange.{ValueRange}
-use Rattle.composition.specs.Ranges.{signed_range}
+use Rattle.program_calls.specs.expr_nodes.Sizes.{field_reach}
+use Rattle.program_calls.specs.composition.declared.spot.ValueRange.{ValueRange}
+use Rattle.program_calls.specs.composition.Ranges.{signed_range}
 
 -- the range of a type of that kind, given the numbers of an enum
 abbrev pub range_by : TypeKind → List ℤ → Option ValueRange

@@ -5,8 +5,8 @@ use Rattle.osc_base.specs.Paths.{then_name}
 use Rattle.type_heads.specs.Conditions.{Condition, condition}
 use Rattle.type_heads.specs.Members.{field}
 use Rattle.type_heads.specs.Types.{Field, Types}
-use Rattle.cond_inherit.specs.Conditions.{conditions_within}
-use Rattle.composition.specs.declared.guard.Guard.{Guard}
+use Rattle.program_calls.specs.cond_inherit.Conditions.{conditions_within}
+use Rattle.program_calls.specs.composition.declared.guard.Guard.{Guard}
 
 -- the conditions that a field is under
 abbrev pub conditions_of_field : ℕ → Types → ℕ → List ℕ → List Condition

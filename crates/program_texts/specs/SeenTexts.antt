@@ -2,7 +2,7 @@
 use Rattle.type_heads.specs.Bodied.{seen_body}
 use Rattle.type_heads.specs.Table.{Table}
 use Rattle.type_heads.specs.Types.{Types}
-use Rattle.type_members.specs.Listed.{lists_of}
+use Rattle.program_fields.specs.type_members.Listed.{lists_of}
 use Rattle.std.specs.Prelude.{map}
 use Rattle.program_members.specs.declared.members.ProgramMembers.{ProgramMembers}
 use Rattle.program_texts.specs.declared.texts.ProgramTexts.{ProgramTexts}

@@ -2,15 +2,15 @@
 
 ghost use Rattle.std.specs.Prelude.{◌≡◌, ◌++◌, ℕ, [], None, Some, cond, map, nat_eq, OnOk};
 ghost use Rattle.std.specs.List.{list_any};
-ghost use Rattle.cond_inherit.specs.Conditions as conds;
-ghost use Rattle.cond_inherit.specs.SubtypeConditions.{seen_condition};
+ghost use Rattle.program_calls.specs.cond_inherit.Conditions as conds;
+ghost use Rattle.program_calls.specs.cond_inherit.SubtypeConditions.{seen_condition};
 ghost use Rattle.program_texts.specs.Asked as asked;
 ghost use Rattle.program_texts.specs.Asked.{once_more, seen_kept, steps_done};
 
-use cond_inherit::Condition;
 use indexmap::IndexMap;
+use program_calls::cond_inherit::Condition;
+use program_calls::type_model::TypeId;
 use std::alloc::{AllocError, Global};
-use type_model::TypeId;
 
 /// Conditions that are gathered, each once, and the conditional subtypes that are done: each has the number of steps that
 /// were left for it.

@@ -2,21 +2,21 @@
 
 ghost use Rattle.std.specs.Prelude.{◌≡◌, map, option_map, IfOk, OnOk};
 ghost use Rattle.type_heads.specs.Conditions.{condition};
-ghost use Rattle.cond_inherit.specs.Conditions as conds;
-ghost use Rattle.cond_inherit.specs.SubtypeConditions.{condition_at, seen_condition};
-ghost use Rattle.composition.specs.Givens.{guards_under};
+ghost use Rattle.program_calls.specs.cond_inherit.Conditions as conds;
+ghost use Rattle.program_calls.specs.cond_inherit.SubtypeConditions.{condition_at, seen_condition};
+ghost use Rattle.program_calls.specs.composition.Givens.{guards_under};
 ghost use Rattle.program_texts.specs.Asked.{IsGathered};
 ghost use Rattle.program_texts.specs.SeenConditions.{conditions_after, conditions_of_field, guard_of};
 ghost use Rattle.program_texts.specs.SeenTexts.{types_in};
 
 use crate::asked::AskedConditions;
 use crate::texts::ProgramTexts;
-use composition::Guard;
-use cond_inherit::Condition;
 use osc_base::{Path, Row, Text};
+use program_calls::composition::Guard;
+use program_calls::cond_inherit::Condition;
+use program_calls::type_model::{TypeId, Types};
 use scene_texts::then_name;
 use std::alloc::{AllocError, Global};
-use type_model::{TypeId, Types};
 
 impl<'a> ProgramTexts<'a> {
     /// The condition of a type, if it is a conditional subtype.

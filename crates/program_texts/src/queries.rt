@@ -1,15 +1,15 @@
 //! What is asked of the types of a program.
 
 ghost use Rattle.std.specs.Prelude.{◌≡◌, map, option_copied, option_map, IfOk, IfSome};
-ghost use Rattle.composition.specs.SceneFaults.{named_scenario};
-ghost use Rattle.composition.specs.Expanded as expanded;
+ghost use Rattle.program_calls.specs.composition.SceneFaults.{named_scenario};
+ghost use Rattle.program_calls.specs.composition.Expanded as expanded;
 ghost use Rattle.dsl_tree.specs.Views.{field_tree};
 ghost use Rattle.type_heads.specs.Members.{body, declared_type};
 ghost use Rattle.type_heads.specs.Members as told;
 ghost use Rattle.type_heads.specs.Told.{told as all_told};
 ghost use Rattle.type_heads.specs.Table.{form};
 ghost use Rattle.type_heads.specs.Table as table;
-ghost use Rattle.type_members.specs.Listed.{lists_of};
+ghost use Rattle.program_fields.specs.type_members.Listed.{lists_of};
 ghost use Rattle.program_calls.specs.SeenLabels.{do_labels as do_labels_of, seen_labels};
 ghost use Rattle.program_texts.specs.OwnLabels.{seen_type_labels};
 ghost use Rattle.program_texts.specs.Ranges.{object_kind};
@@ -20,14 +20,14 @@ ghost use Rattle.program_texts.specs.SeenTexts.{types_in, types_with};
 use crate::labels::{TypeLabels, own_labels};
 use crate::texts::ProgramTexts;
 use dsl_tree::{FieldDecl, HeirCondition};
-use expr_nodes::LabelTable;
 use osc_base::{Place, Row};
+use program_calls::expr_nodes::LabelTable;
+use program_calls::type_model::{TypeId, TypeKind, Types};
 use program_calls::{do_labels, no_labels};
+use program_fields::type_members::{MemberLists, heir_condition};
 use program_fields::{FieldsOf, ProgramFields, TypeDo, TypeField};
 use program_members::ProgramMembers;
 use std::alloc::{AllocError, Global};
-use type_members::{MemberLists, heir_condition};
-use type_model::{TypeId, TypeKind, Types};
 
 /// The place of what no file declares.
 const NOWHERE: Place = Place {

@@ -8,7 +8,7 @@ use Rattle.osc_base.specs.FaultRows.{row, row_fault, first_of, first_from}
 use Rattle.osc_base.proofs.FaultRows.{first_from_joined}
 use Rattle.dsl_tree.specs.declared.parts.Ident.{Ident}
 use Rattle.dsl_tree.specs.PhaseTree.{ArgumentTree}
-use Rattle.type_faults.specs.NameRows.{HasTexts}
+use Rattle.expr_nodes.specs.type_faults.NameRows.{HasTexts}
 use Rattle.type_heads.specs.Table.{Table}
 use Rattle.type_heads.specs.Types.{Field}
 use Rattle.expr_nodes.specs.Fits.{duration_fit_rows}

@@ -10,7 +10,7 @@ use Rattle.dsl_tree.specs.declared.parts.Ident.{Ident}
 use Rattle.dsl_tree.specs.declared.phases.CompKind.{CompKind}
 use Rattle.dsl_tree.specs.ExprTree.{ExprTree}
 use Rattle.dsl_tree.specs.PhaseTree.{ArgumentTree}
-use Rattle.type_faults.specs.NameRows.{HasTexts}
+use Rattle.expr_nodes.specs.type_faults.NameRows.{HasTexts}
 use Rattle.type_heads.specs.Table.{Table}
 use Rattle.expr_nodes.specs.Scope.{Scope}
 use Rattle.expr_nodes.specs.Typing.{expr_rows, first as begins}

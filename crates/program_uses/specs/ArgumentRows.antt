@@ -7,7 +7,7 @@ use Rattle.dsl_tree.specs.declared.parts.Ident.{Ident}
 use Rattle.dsl_tree.specs.ExprTree.{ExprTree}
 use Rattle.dsl_tree.specs.FileTree.{FieldTree}
 use Rattle.dsl_tree.specs.PhaseTree.{ArgumentTree}
-use Rattle.type_faults.specs.NameRows.{HasTexts}
+use Rattle.expr_nodes.specs.type_faults.NameRows.{HasTexts}
 use Rattle.type_heads.specs.Table.{Table, named}
 use Rattle.type_heads.specs.Types.{Field}
 use Rattle.expr_nodes.specs.Fits.{argument_fit_rows}

@@ -8,3 +8,6 @@ pub mod CompositionRows
 pub mod ModifierRows
 pub mod PhaseRows
 pub mod InvokedTypes
+-- Crates below, for the crates above.
+pub use Rattle.composition.specs as composition
+pub use Rattle.program_members.specs as program_members

@@ -19,14 +19,14 @@ use crate::held::{held_in, holds_object};
 use crate::rules::with_expr;
 use dsl_tree::{Argument, Expr, FieldDecl, Ident};
 use expr_eval::checked;
+use expr_nodes::type_faults::TextSet;
+use expr_nodes::type_model::{TypeId, Types};
 use expr_nodes::{Scope, Typed};
 use name_scope::with_fault;
 use osc_base::{Boxed, Fault, FaultCode, Place};
 use program_calls::{begins_with_label, first_place, is_path};
 use program_fields::{FieldsOf, TypeField};
 use std::alloc::{AllocError, Global};
-use type_faults::TextSet;
-use type_model::{TypeId, Types};
 use value_fits::{with_argument, with_duration};
 
 /// Where an argument goes: to no field, as there are more of them than fields; to the duration; to nothing that the

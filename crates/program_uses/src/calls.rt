@@ -24,6 +24,7 @@ use crate::modifiers::with_modifier;
 use crate::program_texts::ProgramTexts;
 use crate::rules::{with_expr, with_known, with_rule};
 use dsl_tree::{Argument, Ident, InvokeHead, InvokePart};
+use expr_nodes::type_model::{FieldType, TypeId, Types};
 use expr_nodes::{It, Scope, Typed};
 use name_scope::with_fault;
 use osc_base::{Boxed, Fault, FaultCode};
@@ -32,7 +33,6 @@ use program_calls::{
     head_place, owned_behaviour, resolved_actor,
 };
 use std::alloc::{AllocError, Global};
-use type_model::{FieldType, TypeId, Types};
 
 /// Whether a part is something else than an object of an actor.
 fn is_no_actor(types: &Types, typed: &Option<Boxed<Typed>>) -> bool

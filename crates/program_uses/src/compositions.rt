@@ -13,12 +13,12 @@ use crate::rules::{with_expr, with_known};
 use dsl_tree::{Argument, CompKind, Expr, Ident};
 use expr_eval::checked;
 use expr_nodes::Scope;
+use expr_nodes::type_faults::TextSet;
+use expr_nodes::type_model::Types;
 use name_scope::with_fault;
 use osc_base::{Fault, FaultCode};
 use program_calls::{first_place, name_of};
 use std::alloc::{AllocError, Global};
-use type_faults::TextSet;
-use type_model::Types;
 use value_fits::with_duration;
 
 /// Whether it is one of the four words after `overlap:`.

@@ -7,7 +7,7 @@ ghost use Rattle.type_heads.specs.Cycles.{returns};
 ghost use Rattle.type_heads.specs.Shown.{kind_form};
 ghost use Rattle.type_heads.specs.Table.{all_types, form, is_scenario as of_scenario};
 ghost use Rattle.type_heads.specs.Types.{Types as TypesOf};
-ghost use Rattle.type_faults.specs.Ranking.{IsShown};
+ghost use Rattle.expr_nodes.specs.type_faults.Ranking.{IsShown};
 ghost use Rattle.composition.specs.Uses.{invocation_row, invocations};
 ghost use Rattle.program_calls.specs.PlacedPhases.{seen_phase};
 ghost use Rattle.program_uses.specs.InvokedTypes.{AreInvoked, invoked_at, invoked_in, invoked_do, row_of};
@@ -16,13 +16,13 @@ ghost use Rattle.program_uses.specs.SeenTexts.{Tells};
 
 use crate::program_texts::ProgramTexts;
 use dsl_tree::Phase;
+use expr_nodes::type_faults::{Ranking, Steps};
+use expr_nodes::type_model::{TypeId, TypeKind, Types};
 use name_scope::with_fault;
 use osc_base::{Fault, FaultCode, Row};
 use program_calls::{PlacedPhase, invoked, phases_in};
 use program_fields::TypeDo;
 use std::alloc::{AllocError, Global};
-use type_faults::{Ranking, Steps};
-use type_model::{TypeId, TypeKind, Types};
 
 /// The actions and scenarios that the `do` of each type invokes.
 #[derive(Drop)]

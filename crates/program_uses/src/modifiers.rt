@@ -16,6 +16,7 @@ use crate::held::NO_EXPONENTS;
 use crate::rules::with_expr;
 use dsl_tree::{Argument, Expr, ModifierNode};
 use expr_eval::checked;
+use expr_nodes::type_model::{TypeId, Types};
 use expr_nodes::{Scope, Typed, ValueKind};
 use name_scope::with_fault;
 use osc_base::{Boxed, Fault, FaultCode, Kind};
@@ -23,7 +24,6 @@ use program_calls::{
     ModifierForm, first_place, is_drive, is_modifier, is_path, is_vehicle, modifier_form,
 };
 use std::alloc::{AllocError, Global};
-use type_model::{TypeId, Types};
 use units_si::Exponents;
 use value_fits::with_compared;
 

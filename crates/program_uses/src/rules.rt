@@ -20,12 +20,12 @@ use crate::expr_parts::relation_left;
 use dsl_tree::{Expr, KeepKind, PathNode, RuleDecl};
 use expr_eval::{Checked, checked, path_checked, path_place};
 use expr_nodes::parts::least;
+use expr_nodes::type_model::Types;
 use expr_nodes::{Scope, Typed};
 use name_scope::with_fault;
 use osc_base::{Boxed, Fault, FaultCode};
 use program_calls::{first_place, is_path};
 use std::alloc::{AllocError, Global};
-use type_model::Types;
 use value_fits::with_constraint;
 
 /// Faults of an expression that is known.

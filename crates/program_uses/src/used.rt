@@ -4,19 +4,19 @@ ghost use Rattle.std.specs.Prelude.{◌≡◌, map, IfOk};
 ghost use Rattle.osc_base.specs.FaultRows.{first_fault};
 ghost use Rattle.type_heads.specs.Bodied.{seen_body};
 ghost use Rattle.type_heads.specs.Types.{Types as TypesOf};
-ghost use Rattle.type_members.specs.Listed.{lists_of};
+ghost use Rattle.program_fields.specs.type_members.Listed.{lists_of};
 ghost use Rattle.composition.specs.Uses.{use_rows};
 ghost use Rattle.program_uses.specs.SeenTexts.{HasTextsOf, Tells};
 
 use crate::invocations::with_invocations;
 use crate::program_texts::ProgramTexts;
 use crate::texts::with_texts;
+use expr_nodes::type_model::Types;
 use osc_base::Fault;
 use program_fields::ProgramFields;
+use program_fields::type_members::MemberLists;
 use std::alloc::{AllocError, Global};
 use type_heads::Body;
-use type_members::MemberLists;
-use type_model::Types;
 
 /// The fields, the `do` and the body of each type.
 fn texts_of<'a>(

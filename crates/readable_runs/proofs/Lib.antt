@@ -6,3 +6,7 @@ pub mod RunParts
 pub mod ReadablePaths
 pub mod NoVehicle
 pub mod ReadableScenes
+-- Crates below, for the crates above.
+pub use Rattle.run_tests.proofs as of_run_tests
+pub use Rattle.search_answers.proofs as of_search_answers
+pub use Rattle.source_scenes.proofs as of_source_scenes

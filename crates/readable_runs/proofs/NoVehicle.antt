@@ -6,20 +6,20 @@ use Rattle.outside_io.specs.declared.shelf.NamedBytes.{NamedBytes}
 use Rattle.dsl_tree.specs.declared.compounds.CompoundKind.{CompoundKind}
 use Rattle.dsl_tree.specs.FileTree.{DeclarationTree, FileTree}
 use Rattle.name_scope.specs.FileNumbers.{AddedFile}
-use Rattle.program_load.specs.Loading.{IsLoaded}
+use Rattle.source_scenes.specs.program_load.Loading.{IsLoaded}
 use Rattle.type_heads.specs.Form.{Form}
 use Rattle.type_heads.specs.Table.{TypeHead, bases, form, head, int_head, is_actor, is_behaviour, is_kind_of, is_scenario, named, owner}
 use Rattle.type_heads.specs.Types.{Program}
 use Rattle.type_heads.specs.DeclaredTypes.{Declared, Placed, all_declared, basic_types, declared_heads, heads_from, placed, placed_from, placed_in, program_of, type_declared, types_of}
 use Rattle.composition.specs.Expanded.{is_vehicle}
-use Rattle.field_flatten.proofs.NumberLaw.{making}
-use Rattle.field_flatten.proofs.Tests.{In, any_at, in_left, in_right, number_is}
-use Rattle.scene_laws.proofs.OwnedHeads.{HaveActors}
-use Rattle.scene_laws.proofs.PlacedObjects.{scenario_behaves}
-use Rattle.checkable_scenes.proofs.ConditionFields.{IsInherited}
-use Rattle.checkable_scenes.proofs.ReadFacts.{AreAlike, up_alike}
-use Rattle.loaded_programs.proofs.LibraryThere.{HasLibrary, library_there}
-use Rattle.loaded_programs.proofs.LibraryTree.{library_declarations, library_tree}
+use Rattle.source_scenes.proofs.of_field_flatten.NumberLaw.{making}
+use Rattle.source_scenes.proofs.of_field_flatten.Tests.{In, any_at, in_left, in_right, number_is}
+use Rattle.source_scenes.proofs.of_scene_laws.OwnedHeads.{HaveActors}
+use Rattle.source_scenes.proofs.of_scene_laws.PlacedObjects.{scenario_behaves}
+use Rattle.source_scenes.proofs.of_checkable_scenes.ConditionFields.{IsInherited}
+use Rattle.source_scenes.proofs.of_checkable_scenes.ReadFacts.{AreAlike, up_alike}
+use Rattle.source_scenes.proofs.of_loaded_programs.LibraryThere.{HasLibrary, library_there}
+use Rattle.source_scenes.proofs.of_loaded_programs.LibraryTree.{library_declarations, library_tree}
 
 -- ---- declarations of a file
 

@@ -14,17 +14,17 @@ use Rattle.dsl_tree.specs.declared.parts.Ident.{Ident}
 use Rattle.dsl_tree.specs.FileTree.{DeclarationTree, FileTree, MemberTree}
 use Rattle.dsl_tree.specs.Views.{file_tree}
 use Rattle.name_scope.specs.FileNumbers.{AddedFile}
-use Rattle.program_load.specs.Loading.{AreTakenAfter, IsTaken}
+use Rattle.source_scenes.specs.program_load.Loading.{AreTakenAfter, IsTaken}
 use Rattle.type_heads.specs.Texts.{texts_of, with_text}
 use Rattle.type_heads.specs.Types.{Program, Types, Field, Member}
 use Rattle.type_heads.specs.Members.{fields, fields_declared, members}
 use Rattle.type_heads.specs.DeclaredTypes.{Placed, placed_in, placed_from, types_of}
 use Rattle.composition.specs.declared.setting.Setting.{Setting}
 use Rattle.composition.specs.Expanded.{scene}
-use Rattle.field_flatten.proofs.Tests.{In, all_at, flat_map_in, map_in}
-use Rattle.scene_laws.proofs.WrittenMembers.{AllMembers, all_members, members_pass}
-use Rattle.loaded_programs.proofs.Booleans.{both}
-use Rattle.loaded_programs.proofs.LoadedFiles.{trees}
+use Rattle.source_scenes.proofs.of_field_flatten.Tests.{In, all_at, flat_map_in, map_in}
+use Rattle.source_scenes.proofs.of_scene_laws.WrittenMembers.{AllMembers, all_members, members_pass}
+use Rattle.source_scenes.proofs.of_loaded_programs.Booleans.{both}
+use Rattle.source_scenes.proofs.of_loaded_programs.LoadedFiles.{trees}
 use Rattle.readable_runs.proofs.SourceTexts.{readable_tokens}
 use Rattle.readable_runs.proofs.TreeTexts.{all_named, has_names, texts_of_all, tree_names, tree_texts}
 

@@ -15,7 +15,7 @@ use Rattle.dsl_tree.specs.PhaseTree.{ArgumentTree, PartTree, Invoke, phases_of}
 use Rattle.type_heads.specs.Table.{owner, form}
 use Rattle.type_heads.specs.Types.{Types, Field, Do}
 use Rattle.type_heads.specs.Members.{fields, field_type, list_length, the_do}
-use Rattle.expr_nodes.specs.Sizes.{field_reach}
+use Rattle.composition.specs.expr_nodes.Sizes.{field_reach}
 use Rattle.composition.specs.declared.guard.Guard.{Guard}
 use Rattle.composition.specs.declared.setting.Setting.{Setting}
 use Rattle.composition.specs.declared.spot.PhaseKind.{PhaseKind}
@@ -29,16 +29,16 @@ use Rattle.composition.specs.Givens.{guards_under}
 use Rattle.composition.specs.Invariants.{are_nested}
 use Rattle.composition.specs.Ranges.{range_of}
 use Rattle.composition.specs.Scenes.{Content, Spot, Scene, Binding, phase_spot, phases, root_do, value_spot, values}
-use Rattle.field_flatten.proofs.ItemLaw.{counted_in}
-use Rattle.field_flatten.proofs.NumberLaw.{made_from, making}
-use Rattle.field_flatten.proofs.Tests.{In, all_at, any_at, in_map, map_in, path_is, two_ways}
-use Rattle.scene_laws.specs.Premises.{is_free}
-use Rattle.scene_laws.proofs.EachSpot.{each_spot, invoked_kind, invoked_members, value_paths}
-use Rattle.scene_laws.proofs.PlacedObjects.{IsAcyclic, Placed, call_placed, field_placed, phase_in, value_in}
-use Rattle.scene_laws.proofs.Steps.{cancelled, pairs_map, range_apart}
-use Rattle.scene_laws.proofs.FieldNames.{Pairs}
-use Rattle.checkable_scenes.proofs.FewMembers.{no_more}
-use Rattle.checkable_scenes.proofs.Inherited.{option_in}
+use Rattle.source_scenes.proofs.of_field_flatten.ItemLaw.{counted_in}
+use Rattle.source_scenes.proofs.of_field_flatten.NumberLaw.{made_from, making}
+use Rattle.source_scenes.proofs.of_field_flatten.Tests.{In, all_at, any_at, in_map, map_in, path_is, two_ways}
+use Rattle.source_scenes.specs.scene_laws.Premises.{is_free}
+use Rattle.source_scenes.proofs.of_scene_laws.EachSpot.{each_spot, invoked_kind, invoked_members, value_paths}
+use Rattle.source_scenes.proofs.of_scene_laws.PlacedObjects.{IsAcyclic, Placed, call_placed, field_placed, phase_in, value_in}
+use Rattle.source_scenes.proofs.of_scene_laws.Steps.{cancelled, pairs_map, range_apart}
+use Rattle.source_scenes.proofs.of_scene_laws.FieldNames.{Pairs}
+use Rattle.source_scenes.proofs.of_checkable_scenes.FewMembers.{no_more}
+use Rattle.source_scenes.proofs.of_checkable_scenes.Inherited.{option_in}
 use Rattle.readable_runs.proofs.RunParts.{IsReadable}
 
 both : (a b : Bool) → a ≡ true → b ≡ true → a && b ≡ true

@@ -17,15 +17,15 @@ use Rattle.composition.specs.Scenes.{Scene, choices, phases, values, vehicles}
 use Rattle.composition.specs.Slots.{sample_names, slot_names, ticks_of}
 use Rattle.composition.specs.StaticFaults.{declaration_fault}
 use Rattle.composition.specs.TimedRuns.{timed}
-use Rattle.named_scenario.specs.Naming.{fault_in, scenario_in, types_in}
-use Rattle.field_flatten.specs.Points.{point_of}
-use Rattle.field_flatten.proofs.Exact.{exact}
-use Rattle.scene_laws.proofs.FaultRows.{no_faults}
-use Rattle.scene_laws.proofs.SceneFields.{program_judged}
-use Rattle.checkable_scenes.proofs.PlacedScenarios.{actor_placed, named_is, whole_placed}
-use Rattle.checkable_scenes.proofs.ProgramFacts.{program_acyclic, program_inherited}
-use Rattle.checkable_scenes.proofs.ReadFacts.{program_alike}
-use Rattle.loaded_programs.proofs.LoadedPrograms.{loads_are_loaded_programs}
+use Rattle.source_scenes.specs.named_scenario.Naming.{fault_in, scenario_in, types_in}
+use Rattle.source_scenes.specs.field_flatten.Points.{point_of}
+use Rattle.source_scenes.proofs.of_field_flatten.Exact.{exact}
+use Rattle.source_scenes.proofs.of_scene_laws.FaultRows.{no_faults}
+use Rattle.source_scenes.proofs.of_scene_laws.SceneFields.{program_judged}
+use Rattle.source_scenes.proofs.of_checkable_scenes.PlacedScenarios.{actor_placed, named_is, whole_placed}
+use Rattle.source_scenes.proofs.of_checkable_scenes.ProgramFacts.{program_acyclic, program_inherited}
+use Rattle.source_scenes.proofs.of_checkable_scenes.ReadFacts.{program_alike}
+use Rattle.source_scenes.proofs.of_loaded_programs.LoadedPrograms.{loads_are_loaded_programs}
 use Rattle.source_scenes.specs.FoundScenes.{IsKnown}
 use Rattle.source_scenes.proofs.SoundNamed.{sound_scene}
 use Rattle.readable_runs.specs.ReadableRuns.{CanBeRead, ReachedRunsCanBeRead}

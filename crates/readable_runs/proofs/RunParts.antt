@@ -12,9 +12,9 @@ use Rattle.osc_base.specs.Paths.{same_path}
 use Rattle.osc_base.specs.SlotNames.{same_slot}
 use Rattle.osc_base.specs.declared.path.Path.{Path}
 use Rattle.osc_base.specs.declared.listing.SlotName.{SlotName}
-use Rattle.box_eval.specs.Box.{IsPointOf, pair}
-use Rattle.record_text.specs.Lines.{IsFewDigits}
-use Rattle.expr_nodes.specs.Sizes.{field_reach}
+use Rattle.search_answers.specs.box_eval.Box.{IsPointOf, pair}
+use Rattle.search_answers.specs.record_text.Lines.{IsFewDigits}
+use Rattle.composition.specs.expr_nodes.Sizes.{field_reach}
 use Rattle.composition.specs.declared.spot.ChoiceSpot.{ChoiceSpot}
 use Rattle.composition.specs.declared.spot.PhaseSpot.{PhaseSpot}
 use Rattle.composition.specs.declared.spot.ValueSpot.{ValueSpot}
@@ -25,13 +25,13 @@ use Rattle.composition.specs.declared.run.Value.{Value}
 use Rattle.composition.specs.Scenes.{Scene, Spot, Content, Object, Value as ValueContent, Phase, choice_spot, phase_spot, value_spot, vehicle_spot, choices, phases, values, vehicles, is_one_of, has_root_do, root_do}
 use Rattle.composition.specs.Slots.{slot_names}
 use Rattle.composition.specs.TimedRuns.{TimedRun, timed}
-use Rattle.field_flatten.specs.Ends.{bounds, ends_of, no_ends}
-use Rattle.field_flatten.specs.Exactness.{IsExpanded, IsLimited}
-use Rattle.field_flatten.specs.Points.{slot_value, stands, choice_of, span_of, held_of, sample_named, end_named, run_of}
-use Rattle.field_flatten.proofs.Tests.{In, any_at, found_in, in_filter, left_of, right_of, two_ways}
-use Rattle.field_flatten.proofs.NumberLaw.{made_from}
-use Rattle.field_flatten.proofs.SlotLaw.{Between, Inside, point_inside, slot_is}
-use Rattle.field_flatten.proofs.ItemReach.{setting_parts}
+use Rattle.source_scenes.specs.field_flatten.Ends.{bounds, ends_of, no_ends}
+use Rattle.source_scenes.specs.field_flatten.Exactness.{IsExpanded, IsLimited}
+use Rattle.source_scenes.specs.field_flatten.Points.{slot_value, stands, choice_of, span_of, held_of, sample_named, end_named, run_of}
+use Rattle.source_scenes.proofs.of_field_flatten.Tests.{In, any_at, found_in, in_filter, left_of, right_of, two_ways}
+use Rattle.source_scenes.proofs.of_field_flatten.NumberLaw.{made_from}
+use Rattle.source_scenes.proofs.of_field_flatten.SlotLaw.{Between, Inside, point_inside, slot_is}
+use Rattle.source_scenes.proofs.of_field_flatten.ItemReach.{setting_parts}
 use Rattle.run_tests.specs.WrittenRuns.{is_u32, is_i64, is_written_choice, is_written_span, is_written_sample, is_written_trace, is_written_held}
 use Rattle.search_answers.proofs.ShortEnds.{few_members, short_name}
 use Rattle.readable_runs.proofs.Utf8Runs.{HasUtf8Parts, is_utf8_held, is_utf8_value}

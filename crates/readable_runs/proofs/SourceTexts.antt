@@ -22,7 +22,7 @@ use Rattle.dsl_lexer.specs.Kinds.{kind_of, word_or_name, words, number_kind, dec
 use Rattle.dsl_lexer.specs.Pieces.{Piece, reach, Cut}
 use Rattle.dsl_lexer.specs.Layout.{opened, line, width, widths, brackets, has_lexeme, begins_line, ends_line, is_widest, blocks, newline, own_token, brought, tokens, last_tokens, placed, OffsetToken}
 use Rattle.dsl_lexer.specs.SourceTokens.{TokensCut}
-use Rattle.loaded_programs.proofs.Booleans.{both}
+use Rattle.source_scenes.proofs.of_loaded_programs.Booleans.{both}
 use Rattle.dsl_lexer.proofs.Cutting.{cut_length}
 use Rattle.dsl_lexer.proofs.Texts.{string_utf8, valid_all}
 

@@ -16,9 +16,9 @@ use Rattle.dsl_tree.specs.Language.{Spelled}
 use Rattle.dsl_tree.specs.WrittenFile.{file}
 use Rattle.dsl_tree.proofs.OneTrees.{is_is_whole}
 use Rattle.type_heads.specs.Texts.{texts_in, texts_among, member_exprs, declaration_exprs}
-use Rattle.loaded_programs.proofs.Booleans.{both}
-use Rattle.loaded_programs.proofs.LeafCounts.{Measure, weight, total, leaves, row_leaves, spelled_total}
-use Rattle.loaded_programs.proofs.TreeCounts.{all_leaves, name_weight, declared_names, member_weight, declaration_weight, file_weight, all_append, file_count}
+use Rattle.source_scenes.proofs.of_loaded_programs.Booleans.{both}
+use Rattle.source_scenes.proofs.of_loaded_programs.LeafCounts.{Measure, weight, total, leaves, row_leaves, spelled_total}
+use Rattle.source_scenes.proofs.of_loaded_programs.TreeCounts.{all_leaves, name_weight, declared_names, member_weight, declaration_weight, file_weight, all_append, file_count}
 use Rattle.readable_runs.proofs.SourceTexts.{is_readable, all_readable}
 
 abbrev one : Bool → ℕ

@@ -24,9 +24,9 @@ use Rattle.composition.specs.declared.run.Value.{Value}
 use Rattle.composition.specs.declared.run.Run.{Run}
 use Rattle.composition.specs.declared.run.Held.{Held}
 use Rattle.composition.specs.declared.run.Held.TheVariants.{Number, Chars}
-use Rattle.run_check.specs.RunText.{integer_data, choice_data, span_data, sample_data, trace_data, held_data, value_data, run_data, run_text}
+use Rattle.run_tests.specs.run_check.RunText.{integer_data, choice_data, span_data, sample_data, trace_data, held_data, value_data, run_data, run_text}
 use Rattle.run_tests.specs.WrittenRuns.{is_u32, is_i64, has_text, is_written_choice, is_written_span, is_written_sample, is_written_trace, is_written_held, is_written_value, is_written_run}
-use Rattle.field_flatten.proofs.Tests.{left_of, right_of}
+use Rattle.source_scenes.proofs.of_field_flatten.Tests.{left_of, right_of}
 
 -- ---- paths
 

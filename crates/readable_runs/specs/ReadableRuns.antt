@@ -1,15 +1,15 @@
 -- The text of each run that a search reaches can be read back.
 use Rattle.std.specs.Prelude.{◌≡◌, ℕ, List, true, false, IsUtf8}
 use Rattle.name_scope.specs.FileNumbers.{AddedFile}
-use Rattle.named_scenario.specs.Naming.{types_in}
+use Rattle.source_scenes.specs.named_scenario.Naming.{types_in}
 use Rattle.composition.specs.declared.run.Run.{Run}
 use Rattle.composition.specs.declared.setting.Setting.{Setting}
 use Rattle.composition.specs.Expanded.{scene}
 use Rattle.composition.specs.SceneFaults.{is_too_large}
-use Rattle.run_check.specs.RunText.{run_text}
+use Rattle.run_tests.specs.run_check.RunText.{run_text}
 use Rattle.run_tests.specs.WrittenRuns.{is_written_run}
 use Rattle.source_scenes.specs.FoundScenes.{IsKnown}
-use Rattle.scene_search.specs.Findings.{IsReachedRun}
+use Rattle.search_answers.specs.scene_search.Findings.{IsReachedRun}
 
 -- a run whose text is UTF-8, and each of whose paths has a text
 pub record CanBeRead (run : Run) : Type 0 where

@@ -10,8 +10,8 @@ use Rattle.outside_io.specs.Counts.{Rises}
 use Rattle.outside_io.specs.Files.{file_named, Finds, SomeFiles}
 use Rattle.outside_io.proofs.SomeFiles.{of_all, onward}
 use Rattle.box_eval.specs.declared.flat.Flat.{Flat}
-use Rattle.composition.specs.Scenes.{Scene}
-use Rattle.field_flatten.specs.Exactness.{IsFlatOf}
+use Rattle.flat_forms.specs.composition.Scenes.{Scene}
+use Rattle.flat_forms.specs.field_flatten.Exactness.{IsFlatOf}
 use Rattle.record_text.specs.declared.stop.VerifyStop.{VerifyStop}
 use Rattle.record_text.specs.declared.stop.VerifyStop.TheVariants as stop
 use Rattle.record_text.specs.Progress.{SomeBadText}

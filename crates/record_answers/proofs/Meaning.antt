@@ -5,7 +5,7 @@ use Rattle.outside_io.specs.declared.shelf.NamedBytes.{NamedBytes}
 use Rattle.box_eval.specs.declared.flat.Flat.{Flat}
 use Rattle.box_eval.specs.Rules.{IsEmpty}
 use Rattle.box_eval.proofs.Empty.{refutation_empty}
-use Rattle.field_flatten.proofs.Exact.{exact_flat}
+use Rattle.flat_forms.proofs.of_field_flatten.Exact.{exact_flat}
 use Rattle.refute_check.specs.Answers.{IsRefutationText}
 use Rattle.command_replies.specs.declared.status.Status.{Status}
 use Rattle.command_replies.specs.Reply.{Answer}

@@ -17,7 +17,7 @@ use Rattle.command_replies.specs.Reply.{Answer}
 use Rattle.command_replies.specs.Replies.{no_line, open_cuts, text_refused}
 use Rattle.record_answers.specs.RecordAnswers.{OnRecordText, bad_line, refused, refuted, undecided, OnRecordFile, no_file, too_long, in_file}
 use Rattle.record_answers.specs.Laws.{OneVerdict}
-use Rattle.field_flatten.proofs.RuleTrees.{one_form}
+use Rattle.flat_forms.proofs.of_field_flatten.RuleTrees.{one_form}
 
 -- ---- the first line that isn't accepted
 

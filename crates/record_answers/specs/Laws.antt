@@ -2,10 +2,10 @@
 use Rattle.std.specs.Prelude.{◌≡◌, ℕ, List, codes}
 use Rattle.outside_io.specs.declared.shelf.NamedBytes.{NamedBytes}
 use Rattle.box_eval.specs.declared.flat.Flat.{Flat}
-use Rattle.composition.specs.Scenes.{Scene}
-use Rattle.composition.specs.TimedRuns.{TimedRun}
-use Rattle.composition.specs.Claims.{IsInstance}
-use Rattle.field_flatten.specs.Exactness.{IsExpanded, IsFlatOf}
+use Rattle.flat_forms.specs.composition.Scenes.{Scene}
+use Rattle.flat_forms.specs.composition.TimedRuns.{TimedRun}
+use Rattle.flat_forms.specs.composition.Claims.{IsInstance}
+use Rattle.flat_forms.specs.field_flatten.Exactness.{IsExpanded, IsFlatOf}
 use Rattle.refute_check.specs.Answers.{IsRefutationText}
 use Rattle.command_replies.specs.Reply.{Answer}
 use Rattle.command_replies.specs.Replies.{done}

@@ -4,8 +4,8 @@ use Rattle.std.specs.Fmt.{decimal}
 use Rattle.outside_io.specs.declared.shelf.NamedBytes.{NamedBytes}
 use Rattle.outside_io.specs.Files.{file_named}
 use Rattle.box_eval.specs.declared.flat.Flat.{Flat}
-use Rattle.composition.specs.Scenes.{Scene}
-use Rattle.field_flatten.specs.Exactness.{IsFlatOf}
+use Rattle.flat_forms.specs.composition.Scenes.{Scene}
+use Rattle.flat_forms.specs.field_flatten.Exactness.{IsFlatOf}
 use Rattle.record_text.specs.Source.{limit}
 use Rattle.record_text.specs.Text.{IsFirstBadLine}
 use Rattle.refute_check.specs.Answers.{IsRefutationText, IsOpenText, IsRefusedAt}

@@ -3,9 +3,9 @@
 ghost use Rattle.std.specs.Prelude.{◌≡◌, IfOk};
 ghost use Rattle.std.specs.Fmt.{decimal};
 ghost use Rattle.box_eval.specs.Rules.{IsFlat};
-ghost use Rattle.composition.specs.SeenScenes.{seen_scene};
+ghost use Rattle.flat_forms.specs.composition.SeenScenes.{seen_scene};
 ghost use Rattle.outside_io.specs.Files.{SomeFiles};
-ghost use Rattle.field_flatten.specs.Exactness.{IsExpanded, IsLimited};
+ghost use Rattle.flat_forms.specs.field_flatten.Exactness.{IsExpanded, IsLimited};
 ghost use Rattle.command_replies.specs.Replies.{text_refused};
 ghost use Rattle.command_replies.specs.Shelves.{AnswersOrFails, CountsOnce};
 ghost use Rattle.record_answers.specs.RecordAnswers.{OnRecordFile, Verifies};
@@ -15,7 +15,7 @@ use box_eval::Flat;
 use command_replies::{
     Reply, done, failed_shelf, long_file, missing_file, no_line, open_cuts, text_refused,
 };
-use composition::Scene;
+use flat_forms::composition::Scene;
 use flat_forms::flatten;
 use osc_base::Text;
 use outside_io::Shelf;

@@ -3,3 +3,5 @@ mod Apart
 pub mod Points
 pub mod Short
 mod Worked
+-- Crates below, for the crates above.
+pub use Rattle.refute_check.proofs as of_refute_check

@@ -11,3 +11,6 @@ pub mod SourceFields
 pub mod Stops
 pub mod Text
 pub mod Written
+-- Crates below, for the crates above.
+pub use Rattle.box_eval.specs as box_eval
+pub use Rattle.outside_io.specs as outside_io

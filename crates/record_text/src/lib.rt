@@ -23,3 +23,7 @@ pub use rest::{next_node, read_rest};
 pub use source::LIMIT;
 pub use stop::VerifyStop;
 pub use write::write_record;
+
+// Crates below, for the crates above.
+pub use box_eval;
+pub use outside_io;

@@ -5,11 +5,11 @@ use Rattle.outside_io.specs.Counts.{Rises}
 use Rattle.outside_io.specs.Files.{SomeFiles}
 use Rattle.outside_io.proofs.SomeFiles.{of_all, onward}
 use Rattle.name_scope.specs.FileNumbers.{AddedFile}
-use Rattle.composition.specs.declared.run.Run.{Run}
-use Rattle.composition.specs.Scenes.{Scene}
-use Rattle.composition.specs.TimedRuns.{timed}
-use Rattle.run_check.specs.declared.wrong.Wrong.{Wrong}
-use Rattle.run_check.specs.Answers.{first_wrong}
+use Rattle.run_texts.specs.composition.declared.run.Run.{Run}
+use Rattle.run_texts.specs.composition.Scenes.{Scene}
+use Rattle.run_texts.specs.composition.TimedRuns.{timed}
+use Rattle.instance_check.specs.run_check.declared.wrong.Wrong.{Wrong}
+use Rattle.instance_check.specs.run_check.Answers.{first_wrong}
 use Rattle.run_texts.specs.declared.stop.RunStop.{RunStop}
 use Rattle.run_texts.specs.RunReading.{IsReading}
 use Rattle.text_load.specs.declared.loading.TextStop.{TextStop}

@@ -7,10 +7,10 @@ use Rattle.serde_json.specs.Data.{Data}
 use Rattle.outside_io.specs.declared.shelf.NamedBytes.{NamedBytes}
 use Rattle.outside_io.specs.Files.{file_named}
 use Rattle.name_scope.specs.FileNumbers.{AddedFile}
-use Rattle.composition.specs.declared.run.Run.{Run}
-use Rattle.composition.specs.Scenes.{Scene}
-use Rattle.composition.specs.TimedRuns.{timed}
-use Rattle.run_check.specs.Answers.{first_wrong}
+use Rattle.run_texts.specs.composition.declared.run.Run.{Run}
+use Rattle.run_texts.specs.composition.Scenes.{Scene}
+use Rattle.run_texts.specs.composition.TimedRuns.{timed}
+use Rattle.instance_check.specs.run_check.Answers.{first_wrong}
 use Rattle.run_texts.specs.RunShape.{Shaped, Fits, Differs, run_from}
 use Rattle.command_replies.specs.Reply.{Answer}
 use Rattle.command_replies.specs.Replies.{long_file, missing_file, text_refused}

@@ -4,11 +4,11 @@ use Rattle.outside_io.specs.declared.shelf.NamedBytes.{NamedBytes}
 use Rattle.outside_io.specs.Files.{file_named}
 use Rattle.osc_base.specs.Path.{path_text}
 use Rattle.name_scope.specs.FileNumbers.{AddedFile}
-use Rattle.composition.specs.declared.run.Run.{Run}
-use Rattle.composition.specs.Scenes.{Scene}
-use Rattle.composition.specs.TimedRuns.{timed}
-use Rattle.run_check.specs.declared.wrong.Wrong.{Wrong}
-use Rattle.run_check.specs.Answers.{first_wrong}
+use Rattle.run_texts.specs.composition.declared.run.Run.{Run}
+use Rattle.run_texts.specs.composition.Scenes.{Scene}
+use Rattle.run_texts.specs.composition.TimedRuns.{timed}
+use Rattle.instance_check.specs.run_check.declared.wrong.Wrong.{Wrong}
+use Rattle.instance_check.specs.run_check.Answers.{first_wrong}
 use Rattle.run_texts.specs.declared.stop.RunStop.{RunStop}
 use Rattle.run_texts.specs.RunReading.{IsReading}
 use Rattle.text_load.specs.Texts.{IsLong}

@@ -2,8 +2,8 @@
 use Rattle.std.specs.Prelude.{ℕ, List, [], ◌++◌, Option, Some, None, codes}
 use Rattle.osc_base.specs.declared.fault.Place.{Place}
 use Rattle.name_scope.specs.FileNumbers.{AddedFile}
-use Rattle.composition.specs.declared.clause.Clause.{Clause}
-use Rattle.program_load.specs.Loading.{name_at}
+use Rattle.run_texts.specs.composition.declared.clause.Clause.{Clause}
+use Rattle.command_replies.specs.program_load.Loading.{name_at}
 use Rattle.command_replies.specs.Replies.{at_place}
 
 -- the word of a clause

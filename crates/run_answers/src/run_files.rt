@@ -1,17 +1,17 @@
 ghost use Rattle.std.specs.Prelude.{◌≡◌, IfOk};
 ghost use Rattle.command_replies.specs.Shelves.{AnswersOrFails, CountsOnce};
-ghost use Rattle.composition.specs.SeenScenes.{seen_scene};
-ghost use Rattle.composition.specs.TimedRuns.{timed};
+ghost use Rattle.run_texts.specs.composition.SeenScenes.{seen_scene};
+ghost use Rattle.run_texts.specs.composition.TimedRuns.{timed};
 ghost use Rattle.outside_io.specs.Files.{SomeFiles};
 ghost use Rattle.run_answers.specs.Checks.{OnRunFile, OnRunText, verdict};
-ghost use Rattle.run_check.specs.Answers.{first_wrong};
-ghost use Rattle.run_values.specs.Frames.{IsCheckable};
+ghost use Rattle.instance_check.specs.run_check.Answers.{first_wrong};
+ghost use Rattle.instance_check.specs.run_values.Frames.{IsCheckable};
 
 use crate::verdicts::verdict;
 use command_replies::{Reply, failed_shelf, long_file, missing_file, text_refused};
-use composition::{Run, Scene};
 use name_scope::Program;
 use outside_io::Shelf;
+use run_texts::composition::{Run, Scene};
 use run_texts::{RunStop, read_run};
 use std::alloc::{AllocError, Global};
 use text_load::{TextStop, load_text};

@@ -6,10 +6,10 @@ use Rattle.std.specs.Option.{option_map_or}
 use Rattle.std.specs.List.{list_all, list_any}
 use Rattle.osc_base.specs.Comparisons.{same_number}
 use Rattle.osc_base.specs.declared.path.Path.{Path}
-use Rattle.composition.specs.declared.run.Span.{Span}
-use Rattle.composition.specs.TimedRuns.{TimedRun, span_in}
-use Rattle.composition.specs.Items.{times_of}
-use Rattle.composition.specs.Arrangement.{Times, same_span, overlap, chosen_spans, covers, ends_of}
+use Rattle.run_entries.specs.composition.declared.run.Span.{Span}
+use Rattle.run_entries.specs.composition.TimedRuns.{TimedRun, span_in}
+use Rattle.run_entries.specs.composition.Items.{times_of}
+use Rattle.run_entries.specs.composition.Arrangement.{Times, same_span, overlap, chosen_spans, covers, ends_of}
 use Rattle.run_clauses.specs.Latest.{latest, later_tick, is_first, is_last}
 
 pub all_mapped : {A B : Type 0} (t : B → Bool) (f : A → B) (xs : List A) → list_all t (map f xs) ≡ list_all (λ x. t (f x)) xs

@@ -4,17 +4,17 @@ ghost use Rattle.std.specs.Prelude.{◌≡◌, ◌&&◌, find, not, int_le, int_
 ghost use Rattle.std.specs.List.{list_all, list_any};
 ghost use Rattle.osc_base.specs.Comparisons.{same_number};
 ghost use Rattle.osc_base.specs.Paths.{same_path};
-ghost use Rattle.composition.specs.Arrangement.{same_span as equal_spans, follow as are_followed, all_same, arranged as is_arranged_as, by_kind as as_kind_says, chosen_spans, covers as is_covered, overlap as share_moment, starts_of, ends_of};
-ghost use Rattle.composition.specs.Items.{times_of, arranged_holds as arranged_if_there};
-ghost use Rattle.composition.specs.Scenes.{phases as all_phases, root_do};
-ghost use Rattle.composition.specs.SeenScenes.{seen_scene};
+ghost use Rattle.run_entries.specs.composition.Arrangement.{same_span as equal_spans, follow as are_followed, all_same, arranged as is_arranged_as, by_kind as as_kind_says, chosen_spans, covers as is_covered, overlap as share_moment, starts_of, ends_of};
+ghost use Rattle.run_entries.specs.composition.Items.{times_of, arranged_holds as arranged_if_there};
+ghost use Rattle.run_entries.specs.composition.Scenes.{phases as all_phases, root_do};
+ghost use Rattle.run_entries.specs.composition.SeenScenes.{seen_scene};
 ghost use Rattle.run_entries.specs.SeenRuns.{seen_run};
 ghost use Rattle.run_clauses.specs.Latest.{is_first, is_last, latest, later_tick};
 
 use crate::listing::is_root_do;
-use composition::{PhaseKind, PhaseSpot, Scene};
 use osc_base::Path;
 use run_entries::Entries;
+use run_entries::composition::{PhaseKind, PhaseSpot, Scene};
 
 /// The tick at which the phase starts, 0 if the run doesn't list it.
 fn start_of(run: &Entries<'_>, phase: &Path) -> i64

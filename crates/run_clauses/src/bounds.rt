@@ -3,15 +3,15 @@
 ghost use Rattle.std.specs.Prelude.{◌≡◌, find, not, bytes_eq, option_copied};
 ghost use Rattle.std.specs.List.{list_all, list_any};
 ghost use Rattle.osc_base.specs.Comparisons.{same_number};
-ghost use Rattle.composition.specs.Claims.{choice_in_range as choice_fits, sample_in_range as sample_fits, span_in_range as span_fits, value_in_range as value_fits};
-ghost use Rattle.composition.specs.Ranges.{lies_between as between, in_range};
-ghost use Rattle.composition.specs.SeenScenes.{seen_scene};
-ghost use Rattle.composition.specs.declared.run.Held.{Held};
+ghost use Rattle.run_entries.specs.composition.Claims.{choice_in_range as choice_fits, sample_in_range as sample_fits, span_in_range as span_fits, value_in_range as value_fits};
+ghost use Rattle.run_entries.specs.composition.Ranges.{lies_between as between, in_range};
+ghost use Rattle.run_entries.specs.composition.SeenScenes.{seen_scene};
+ghost use Rattle.run_entries.specs.composition.declared.run.Held.{Held};
 ghost use Rattle.run_entries.specs.SeenRuns.{seen_run};
 
-use composition::{Choice, Held, Scene, Setting, Span, Trace, Value, ValueRange};
 use osc_base::{Sample, Text};
 use run_entries::Entries;
+use run_entries::composition::{Choice, Held, Scene, Setting, Span, Trace, Value, ValueRange};
 
 /// The greatest speed, in millimetres a second.
 const TOP_SPEED: i64 = 1_000_000_000;

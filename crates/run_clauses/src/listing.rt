@@ -3,17 +3,19 @@
 ghost use Rattle.std.specs.Prelude.{◌≡◌, ◌+◌, ◌&&◌, length, find, map, nat_eq, nat_le, not, option_copied, option_map};
 ghost use Rattle.osc_base.specs.declared.path.Path.{Path};
 ghost use Rattle.osc_base.specs.Paths.{same_path};
-ghost use Rattle.composition.specs.Claims.{ends_with_root_do as end_is_right};
-ghost use Rattle.composition.specs.Scenes.{has_root_do as has_do, root_do};
-ghost use Rattle.composition.specs.SeenScenes.{seen_scene};
-ghost use Rattle.composition.specs.There.{is_there};
-ghost use Rattle.composition.specs.TimedRuns.{span_in};
+ghost use Rattle.run_entries.specs.composition.Claims.{ends_with_root_do as end_is_right};
+ghost use Rattle.run_entries.specs.composition.Scenes.{has_root_do as has_do, root_do};
+ghost use Rattle.run_entries.specs.composition.SeenScenes.{seen_scene};
+ghost use Rattle.run_entries.specs.composition.There.{is_there};
+ghost use Rattle.run_entries.specs.composition.TimedRuns.{span_in};
 ghost use Rattle.run_entries.specs.SeenRuns.{seen_run};
 ghost use Rattle.run_clauses.specs.Listing as listing;
 
-use composition::{Choice, ChoiceSpot, PhaseSpot, Scene, Span, Trace, Value, ValueSpot};
 use osc_base::{Path, Step};
 use run_entries::Entries;
+use run_entries::composition::{
+    Choice, ChoiceSpot, PhaseSpot, Scene, Span, Trace, Value, ValueSpot,
+};
 
 /// What stands at a path, in a scene or in a run.
 pub trait Standing {

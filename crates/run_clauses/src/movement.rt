@@ -2,7 +2,7 @@
 
 ghost use Rattle.std.specs.Prelude.{◌≡◌, ◌^◌, pos, neg_ℤ, ◌+ℤ◌, ◌-ℤ◌, ◌*ℤ◌, ◌≤ℤ◌, int_le};
 ghost use Rattle.osc_base.specs.Comparisons.{same_number};
-ghost use Rattle.composition.specs.Movement.{keeps_lane as stays_near, moves_on as goes_on, is_gentle as stays_gentle, is_step as steps};
+ghost use Rattle.run_entries.specs.composition.Movement.{keeps_lane as stays_near, moves_on as goes_on, is_gentle as stays_gentle, is_step as steps};
 
 use osc_base::Sample;
 

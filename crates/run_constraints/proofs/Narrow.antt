@@ -13,20 +13,20 @@ use Rattle.osc_base.specs.Number.{Number, IsWithin}
 use Rattle.osc_base.specs.Comparisons.{greatest_part}
 use Rattle.osc_base.specs.LowestTerms.{lcm}
 use Rattle.osc_base.specs.Modifiers.{metres, metres_a_second, lanes}
-use Rattle.modifier_rules.specs.Ends.{AreComparable, AreEnds, HasEnds}
-use Rattle.modifier_rules.specs.Relations.{position_scale}
-use Rattle.expr_nodes.specs.Typed.{Typed, scale, reach}
-use Rattle.expr_value.proofs.Worths.{counted_worth}
-use Rattle.composition.specs.declared.setting.Setting.{Setting}
-use Rattle.composition.specs.TimedRuns.{TimedRun, samples_in}
-use Rattle.composition.specs.Scenes.{Scene, ModifierSpot}
-use Rattle.composition.specs.Invariants.{has_range, is_expression, is_from_to, is_setting, is_modifier}
-use Rattle.composition.specs.Items.{still}
-use Rattle.composition.specs.Claims.{sample_in_range, road_end, top_speed}
-use Rattle.composition.specs.Ranges.{lies_between}
-use Rattle.field_flatten.specs.Rules.{scale_of}
-use Rattle.field_flatten.specs.Exactness.{end_reach, quantity_reach, is_narrow_range}
-use Rattle.field_flatten.proofs.Multiples.{common, share_of}
+use Rattle.run_values.specs.modifier_rules.Ends.{AreComparable, AreEnds, HasEnds}
+use Rattle.run_values.specs.modifier_rules.Relations.{position_scale}
+use Rattle.scene_conditions.specs.expr_nodes.Typed.{Typed, scale, reach}
+use Rattle.run_values.proofs.of_expr_value.Worths.{counted_worth}
+use Rattle.scene_conditions.specs.composition.declared.setting.Setting.{Setting}
+use Rattle.scene_conditions.specs.composition.TimedRuns.{TimedRun, samples_in}
+use Rattle.scene_conditions.specs.composition.Scenes.{Scene, ModifierSpot}
+use Rattle.scene_conditions.specs.composition.Invariants.{has_range, is_expression, is_from_to, is_setting, is_modifier}
+use Rattle.scene_conditions.specs.composition.Items.{still}
+use Rattle.scene_conditions.specs.composition.Claims.{sample_in_range, road_end, top_speed}
+use Rattle.scene_conditions.specs.composition.Ranges.{lies_between}
+use Rattle.run_values.specs.field_flatten.Rules.{scale_of}
+use Rattle.run_values.specs.field_flatten.Exactness.{end_reach, quantity_reach, is_narrow_range}
+use Rattle.run_values.proofs.of_field_flatten.Multiples.{common, share_of}
 use Rattle.run_values.specs.Frames as frames
 use Rattle.run_values.specs.SeenCourses.{sample_at}
 use Rattle.run_values.proofs.Framed.{samples_hold}

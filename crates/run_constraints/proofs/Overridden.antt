@@ -4,10 +4,10 @@ use Rattle.std.proofs.lemmas.List.{take_all}
 use Rattle.std.specs.Prelude.{slice_get, unwrap_or, option_map}
 use Rattle.std.specs.Option.{option_map_or}
 use Rattle.std.specs.List.{list_any}
-use Rattle.composition.specs.declared.part.Occurrence as part
-use Rattle.composition.specs.TimedRuns.{TimedRun}
-use Rattle.composition.specs.Scenes.{Scene}
-use Rattle.composition.specs.SeenParts.{seen_occurrence}
+use Rattle.scene_conditions.specs.composition.declared.part.Occurrence as part
+use Rattle.scene_conditions.specs.composition.TimedRuns.{TimedRun}
+use Rattle.scene_conditions.specs.composition.Scenes.{Scene}
+use Rattle.scene_conditions.specs.composition.SeenParts.{seen_occurrence}
 use Rattle.run_values.proofs.Rows.{later, mapped}
 use Rattle.run_constraints.specs.FirstConstraints.{fails_default, first_default}
 

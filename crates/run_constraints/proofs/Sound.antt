@@ -5,15 +5,15 @@ use Rattle.std.specs.Option.{option_map_or}
 use Rattle.std.specs.List.{list_all}
 use Rattle.osc_base.specs.declared.mark.Strength.{Strength}
 use Rattle.osc_base.specs.declared.path.Path.{Path}
-use Rattle.expr_nodes.specs.Kinds.{is_number, is_truth}
-use Rattle.expr_nodes.specs.Typed.{Typed, Info, kind}
-use Rattle.expr_nodes.specs.Parts.{is_scalar}
-use Rattle.expr_nodes.specs.Sound.{is_sound, each_read}
-use Rattle.expr_value.specs.Held.{in_reach}
-use Rattle.composition.specs.TimedRuns.{TimedRun}
-use Rattle.composition.specs.Scenes.{Scene, Occurrence, ModifierSpot, source}
-use Rattle.composition.specs.Numbers.{number_at}
-use Rattle.composition.specs.Invariants.{IsScene, is_expression, is_occurrence, is_read, is_target, is_end, is_modifier, has_range}
+use Rattle.scene_conditions.specs.expr_nodes.Kinds.{is_number, is_truth}
+use Rattle.scene_conditions.specs.expr_nodes.Typed.{Typed, Info, kind}
+use Rattle.scene_conditions.specs.expr_nodes.Parts.{is_scalar}
+use Rattle.scene_conditions.specs.expr_nodes.Sound.{is_sound, each_read}
+use Rattle.run_values.specs.expr_value.Held.{in_reach}
+use Rattle.scene_conditions.specs.composition.TimedRuns.{TimedRun}
+use Rattle.scene_conditions.specs.composition.Scenes.{Scene, Occurrence, ModifierSpot, source}
+use Rattle.scene_conditions.specs.composition.Numbers.{number_at}
+use Rattle.scene_conditions.specs.composition.Invariants.{IsScene, is_expression, is_occurrence, is_read, is_target, is_end, is_modifier, has_range}
 use Rattle.run_values.specs.Frames.{IsWithin}
 use Rattle.run_values.proofs.Framed.{read_within, each_weaker}
 use Rattle.run_constraints.specs.FirstConstraints.{is_sound_part}

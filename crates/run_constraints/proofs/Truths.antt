@@ -9,12 +9,12 @@ use Rattle.osc_base.specs.declared.fraction.Fraction.{Fraction}
 use Rattle.osc_base.specs.Number.{Number, IsSame, whole}
 use Rattle.osc_base.specs.Comparisons.{same_number}
 use Rattle.osc_base.specs.Fraction.{value}
-use Rattle.expr_nodes.specs.Typed.{Typed, reads, scale}
-use Rattle.expr_nodes.specs.Value.{worth, is_one}
-use Rattle.expr_nodes.specs.Value as Values
-use Rattle.expr_nodes.specs.Sound.{is_sound}
-use Rattle.expr_value.proofs.Scales.{IsWorth, full_one}
-use Rattle.expr_value.proofs.Worths.{counted_worth}
+use Rattle.scene_conditions.specs.expr_nodes.Typed.{Typed, reads, scale}
+use Rattle.scene_conditions.specs.expr_nodes.Value.{worth, is_one}
+use Rattle.scene_conditions.specs.expr_nodes.Value as Values
+use Rattle.scene_conditions.specs.expr_nodes.Sound.{is_sound}
+use Rattle.run_values.proofs.of_expr_value.Scales.{IsWorth, full_one}
+use Rattle.run_values.proofs.of_expr_value.Worths.{counted_worth}
 use Rattle.run_constraints.specs.Watched.{IsEnd}
 
 pos_above : (s : ℕ) → 0 < s → pos 1 ≤ℤ pos s

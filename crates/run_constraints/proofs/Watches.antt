@@ -11,11 +11,11 @@ use Rattle.osc_base.specs.Comparisons.{is_at_most, is_between}
 use Rattle.osc_base.specs.Fraction.{value}
 use Rattle.osc_base.specs.Modifiers.{holds_of, is_moment}
 use Rattle.osc_base.proofs.Integers.{swap_last, le_times, le_cancel}
-use Rattle.composition.specs.TimedRuns.{TimedRun, samples_in}
-use Rattle.composition.specs.Scenes.{Scene, ModifierSpot}
-use Rattle.composition.specs.Invariants.{has_range}
-use Rattle.composition.specs.There.{are_met, modifier_presence}
-use Rattle.composition.specs.Items.{times_of, end_value, sample_of, other_of, still, modifier_holds}
+use Rattle.scene_conditions.specs.composition.TimedRuns.{TimedRun, samples_in}
+use Rattle.scene_conditions.specs.composition.Scenes.{Scene, ModifierSpot}
+use Rattle.scene_conditions.specs.composition.Invariants.{has_range}
+use Rattle.scene_conditions.specs.composition.There.{are_met, modifier_presence}
+use Rattle.scene_conditions.specs.composition.Items.{times_of, end_value, sample_of, other_of, still, modifier_holds}
 use Rattle.run_values.specs.SeenCourses.{sample_at}
 use Rattle.run_values.proofs.Courses.{samples_seen, all_there, all_absent}
 use Rattle.run_constraints.specs.Watched.{IsEnd, watch_holds, watched_holds}

@@ -2,13 +2,13 @@
 use Rattle.std.specs.Prelude.{ℕ, ◌+◌, ◌&&◌, Bool, true, false, cond, not, List, [], ◌∷◌, Option, Some, None, find}
 use Rattle.std.specs.Option.{option_map_or}
 use Rattle.osc_base.specs.declared.mark.Strength.{Strength}
-use Rattle.keep_rules.specs.Overriding.{overriders, is_default}
-use Rattle.composition.specs.TimedRuns.{TimedRun}
-use Rattle.composition.specs.Scenes.{Scene, Occurrence, marks}
-use Rattle.composition.specs.There.{is_asked}
-use Rattle.composition.specs.Items.{is_satisfied, is_overridden}
-use Rattle.composition.specs.Invariants.{is_expression}
-use Rattle.expr_nodes.specs.Typed.{Typed}
+use Rattle.scene_conditions.specs.keep_rules.Overriding.{overriders, is_default}
+use Rattle.scene_conditions.specs.composition.TimedRuns.{TimedRun}
+use Rattle.scene_conditions.specs.composition.Scenes.{Scene, Occurrence, marks}
+use Rattle.scene_conditions.specs.composition.There.{is_asked}
+use Rattle.scene_conditions.specs.composition.Items.{is_satisfied, is_overridden}
+use Rattle.scene_conditions.specs.composition.Invariants.{is_expression}
+use Rattle.scene_conditions.specs.expr_nodes.Typed.{Typed}
 
 -- a constraint asks for something in every run in which it is there
 abbrev pub is_hard_one : Strength → Bool

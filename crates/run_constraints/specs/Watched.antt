@@ -4,13 +4,13 @@ use Rattle.osc_base.specs.Number.{Number, IsSame}
 use Rattle.osc_base.specs.Fraction.{value}
 use Rattle.osc_base.specs.Comparisons.{greatest_part}
 use Rattle.osc_base.specs.Modifiers.{holds_of, is_moment}
-use Rattle.expr_nodes.specs.Typed.{Typed}
-use Rattle.modifier_rules.specs.Ends.{HasEnds}
-use Rattle.field_flatten.specs.Rules.{scale_of}
-use Rattle.field_flatten.specs.Exactness.{end_reach}
-use Rattle.composition.specs.TimedRuns.{TimedRun}
-use Rattle.composition.specs.Scenes.{Scene, ModifierSpot}
-use Rattle.composition.specs.Items.{times_of, end_value, sample_of, other_of}
+use Rattle.scene_conditions.specs.expr_nodes.Typed.{Typed}
+use Rattle.run_values.specs.modifier_rules.Ends.{HasEnds}
+use Rattle.run_values.specs.field_flatten.Rules.{scale_of}
+use Rattle.run_values.specs.field_flatten.Exactness.{end_reach}
+use Rattle.scene_conditions.specs.composition.TimedRuns.{TimedRun}
+use Rattle.scene_conditions.specs.composition.Scenes.{Scene, ModifierSpot}
+use Rattle.scene_conditions.specs.composition.Items.{times_of, end_value, sample_of, other_of}
 use Rattle.run_values.specs.SeenCourses.{sample_at}
 use Rattle.run_constraints.specs.declared.modifiers.Watch.{Watch}
 

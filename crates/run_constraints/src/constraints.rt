@@ -1,16 +1,16 @@
 //! The first hard constraint that fails.
 
 ghost use Rattle.std.specs.Prelude.{◌≡◌, option_map, true, IfOk};
-ghost use Rattle.expr_nodes.specs.Seen.{seen_part};
-ghost use Rattle.composition.specs.SeenParts.{seen_occurrence};
+ghost use Rattle.scene_conditions.specs.expr_nodes.Seen.{seen_part};
+ghost use Rattle.scene_conditions.specs.composition.SeenParts.{seen_occurrence};
 ghost use Rattle.run_values.specs.SeenNumbers.{scene_in, run_in};
 ghost use Rattle.run_constraints.specs.FirstConstraints as firsts;
 
 use crate::presence::is_asked;
 use crate::truth::is_satisfied;
-use composition::Occurrence;
 use osc_base::Strength;
 use run_values::Numbers;
+use scene_conditions::composition::Occurrence;
 use std::alloc::{AllocError, Global};
 
 /// The constraint is hard.

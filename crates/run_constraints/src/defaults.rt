@@ -2,22 +2,22 @@
 
 ghost use Rattle.std.specs.Prelude.{◌≡◌, ◌+◌, ℕ, false, map, option_map, slice_get, true, unwrap_or, IfOk};
 ghost use Rattle.std.specs.List.{list_any};
-ghost use Rattle.expr_nodes.specs.Seen.{seen_part};
-ghost use Rattle.keep_rules.specs.Overriding.{is_default as is_default_one, overriders};
-ghost use Rattle.keep_rules.specs.TargetLists.{later_of};
-ghost use Rattle.composition.specs.Items.{is_overridden as overridden_in};
-ghost use Rattle.composition.specs.Scenes.{marks as all_marks};
-ghost use Rattle.composition.specs.SeenParts.{seen_occurrence};
-ghost use Rattle.composition.specs.There.{is_asked as asked_in};
+ghost use Rattle.scene_conditions.specs.expr_nodes.Seen.{seen_part};
+ghost use Rattle.scene_conditions.specs.keep_rules.Overriding.{is_default as is_default_one, overriders};
+ghost use Rattle.scene_conditions.specs.keep_rules.TargetLists.{later_of};
+ghost use Rattle.scene_conditions.specs.composition.Items.{is_overridden as overridden_in};
+ghost use Rattle.scene_conditions.specs.composition.Scenes.{marks as all_marks};
+ghost use Rattle.scene_conditions.specs.composition.SeenParts.{seen_occurrence};
+ghost use Rattle.scene_conditions.specs.composition.There.{is_asked as asked_in};
 ghost use Rattle.run_values.specs.SeenNumbers.{scene_in, run_in};
 ghost use Rattle.run_constraints.specs.FirstConstraints as firsts;
 
 use crate::constraints::is_untrue;
 use crate::presence::is_asked;
-use composition::Occurrence;
-use keep_rules::Targets;
 use osc_base::{Mark, Row, Strength};
 use run_values::Numbers;
+use scene_conditions::composition::Occurrence;
+use scene_conditions::keep_rules::Targets;
 use std::alloc::{AllocError, Global};
 
 /// Which constraints are there in a run, and which override which.

@@ -5,23 +5,23 @@ ghost use Rattle.std.specs.List.{list_all, range_with_len};
 ghost use Rattle.osc_base.specs.Fraction.{value as number_of};
 ghost use Rattle.osc_base.specs.Modifiers.{is_moment as moment_at};
 ghost use Rattle.osc_base.specs.Number.{whole};
-ghost use Rattle.expr_nodes.specs.Seen.{seen, seen_part};
-ghost use Rattle.composition.specs.Invariants.{has_range as ranged, is_expression, is_modifier};
-ghost use Rattle.composition.specs.Items.{modifier_holds, other_of as other_path, times_of};
-ghost use Rattle.composition.specs.SeenParts.{seen_modifier};
-ghost use Rattle.composition.specs.Slots.{ticks_of};
-ghost use Rattle.field_flatten.specs.Exactness.{is_narrow_range};
+ghost use Rattle.scene_conditions.specs.expr_nodes.Seen.{seen, seen_part};
+ghost use Rattle.scene_conditions.specs.composition.Invariants.{has_range as ranged, is_expression, is_modifier};
+ghost use Rattle.scene_conditions.specs.composition.Items.{modifier_holds, other_of as other_path, times_of};
+ghost use Rattle.scene_conditions.specs.composition.SeenParts.{seen_modifier};
+ghost use Rattle.scene_conditions.specs.composition.Slots.{ticks_of};
+ghost use Rattle.run_values.specs.field_flatten.Exactness.{is_narrow_range};
 ghost use Rattle.run_values.specs.SeenNumbers.{scene_in, run_in};
 ghost use Rattle.run_constraints.specs.FirstConstraints.{is_sound_part};
 ghost use Rattle.run_constraints.specs.Watched.{watch_holds, CanCompare, IsEndOf, IsWatch};
 
 use crate::presence::is_watched;
-use composition::ModifierSpot;
-use expr_nodes::Typed;
-use expr_value::value;
-use modifier_rules::true_at;
 use osc_base::{Fraction, Kind, Moment, Path, Sample};
+use run_values::expr_value::value;
+use run_values::modifier_rules::true_at;
 use run_values::{Numbers, sample_at};
+use scene_conditions::composition::ModifierSpot;
+use scene_conditions::expr_nodes::Typed;
 use std::alloc::{AllocError, Global};
 
 /// A modifier that is there, with all that it compares.

@@ -2,17 +2,17 @@
 
 ghost use Rattle.std.specs.Prelude.{◌≡◌, map, IfOk};
 ghost use Rattle.std.specs.List.{list_all};
-ghost use Rattle.composition.specs.SeenParts.{seen_occurrence, seen_modifier};
-ghost use Rattle.composition.specs.There.{is_met as meets, are_met as meet_all, is_asked as asked_in, modifier_presence as conditions_of_modifier};
-ghost use Rattle.composition.specs.declared.guard.Guard.{Guard};
-ghost use Rattle.run_entries.specs.SeenRuns.{seen_run};
+ghost use Rattle.scene_conditions.specs.composition.SeenParts.{seen_occurrence, seen_modifier};
+ghost use Rattle.scene_conditions.specs.composition.There.{is_met as meets, are_met as meet_all, is_asked as asked_in, modifier_presence as conditions_of_modifier};
+ghost use Rattle.scene_conditions.specs.composition.declared.guard.Guard.{Guard};
+ghost use Rattle.run_values.specs.run_entries.SeenRuns.{seen_run};
 ghost use Rattle.run_values.specs.SeenNumbers.{scene_in, run_in};
 ghost use Rattle.scene_conditions.specs.SeenConditions.{seen_condition};
 
-use composition::{Held, ModifierSpot, Occurrence};
 use osc_base::Path;
-use run_entries::Entries;
 use run_values::Numbers;
+use run_values::run_entries::Entries;
+use scene_conditions::composition::{Held, ModifierSpot, Occurrence};
 use scene_conditions::{Condition, modifier_presence, presence};
 use std::alloc::{AllocError, Global};
 

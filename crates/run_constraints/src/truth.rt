@@ -3,16 +3,16 @@
 ghost use Rattle.std.specs.Prelude.{◌≡◌, true};
 ghost use Rattle.std.specs.Option.{option_map_or};
 ghost use Rattle.osc_base.specs.Comparisons.{same_number};
-ghost use Rattle.expr_nodes.specs.Seen.{seen, seen_part};
-ghost use Rattle.composition.specs.Invariants.{is_expression};
-ghost use Rattle.composition.specs.Numbers.{is_true as true_in};
+ghost use Rattle.scene_conditions.specs.expr_nodes.Seen.{seen, seen_part};
+ghost use Rattle.scene_conditions.specs.composition.Invariants.{is_expression};
+ghost use Rattle.scene_conditions.specs.composition.Numbers.{is_true as true_in};
 ghost use Rattle.run_values.specs.SeenNumbers.{scene_in, run_in};
 ghost use Rattle.run_constraints.specs.FirstConstraints.{is_sound_part};
 
-use expr_nodes::Typed;
-use expr_value::value;
 use osc_base::Fraction;
 use run_values::Numbers;
+use run_values::expr_value::value;
+use scene_conditions::expr_nodes::Typed;
 
 /// All that the expression reads is held, and its value is 1.
 fn is_true(numbers: &Numbers<'_>, typed: &Typed) -> bool

@@ -11,13 +11,13 @@ use Rattle.serde_json.specs.Written.{compact_text}
 use Rattle.osc_base.specs.Path.{path_text}
 use Rattle.osc_base.specs.declared.path.Path.{Path}
 use Rattle.osc_base.specs.declared.sample.Sample.{Sample}
-use Rattle.composition.specs.declared.run.Choice.{Choice}
-use Rattle.composition.specs.declared.run.Span.{Span}
-use Rattle.composition.specs.declared.run.Trace.{Trace}
-use Rattle.composition.specs.declared.run.Value.{Value}
-use Rattle.composition.specs.declared.run.Run.{Run}
-use Rattle.composition.specs.declared.run.Held.{Held}
-use Rattle.composition.specs.declared.run.Held.TheVariants.{Number, Chars}
+use Rattle.run_check.specs.composition.declared.run.Choice.{Choice}
+use Rattle.run_check.specs.composition.declared.run.Span.{Span}
+use Rattle.run_check.specs.composition.declared.run.Trace.{Trace}
+use Rattle.run_check.specs.composition.declared.run.Value.{Value}
+use Rattle.run_check.specs.composition.declared.run.Run.{Run}
+use Rattle.run_check.specs.composition.declared.run.Held.{Held}
+use Rattle.run_check.specs.composition.declared.run.Held.TheVariants.{Number, Chars}
 use Rattle.run_check.specs.RunText.{choice_data, span_data, sample_data, trace_data, held_data, value_data, run_data, run_text}
 use Rattle.run_texts.specs.RunShape.{Shaped, Fits, shaped_then, inside, fits, all_from, within_u32, held_of, held_in, choice_in, span_in, sample_in, trace_in, value_in, run_from}
 use Rattle.run_texts.specs.PathForms.{path_from}

@@ -16,13 +16,13 @@ use Rattle.serde_json.specs.Written.{outline, items_outline, compact_text}
 use Rattle.serde_json.proofs.Numbers.{number_of-decimal, number_of-negative}
 use Rattle.serde_json.proofs.Texts.{print-outline}
 use Rattle.osc_base.specs.declared.sample.Sample.{Sample}
-use Rattle.composition.specs.declared.run.Choice.{Choice}
-use Rattle.composition.specs.declared.run.Span.{Span}
-use Rattle.composition.specs.declared.run.Trace.{Trace}
-use Rattle.composition.specs.declared.run.Value.{Value}
-use Rattle.composition.specs.declared.run.Run.{Run}
-use Rattle.composition.specs.declared.run.Held.{Held}
-use Rattle.composition.specs.declared.run.Held.TheVariants.{Number, Chars}
+use Rattle.run_check.specs.composition.declared.run.Choice.{Choice}
+use Rattle.run_check.specs.composition.declared.run.Span.{Span}
+use Rattle.run_check.specs.composition.declared.run.Trace.{Trace}
+use Rattle.run_check.specs.composition.declared.run.Value.{Value}
+use Rattle.run_check.specs.composition.declared.run.Run.{Run}
+use Rattle.run_check.specs.composition.declared.run.Held.{Held}
+use Rattle.run_check.specs.composition.declared.run.Held.TheVariants.{Number, Chars}
 use Rattle.run_check.specs.RunText.{path_data, count_data, integer_data, choice_data, span_data, sample_data, trace_data, held_data, value_data, run_data}
 use Rattle.run_tests.specs.WrittenRuns.{is_u32, is_i64, has_text, is_written_choice, is_written_span, is_written_sample, is_written_trace, is_written_held, is_written_value, is_written_run}
 

@@ -4,13 +4,13 @@ use Rattle.std.specs.List.{list_all}
 use Rattle.osc_base.specs.declared.path.Path.{Path}
 use Rattle.osc_base.specs.declared.sample.Sample.{Sample}
 use Rattle.osc_base.specs.PathTexts.{is_written}
-use Rattle.composition.specs.declared.run.Choice.{Choice}
-use Rattle.composition.specs.declared.run.Span.{Span}
-use Rattle.composition.specs.declared.run.Trace.{Trace}
-use Rattle.composition.specs.declared.run.Value.{Value}
-use Rattle.composition.specs.declared.run.Run.{Run}
-use Rattle.composition.specs.declared.run.Held.{Held}
-use Rattle.composition.specs.declared.run.Held.TheVariants.{Number, Chars}
+use Rattle.run_check.specs.composition.declared.run.Choice.{Choice}
+use Rattle.run_check.specs.composition.declared.run.Span.{Span}
+use Rattle.run_check.specs.composition.declared.run.Trace.{Trace}
+use Rattle.run_check.specs.composition.declared.run.Value.{Value}
+use Rattle.run_check.specs.composition.declared.run.Run.{Run}
+use Rattle.run_check.specs.composition.declared.run.Held.{Held}
+use Rattle.run_check.specs.composition.declared.run.Held.TheVariants.{Number, Chars}
 
 -- a number that a `u32` holds, and one that an `i64` holds, as those of all runs in the program
 abbrev pub is_u32 : ℕ → Bool

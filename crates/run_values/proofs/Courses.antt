@@ -4,9 +4,9 @@ use Rattle.std.specs.Prelude.{pos, slice_get, unwrap_or, option_and_then, IfOk}
 use Rattle.std.specs.List.{list_all, range_with_len}
 use Rattle.osc_base.specs.declared.path.Path.{Path}
 use Rattle.osc_base.specs.declared.sample.Sample.{Sample}
-use Rattle.composition.specs.TimedRuns.{TimedRun, samples_in}
-use Rattle.composition.specs.Scenes.{Scene, max_speed, max_acceleration}
-use Rattle.composition.specs.Items.{still, course_of, field_number}
+use Rattle.field_flatten.specs.composition.TimedRuns.{TimedRun, samples_in}
+use Rattle.field_flatten.specs.composition.Scenes.{Scene, max_speed, max_acceleration}
+use Rattle.field_flatten.specs.composition.Items.{still, course_of, field_number}
 use Rattle.run_values.specs.declared.motion.Course.{Course}
 use Rattle.run_values.specs.SeenCourses.{seen_course}
 

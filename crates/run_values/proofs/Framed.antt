@@ -10,24 +10,24 @@ use Rattle.osc_base.specs.declared.path.Path.{Path}
 use Rattle.osc_base.specs.declared.sample.Sample.{Sample}
 use Rattle.osc_base.specs.Comparisons.{same_number}
 use Rattle.osc_base.specs.Paths.{same_path}
-use Rattle.expr_nodes.specs.Sizes.{Size, field_reach, duration_reach, duration_scale, duration_size, field_size, is_wide}
-use Rattle.expr_nodes.specs.Sound.{has_size, each_read, each_read_of}
-use Rattle.expr_nodes.specs.Typed.{Typed, Info, Constant, Read, Whole, Listed, Span, Minus, Not, Sum, Times, And, Or, Implies, Relation, Within, TypedRow, End, Item}
-use Rattle.composition.specs.declared.clause.Clause.{Clause}
-use Rattle.composition.specs.declared.setting.Setting.{Setting}
-use Rattle.composition.specs.declared.run.Held.{Held}
-use Rattle.composition.specs.declared.run.Choice.{Choice}
-use Rattle.composition.specs.declared.run.Value.{Value}
-use Rattle.composition.specs.declared.run.Trace.{Trace}
-use Rattle.composition.specs.declared.run.Span as run_span
-use Rattle.composition.specs.declared.spot.ValueRange.{ValueRange}
-use Rattle.composition.specs.declared.spot.ValueSpot.{ValueSpot}
-use Rattle.composition.specs.TimedRuns.{TimedRun, span_in, held_in, samples_in}
-use Rattle.composition.specs.Scenes.{Scene, Source, OfRun, OfPhase, OfValue, source, values}
-use Rattle.composition.specs.Claims.{Claim, claim, ends_with_root_do, choice_in_range, value_in_range, span_in_range, sample_in_range}
-use Rattle.composition.specs.Ranges.{in_range, lies_between}
-use Rattle.composition.specs.Numbers.{number_at, number_from, number_of, text_number, thousandths}
-use Rattle.composition.specs.Invariants.{is_from_to, is_small, is_range, is_read, value_at}
+use Rattle.expr_value.specs.expr_nodes.Sizes.{Size, field_reach, duration_reach, duration_scale, duration_size, field_size, is_wide}
+use Rattle.expr_value.specs.expr_nodes.Sound.{has_size, each_read, each_read_of}
+use Rattle.expr_value.specs.expr_nodes.Typed.{Typed, Info, Constant, Read, Whole, Listed, Span, Minus, Not, Sum, Times, And, Or, Implies, Relation, Within, TypedRow, End, Item}
+use Rattle.field_flatten.specs.composition.declared.clause.Clause.{Clause}
+use Rattle.field_flatten.specs.composition.declared.setting.Setting.{Setting}
+use Rattle.field_flatten.specs.composition.declared.run.Held.{Held}
+use Rattle.field_flatten.specs.composition.declared.run.Choice.{Choice}
+use Rattle.field_flatten.specs.composition.declared.run.Value.{Value}
+use Rattle.field_flatten.specs.composition.declared.run.Trace.{Trace}
+use Rattle.field_flatten.specs.composition.declared.run.Span as run_span
+use Rattle.field_flatten.specs.composition.declared.spot.ValueRange.{ValueRange}
+use Rattle.field_flatten.specs.composition.declared.spot.ValueSpot.{ValueSpot}
+use Rattle.field_flatten.specs.composition.TimedRuns.{TimedRun, span_in, held_in, samples_in}
+use Rattle.field_flatten.specs.composition.Scenes.{Scene, Source, OfRun, OfPhase, OfValue, source, values}
+use Rattle.field_flatten.specs.composition.Claims.{Claim, claim, ends_with_root_do, choice_in_range, value_in_range, span_in_range, sample_in_range}
+use Rattle.field_flatten.specs.composition.Ranges.{in_range, lies_between}
+use Rattle.field_flatten.specs.composition.Numbers.{number_at, number_from, number_of, text_number, thousandths}
+use Rattle.field_flatten.specs.composition.Invariants.{is_from_to, is_small, is_range, is_read, value_at}
 use Rattle.run_values.specs.Frames.{IsWithin}
 
 -- ---- conjunctions

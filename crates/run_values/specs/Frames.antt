@@ -1,11 +1,11 @@
 -- A run within the limits of its scene, so that each number that an expression reads is within reach.
 use Rattle.std.specs.Prelude.{◌≡◌, true, length, nat_le}
 use Rattle.std.specs.List.{list_all}
-use Rattle.expr_nodes.specs.Sizes.{field_reach}
-use Rattle.composition.specs.TimedRuns.{TimedRun}
-use Rattle.composition.specs.Scenes.{Scene}
-use Rattle.composition.specs.Claims.{Claim, end_claim, bounds_claims}
-use Rattle.composition.specs.Invariants.{IsScene}
+use Rattle.expr_value.specs.expr_nodes.Sizes.{field_reach}
+use Rattle.field_flatten.specs.composition.TimedRuns.{TimedRun}
+use Rattle.field_flatten.specs.composition.Scenes.{Scene}
+use Rattle.field_flatten.specs.composition.Claims.{Claim, end_claim, bounds_claims}
+use Rattle.field_flatten.specs.composition.Invariants.{IsScene}
 use Rattle.field_flatten.specs.Exactness.{is_narrow_range}
 
 -- What the check of a run needs of a scene: what holds of every scene; a text's number, which is its place, is at most what a field may hold; and

@@ -1,8 +1,8 @@
 -- What the courses of the program stand for in the definitions.
 use Rattle.std.specs.Prelude.{ℕ, List, pos, slice_get, unwrap_or}
 use Rattle.osc_base.specs.declared.sample.Sample.{Sample}
-use Rattle.composition.specs.Items.{still}
-use Rattle.composition.specs.Movement as Movement
+use Rattle.field_flatten.specs.composition.Items.{still}
+use Rattle.field_flatten.specs.composition.Movement as Movement
 use Rattle.run_values.specs.declared.motion.Course.{Course}
 
 -- the sample at a tick, of those that are listed

@@ -1,8 +1,8 @@
 -- What the numbers of a run stand for in the definitions.
-use Rattle.composition.specs.TimedRuns.{TimedRun}
-use Rattle.composition.specs.Scenes.{Scene}
-use Rattle.composition.specs.SeenScenes.{seen_scene}
-use Rattle.run_entries.specs.SeenRuns.{seen_run}
+use Rattle.field_flatten.specs.composition.TimedRuns.{TimedRun}
+use Rattle.field_flatten.specs.composition.Scenes.{Scene}
+use Rattle.field_flatten.specs.composition.SeenScenes.{seen_scene}
+use Rattle.run_clauses.specs.run_entries.SeenRuns.{seen_run}
 use Rattle.run_values.specs.declared.numbers.Numbers.{Numbers}
 
 -- the scene

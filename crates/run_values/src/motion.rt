@@ -3,11 +3,11 @@
 ghost use Rattle.std.specs.Prelude.{◌≡◌, ◌+◌, ◌∷◌, ◌++◌, [], pos, find, int_le, not, option_copied, unwrap_or, IfOk};
 ghost use Rattle.std.specs.List.{list_all, range_with_len};
 ghost use Rattle.osc_base.specs.Paths.{then_name as with_name};
-ghost use Rattle.composition.specs.Items.{course_of, field_number, motion_holds, still as still_sample};
-ghost use Rattle.composition.specs.Movement.{moves as may_move, is_step as may_step};
-ghost use Rattle.composition.specs.Scenes.{max_acceleration as acceleration_path, max_speed as speed_path, vehicles as all_vehicles};
-ghost use Rattle.composition.specs.Slots.{ticks_of};
-ghost use Rattle.composition.specs.TimedRuns.{samples_in};
+ghost use Rattle.field_flatten.specs.composition.Items.{course_of, field_number, motion_holds, still as still_sample};
+ghost use Rattle.field_flatten.specs.composition.Movement.{moves as may_move, is_step as may_step};
+ghost use Rattle.field_flatten.specs.composition.Scenes.{max_acceleration as acceleration_path, max_speed as speed_path, vehicles as all_vehicles};
+ghost use Rattle.field_flatten.specs.composition.Slots.{ticks_of};
+ghost use Rattle.field_flatten.specs.composition.TimedRuns.{samples_in};
 ghost use Rattle.run_values.specs.SeenNumbers.{scene_in, run_in};
 ghost use Rattle.run_values.specs.SeenCourses.{sample_at as listed_at, seen_course};
 

@@ -1,15 +1,15 @@
 //! The numbers that a run holds at the paths of its scene.
 
 ghost use Rattle.std.specs.Prelude.{◌≡◌, ◌≤◌, ◌*◌, length, pos, option_map};
-ghost use Rattle.composition.specs.Numbers.{text_number, thousandths};
-ghost use Rattle.composition.specs.SeenScenes.{seen_scene};
-ghost use Rattle.run_entries.specs.SeenRuns.{seen_run};
+ghost use Rattle.field_flatten.specs.composition.Numbers.{text_number, thousandths};
+ghost use Rattle.field_flatten.specs.composition.SeenScenes.{seen_scene};
+ghost use Rattle.run_clauses.specs.run_entries.SeenRuns.{seen_run};
 ghost use Rattle.run_values.specs.Frames.{IsWithin};
 
-use composition::{Held, Scene, Source};
 use expr_value::Reading;
+use field_flatten::composition::{Held, Scene, Source};
 use osc_base::{Path, Text};
-use run_entries::Entries;
+use run_clauses::run_entries::Entries;
 
 /// The numbers of a run that is within the limits of its scene.
 #[derive(Drop)]
@@ -21,10 +21,10 @@ pub struct Numbers<'a> {
 
 impl<'a> Numbers<'a> {
     ghost use Rattle.std.specs.Prelude.{◌≡◌, ◌≤◌, ◌*◌, pos, option_map, option_and_then, position, bytes_eq};
-    ghost use Rattle.composition.specs.Numbers.{number_at, number_of, thousandths, text_number};
-    ghost use Rattle.composition.specs.SeenScenes.{seen_scene};
-    ghost use Rattle.composition.specs.TimedRuns.{span_in, held_in};
-    ghost use Rattle.run_entries.specs.SeenRuns.{seen_run};
+    ghost use Rattle.field_flatten.specs.composition.Numbers.{number_at, number_of, thousandths, text_number};
+    ghost use Rattle.field_flatten.specs.composition.SeenScenes.{seen_scene};
+    ghost use Rattle.field_flatten.specs.composition.TimedRuns.{span_in, held_in};
+    ghost use Rattle.run_clauses.specs.run_entries.SeenRuns.{seen_run};
     ghost use Rattle.run_values.specs.Frames.{IsWithin};
     ghost use Rattle.run_values.specs.SeenNumbers.{scene_in, run_in};
 
@@ -92,7 +92,7 @@ impl<'a> Numbers<'a> {
 }
 
 impl Reading for Numbers<'_> {
-    ghost use Rattle.composition.specs.Numbers.{number_at};
+    ghost use Rattle.field_flatten.specs.composition.Numbers.{number_at};
     ghost use Rattle.run_values.specs.SeenNumbers.{scene_in, run_in};
 
     ghost told = { λ s. number_at (scene_in s) (run_in s) };

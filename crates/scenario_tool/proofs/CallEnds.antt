@@ -7,7 +7,7 @@ use Rattle.outside_io.specs.Bytes.{AppendsPart}
 use Rattle.outside_io.specs.Files.{SomeFiles}
 use Rattle.outside_io.proofs.SomeFiles.{of_all, onward}
 use Rattle.name_scope.specs.FileNumbers.{AddedFile}
-use Rattle.program_load.specs.Loading.{IsTurn}
+use Rattle.made_programs.specs.program_load.Loading.{IsTurn}
 use Rattle.composition.specs.declared.setting.Setting.{Setting}
 use Rattle.composition.specs.declared.scene.Scene.{Scene as HeldScene}
 use Rattle.composition.specs.Scenes.{Scene}
@@ -18,7 +18,7 @@ use Rattle.command_replies.specs.declared.status.Status.{Status}
 use Rattle.command_replies.specs.Reply.{Answer}
 use Rattle.command_replies.specs.Replies.{done, status_number, words_refused}
 use Rattle.command_replies.specs.Shelves.{AnswersOrFails, CountsOnce}
-use Rattle.source_scenes.specs.Sources.{IsTextTurn, OnSource, faulty, sound, loaded, not_loaded}
+use Rattle.readable_runs.specs.source_scenes.Sources.{IsTextTurn, OnSource, faulty, sound, loaded, not_loaded}
 use Rattle.scenario_tool.specs.Answers.{AnswersOrShelfFails, answers, shelf_fails, AnswersTo, Call, CallEnds, written, sink_fails, no_memory, HasTurn, Inputs, IsReplyIn, SomeInputs}
 use Rattle.scenario_tool.specs.declared.sources.FoundSource.{FoundSource}
 use Rattle.scenario_tool.specs.FoundSources.{faulty_program, IsFoundSource, IsRefusal, IsRefusedSource, stopped}

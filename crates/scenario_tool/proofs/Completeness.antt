@@ -7,19 +7,19 @@ use Rattle.outside_io.specs.Files.{file_named}
 use Rattle.name_scope.specs.FileNumbers.{AddedFile}
 use Rattle.box_eval.specs.declared.flat.Flat.{Flat}
 use Rattle.record_text.specs.Source.{limit}
-use Rattle.record_laws.specs.Points.{points_of}
+use Rattle.readable_runs.specs.record_laws.Points.{points_of}
 use Rattle.composition.specs.declared.run.Run.{Run}
 use Rattle.composition.specs.Scenes.{Scene}
 use Rattle.composition.specs.TimedRuns.{timed}
-use Rattle.field_flatten.specs.Ends.{bounds}
-use Rattle.run_check.specs.declared.wrong.Wrong.{Wrong}
-use Rattle.run_check.specs.Answers.{first_wrong}
-use Rattle.run_texts.specs.RunShape.{Fits, Differs, run_from}
+use Rattle.run_answers.specs.field_flatten.Ends.{bounds}
+use Rattle.readable_runs.specs.run_check.declared.wrong.Wrong.{Wrong}
+use Rattle.readable_runs.specs.run_check.Answers.{first_wrong}
+use Rattle.run_answers.specs.run_texts.RunShape.{Fits, Differs, run_from}
 use Rattle.command_words.specs.Words.{Wanted}
 use Rattle.command_replies.specs.declared.status.Status.TheVariants.{Done, Refuted}
 use Rattle.command_replies.specs.Reply.{Answer}
-use Rattle.search_answers.specs.SearchAnswers.{Generates, runs, refuted, undecided}
-use Rattle.search_answers.proofs.Accepted.{spent_more}
+use Rattle.readable_runs.specs.search_answers.SearchAnswers.{Generates, runs, refuted, undecided}
+use Rattle.readable_runs.proofs.of_search_answers.Accepted.{spent_more}
 use Rattle.run_answers.specs.Checks.{Checks, no_file, too_long, in_file, OnRunText, no_json, no_run, a_run, run_limit, verdict}
 use Rattle.record_answers.specs.RecordAnswers.{OnRecordFile, OnRecordText}
 use Rattle.record_answers.specs.RecordAnswers as record_reply

@@ -5,17 +5,17 @@ use Rattle.outside_io.specs.declared.shelf.NamedBytes.{NamedBytes}
 use Rattle.outside_io.specs.Files.{SomeFiles}
 use Rattle.outside_io.proofs.SomeFiles.{onward}
 use Rattle.name_scope.specs.FileNumbers.{AddedFile}
-use Rattle.program_load.specs.declared.stop.LoadStop.{LoadStop}
-use Rattle.program_load.specs.declared.stop.Refusal.{Refusal}
-use Rattle.program_load.specs.Loading.{IsLoaded, IsStopped, IsTurn}
-use Rattle.program_load.specs.Outcome.{Allows, Counts}
+use Rattle.made_programs.specs.program_load.declared.stop.LoadStop.{LoadStop}
+use Rattle.made_programs.specs.program_load.declared.stop.Refusal.{Refusal}
+use Rattle.made_programs.specs.program_load.Loading.{IsLoaded, IsStopped, IsTurn}
+use Rattle.made_programs.specs.program_load.Outcome.{Allows, Counts}
 use Rattle.composition.specs.declared.scene.Scene.{Scene}
 use Rattle.composition.specs.declared.setting.Setting.{Setting}
 use Rattle.command_replies.specs.Reply.{Answer}
 use Rattle.command_replies.specs.Replies.{refused_source}
-use Rattle.source_scenes.specs.declared.found.FoundScene.{FoundScene}
-use Rattle.source_scenes.specs.FoundScenes.{IsFoundScene, IsRefused, IsReplyToStop}
-use Rattle.source_scenes.specs.Programs.{first_refusal}
+use Rattle.readable_runs.specs.source_scenes.declared.found.FoundScene.{FoundScene}
+use Rattle.readable_runs.specs.source_scenes.FoundScenes.{IsFoundScene, IsRefused, IsReplyToStop}
+use Rattle.readable_runs.specs.source_scenes.Programs.{first_refusal}
 use Rattle.scenario_tool.specs.declared.sources.FoundSource.{FoundSource}
 use Rattle.scenario_tool.specs.FoundSources.{faulty_program, IsFoundSource, IsRefusal, stopped}
 

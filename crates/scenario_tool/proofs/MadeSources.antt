@@ -1,8 +1,8 @@
 -- What `make` replies, from what is found in the program that is made.
 use Rattle.std.proofs.Common.{◌≡◌, subst, ℕ, List, Result, Ok, Err, IfOk, inl, inr}
 use Rattle.name_scope.specs.FileNumbers.{AddedFile}
-use Rattle.program_load.specs.declared.stop.Refusal.{Refusal}
-use Rattle.program_load.specs.Loading.{IsLoaded, IsStopped}
+use Rattle.made_programs.specs.program_load.declared.stop.Refusal.{Refusal}
+use Rattle.made_programs.specs.program_load.Loading.{IsLoaded, IsStopped}
 use Rattle.composition.specs.declared.run.Run.{Run}
 use Rattle.composition.specs.declared.scene.Scene.{Scene}
 use Rattle.composition.specs.declared.setting.Setting.{Setting}
@@ -13,13 +13,13 @@ use Rattle.command_replies.specs.Replies.{done, refused_source}
 use Rattle.command_words.specs.Words.{Wanted}
 use Rattle.made_programs.specs.MadeLoads.{main_name, made_files}
 use Rattle.made_programs.specs.MadeText.{made_line}
-use Rattle.search_answers.specs.declared.found.RunOrReply.{RunOrReply}
-use Rattle.search_answers.specs.SearchAnswers.{Makes, refuted, runs, text_and_line, undecided}
-use Rattle.search_answers.specs.Searches.{IsSearched}
-use Rattle.source_scenes.specs.declared.found.FoundScene.{FoundScene}
-use Rattle.source_scenes.specs.FoundScenes.{IsFoundScene}
-use Rattle.source_scenes.specs.Programs.{first_refusal}
-use Rattle.source_scenes.specs.Sources.{faulty, loaded, not_loaded, OnProgram, sound}
+use Rattle.readable_runs.specs.search_answers.declared.found.RunOrReply.{RunOrReply}
+use Rattle.readable_runs.specs.search_answers.SearchAnswers.{Makes, refuted, runs, text_and_line, undecided}
+use Rattle.readable_runs.specs.search_answers.Searches.{IsSearched}
+use Rattle.readable_runs.specs.source_scenes.declared.found.FoundScene.{FoundScene}
+use Rattle.readable_runs.specs.source_scenes.FoundScenes.{IsFoundScene}
+use Rattle.readable_runs.specs.source_scenes.Programs.{first_refusal}
+use Rattle.readable_runs.specs.source_scenes.Sources.{faulty, loaded, not_loaded, OnProgram, sound}
 use Rattle.scenario_tool.specs.Answers.{AnswersTo, Inputs}
 use Rattle.scenario_tool.specs.Settings.{made_cuts, made_scenario, made_seed, made_setting}
 use Rattle.scenario_tool.proofs.LoadedSources.{HasRefusal, refusal_of}

@@ -9,7 +9,7 @@ use Rattle.composition.specs.SeenScenes.{seen_scene}
 use Rattle.command_replies.specs.Reply.{Answer}
 use Rattle.command_replies.specs.Shelves.{AnswersOrFails, CountsOnce}
 use Rattle.command_words.specs.Words.{CheckAsked, FlatAsked, GenerateAsked, VerifyAsked, Wanted}
-use Rattle.search_answers.specs.SearchAnswers.{Generates}
+use Rattle.readable_runs.specs.search_answers.SearchAnswers.{Generates}
 use Rattle.run_answers.specs.Checks.{Checks}
 use Rattle.record_answers.specs.RecordAnswers.{Verifies}
 use Rattle.listing_answers.specs.Lists.{Lists}

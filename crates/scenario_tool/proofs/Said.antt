@@ -3,18 +3,18 @@ use Rattle.std.proofs.Common.{◌≡◌, ◌∙◌, sym, subst, ℕ, List, Optio
 use Rattle.std.specs.Prelude.{⊤}
 use Rattle.outside_io.specs.declared.shelf.NamedBytes.{NamedBytes}
 use Rattle.name_scope.specs.FileNumbers.{AddedFile}
-use Rattle.program_load.specs.declared.stop.Refusal.{Refusal}
-use Rattle.program_load.specs.Loading.{IsLoaded}
-use Rattle.program_load.proofs.Sole.{one_load}
-use Rattle.named_scenario.specs.Naming.{types_in}
+use Rattle.made_programs.specs.program_load.declared.stop.Refusal.{Refusal}
+use Rattle.made_programs.specs.program_load.Loading.{IsLoaded}
+use Rattle.made_programs.proofs.of_program_load.Sole.{one_load}
+use Rattle.readable_runs.specs.named_scenario.Naming.{types_in}
 use Rattle.composition.specs.declared.setting.Setting.{Setting}
 use Rattle.composition.specs.Expanded.{scene}
 use Rattle.composition.specs.Scenes.{Scene}
 use Rattle.command_replies.specs.declared.status.Status.{Status}
 use Rattle.command_replies.specs.Reply.{Answer}
 use Rattle.command_replies.specs.Replies.{refused_source}
-use Rattle.source_scenes.specs.Programs.{first_refusal, scenario_named}
-use Rattle.source_scenes.specs.Sources.{faulty, sound, OnSource, not_loaded, loaded, IsTextTurn}
+use Rattle.readable_runs.specs.source_scenes.Programs.{first_refusal, scenario_named}
+use Rattle.readable_runs.specs.source_scenes.Sources.{faulty, sound, OnSource, not_loaded, loaded, IsTextTurn}
 
 -- ---- statuses
 

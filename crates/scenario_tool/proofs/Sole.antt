@@ -1,7 +1,7 @@
 -- There is one right answer, or each right answer is left open; and never both a run and a refutation.
 use Rattle.std.proofs.Common.{◌∙◌, inl, inr, sym, subst, ℕ, List}
 use Rattle.outside_io.specs.declared.shelf.NamedBytes.{NamedBytes}
-use Rattle.named_scenario.specs.Naming.{types_in}
+use Rattle.readable_runs.specs.named_scenario.Naming.{types_in}
 use Rattle.composition.specs.declared.run.Run.{Run}
 use Rattle.composition.specs.declared.setting.Setting.{Setting}
 use Rattle.composition.specs.Expanded.{scene}
@@ -9,8 +9,8 @@ use Rattle.composition.specs.Scenes.{Scene}
 use Rattle.composition.specs.TimedRuns.{timed}
 use Rattle.command_words.specs.Words.{Wanted, request}
 use Rattle.command_replies.specs.Reply.{Answer}
-use Rattle.source_scenes.proofs.Sole.{One, on_source}
-use Rattle.search_answers.specs.SearchAnswers.{Generates, IsSearchReply, runs, refuted, undecided}
+use Rattle.readable_runs.proofs.of_source_scenes.Sole.{One, on_source}
+use Rattle.readable_runs.specs.search_answers.SearchAnswers.{Generates, IsSearchReply, runs, refuted, undecided}
 use Rattle.run_answers.proofs.OneCheck.{one_check}
 use Rattle.record_answers.proofs.OneText.{one_verdict}
 use Rattle.scenario_tool.specs.Answers.{AnswersTo, Inputs}

@@ -10,12 +10,12 @@ use Rattle.composition.specs.Expanded.{scene}
 use Rattle.composition.specs.Invariants.{is_setting}
 use Rattle.composition.specs.Scenes.{Scene}
 use Rattle.composition.specs.SceneFaults.{is_too_large}
-use Rattle.named_scenario.specs.Naming.{fault_in, types_in}
+use Rattle.readable_runs.specs.named_scenario.Naming.{fault_in, types_in}
 use Rattle.command_replies.specs.Reply.{Answer}
-use Rattle.source_scenes.specs.Programs.{faulty_at, name_in, owner_in, scenario_named, scenario_refusal, too_large}
-use Rattle.source_scenes.specs.FoundScenes.{IsKnown}
-use Rattle.source_scenes.specs.SoundScenes.{IsSoundScene}
-use Rattle.source_scenes.proofs.SoundNamed.{sound_scene}
+use Rattle.readable_runs.specs.source_scenes.Programs.{faulty_at, name_in, owner_in, scenario_named, scenario_refusal, too_large}
+use Rattle.readable_runs.specs.source_scenes.FoundScenes.{IsKnown}
+use Rattle.readable_runs.specs.source_scenes.SoundScenes.{IsSoundScene}
+use Rattle.readable_runs.proofs.of_source_scenes.SoundNamed.{sound_scene}
 use Rattle.scenario_tool.proofs.Said.{IsSaid}
 
 neither : {A : Type 0} (o p : Option A) → option_or o p ≡ None → (o ≡ None) × (p ≡ None)

@@ -3,7 +3,7 @@ use Rattle.std.proofs.Common.{refl}
 use Rattle.command_words.specs.Words.{Wanted, request}
 use Rattle.command_replies.specs.Reply.{Answer}
 use Rattle.command_replies.specs.Replies.{done, words_refused}
-use Rattle.source_scenes.proofs.Total.{some_on_source}
+use Rattle.readable_runs.proofs.of_source_scenes.Total.{some_on_source}
 use Rattle.run_answers.proofs.OneCheck.{some_check}
 use Rattle.record_answers.proofs.SomeText.{some_verdict}
 use Rattle.scenario_tool.specs.Answers.{AnswersTo, Inputs}

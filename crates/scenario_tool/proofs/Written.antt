@@ -6,16 +6,16 @@ use Rattle.name_scope.specs.FileNumbers.{AddedFile}
 use Rattle.record_text.specs.Text.{record_text}
 use Rattle.composition.specs.declared.run.Run.{Run}
 use Rattle.composition.specs.Scenes.{Scene}
-use Rattle.run_check.specs.RunText.{run_text}
-use Rattle.run_tests.proofs.RoundTrips.{text_back}
+use Rattle.readable_runs.specs.run_check.RunText.{run_text}
+use Rattle.readable_runs.proofs.of_run_tests.RoundTrips.{text_back}
 use Rattle.command_replies.specs.Reply.{Answer}
 use Rattle.command_replies.specs.Replies.{done, open_cuts}
-use Rattle.scene_search.specs.Findings.{IsReachedRun}
-use Rattle.source_scenes.specs.SoundScenes.{IsSoundScene}
+use Rattle.readable_runs.specs.scene_search.Findings.{IsReachedRun}
+use Rattle.readable_runs.specs.source_scenes.SoundScenes.{IsSoundScene}
 use Rattle.readable_runs.specs.ReadableRuns.{CanBeRead}
 use Rattle.readable_runs.proofs.ReadableScenes.{reached_runs_can_be_read}
-use Rattle.search_answers.specs.SearchAnswers.{Generates, runs, refuted, undecided}
-use Rattle.search_answers.proofs.Accepted.{reached_right, refutation_accepted, refutation_within, spent_open, spent_within}
+use Rattle.readable_runs.specs.search_answers.SearchAnswers.{Generates, runs, refuted, undecided}
+use Rattle.readable_runs.proofs.of_search_answers.Accepted.{reached_right, refutation_accepted, refutation_within, spent_open, spent_within}
 use Rattle.run_answers.specs.Checks.{Checks, in_file, a_run, run_limit, verdict}
 use Rattle.record_answers.specs.RecordAnswers.{Verifies}
 use Rattle.record_answers.specs.RecordAnswers as record_reply

@@ -9,7 +9,7 @@ use Rattle.outside_io.specs.declared.shelf.NamedBytes.{NamedBytes}
 use Rattle.outside_io.specs.Bytes.{AppendsPart}
 use Rattle.outside_io.specs.Counts.{Rises}
 use Rattle.outside_io.specs.Files.{SomeFiles}
-use Rattle.program_load.specs.Loading.{IsTurn}
+use Rattle.made_programs.specs.program_load.Loading.{IsTurn}
 use Rattle.composition.specs.declared.setting.Setting.{Setting}
 use Rattle.command_words.specs.Shared.{Source}
 use Rattle.command_words.specs.Words.{Wanted, request}
@@ -17,8 +17,8 @@ use Rattle.command_replies.specs.declared.status.Status.{Status}
 use Rattle.command_replies.specs.Reply.{Answer}
 use Rattle.command_replies.specs.Replies.{done, failed_shelf, status_number, words_refused}
 use Rattle.command_replies.specs.Shelves.{CountsOnce}
-use Rattle.source_scenes.specs.Sources.{IsTextTurn, OnSource}
-use Rattle.search_answers.specs.SearchAnswers.{Generates, Makes}
+use Rattle.readable_runs.specs.source_scenes.Sources.{IsTextTurn, OnSource}
+use Rattle.readable_runs.specs.search_answers.SearchAnswers.{Generates, Makes}
 use Rattle.run_answers.specs.Checks.{Checks}
 use Rattle.record_answers.specs.RecordAnswers.{Verifies}
 use Rattle.listing_answers.specs.Lists.{Lists}

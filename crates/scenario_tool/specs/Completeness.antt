@@ -3,25 +3,25 @@ use Rattle.std.specs.Prelude.{◌≡◌, ◌≤◌, ◌⊎◌, ℕ, List, Some, 
 use Rattle.outside_io.specs.declared.shelf.NamedBytes.{NamedBytes}
 use Rattle.outside_io.specs.Files.{file_named}
 use Rattle.name_scope.specs.FileNumbers.{AddedFile}
-use Rattle.program_load.specs.Loading.{IsLoaded}
-use Rattle.named_scenario.specs.Naming.{types_in}
+use Rattle.made_programs.specs.program_load.Loading.{IsLoaded}
+use Rattle.readable_runs.specs.named_scenario.Naming.{types_in}
 use Rattle.box_eval.specs.Record.{Tree}
 use Rattle.box_eval.specs.declared.record.Record.{Record}
 use Rattle.record_text.specs.Source.{limit}
 use Rattle.record_text.specs.Text.{IsTextOf}
-use Rattle.record_laws.specs.Points.{points_of}
+use Rattle.readable_runs.specs.record_laws.Points.{points_of}
 use Rattle.composition.specs.declared.run.Run.{Run}
 use Rattle.composition.specs.Expanded.{scene}
-use Rattle.field_flatten.specs.Ends.{bounds}
-use Rattle.run_texts.specs.RunReading.{IsReading}
+use Rattle.run_answers.specs.field_flatten.Ends.{bounds}
+use Rattle.run_answers.specs.run_texts.RunReading.{IsReading}
 use Rattle.command_words.specs.declared.requests.Setting.{Setting}
 use Rattle.command_words.specs.Shared.{Source}
 use Rattle.command_words.specs.Words.{GenerateAsked, Wanted}
 use Rattle.command_replies.specs.declared.status.Status.{Status}
 use Rattle.command_replies.specs.declared.status.Status.TheVariants.{Done, Refuted, Undecided}
 use Rattle.command_replies.specs.Reply.{Answer}
-use Rattle.source_scenes.specs.Programs.{scenario_named}
-use Rattle.source_scenes.specs.Sources.{IsTextTurn}
+use Rattle.readable_runs.specs.source_scenes.Programs.{scenario_named}
+use Rattle.readable_runs.specs.source_scenes.Sources.{IsTextTurn}
 use Rattle.made_programs.specs.MadeLoads.{main_name, made_files}
 use Rattle.run_answers.specs.Checks.{run_limit}
 use Rattle.scenario_tool.specs.Answers.{AnswersTo, Inputs}

@@ -6,11 +6,11 @@ use Rattle.command_replies.specs.Reply.{Answer}
 use Rattle.command_replies.specs.Replies.{failed_shelf, refused_source}
 use Rattle.composition.specs.declared.setting.Setting.{Setting}
 use Rattle.name_scope.specs.FileNumbers.{AddedFile}
-use Rattle.program_load.specs.declared.stop.Refusal.{Refusal}
-use Rattle.program_load.specs.Loading.{IsLoaded, IsStopped, IsTurn}
-use Rattle.source_scenes.specs.declared.found.FoundScene.{FoundScene}
-use Rattle.source_scenes.specs.FoundScenes.{IsFoundScene}
-use Rattle.source_scenes.specs.Programs.{first_refusal}
+use Rattle.made_programs.specs.program_load.declared.stop.Refusal.{Refusal}
+use Rattle.made_programs.specs.program_load.Loading.{IsLoaded, IsStopped, IsTurn}
+use Rattle.readable_runs.specs.source_scenes.declared.found.FoundScene.{FoundScene}
+use Rattle.readable_runs.specs.source_scenes.FoundScenes.{IsFoundScene}
+use Rattle.readable_runs.specs.source_scenes.Programs.{first_refusal}
 use Rattle.scenario_tool.specs.declared.sources.FoundSource.{FoundSource}
 
 -- a source is refused, with the reply that any command gives: no program is loaded, or the program is refused

@@ -4,15 +4,15 @@ ghost use Rattle.std.specs.Prelude.{◌≡◌, ◌≢◌, ◌≤◌, [], None, I
 ghost use Rattle.command_replies.specs.Replies.{done};
 ghost use Rattle.command_words.specs.Words.{IsMakeInRange, Wanted};
 ghost use Rattle.composition.specs.SeenScenes.{seen_scene};
-ghost use Rattle.field_flatten.specs.Exactness.{IsExpanded, IsLimited};
+ghost use Rattle.run_answers.specs.field_flatten.Exactness.{IsExpanded, IsLimited};
 ghost use Rattle.made_programs.specs.MadeLoads.{main_name};
 ghost use Rattle.made_programs.specs.MadeText.{made_line};
 ghost use Rattle.name_scope.specs.FileNumbers.{wanted_name};
 ghost use Rattle.scenario_tool.specs.Answers.{AnswersTo, Inputs};
 ghost use Rattle.scenario_tool.specs.Settings.{made_cuts, made_scenario, made_seed, made_setting};
-ghost use Rattle.search_answers.specs.SearchAnswers.{Makes, text_and_line};
-ghost use Rattle.source_scenes.specs.FoundScenes.{IsSomeLoad};
-ghost use Rattle.source_scenes.specs.Sources.{OnProgram};
+ghost use Rattle.readable_runs.specs.search_answers.SearchAnswers.{Makes, text_and_line};
+ghost use Rattle.readable_runs.specs.source_scenes.FoundScenes.{IsSomeLoad};
+ghost use Rattle.readable_runs.specs.source_scenes.Sources.{OnProgram};
 
 use crate::settings::made_setting;
 use command_replies::{Reply, done, refused_source};
@@ -20,9 +20,9 @@ use composition::{Run, Scene};
 use made_programs::{MadeLoad, made_line, made_program};
 use name_scope::Program;
 use osc_base::Text;
-use run_check::write_run;
-use search_answers::{RunOrReply, run_or_reply};
-use source_scenes::{FoundScene, scene_in};
+use readable_runs::run_check::write_run;
+use readable_runs::search_answers::{RunOrReply, run_or_reply};
+use readable_runs::source_scenes::{FoundScene, scene_in};
 use std::alloc::{AllocError, Global};
 
 /// The name of the main file that is made.

@@ -5,14 +5,14 @@ use Rattle.std.specs.List.{list_any}
 use Rattle.std.proofs.lemmas.List.{append_assoc, append-nil}
 use Rattle.std.proofs.lemmas.List.Folds.{list_any-append}
 use Rattle.osc_base.specs.declared.path.Path.{Path}
-use Rattle.expr_nodes.specs.declared.node.Join.{Join}
-use Rattle.expr_nodes.specs.Typed.{Typed, Info, Constant, Read, Whole, Listed, Span, Minus, Not, Sum, Times, And, Or, Implies, Relation, Within, TypedRow, End, Item, row_of, reads, reads_of}
-use Rattle.expr_nodes.specs.Seen.{Reached, joined, grouped, seen, reached, seen_info}
-use Rattle.expr_nodes.specs.declared.node.Info.{Info as ProgramInfo}
-use Rattle.expr_nodes.specs.declared.node.Earlier.{Earlier}
-use Rattle.expr_nodes.specs.declared.node.Typed.{Typed as ProgramTyped}
-use Rattle.expr_nodes.specs.declared.node.Typed.TheViews
-use Rattle.expr_nodes.proofs.SeenNodes.{seen_joined, seen_listed}
+use Rattle.composition.specs.expr_nodes.declared.node.Join.{Join}
+use Rattle.composition.specs.expr_nodes.Typed.{Typed, Info, Constant, Read, Whole, Listed, Span, Minus, Not, Sum, Times, And, Or, Implies, Relation, Within, TypedRow, End, Item, row_of, reads, reads_of}
+use Rattle.composition.specs.expr_nodes.Seen.{Reached, joined, grouped, seen, reached, seen_info}
+use Rattle.composition.specs.expr_nodes.declared.node.Info.{Info as ProgramInfo}
+use Rattle.composition.specs.expr_nodes.declared.node.Earlier.{Earlier}
+use Rattle.composition.specs.expr_nodes.declared.node.Typed.{Typed as ProgramTyped}
+use Rattle.composition.specs.expr_nodes.declared.node.Typed.TheViews
+use Rattle.composition.proofs.of_expr_nodes.SeenNodes.{seen_joined, seen_listed}
 use Rattle.composition.specs.declared.guard.Guard.{Guard}
 use Rattle.composition.specs.Scenes.{Scene, Occurrence, ModifierSpot, guards}
 use Rattle.composition.specs.There.{same_guard, once_after, once, read_by, removed, presence, modifier_presence}

@@ -2,8 +2,8 @@
 use Rattle.std.specs.Prelude.{cond, List, [], ◌∷◌, ◌++◌, Option, Some, None}
 use Rattle.std.specs.List.{list_any}
 use Rattle.osc_base.specs.declared.path.Path.{Path}
-use Rattle.expr_nodes.specs.Typed.{Typed, Constant, Read, Whole, Listed, Span, Minus, Not, Sum, Times, And, Or, Implies, Relation, Within, TypedRow, End, Item}
-use Rattle.expr_nodes.specs.Seen.{Reached}
+use Rattle.composition.specs.expr_nodes.Typed.{Typed, Constant, Read, Whole, Listed, Span, Minus, Not, Sum, Times, And, Or, Implies, Relation, Within, TypedRow, End, Item}
+use Rattle.composition.specs.expr_nodes.Seen.{Reached}
 use Rattle.composition.specs.declared.guard.Guard.{Guard}
 use Rattle.composition.specs.Scenes.{Scene, guards}
 use Rattle.composition.specs.There.{same_guard}

@@ -1,14 +1,14 @@
 //! The conditions of what an expression reads.
 
 ghost use Rattle.std.specs.Prelude.{◌≡◌, map, IfOk};
-ghost use Rattle.expr_nodes.specs.Seen.{seen, reached, seen_part};
+ghost use Rattle.composition.specs.expr_nodes.Seen.{seen, reached, seen_part};
 ghost use Rattle.composition.specs.SeenScenes.{seen_scene};
 ghost use Rattle.scene_conditions.specs.SeenConditions.{seen_conditions};
 ghost use Rattle.scene_conditions.specs.Gathered.{after_reads, after_parts, after_items, after_part};
 
 use crate::conditions::Conditions;
 use composition::Scene;
-use expr_nodes::{Earlier, Typed};
+use composition::expr_nodes::{Earlier, Typed};
 use std::alloc::AllocError;
 
 /// With the conditions of each path that an expression reads, from left to right.

@@ -3,13 +3,13 @@ use Rattle.std.proofs.Common.{◌≡◌, ℕ, ◌+◌, ◌-◌, ◌^◌, ◌<◌
 use Rattle.std.specs.Prelude.{nat_lt, ◌||◌}
 use Rattle.std.proofs.lemmas.Bool.{cases_lt}
 use Rattle.std.proofs.lemmas.List.{take_all}
-use Rattle.type_heads.specs.Types.{Types}
-use Rattle.composition.specs.SceneFaults.{most_slots, most_rules, most_tokens}
-use Rattle.expansion_laws.specs.Nodes.{Node}
-use Rattle.expansion_laws.specs.WorkNodes.{node_of}
-use Rattle.expansion_laws.specs.Counts.{total, is_past}
-use Rattle.expansion_laws.specs.NodeCounts.{node_objects, node_slots, node_rules, node_tokens, pass_limits}
-use Rattle.expansion_laws.proofs.NodeTotals.{total_append}
+use Rattle.program_calls.specs.type_heads.Types.{Types}
+use Rattle.program_calls.specs.composition.SceneFaults.{most_slots, most_rules, most_tokens}
+use Rattle.scene_texts.specs.expansion_laws.Nodes.{Node}
+use Rattle.scene_texts.specs.expansion_laws.WorkNodes.{node_of}
+use Rattle.scene_texts.specs.expansion_laws.Counts.{total, is_past}
+use Rattle.scene_texts.specs.expansion_laws.NodeCounts.{node_objects, node_slots, node_rules, node_tokens, pass_limits}
+use Rattle.scene_texts.proofs.of_expansion_laws.NodeTotals.{total_append}
 use Rattle.scene_texts.specs.Capped.{capped}
 use Rattle.scene_texts.proofs.Caps.{capped_twice}
 use Rattle.scene_expansion.specs.declared.work.Work.{Work as OwnWork}

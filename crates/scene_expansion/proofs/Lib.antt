@@ -6,3 +6,5 @@ pub mod ReadRows
 pub mod WholeScenes
 pub mod NamedScenes
 pub mod DrivenPaths
+-- Crates below, for the crates above.
+pub use Rattle.scene_texts.proofs as of_scene_texts

@@ -1,17 +1,17 @@
 -- The scene of the named scenario, or its fault, by the works that are laid out.
 use Rattle.std.proofs.Common.{◌≡◌, ℕ, Bool, List, ◌∙◌, Option, Some, ap, sym}
 use Rattle.std.specs.Prelude.{option_map}
-use Rattle.type_heads.specs.Types.{Types}
-use Rattle.composition.specs.declared.setting.Setting.{Setting}
-use Rattle.composition.specs.Scenes.{Scene}
-use Rattle.composition.specs.Expansion.{expansion}
-use Rattle.composition.specs.Expanded.{with_readable, scene}
-use Rattle.composition.specs.SceneFaults.{is_too_large}
-use Rattle.expansion_laws.specs.Nodes.{Node, nodes_of, closed_of}
-use Rattle.expansion_laws.specs.Laid.{scene_laid}
-use Rattle.expansion_laws.specs.NodeCounts.{pass_limits}
-use Rattle.expansion_laws.proofs.NodeTotals.{too_large_is}
-use Rattle.expansion_laws.proofs.LaidScenes.{laid_scene}
+use Rattle.program_calls.specs.type_heads.Types.{Types}
+use Rattle.program_calls.specs.composition.declared.setting.Setting.{Setting}
+use Rattle.program_calls.specs.composition.Scenes.{Scene}
+use Rattle.program_calls.specs.composition.Expansion.{expansion}
+use Rattle.program_calls.specs.composition.Expanded.{with_readable, scene}
+use Rattle.program_calls.specs.composition.SceneFaults.{is_too_large}
+use Rattle.scene_texts.specs.expansion_laws.Nodes.{Node, nodes_of, closed_of}
+use Rattle.scene_texts.specs.expansion_laws.Laid.{scene_laid}
+use Rattle.scene_texts.specs.expansion_laws.NodeCounts.{pass_limits}
+use Rattle.scene_texts.proofs.of_expansion_laws.NodeTotals.{too_large_is}
+use Rattle.scene_texts.proofs.of_expansion_laws.LaidScenes.{laid_scene}
 
 module _ (ts : Types) (t : ℕ) (setting : Setting) (before : List Node) (is_before : before ≡ nodes_of ts (expansion ts t)) where
   -- the limits are decided by the parts

@@ -2,13 +2,13 @@
 use Rattle.std.proofs.Common.{◌≡◌, ℕ, ◌+◌, ◌<◌, List, [], ◌∷◌, ◌++◌, ◌∙◌, length, map, flat_map, take, drop, get_or, refl, ap, sym}
 use Rattle.std.proofs.lemmas.List.{map-append, take_more, take-append-drop, append-nil}
 use Rattle.std.proofs.lemmas.Grind.{flat_map-append}
-use Rattle.type_heads.specs.Types.{Types}
-use Rattle.composition.specs.declared.part.Spot.{Spot as OwnSpot}
-use Rattle.composition.specs.SeenParts.{seen_spot}
-use Rattle.composition.specs.Scenes.{Spot}
-use Rattle.expansion_laws.specs.Nodes.{Node}
-use Rattle.expansion_laws.specs.WorkNodes.{node_of}
-use Rattle.expansion_laws.specs.Laid.{spots_laid}
+use Rattle.program_calls.specs.type_heads.Types.{Types}
+use Rattle.program_calls.specs.composition.declared.part.Spot.{Spot as OwnSpot}
+use Rattle.program_calls.specs.composition.SeenParts.{seen_spot}
+use Rattle.program_calls.specs.composition.Scenes.{Spot}
+use Rattle.scene_texts.specs.expansion_laws.Nodes.{Node}
+use Rattle.scene_texts.specs.expansion_laws.WorkNodes.{node_of}
+use Rattle.scene_texts.specs.expansion_laws.Laid.{spots_laid}
 use Rattle.scene_expansion.specs.declared.work.Work.{Work as OwnWork}
 use Rattle.scene_expansion.specs.SeenWorks.{seen_work}
 use Rattle.scene_expansion.specs.Walks.{nodes_done}

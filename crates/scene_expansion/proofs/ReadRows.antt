@@ -3,16 +3,16 @@ use Rattle.std.proofs.Common.{◌≡◌, ◌∙◌, refl, sym, ap, List, [], ◌
 use Rattle.std.specs.List.{list_all}
 use Rattle.std.proofs.lemmas.List.Folds.{list_all-append}
 use Rattle.osc_base.specs.declared.path.Path.{Path}
-use Rattle.composition.specs.declared.scene.Scene.{Scene}
-use Rattle.expr_nodes.specs.declared.node.Info.{Info}
-use Rattle.expr_nodes.specs.declared.node.Join.{Join}
-use Rattle.expr_nodes.specs.declared.node.Earlier.{Earlier}
-use Rattle.expr_nodes.specs.declared.node.Typed.{Typed}
-use Rattle.expr_nodes.specs.declared.node.Typed.TheViews
-use Rattle.expr_nodes.specs.Typed as Nodes
-use Rattle.expr_nodes.specs.Typed.{reads}
-use Rattle.expr_nodes.specs.Seen.{Reached, seen, seen_info, reached, joined, grouped}
-use Rattle.expr_nodes.proofs.SeenNodes.{seen_joined}
+use Rattle.program_calls.specs.composition.declared.scene.Scene.{Scene}
+use Rattle.program_calls.specs.expr_nodes.declared.node.Info.{Info}
+use Rattle.program_calls.specs.expr_nodes.declared.node.Join.{Join}
+use Rattle.program_calls.specs.expr_nodes.declared.node.Earlier.{Earlier}
+use Rattle.program_calls.specs.expr_nodes.declared.node.Typed.{Typed}
+use Rattle.program_calls.specs.expr_nodes.declared.node.Typed.TheViews
+use Rattle.program_calls.specs.expr_nodes.Typed as Nodes
+use Rattle.program_calls.specs.expr_nodes.Typed.{reads}
+use Rattle.program_calls.specs.expr_nodes.Seen.{Reached, seen, seen_info, reached, joined, grouped}
+use Rattle.program_calls.proofs.of_expr_nodes.SeenNodes.{seen_joined}
 use Rattle.scene_expansion.specs.Readable.{has, has_reads, has_part}
 
 -- paths after others

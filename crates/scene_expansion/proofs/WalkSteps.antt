@@ -4,14 +4,14 @@ use Rattle.std.proofs.lemmas.List.{map-append, append-nil, length-map, length-re
 use Rattle.std.proofs.lemmas.Grind.{flat_map-append}
 use Rattle.std.proofs.lemmas.Result.{on_ok_weaker}
 use Rattle.std.specs.Prelude.{Result, OnOk}
-use Rattle.type_heads.specs.Types.{Types}
+use Rattle.program_calls.specs.type_heads.Types.{Types}
 use Rattle.scene_expansion.specs.declared.work.Work.{Work as OwnWork}
-use Rattle.expansion_laws.specs.Nodes.{Node}
-use Rattle.expansion_laws.specs.Works.{Work, parts_of}
-use Rattle.expansion_laws.specs.WorkNodes.{node_of, nodes_for, closed_for}
+use Rattle.scene_texts.specs.expansion_laws.Nodes.{Node}
+use Rattle.scene_texts.specs.expansion_laws.Works.{Work, parts_of}
+use Rattle.scene_texts.specs.expansion_laws.WorkNodes.{node_of, nodes_for, closed_for}
 use Rattle.scene_expansion.specs.SeenWorks.{seen_work}
 use Rattle.scene_expansion.specs.Walks.{nodes_done, nodes_before, nodes_after, whole_before, whole_after}
-use Rattle.expansion_laws.proofs.WorkSteps.{nodes_step, closed_step}
+use Rattle.scene_texts.proofs.of_expansion_laws.WorkSteps.{nodes_step, closed_step}
 
 module _ (ts : Types) (done left parts : List OwnWork) (w : OwnWork) (made : map seen_work parts ≡ parts_of ts (seen_work w)) where
   more_done : nodes_done ts (done ++ w ∷ []) ≡ nodes_done ts done ++ node_of ts (seen_work w) ∷ []

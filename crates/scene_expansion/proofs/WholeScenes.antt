@@ -1,25 +1,25 @@
 -- The scene of works that are laid out.
 use Rattle.std.proofs.Common.{◌≡◌, ℕ, ◌<◌, Bool, true, false, cond, List, [], ◌∷◌, ◌++◌, ◌∙◌, Option, Some, None, Result, Ok, Err, length, map, filter, flat_map, refl, ap, ap₂, sym, subst}
 use Rattle.std.specs.Prelude.{IfOk, IfSome}
-use Rattle.type_heads.specs.Types.{Types}
-use Rattle.composition.specs.declared.setting.Setting.{Setting}
-use Rattle.composition.specs.declared.scene.Scene.{Scene as OwnScene}
-use Rattle.composition.specs.declared.part.Spot.{Spot as OwnSpot}
-use Rattle.composition.specs.declared.part.Binding.{Binding as OwnBinding}
-use Rattle.composition.specs.declared.part.Occurrence.{Occurrence as OwnOccurrence}
-use Rattle.composition.specs.declared.part.ModifierSpot.{ModifierSpot as OwnModifier}
-use Rattle.composition.specs.SeenParts.{seen_spot, seen_binding, seen_occurrence, seen_modifier, scene_of}
-use Rattle.composition.specs.SeenScenes.{seen_scene}
-use Rattle.composition.specs.Scenes.{Spot, Binding, Occurrence, ModifierSpot, Scene}
-use Rattle.composition.specs.Expansion.{expansion}
-use Rattle.composition.specs.Expanded.{occurrence_of, can_be_asked, can_apply, with_readable}
-use Rattle.composition.specs.SceneFaults.{is_too_large}
-use Rattle.expansion_laws.specs.Nodes.{Node, nodes_of, closed_of}
-use Rattle.expansion_laws.specs.Laid.{spots_laid, bindings_laid, givens_laid, modifiers_laid, scene_laid}
-use Rattle.expansion_laws.specs.Works.{Work, root_works}
-use Rattle.expansion_laws.specs.WorkNodes.{node_of, nodes_for, closed_for, root_node}
-use Rattle.expansion_laws.proofs.WorkSteps.{root_nodes, root_closed}
-use Rattle.expansion_laws.proofs.LaidScenes.{many_parts, many_parts_after}
+use Rattle.program_calls.specs.type_heads.Types.{Types}
+use Rattle.program_calls.specs.composition.declared.setting.Setting.{Setting}
+use Rattle.program_calls.specs.composition.declared.scene.Scene.{Scene as OwnScene}
+use Rattle.program_calls.specs.composition.declared.part.Spot.{Spot as OwnSpot}
+use Rattle.program_calls.specs.composition.declared.part.Binding.{Binding as OwnBinding}
+use Rattle.program_calls.specs.composition.declared.part.Occurrence.{Occurrence as OwnOccurrence}
+use Rattle.program_calls.specs.composition.declared.part.ModifierSpot.{ModifierSpot as OwnModifier}
+use Rattle.program_calls.specs.composition.SeenParts.{seen_spot, seen_binding, seen_occurrence, seen_modifier, scene_of}
+use Rattle.program_calls.specs.composition.SeenScenes.{seen_scene}
+use Rattle.program_calls.specs.composition.Scenes.{Spot, Binding, Occurrence, ModifierSpot, Scene}
+use Rattle.program_calls.specs.composition.Expansion.{expansion}
+use Rattle.program_calls.specs.composition.Expanded.{occurrence_of, can_be_asked, can_apply, with_readable}
+use Rattle.program_calls.specs.composition.SceneFaults.{is_too_large}
+use Rattle.scene_texts.specs.expansion_laws.Nodes.{Node, nodes_of, closed_of}
+use Rattle.scene_texts.specs.expansion_laws.Laid.{spots_laid, bindings_laid, givens_laid, modifiers_laid, scene_laid}
+use Rattle.scene_texts.specs.expansion_laws.Works.{Work, root_works}
+use Rattle.scene_texts.specs.expansion_laws.WorkNodes.{node_of, nodes_for, closed_for, root_node}
+use Rattle.scene_texts.proofs.of_expansion_laws.WorkSteps.{root_nodes, root_closed}
+use Rattle.scene_texts.proofs.of_expansion_laws.LaidScenes.{many_parts, many_parts_after}
 use Rattle.scene_expansion.specs.declared.work.Work.{Work as OwnWork}
 use Rattle.scene_expansion.specs.Walks.{nodes_done, whole_before, whole_after, modifier_at, bare_scene}
 

@@ -1,8 +1,8 @@
 -- Counts as the program keeps them: each stops at the greatest number of 64 bits.
 use Rattle.std.specs.Prelude.{ℕ, ◌+◌, Bool, List}
-use Rattle.expansion_laws.specs.Nodes.{Node}
-use Rattle.expansion_laws.specs.Counts.{total, is_past}
-use Rattle.expansion_laws.specs.NodeCounts.{node_objects, node_slots, node_rules, node_tokens}
+use Rattle.scene_texts.specs.expansion_laws.Nodes.{Node}
+use Rattle.scene_texts.specs.expansion_laws.Counts.{total, is_past}
+use Rattle.scene_texts.specs.expansion_laws.NodeCounts.{node_objects, node_slots, node_rules, node_tokens}
 use Rattle.scene_texts.specs.Capped.{capped}
 use Rattle.scene_expansion.specs.declared.counts.Counts.{Counts}
 

@@ -1,13 +1,13 @@
 -- What the program's own works stand for in the definitions.
 use Rattle.std.specs.Prelude.{length, map}
-use Rattle.dsl_tree.specs.Views.{argument_tree, expr_tree, part_tree}
-use Rattle.composition.specs.Expansion.{Calling}
-use Rattle.composition.specs.SeenParts.{seen_binding}
+use Rattle.program_calls.specs.dsl_tree.Views.{argument_tree, expr_tree, part_tree}
+use Rattle.program_calls.specs.composition.Expansion.{Calling}
+use Rattle.program_calls.specs.composition.SeenParts.{seen_binding}
 use Rattle.program_calls.specs.PlacedPhases.{seen_turn}
 use Rattle.scene_expansion.specs.declared.work.Call.{Call}
 use Rattle.scene_expansion.specs.declared.work.Work.{Work as OwnWork}
-use Rattle.expansion_laws.specs.Works as Works
-use Rattle.expansion_laws.specs.Works.{Work}
+use Rattle.scene_texts.specs.expansion_laws.Works as Works
+use Rattle.scene_texts.specs.expansion_laws.Works.{Work}
 
 -- a phase of an object
 abbrev pub seen_call : Call → Calling

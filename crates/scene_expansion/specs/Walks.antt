@@ -1,15 +1,15 @@
 -- The nodes of works that are laid out and of those that are left.
 use Rattle.std.specs.Prelude.{ℕ, List, ◌∷◌, [], ◌++◌, map, flat_map, reverse}
-use Rattle.type_heads.specs.Types.{Types}
-use Rattle.composition.specs.declared.setting.Setting.{Setting}
-use Rattle.composition.specs.Scenes.{Binding, ModifierSpot, Scene}
-use Rattle.composition.specs.Expansion.{GivenModifier}
-use Rattle.composition.specs.Expanded.{modifier_of}
+use Rattle.program_calls.specs.type_heads.Types.{Types}
+use Rattle.program_calls.specs.composition.declared.setting.Setting.{Setting}
+use Rattle.program_calls.specs.composition.Scenes.{Binding, ModifierSpot, Scene}
+use Rattle.program_calls.specs.composition.Expansion.{GivenModifier}
+use Rattle.program_calls.specs.composition.Expanded.{modifier_of}
 use Rattle.scene_expansion.specs.declared.work.Work.{Work as OwnWork}
-use Rattle.expansion_laws.specs.Nodes.{Node}
-use Rattle.expansion_laws.specs.Laid.{spots_laid, bindings_laid}
-use Rattle.expansion_laws.specs.Works.{Work}
-use Rattle.expansion_laws.specs.WorkNodes.{node_of, nodes_for, closed_for}
+use Rattle.scene_texts.specs.expansion_laws.Nodes.{Node}
+use Rattle.scene_texts.specs.expansion_laws.Laid.{spots_laid, bindings_laid}
+use Rattle.scene_texts.specs.expansion_laws.Works.{Work}
+use Rattle.scene_texts.specs.expansion_laws.WorkNodes.{node_of, nodes_for, closed_for}
 use Rattle.scene_expansion.specs.SeenWorks.{seen_work}
 
 -- the nodes of works that are laid out

@@ -1,16 +1,16 @@
 //! The lists of works that are laid out.
 
 ghost use Rattle.std.specs.Prelude.{◌≡◌, map, IfOk};
-ghost use Rattle.composition.specs.Expanded.{occurrence_of};
-ghost use Rattle.composition.specs.SeenParts.{seen_binding, seen_modifier, seen_occurrence, seen_spot};
-ghost use Rattle.composition.specs.SeenScenes.{seen_scene};
-ghost use Rattle.expansion_laws.specs.Laid.{bindings_laid, givens_laid, modifiers_laid, spots_laid};
+ghost use Rattle.program_calls.specs.composition.Expanded.{occurrence_of};
+ghost use Rattle.program_calls.specs.composition.SeenParts.{seen_binding, seen_modifier, seen_occurrence, seen_spot};
+ghost use Rattle.program_calls.specs.composition.SeenScenes.{seen_scene};
+ghost use Rattle.scene_texts.specs.expansion_laws.Laid.{bindings_laid, givens_laid, modifiers_laid, spots_laid};
 ghost use Rattle.scene_expansion.specs.Walks.{modifier_at, nodes_done};
 
 use crate::layout::Layout;
 use crate::work::Work;
-use composition::{Binding, ModifierSpot, Occurrence, Scene, Spot};
 use osc_base::Row;
+use program_calls::composition::{Binding, ModifierSpot, Occurrence, Scene, Spot};
 use std::alloc::{AllocError, Global};
 
 /// The spots of works.

@@ -1,14 +1,14 @@
 //! Whether a scenario is too large for a scene.
 
 ghost use Rattle.std.specs.Prelude.{◌≡◌, IfOk};
-ghost use Rattle.composition.specs.SceneFaults as faults;
+ghost use Rattle.program_calls.specs.composition.SceneFaults as faults;
 
 use crate::layout::WorkLayout;
 use crate::limits::pass_limits;
 use crate::whole::all_before;
-use composition::Setting;
+use program_calls::composition::Setting;
+use program_calls::type_model::TypeId;
 use std::alloc::{AllocError, Global};
-use type_model::TypeId;
 
 /// Whether a scenario has more objects, slots, rules or copied tokens than a scene can have. It makes no spot, constraint
 /// or modifier.

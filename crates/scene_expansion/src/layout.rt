@@ -1,28 +1,28 @@
 //! What the expansion reads of a program, work by work.
 
 ghost use Rattle.std.specs.Prelude.{◌≡◌, ◌++◌, map, option_copied, IfOk, OnOk};
-ghost use Rattle.type_heads.specs.Members.{body};
-ghost use Rattle.composition.specs.Expanded.{occurrence_of};
-ghost use Rattle.composition.specs.SceneFaults.{named_scenario};
-ghost use Rattle.composition.specs.SeenParts.{seen_binding, seen_modifier, seen_occurrence, seen_spot};
-ghost use Rattle.composition.specs.SeenScenes.{seen_scene};
-ghost use Rattle.expansion_laws.specs.WorkNodes.{node_of, root_node};
-ghost use Rattle.expansion_laws.specs.Works.{parts_of, root_works};
+ghost use Rattle.program_calls.specs.type_heads.Members.{body};
+ghost use Rattle.program_calls.specs.composition.Expanded.{occurrence_of};
+ghost use Rattle.program_calls.specs.composition.SceneFaults.{named_scenario};
+ghost use Rattle.program_calls.specs.composition.SeenParts.{seen_binding, seen_modifier, seen_occurrence, seen_spot};
+ghost use Rattle.program_calls.specs.composition.SeenScenes.{seen_scene};
+ghost use Rattle.scene_texts.specs.expansion_laws.WorkNodes.{node_of, root_node};
+ghost use Rattle.scene_texts.specs.expansion_laws.Works.{parts_of, root_works};
 ghost use Rattle.scene_expansion.specs.AllCounts.{counts_of};
 ghost use Rattle.scene_expansion.specs.SeenWorks.{seen_work};
 ghost use Rattle.scene_expansion.specs.Walks.{modifier_at};
 
 use crate::counts::Counts;
 use crate::work::Work;
-use composition::{Binding, ModifierSpot, Occurrence, Scene, Spot};
 use osc_base::{Place, Row};
+use program_calls::composition::{Binding, ModifierSpot, Occurrence, Scene, Spot};
+use program_calls::type_model::TypeId;
+use program_calls::type_tables::TextTable;
 use std::alloc::{AllocError, Global};
-use type_model::TypeId;
-use type_tables::TextTable;
 
 /// The works of a program, and how much each comes to.
 pub trait WorkLayout<'p> {
-    ghost use Rattle.type_heads.specs.Types.{Types};
+    ghost use Rattle.program_calls.specs.type_heads.Types.{Types};
 
     ghost types: { Self → Types };
 

@@ -1,7 +1,7 @@
 //! Whether works pass a limit.
 
 ghost use Rattle.std.specs.Prelude.{◌≡◌, IfOk};
-ghost use Rattle.expansion_laws.specs.NodeCounts.{pass_limits as pass};
+ghost use Rattle.scene_texts.specs.expansion_laws.NodeCounts.{pass_limits as pass};
 ghost use Rattle.scene_expansion.specs.Walks.{nodes_done};
 
 use crate::counts::Counts;

@@ -3,17 +3,17 @@
 ghost use Rattle.std.specs.Prelude.{◌≡◌, None, Some, false, true, option_copied, option_map, IfErr, IfOk, MatchOption};
 ghost use Rattle.osc_base.specs.FaultRows.{first_fault};
 ghost use Rattle.osc_base.specs.Stops.{OnStop};
-ghost use Rattle.composition.specs.Expanded.{scene};
-ghost use Rattle.composition.specs.SceneFaults.{is_too_large, named_scenario, scene_rows};
-ghost use Rattle.composition.specs.SeenScenes.{seen_scene};
+ghost use Rattle.program_calls.specs.composition.Expanded.{scene};
+ghost use Rattle.program_calls.specs.composition.SceneFaults.{is_too_large, named_scenario, scene_rows};
+ghost use Rattle.program_calls.specs.composition.SeenScenes.{seen_scene};
 
 use crate::layout::Layout;
 use crate::limits::pass_limits;
 use crate::whole::{all_after, all_before, whole};
-use composition::{Scene, Setting};
 use osc_base::{Fault, FaultCode, Place, Stop};
+use program_calls::composition::{Scene, Setting};
+use program_calls::type_model::TypeId;
 use std::alloc::{AllocError, Global};
-use type_model::TypeId;
 
 /// Why there is no scene: the scenario isn't there, or it is too large. Or out of memory.
 pub type ExpandStop = Stop<Fault>;

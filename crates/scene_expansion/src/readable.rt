@@ -2,18 +2,18 @@
 
 ghost use Rattle.std.specs.Prelude.{◌≡◌, filter, map, option_to_list, IfOk};
 ghost use Rattle.std.specs.List.{list_all};
-ghost use Rattle.expr_nodes.specs.Seen.{seen_part};
-ghost use Rattle.composition.specs.Expanded.{can_apply as applies, can_be_asked as asked};
-ghost use Rattle.composition.specs.SeenParts.{seen_modifier, seen_occurrence};
-ghost use Rattle.composition.specs.SeenScenes.{seen_scene};
-ghost use Rattle.composition.specs.There.{read_by, removed};
+ghost use Rattle.program_calls.specs.expr_nodes.Seen.{seen_part};
+ghost use Rattle.program_calls.specs.composition.Expanded.{can_apply as applies, can_be_asked as asked};
+ghost use Rattle.program_calls.specs.composition.SeenParts.{seen_modifier, seen_occurrence};
+ghost use Rattle.program_calls.specs.composition.SeenScenes.{seen_scene};
+ghost use Rattle.program_calls.specs.composition.There.{read_by, removed};
 ghost use Rattle.scene_expansion.specs.Readable.{has};
 
 use crate::driven::Driven;
 use crate::reads::{has_all, has_path};
-use composition::{ModifierSpot, Occurrence, Scene};
-use expr_nodes::Typed;
 use osc_base::{Mark, Path, Row, Strength};
+use program_calls::composition::{ModifierSpot, Occurrence, Scene};
+use program_calls::expr_nodes::Typed;
 use std::alloc::{AllocError, Global};
 
 /// Whether the scene has all that an expression reads, if there is one.

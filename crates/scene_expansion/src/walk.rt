@@ -3,7 +3,7 @@
 ghost use Rattle.std.specs.Prelude.{◌≡◌, ◌+◌, ◌<◌, ◌++◌, ◌∷◌, [], false, true, None, flat_map, length, map, reverse, IfOk, IfSome, OnOk};
 ghost use Rattle.scene_expansion.specs.SeenWorks.{seen_work};
 ghost use Rattle.scene_expansion.specs.Walks.{nodes_after, nodes_before, nodes_done, whole_after, whole_before};
-ghost use Rattle.expansion_laws.specs.WorkNodes.{closed_for, node_of, nodes_for};
+ghost use Rattle.scene_texts.specs.expansion_laws.WorkNodes.{closed_for, node_of, nodes_for};
 
 use crate::layout::WorkLayout;
 use crate::work::Work;

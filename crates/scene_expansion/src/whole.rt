@@ -1,14 +1,14 @@
 //! The scene of the works that are laid out.
 
 ghost use Rattle.std.specs.Prelude.{◌≡◌, filter, map, IfOk, IfSome, None, true};
-ghost use Rattle.composition.specs.Expanded.{can_apply, with_readable};
-ghost use Rattle.composition.specs.Expansion.{expansion};
-ghost use Rattle.composition.specs.SceneFaults.{is_too_large};
-ghost use Rattle.composition.specs.SeenParts.{seen_modifier};
-ghost use Rattle.composition.specs.SeenScenes.{seen_scene};
-ghost use Rattle.composition.specs.declared.setting.Setting.{Setting};
-ghost use Rattle.expansion_laws.specs.Laid.{modifiers_laid, scene_laid};
-ghost use Rattle.expansion_laws.specs.Nodes.{closed_of, nodes_of};
+ghost use Rattle.program_calls.specs.composition.Expanded.{can_apply, with_readable};
+ghost use Rattle.program_calls.specs.composition.Expansion.{expansion};
+ghost use Rattle.program_calls.specs.composition.SceneFaults.{is_too_large};
+ghost use Rattle.program_calls.specs.composition.SeenParts.{seen_modifier};
+ghost use Rattle.program_calls.specs.composition.SeenScenes.{seen_scene};
+ghost use Rattle.program_calls.specs.composition.declared.setting.Setting.{Setting};
+ghost use Rattle.scene_texts.specs.expansion_laws.Laid.{modifiers_laid, scene_laid};
+ghost use Rattle.scene_texts.specs.expansion_laws.Nodes.{closed_of, nodes_of};
 ghost use Rattle.scene_expansion.specs.Walks.{bare_scene, modifier_at, nodes_done};
 
 use crate::laid::{bindings_of, modifiers_of, occurrences_of, spots_of};
@@ -16,10 +16,10 @@ use crate::layout::{Layout, WorkLayout};
 use crate::readable::{readable_modifiers, readable_occurrences};
 use crate::walk::{laid_after, laid_before};
 use crate::work::Work;
-use composition::{ModifierSpot, Scene, Setting};
 use osc_base::Row;
+use program_calls::composition::{ModifierSpot, Scene, Setting};
+use program_calls::type_model::TypeId;
 use std::alloc::{AllocError, Global};
-use type_model::TypeId;
 
 /// All works of a scenario, each before the works in it. `None` if there are too many for a scene.
 pub(crate) fn all_before<'p, L: WorkLayout<'p>>(

@@ -1,9 +1,9 @@
 -- Where the paths of a text lead in a scene.
 use Rattle.std.specs.Prelude.{List}
 use Rattle.osc_base.specs.declared.path.Path.{Path}
-use Rattle.composition.specs.Homes.{home}
-use Rattle.composition.specs.Scenes.{Binding}
-use Rattle.composition.specs.SeenScenes.{seen_scene}
+use Rattle.scene_texts.specs.composition.Homes.{home}
+use Rattle.scene_texts.specs.composition.Scenes.{Binding}
+use Rattle.scene_texts.specs.composition.SeenScenes.{seen_scene}
 use Rattle.scene_texts.specs.Moving.{path_under}
 use Rattle.scene_places.specs.declared.places.Places.{Places}
 

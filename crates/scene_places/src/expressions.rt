@@ -1,14 +1,14 @@
 //! Expressions with their paths at their homes in a scene.
 
 ghost use Rattle.std.specs.Prelude.{◌≡◌, map, option_map, IfOk};
-ghost use Rattle.expr_nodes.specs.Typed.{moved as moved_by};
-ghost use Rattle.expr_nodes.specs.Seen.{reached, seen, seen_part};
+ghost use Rattle.scene_texts.specs.expr_nodes.Typed.{moved as moved_by};
+ghost use Rattle.scene_texts.specs.expr_nodes.Seen.{reached, seen, seen_part};
 ghost use Rattle.scene_texts.specs.Moving.{moved_part};
 ghost use Rattle.scene_places.specs.Placed.{place_in};
 
 use crate::Places;
-use expr_nodes::{Earlier, Typed};
 use osc_base::{Boxed, Row};
+use scene_texts::expr_nodes::{Earlier, Typed};
 use std::alloc::{AllocError, Global};
 
 /// An expression of a text, with each path that it reads replaced by its home.

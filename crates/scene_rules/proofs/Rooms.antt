@@ -9,20 +9,20 @@ use Rattle.osc_base.specs.declared.path.Path.{Path}
 use Rattle.osc_base.specs.Comparisons.{greatest_part}
 use Rattle.osc_base.specs.LowestTerms.{lcm}
 use Rattle.osc_base.specs.Paths.{same_path}
-use Rattle.modifier_rules.specs.Relations.{position_scale}
-use Rattle.expr_nodes.specs.Kinds.{is_truth, is_number}
-use Rattle.expr_nodes.specs.Typed.{Typed, kind, scale, reach}
-use Rattle.expr_nodes.specs.Parts.{is_scalar}
-use Rattle.expr_nodes.specs.Sound.{is_sound, each_read}
-use Rattle.composition.specs.Scenes.{Scene, Occurrence, ModifierSpot, vehicles, has_phase, source}
-use Rattle.composition.specs.Invariants.{is_read, is_expression, is_occurrence, is_end, has_range, has_other, is_modifier, is_target}
-use Rattle.field_flatten.specs.Rules.{layout, scale_of}
-use Rattle.field_flatten.specs.Seen.{has_values}
-use Rattle.field_flatten.specs.Exactness.{quantity_reach, end_reach, is_narrow_range}
-use Rattle.field_flatten.proofs.Tests.{left_of, right_of}
-use Rattle.field_flatten.proofs.Multiples.{common, share_of}
-use Rattle.flat_shapes.specs.Room.{is_small, has_room}
-use Rattle.flat_shapes.proofs.Rooms.{room_law}
+use Rattle.scene_slots.specs.modifier_rules.Relations.{position_scale}
+use Rattle.scene_conditions.specs.expr_nodes.Kinds.{is_truth, is_number}
+use Rattle.scene_conditions.specs.expr_nodes.Typed.{Typed, kind, scale, reach}
+use Rattle.scene_conditions.specs.expr_nodes.Parts.{is_scalar}
+use Rattle.scene_conditions.specs.expr_nodes.Sound.{is_sound, each_read}
+use Rattle.scene_conditions.specs.composition.Scenes.{Scene, Occurrence, ModifierSpot, vehicles, has_phase, source}
+use Rattle.scene_conditions.specs.composition.Invariants.{is_read, is_expression, is_occurrence, is_end, has_range, has_other, is_modifier, is_target}
+use Rattle.scene_slots.specs.field_flatten.Rules.{layout, scale_of}
+use Rattle.scene_slots.specs.field_flatten.Seen.{has_values}
+use Rattle.scene_slots.specs.field_flatten.Exactness.{quantity_reach, end_reach, is_narrow_range}
+use Rattle.scene_slots.proofs.of_field_flatten.Tests.{left_of, right_of}
+use Rattle.scene_slots.proofs.of_field_flatten.Multiples.{common, share_of}
+use Rattle.scene_slots.specs.flat_shapes.Room.{is_small, has_room}
+use Rattle.scene_slots.proofs.of_flat_shapes.Rooms.{room_law}
 use Rattle.scene_rules.specs.Rooms.{has_part, has_rule, are_values, range_scale, HasRoom}
 
 -- ---- tests

@@ -1,9 +1,9 @@
 -- The end of the run, by its slot.
 use Rattle.std.proofs.Common.{◌≡◌, ℕ, Option, Some, None}
-use Rattle.composition.specs.Scenes.{Scene}
-use Rattle.composition.specs.Slots.{slot_names}
-use Rattle.field_flatten.specs.Ends.{slot_in}
-use Rattle.field_flatten.specs.Rules.{end_term}
+use Rattle.scene_conditions.specs.composition.Scenes.{Scene}
+use Rattle.scene_conditions.specs.composition.Slots.{slot_names}
+use Rattle.scene_slots.specs.field_flatten.Ends.{slot_in}
+use Rattle.scene_slots.specs.field_flatten.Rules.{end_term}
 use Rattle.scene_slots.specs.Places.{end_slot}
 use Rattle.scene_slots.proofs.QuerySteps.{end_term_is}
 use Rattle.scene_rules.specs.Limits.{end_by}

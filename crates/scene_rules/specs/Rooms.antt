@@ -2,12 +2,12 @@
 use Rattle.std.specs.Prelude.{◌≡◌, ℕ, ◌≤◌, ◌^◌, Bool, true, Option}
 use Rattle.std.specs.Option.{option_map_or}
 use Rattle.osc_base.specs.LowestTerms.{lcm}
-use Rattle.modifier_rules.specs.Relations.{position_scale}
-use Rattle.expr_nodes.specs.Typed.{Typed}
-use Rattle.composition.specs.Scenes.{ModifierSpot}
-use Rattle.field_flatten.specs.Rules.{scale_of}
-use Rattle.field_flatten.specs.Seen.{has_values}
-use Rattle.flat_shapes.specs.Room.{has_room}
+use Rattle.scene_slots.specs.modifier_rules.Relations.{position_scale}
+use Rattle.scene_conditions.specs.expr_nodes.Typed.{Typed}
+use Rattle.scene_conditions.specs.composition.Scenes.{ModifierSpot}
+use Rattle.scene_slots.specs.field_flatten.Rules.{scale_of}
+use Rattle.scene_slots.specs.field_flatten.Seen.{has_values}
+use Rattle.scene_slots.specs.flat_shapes.Room.{has_room}
 
 -- an expression has room at a scale, if there is one
 abbrev pub has_part : ℕ → Option Typed → Bool

@@ -2,17 +2,17 @@
 
 ghost use Rattle.std.specs.Prelude.{◌≡◌, ◌++◌, map, IfOk};
 ghost use Rattle.box_eval.specs.FlatRules.{flat_rule, under as under_row};
-ghost use Rattle.field_flatten.specs.Rules.{guard_rule as rule_of, presence_rules};
+ghost use Rattle.scene_slots.specs.field_flatten.Rules.{guard_rule as rule_of, presence_rules};
 ghost use Rattle.scene_conditions.specs.SeenConditions.{seen_condition};
 ghost use Rattle.scene_slots.specs.SeenSlots.{layout_of};
 
 use box_eval::{Rule, Term};
-use composition::Guard;
-use flat_terms::rows;
-use flat_terms::terms::{either, not};
 use osc_base::Path;
 use scene_conditions::Condition;
+use scene_conditions::composition::Guard;
 use scene_slots::SceneSlots;
+use scene_slots::flat_terms::rows;
+use scene_slots::flat_terms::terms::{either, not};
 use std::alloc::{AllocError, Global};
 
 /// The member of a `one_of` is chosen.

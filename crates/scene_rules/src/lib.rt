@@ -16,3 +16,6 @@ pub use enums::enum_rule;
 pub use modifiers::modifier_rules;
 pub use motion::motion_rules;
 pub use phases::arranged_rule;
+
+// Crates below, for the crates above.
+pub use scene_conditions::composition;

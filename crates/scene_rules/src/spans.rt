@@ -3,15 +3,15 @@
 ghost use Rattle.std.specs.Prelude.{◌≡◌, ◌++◌, ◌∷◌, [], map, IfOk};
 ghost use Rattle.box_eval.specs.FlatRules as Flat;
 ghost use Rattle.box_eval.specs.FlatRules.{flat_rule};
-ghost use Rattle.field_flatten.specs.Rules.{least_rules as rules_of_least, greatest_rules as rules_of_greatest, same_rules as rules_of_same, overlap_rules as rules_of_overlap, starts, ends};
+ghost use Rattle.scene_slots.specs.field_flatten.Rules.{least_rules as rules_of_least, greatest_rules as rules_of_greatest, same_rules as rules_of_same, overlap_rules as rules_of_overlap, starts, ends};
 ghost use Rattle.scene_rules.specs.Sides.{side_term, side_terms};
 ghost use Rattle.scene_slots.specs.SeenSlots.{layout_of};
 
 use crate::conditions::with_row;
 use box_eval::{Rule, Term};
-use flat_terms::rows;
 use osc_base::Path;
 use scene_slots::SceneSlots;
+use scene_slots::flat_terms::rows;
 use std::alloc::{AllocError, Global};
 
 /// Where a phase starts, or where it ends.

@@ -4,16 +4,16 @@ use Rattle.std.specs.Prelude.{filter, flat_map, ℤ}
 use Rattle.std.specs.List.{list_all, range_with_len}
 use Rattle.osc_base.specs.declared.path.Path.{Path}
 use Rattle.osc_base.specs.declared.listing.SlotName.{SlotName}
-use Rattle.composition.specs.declared.spot.ChoiceSpot.{ChoiceSpot}
-use Rattle.composition.specs.declared.spot.ValueSpot.{ValueSpot}
-use Rattle.composition.specs.declared.spot.PhaseSpot.{PhaseSpot}
-use Rattle.composition.specs.declared.run.Choice.{Choice}
-use Rattle.composition.specs.declared.run.Span.{Span}
-use Rattle.composition.specs.declared.run.Value.{Value}
-use Rattle.composition.specs.declared.run.Trace.{Trace}
-use Rattle.composition.specs.Scenes.{Scene, choices, values, phases, vehicles}
-use Rattle.field_flatten.specs.Points.{stands, choice_of, span_of, end_named, run_named}
-use Rattle.field_flatten.proofs.Tests.{left_of, right_of}
+use Rattle.scene_slots.specs.composition.declared.spot.ChoiceSpot.{ChoiceSpot}
+use Rattle.scene_slots.specs.composition.declared.spot.ValueSpot.{ValueSpot}
+use Rattle.scene_slots.specs.composition.declared.spot.PhaseSpot.{PhaseSpot}
+use Rattle.scene_slots.specs.composition.declared.run.Choice.{Choice}
+use Rattle.scene_slots.specs.composition.declared.run.Span.{Span}
+use Rattle.scene_slots.specs.composition.declared.run.Value.{Value}
+use Rattle.scene_slots.specs.composition.declared.run.Trace.{Trace}
+use Rattle.scene_slots.specs.composition.Scenes.{Scene, choices, values, phases, vehicles}
+use Rattle.scene_slots.specs.field_flatten.Points.{stands, choice_of, span_of, end_named, run_named}
+use Rattle.scene_slots.proofs.of_field_flatten.Tests.{left_of, right_of}
 use Rattle.scene_slots.specs.declared.track.Track.{Track}
 use Rattle.scene_slots.specs.Tracks.{track_slot}
 use Rattle.scene_runs.specs.Entries.{choice_entry, span_entry, value_entry, value_named, trace_entry, trace_named}

@@ -1,11 +1,11 @@
 -- How many ticks and slots an expanded scene has.
 use Rattle.std.proofs.Common.{◌≡◌, ℕ, ◌*◌, ◌≤◌, ◌<◌, ◌^◌, Bool, true, ◌&&◌, arith}
 use Rattle.std.specs.Prelude.{nat_le, nat_lt}
-use Rattle.composition.specs.declared.setting.Setting.{Setting}
-use Rattle.composition.specs.Scenes.{Scene}
-use Rattle.composition.specs.Invariants.{is_from_to}
-use Rattle.field_flatten.specs.Exactness.{IsExpanded}
-use Rattle.field_flatten.proofs.Tests.{left_of, right_of}
+use Rattle.scene_slots.specs.composition.declared.setting.Setting.{Setting}
+use Rattle.scene_slots.specs.composition.Scenes.{Scene}
+use Rattle.scene_slots.specs.composition.Invariants.{is_from_to}
+use Rattle.scene_slots.specs.field_flatten.Exactness.{IsExpanded}
+use Rattle.scene_slots.proofs.of_field_flatten.Tests.{left_of, right_of}
 use Rattle.scene_slots.specs.Numbers.{past}
 
 at_most : (n m : ℕ) → nat_le n m ≡ true → n ≤ m

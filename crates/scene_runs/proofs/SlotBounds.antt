@@ -9,15 +9,15 @@ use Rattle.osc_base.specs.declared.listing.SlotName.{SlotName}
 use Rattle.box_eval.specs.declared.bounds.Pair.{Pair}
 use Rattle.box_eval.specs.Box.{pair, value_of, IsPointOf}
 use Rattle.box_eval.specs.FlatRules.{Whole, Slot}
-use Rattle.composition.specs.declared.spot.ChoiceSpot.{ChoiceSpot}
-use Rattle.composition.specs.Scenes.{Scene, choices, root_do, has_root_do}
-use Rattle.composition.specs.Slots.{slot_names}
-use Rattle.field_flatten.specs.Ends.{slot_in, bounds, no_ends}
-use Rattle.field_flatten.specs.Exactness.{IsExpanded}
-use Rattle.field_flatten.specs.Points.{slot_value, end_named}
-use Rattle.field_flatten.proofs.Tests.{both, all_from}
-use Rattle.field_flatten.proofs.ItemLaw.{distinct_found}
-use Rattle.field_flatten.proofs.SlotLaw.{Inside, point_inside, start_between, end_between, choice_above, choice_named}
+use Rattle.scene_slots.specs.composition.declared.spot.ChoiceSpot.{ChoiceSpot}
+use Rattle.scene_slots.specs.composition.Scenes.{Scene, choices, root_do, has_root_do}
+use Rattle.scene_slots.specs.composition.Slots.{slot_names}
+use Rattle.scene_slots.specs.field_flatten.Ends.{slot_in, bounds, no_ends}
+use Rattle.scene_slots.specs.field_flatten.Exactness.{IsExpanded}
+use Rattle.scene_slots.specs.field_flatten.Points.{slot_value, end_named}
+use Rattle.scene_slots.proofs.of_field_flatten.Tests.{both, all_from}
+use Rattle.scene_slots.proofs.of_field_flatten.ItemLaw.{distinct_found}
+use Rattle.scene_slots.proofs.of_field_flatten.SlotLaw.{Inside, point_inside, start_between, end_between, choice_above, choice_named}
 use Rattle.scene_slots.specs.Places.{end_slot}
 use Rattle.scene_slots.proofs.QuerySteps.{end_term_is}
 use Rattle.scene_runs.specs.Entries.{is_chosen}

@@ -6,15 +6,15 @@ use Rattle.osc_base.specs.declared.sample.Sample.{Sample}
 use Rattle.osc_base.specs.declared.sample.SampleSlots.{SampleSlots}
 use Rattle.osc_base.specs.declared.listing.SlotName.{SlotName}
 use Rattle.box_eval.specs.Box.{value_of}
-use Rattle.composition.specs.declared.spot.ChoiceSpot.{ChoiceSpot}
-use Rattle.composition.specs.declared.spot.ValueSpot.{ValueSpot}
-use Rattle.composition.specs.declared.spot.PhaseSpot.{PhaseSpot}
-use Rattle.composition.specs.declared.run.Choice.{Choice}
-use Rattle.composition.specs.declared.run.Span.{Span}
-use Rattle.composition.specs.declared.run.Value.{Value}
-use Rattle.composition.specs.declared.run.Trace.{Trace}
-use Rattle.composition.specs.Scenes.{Scene}
-use Rattle.field_flatten.specs.Points.{stands, choice_of, span_of, held_of, sample_named}
+use Rattle.scene_slots.specs.composition.declared.spot.ChoiceSpot.{ChoiceSpot}
+use Rattle.scene_slots.specs.composition.declared.spot.ValueSpot.{ValueSpot}
+use Rattle.scene_slots.specs.composition.declared.spot.PhaseSpot.{PhaseSpot}
+use Rattle.scene_slots.specs.composition.declared.run.Choice.{Choice}
+use Rattle.scene_slots.specs.composition.declared.run.Span.{Span}
+use Rattle.scene_slots.specs.composition.declared.run.Value.{Value}
+use Rattle.scene_slots.specs.composition.declared.run.Trace.{Trace}
+use Rattle.scene_slots.specs.composition.Scenes.{Scene}
+use Rattle.scene_slots.specs.field_flatten.Points.{stands, choice_of, span_of, held_of, sample_named}
 
 -- the member that a `one_of` chose is one of as many as it has
 abbrev pub is_chosen : (SlotName → ℤ) → ChoiceSpot → Bool

@@ -3,15 +3,15 @@
 ghost use Rattle.std.specs.Prelude.{◌≡◌, ◌≤ℤ◌, ◌++◌, pos, true, flat_map, IfOk, OnOk};
 ghost use Rattle.std.specs.List.{list_all};
 ghost use Rattle.osc_base.specs.declared.listing.SlotName.{SlotName};
-ghost use Rattle.field_flatten.specs.Points.{choice_of as choice_by, slot_value};
+ghost use Rattle.scene_slots.specs.field_flatten.Points.{choice_of as choice_by, slot_value};
 ghost use Rattle.scene_runs.specs.Entries.{choice_entry, is_chosen};
 ghost use Rattle.scene_slots.specs.SeenSlots.{scene_of};
 
 use crate::conditions::stands;
 use crate::numbers::{counted, number_in};
-use composition::{Choice, ChoiceSpot};
 use osc_base::Row;
 use scene_slots::SceneSlots;
+use scene_slots::composition::{Choice, ChoiceSpot};
 use std::alloc::{AllocError, Global};
 
 /// The chosen member of a `one_of`.

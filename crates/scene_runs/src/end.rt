@@ -3,8 +3,8 @@
 ghost use Rattle.std.specs.Prelude.{◌≡◌, ◌≤◌, ◌≤ℤ◌, pos, unsigned_abs, IfSome};
 ghost use Rattle.std.specs.Option.{option_map_or};
 ghost use Rattle.box_eval.specs.Box.{IsPointOf, value_of};
-ghost use Rattle.field_flatten.specs.Ends.{bounds};
-ghost use Rattle.field_flatten.specs.Points.{end_named, slot_value};
+ghost use Rattle.scene_slots.specs.field_flatten.Ends.{bounds};
+ghost use Rattle.scene_slots.specs.field_flatten.Points.{end_named, slot_value};
 ghost use Rattle.scene_slots.specs.SeenSlots.{scene_of};
 
 use crate::numbers::{counted, number_in};

@@ -2,16 +2,16 @@
 
 ghost use Rattle.std.specs.Prelude.{◌≡◌, ◌++◌, flat_map, IfOk, OnOk};
 ghost use Rattle.box_eval.specs.Box.{IsPointOf};
-ghost use Rattle.field_flatten.specs.Ends.{bounds};
-ghost use Rattle.field_flatten.specs.Points.{slot_value, span_of as span_by};
+ghost use Rattle.scene_slots.specs.field_flatten.Ends.{bounds};
+ghost use Rattle.scene_slots.specs.field_flatten.Points.{slot_value, span_of as span_by};
 ghost use Rattle.scene_runs.specs.Entries.{span_entry};
 ghost use Rattle.scene_slots.specs.SeenSlots.{scene_of};
 
 use crate::conditions::stands;
 use crate::numbers::{counted, number_in};
-use composition::{PhaseSpot, Span};
 use osc_base::{Path, Row};
 use scene_slots::SceneSlots;
+use scene_slots::composition::{PhaseSpot, Span};
 use std::alloc::{AllocError, Global};
 
 /// The ticks at which a phase starts and ends.

@@ -2,11 +2,11 @@
 
 ghost use Rattle.std.specs.Prelude.{◌≡◌, IfOk};
 ghost use Rattle.box_eval.specs.Box.{IsPointOf};
-ghost use Rattle.composition.specs.SeenScenes.{seen_scene};
-ghost use Rattle.composition.specs.TimedRuns.{timed};
-ghost use Rattle.field_flatten.specs.Ends.{bounds};
-ghost use Rattle.field_flatten.specs.Exactness.{IsExpanded};
-ghost use Rattle.field_flatten.specs.Points.{run_of as run_by};
+ghost use Rattle.scene_slots.specs.composition.SeenScenes.{seen_scene};
+ghost use Rattle.scene_slots.specs.composition.TimedRuns.{timed};
+ghost use Rattle.scene_slots.specs.field_flatten.Ends.{bounds};
+ghost use Rattle.scene_slots.specs.field_flatten.Exactness.{IsExpanded};
+ghost use Rattle.scene_slots.specs.field_flatten.Points.{run_of as run_by};
 ghost use Rattle.scene_slots.specs.SeenSlots.{scene_of};
 
 use crate::choices::choices_of;
@@ -15,8 +15,8 @@ use crate::phases::spans_of;
 use crate::traces::traces_of;
 use crate::values::values_of;
 use box_eval::Point;
-use composition::{Run, Scene};
 use scene_slots::SceneSlots;
+use scene_slots::composition::{Run, Scene};
 use std::alloc::{AllocError, Global};
 
 /// The run of a point of the scene that these slots are of.

@@ -2,15 +2,15 @@
 
 ghost use Rattle.std.specs.Prelude.{◌≡◌, ◌≤◌, ◌++◌, ◌+◌, flat_map, map, IfOk, OnOk};
 ghost use Rattle.std.specs.List.{range_with_len};
-ghost use Rattle.field_flatten.specs.Points.{sample_named, slot_value};
+ghost use Rattle.scene_slots.specs.field_flatten.Points.{sample_named, slot_value};
 ghost use Rattle.scene_runs.specs.Entries.{sample_by, trace_entry, trace_named};
 ghost use Rattle.scene_slots.specs.SeenSlots.{scene_of};
 
 use crate::conditions::stands;
 use crate::numbers::number_in;
-use composition::Trace;
 use osc_base::{Path, Row, Sample, SampleSlots};
 use scene_slots::SceneSlots;
+use scene_slots::composition::Trace;
 use std::alloc::{AllocError, Global};
 
 /// The sample in these slots.

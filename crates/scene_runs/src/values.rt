@@ -1,15 +1,15 @@
 //! What fields hold.
 
 ghost use Rattle.std.specs.Prelude.{◌≡◌, ◌++◌, [], flat_map, slice_get, unsigned_abs, unwrap_or, IfOk, OnOk};
-ghost use Rattle.field_flatten.specs.Points.{held_of as held_by, slot_value};
+ghost use Rattle.scene_slots.specs.field_flatten.Points.{held_of as held_by, slot_value};
 ghost use Rattle.scene_runs.specs.Entries.{value_entry, value_named};
 ghost use Rattle.scene_slots.specs.SeenSlots.{scene_of};
 
 use crate::conditions::stands;
 use crate::numbers::number_in;
-use composition::{Held, Value, ValueRange, ValueSpot};
 use osc_base::{Row, Text};
 use scene_slots::SceneSlots;
+use scene_slots::composition::{Held, Value, ValueRange, ValueSpot};
 use std::alloc::{AllocError, Global};
 
 /// The text of that number. Past the last it is empty.

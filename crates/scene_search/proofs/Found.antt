@@ -3,16 +3,18 @@ use Rattle.std.proofs.Common.{◌≡◌, sym, subst, ℕ, List, ℤ}
 use Rattle.box_eval.specs.declared.flat.Flat.{Flat}
 use Rattle.box_eval.specs.declared.record.Record.{Record}
 use Rattle.box_eval.specs.Box.{IsPointOf}
+use Rattle.box_eval.specs.Record.{Tree, depth_of, IsRecordOf}
 use Rattle.box_eval.proofs.Empty.{refutation_empty}
-use Rattle.composition.specs.declared.run.Run.{Run}
-use Rattle.composition.specs.Scenes.{Scene}
-use Rattle.composition.specs.Claims.{IsInstance}
-use Rattle.composition.specs.TimedRuns.{timed}
-use Rattle.field_flatten.specs.Ends.{bounds}
-use Rattle.field_flatten.specs.Exactness.{IsExpanded, IsFlatOf}
-use Rattle.field_flatten.specs.Points.{run_of}
-use Rattle.field_flatten.proofs.Exact.{exact_flat}
-use Rattle.scene_search.specs.Findings.{IsReachedRun, IsSceneRefutation, IsSpentRecord}
+use Rattle.flat_forms.specs.composition.declared.run.Run.{Run}
+use Rattle.flat_forms.specs.composition.Scenes.{Scene}
+use Rattle.flat_forms.specs.composition.Claims.{IsInstance}
+use Rattle.flat_forms.specs.composition.TimedRuns.{timed}
+use Rattle.scene_runs.specs.field_flatten.Ends.{bounds}
+use Rattle.scene_runs.specs.field_flatten.Exactness.{IsExpanded, IsFlatOf}
+use Rattle.scene_runs.specs.field_flatten.Points.{run_of}
+use Rattle.scene_runs.proofs.of_field_flatten.Exact.{exact_flat}
+use Rattle.record_laws.proofs.Accepting.{lines_count}
+use Rattle.scene_search.specs.Findings.{IsReachedRun, IsSizedBy, IsSceneRefutation, IsSpentRecord}
 use Rattle.scene_search.specs.Outcomes.{IsReachedPoint, IsSeedRefutation, IsSeedSpent}
 
 -- a point of the flat form is one of the scene's box
@@ -33,6 +35,10 @@ reached_run scene flat seed cuts values run expanded same point gives = record {
   instance = subst (IsInstance scene) (sym gives) ((exact_flat scene flat expanded same).instance_of values point.of_box point.meets);
 }
 
+-- the sizes of a record whose room is the depth of its tree
+sized_by : (claim : Record) (tree : Tree) → IsRecordOf claim tree → claim.room ≡ depth_of tree → IsSizedBy claim tree
+sized_by claim tree is room = record { room = room; lines = lines_count claim tree is }
+
 -- a scene whose flat form is refuted has no instance
 pub scene_refutation : (scene : Scene) (flat : Flat) (seed cuts : ℕ) (claim : Record) → IsExpanded scene → IsFlatOf scene flat → IsSeedRefutation seed cuts flat claim
     → IsSceneRefutation scene seed cuts claim
@@ -43,9 +49,17 @@ scene_refutation scene flat seed cuts claim expanded same refuted =
       tree = refuted.tree;
       refutation = refuted.refutation;
       cuts_are = refuted.cuts_are;
+      sized = sized_by claim refuted.tree refuted.refutation.guided.accepted.record_of refuted.room;
       none = (exact_flat scene flat expanded same).none (refutation_empty flat claim (record { tree = refuted.tree; accepted = refuted.refutation.guided.accepted; closed = refuted.refutation.closed }));
     }
 
 -- a spent record of the flat form is one of the scene
 pub spent_record : (scene : Scene) (flat : Flat) (seed cuts : ℕ) (claim : Record) → IsFlatOf scene flat → IsSeedSpent seed cuts flat claim → IsSpentRecord scene seed cuts claim
-spent_record scene flat seed cuts claim same spent = record { flat = flat; flat_of = same; tree = spent.tree; box = spent.box; spent = spent.spent }
+spent_record scene flat seed cuts claim same spent = record {
+  flat = flat;
+  flat_of = same;
+  tree = spent.tree;
+  box = spent.box;
+  spent = spent.spent;
+  sized = sized_by claim spent.tree spent.spent.guided.accepted.record_of spent.room;
+}

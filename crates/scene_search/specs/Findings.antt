@@ -1,16 +1,17 @@
 -- What a search for a run of a scene finds.
-use Rattle.std.specs.Prelude.{◌≡◌, ℕ, ◌≤◌, List, ℤ}
+use Rattle.std.specs.Prelude.{◌≡◌, ℕ, ◌+◌, ◌*◌, ◌≤◌, List, length, ℤ}
 use Rattle.box_eval.specs.declared.bounds.Pair.{Pair}
 use Rattle.box_eval.specs.declared.flat.Flat.{Flat}
 use Rattle.box_eval.specs.declared.record.Record.{Record}
-use Rattle.box_eval.specs.Record.{Tree, cuts_of}
+use Rattle.box_eval.specs.Record.{Tree, cuts_of, depth_of}
 use Rattle.box_eval.specs.Guided.{IsGuidedRefutation, IsReached, IsSpent}
-use Rattle.composition.specs.declared.run.Run.{Run}
-use Rattle.composition.specs.Claims.{IsInstance}
-use Rattle.composition.specs.Scenes.{Scene}
-use Rattle.composition.specs.TimedRuns.{TimedRun, timed}
-use Rattle.field_flatten.specs.Exactness.{IsFlatOf}
-use Rattle.field_flatten.specs.Points.{run_of}
+use Rattle.flat_forms.specs.composition.declared.run.Run.{Run}
+use Rattle.flat_forms.specs.composition.Claims.{IsInstance}
+use Rattle.flat_forms.specs.composition.Scenes.{Scene}
+use Rattle.flat_forms.specs.composition.TimedRuns.{TimedRun, timed}
+use Rattle.scene_runs.specs.field_flatten.Exactness.{IsFlatOf}
+use Rattle.scene_runs.specs.field_flatten.Points.{run_of}
+use Rattle.record_laws.specs.record_text.Text.{record_lines}
 use Rattle.seeded_search.specs.Draws.{number_of}
 use Rattle.scene_search.specs.declared.finding.Finding.{Finding}
 
@@ -25,6 +26,11 @@ pub record IsReachedRun (scene : Scene) (seed cuts : ℕ) (run : Run) : Type 0 w
   pub gives : timed scene.setting.tick run ≡ run_of scene values
   pub instance : IsInstance scene (timed scene.setting.tick run)
 
+-- The room of a record is the greatest number of cuts above a leaf of its tree. Its text has two lines for each cut, and six more.
+pub record IsSizedBy (claim : Record) (tree : Tree) : Type 0 where
+  pub room : claim.room ≡ depth_of tree
+  pub lines : length (record_lines claim) ≡ 2 * cuts_of tree + 6
+
 -- The scene has no instance: a refutation of its flat form that is guided by the seed, of at most so many cuts.
 pub record IsSceneRefutation (scene : Scene) (seed cuts : ℕ) (claim : Record) : Type 0 where
   pub flat : Flat
@@ -32,6 +38,7 @@ pub record IsSceneRefutation (scene : Scene) (seed cuts : ℕ) (claim : Record) 
   pub tree : Tree
   pub refutation : IsGuidedRefutation (number_of seed) flat claim tree
   pub cuts_are : cuts_of tree ≤ cuts
+  pub sized : IsSizedBy claim tree
   pub none : (run : TimedRun) → IsInstance scene run → ⊥
 
 -- A record of the scene's flat form that is spent for the seed and so many cuts.
@@ -41,6 +48,7 @@ pub record IsSpentRecord (scene : Scene) (seed cuts : ℕ) (claim : Record) : Ty
   pub tree : Tree
   pub box : List Pair
   pub spent : IsSpent (number_of seed) cuts flat claim tree box
+  pub sized : IsSizedBy claim tree
 
 -- what is found with a seed and at most so many cuts
 abbrev pub IsFinding : Scene → ℕ → ℕ → Finding → Type 0

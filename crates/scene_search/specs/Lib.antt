@@ -1,2 +1,6 @@
 pub mod Findings
 pub mod Outcomes
+-- Crates below, for the crates above.
+pub use Rattle.record_laws.specs as record_laws
+pub use Rattle.record_laws.specs.refute_check as refute_check
+pub use Rattle.seeded_search.specs as seeded_search

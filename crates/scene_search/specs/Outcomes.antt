@@ -5,7 +5,7 @@ use Rattle.box_eval.specs.declared.flat.Flat.{Flat}
 use Rattle.box_eval.specs.declared.record.Record.{Record}
 use Rattle.box_eval.specs.Box.{IsPointOf}
 use Rattle.box_eval.specs.Guided.{IsGuidedRefutation, IsReached, IsSpent}
-use Rattle.box_eval.specs.Record.{Tree, cuts_of}
+use Rattle.box_eval.specs.Record.{Tree, cuts_of, depth_of}
 use Rattle.box_eval.specs.Rules.{Meets}
 use Rattle.seeded_search.specs.Draws.{number_of}
 use Rattle.seeded_search.specs.declared.outcome.Outcome.{Outcome}
@@ -18,17 +18,19 @@ pub record IsReachedPoint (seed cuts : ℕ) (flat : Flat) (values : List ℤ) : 
   pub tree : Tree
   pub reached : IsReached (number_of seed) cuts flat values claim tree
 
--- a refutation that the seed guides, of at most so many cuts
+-- a refutation that the seed guides, of at most so many cuts, whose room is the depth of its tree
 pub record IsSeedRefutation (seed cuts : ℕ) (flat : Flat) (claim : Record) : Type 0 where
   pub tree : Tree
   pub refutation : IsGuidedRefutation (number_of seed) flat claim tree
   pub cuts_are : cuts_of tree ≤ cuts
+  pub room : claim.room ≡ depth_of tree
 
--- a record that is spent
+-- a record that is spent, whose room is the depth of its tree
 pub record IsSeedSpent (seed cuts : ℕ) (flat : Flat) (claim : Record) : Type 0 where
   pub tree : Tree
   pub box : List Pair
   pub spent : IsSpent (number_of seed) cuts flat claim tree box
+  pub room : claim.room ≡ depth_of tree
 
 -- what is answered with a seed and at most so many cuts
 abbrev pub IsOutcome : ℕ → ℕ → Flat → Outcome → Type 0

@@ -2,17 +2,17 @@
 
 ghost use Rattle.std.specs.Prelude.{◌≤◌, IfOk};
 ghost use Rattle.box_eval.specs.Rules.{IsFlat};
-ghost use Rattle.composition.specs.SeenScenes.{seen_scene};
-ghost use Rattle.field_flatten.specs.Exactness.{IsExpanded, IsLimited};
+ghost use Rattle.flat_forms.specs.composition.SeenScenes.{seen_scene};
+ghost use Rattle.scene_runs.specs.field_flatten.Exactness.{IsExpanded, IsLimited};
 ghost use Rattle.scene_search.specs.Findings.{IsFinding};
 ghost use Rattle.scene_search.specs.Outcomes.{IsOutcome};
 
 use crate::finding::Finding;
-use bound_trail::Trail;
 use box_eval::Flat;
-use composition::Scene;
+use flat_forms::composition::Scene;
 use flat_forms::flatten;
 use scene_runs::run_of;
+use seeded_search::bound_trail::Trail;
 use seeded_search::{Desk, Outcome, search};
 use std::alloc::{AllocError, Global};
 use wake_ring::WakeRing;

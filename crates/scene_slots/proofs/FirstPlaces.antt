@@ -4,7 +4,7 @@ use Rattle.std.specs.Prelude.{not, unwrap_or, position, option_map, nat_lt}
 use Rattle.std.specs.Option.{option_or}
 use Rattle.std.specs.List.{position_or_len}
 use Rattle.path_index.specs.Places.{first_place}
-use Rattle.field_flatten.proofs.Tests.{two_ways}
+use Rattle.flat_shapes.proofs.of_field_flatten.Tests.{two_ways}
 
 module _ {A : Type 0} (test : A → Bool) where
   -- the place of the first, or the number of all

@@ -7,18 +7,18 @@ use Rattle.osc_base.specs.declared.path.Path.{Path}
 use Rattle.osc_base.specs.declared.listing.SlotName.{SlotName}
 use Rattle.osc_base.specs.Paths.{same_path}
 use Rattle.path_index.specs.Places.{first_place}
-use Rattle.composition.specs.declared.spot.ChoiceSpot.{ChoiceSpot}
-use Rattle.composition.specs.declared.spot.ValueSpot.{ValueSpot}
-use Rattle.composition.specs.declared.spot.PhaseSpot.{PhaseSpot}
-use Rattle.composition.specs.Scenes.{Scene, choices, values, phases, vehicles, root_do, has_root_do}
-use Rattle.composition.specs.Slots.{slot_names}
-use Rattle.box_eval.specs.FlatRules.{FlatTerm, Whole, Slot, Less, times}
-use Rattle.composition.specs.Scenes.{Source, OfRun, OfPhase, OfValue}
-use Rattle.field_flatten.specs.Shapes.{Layout, read_term}
+use Rattle.flat_shapes.specs.composition.declared.spot.ChoiceSpot.{ChoiceSpot}
+use Rattle.flat_shapes.specs.composition.declared.spot.ValueSpot.{ValueSpot}
+use Rattle.flat_shapes.specs.composition.declared.spot.PhaseSpot.{PhaseSpot}
+use Rattle.flat_shapes.specs.composition.Scenes.{Scene, choices, values, phases, vehicles, root_do, has_root_do}
+use Rattle.flat_shapes.specs.composition.Slots.{slot_names}
+use Rattle.flat_shapes.specs.box_eval.FlatRules.{FlatTerm, Whole, Slot, Less, times}
+use Rattle.flat_shapes.specs.composition.Scenes.{Source, OfRun, OfPhase, OfValue}
+use Rattle.flat_shapes.specs.field_flatten.Shapes.{Layout, read_term}
 use Rattle.flat_shapes.specs.declared.slots.Found.{Found}
 use Rattle.flat_shapes.specs.Founds.{found_term}
-use Rattle.field_flatten.specs.Ends.{slot_in}
-use Rattle.field_flatten.specs.Rules.{end_term}
+use Rattle.flat_shapes.specs.field_flatten.Ends.{slot_in}
+use Rattle.flat_shapes.specs.field_flatten.Rules.{end_term}
 use Rattle.scene_slots.specs.declared.track.Track.{Track}
 use Rattle.scene_slots.specs.Tracks.{IsTrack, track_slot, track_by}
 use Rattle.scene_slots.specs.Numbers.{track_length, first_phase, first_value, first_sample, past, slot_after}

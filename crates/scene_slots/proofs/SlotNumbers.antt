@@ -11,13 +11,13 @@ use Rattle.osc_base.specs.Paths.{same_path}
 use Rattle.osc_base.specs.SlotNames.{same_slot}
 use Rattle.osc_base.proofs.PathEquality.{path_flip}
 use Rattle.path_index.specs.Places.{first_place}
-use Rattle.composition.specs.declared.spot.ChoiceSpot.{ChoiceSpot}
-use Rattle.composition.specs.declared.spot.ValueSpot.{ValueSpot}
-use Rattle.composition.specs.declared.spot.PhaseSpot.{PhaseSpot}
-use Rattle.composition.specs.Scenes.{Scene, choices, values, phases, vehicles}
-use Rattle.composition.specs.Slots.{ticks_of, sample_names, slot_names}
-use Rattle.field_flatten.specs.Ends.{slot_in}
-use Rattle.field_flatten.proofs.Tests.{two_ways, number_self}
+use Rattle.flat_shapes.specs.composition.declared.spot.ChoiceSpot.{ChoiceSpot}
+use Rattle.flat_shapes.specs.composition.declared.spot.ValueSpot.{ValueSpot}
+use Rattle.flat_shapes.specs.composition.declared.spot.PhaseSpot.{PhaseSpot}
+use Rattle.flat_shapes.specs.composition.Scenes.{Scene, choices, values, phases, vehicles}
+use Rattle.flat_shapes.specs.composition.Slots.{ticks_of, sample_names, slot_names}
+use Rattle.flat_shapes.specs.field_flatten.Ends.{slot_in}
+use Rattle.flat_shapes.proofs.of_field_flatten.Tests.{two_ways, number_self}
 use Rattle.scene_slots.specs.NameRows.{choice_names, phase_names, value_names, block, track_names}
 use Rattle.scene_slots.specs.Numbers.{track_length, first_phase, first_value, first_sample, past, slot_after}
 use Rattle.scene_slots.specs.Places.{choice_place, phase_place, value_place, vehicle_place}

@@ -2,10 +2,10 @@
 use Rattle.std.specs.Prelude.{ℕ, List, [], ◌∷◌, map, flat_map}
 use Rattle.osc_base.specs.declared.path.Path.{Path}
 use Rattle.osc_base.specs.declared.listing.SlotName.{SlotName}
-use Rattle.composition.specs.declared.spot.ChoiceSpot.{ChoiceSpot}
-use Rattle.composition.specs.declared.spot.ValueSpot.{ValueSpot}
-use Rattle.composition.specs.declared.spot.PhaseSpot.{PhaseSpot}
-use Rattle.composition.specs.Slots.{sample_names}
+use Rattle.flat_shapes.specs.composition.declared.spot.ChoiceSpot.{ChoiceSpot}
+use Rattle.flat_shapes.specs.composition.declared.spot.ValueSpot.{ValueSpot}
+use Rattle.flat_shapes.specs.composition.declared.spot.PhaseSpot.{PhaseSpot}
+use Rattle.flat_shapes.specs.composition.Slots.{sample_names}
 
 -- those of choices
 abbrev pub choice_names : List ChoiceSpot → List SlotName

@@ -1,7 +1,7 @@
 -- The numbers of a scene's slots, by the places of what they belong to in the lists of the scene.
 use Rattle.std.specs.Prelude.{ℕ, ◌+◌, ◌*◌, length, Option, Some, None}
-use Rattle.composition.specs.Scenes.{Scene, choices, values, phases}
-use Rattle.composition.specs.Slots.{slot_names}
+use Rattle.flat_shapes.specs.composition.Scenes.{Scene, choices, values, phases}
+use Rattle.flat_shapes.specs.composition.Slots.{slot_names}
 
 -- how many slots a vehicle has: three at each tick
 abbrev pub track_length : Scene → ℕ

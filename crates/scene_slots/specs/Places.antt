@@ -3,10 +3,10 @@ use Rattle.std.specs.Prelude.{ℕ, ◌+◌, ◌*◌, Option, option_map}
 use Rattle.osc_base.specs.declared.path.Path.{Path}
 use Rattle.osc_base.specs.Paths.{same_path}
 use Rattle.path_index.specs.Places.{first_place}
-use Rattle.composition.specs.declared.spot.ChoiceSpot.{ChoiceSpot}
-use Rattle.composition.specs.declared.spot.ValueSpot.{ValueSpot}
-use Rattle.composition.specs.declared.spot.PhaseSpot.{PhaseSpot}
-use Rattle.composition.specs.Scenes.{Scene, choices, values, phases, vehicles, root_do}
+use Rattle.flat_shapes.specs.composition.declared.spot.ChoiceSpot.{ChoiceSpot}
+use Rattle.flat_shapes.specs.composition.declared.spot.ValueSpot.{ValueSpot}
+use Rattle.flat_shapes.specs.composition.declared.spot.PhaseSpot.{PhaseSpot}
+use Rattle.flat_shapes.specs.composition.Scenes.{Scene, choices, values, phases, vehicles, root_do}
 use Rattle.scene_slots.specs.Numbers.{first_phase}
 
 -- the place of a `one_of` among the choices

@@ -1,8 +1,8 @@
 -- What the slots of a scene stand for.
-use Rattle.composition.specs.Scenes.{Scene}
-use Rattle.composition.specs.SeenScenes.{seen_scene}
-use Rattle.field_flatten.specs.Shapes.{Layout}
-use Rattle.field_flatten.specs.Rules.{layout}
+use Rattle.flat_shapes.specs.composition.Scenes.{Scene}
+use Rattle.flat_shapes.specs.composition.SeenScenes.{seen_scene}
+use Rattle.flat_shapes.specs.field_flatten.Shapes.{Layout}
+use Rattle.flat_shapes.specs.field_flatten.Rules.{layout}
 use Rattle.scene_slots.specs.declared.slots.SceneSlots.{SceneSlots}
 
 -- the scene

@@ -2,8 +2,8 @@
 use Rattle.std.specs.Prelude.{◌≡◌, ℕ, ◌+◌, ◌*◌, ◌≤◌, Option, Some, None}
 use Rattle.osc_base.specs.declared.path.Path.{Path}
 use Rattle.osc_base.specs.declared.sample.SampleSlots.{SampleSlots}
-use Rattle.composition.specs.Scenes.{Scene}
-use Rattle.field_flatten.specs.Rules.{layout, sample_slots}
+use Rattle.flat_shapes.specs.composition.Scenes.{Scene}
+use Rattle.flat_shapes.specs.field_flatten.Rules.{layout, sample_slots}
 use Rattle.scene_slots.specs.declared.track.Track.{Track}
 
 -- one of the slots of a vehicle, counted from its first; one that isn't there has the number after those of all slots

@@ -2,12 +2,12 @@
 
 ghost use Rattle.std.specs.Prelude.{◌≡◌, ◌≤◌, ◌++◌, flat_map, IfOk, OnOk};
 ghost use Rattle.std.specs.List.{range_with_len};
-ghost use Rattle.composition.specs.SeenScenes.{seen_scene};
-ghost use Rattle.composition.specs.Slots.{slot_names as names_of};
+ghost use Rattle.flat_shapes.specs.composition.SeenScenes.{seen_scene};
+ghost use Rattle.flat_shapes.specs.composition.Slots.{slot_names as names_of};
 ghost use Rattle.scene_slots.specs.NameRows.{choice_names, end_names, phase_names, value_names, track_names};
-ghost use Rattle.composition.specs.Slots.{sample_names};
+ghost use Rattle.flat_shapes.specs.composition.Slots.{sample_names};
 
-use composition::{ChoiceSpot, PhaseSpot, Scene, ValueSpot};
+use flat_shapes::composition::{ChoiceSpot, PhaseSpot, Scene, ValueSpot};
 use osc_base::{Path, Row, SlotName};
 use std::alloc::{AllocError, Global};
 

@@ -2,12 +2,12 @@
 
 ghost use Rattle.std.specs.Prelude.{◌≡◌, ◌≤◌, ◌<◌, ◌^◌};
 ghost use Rattle.path_index.specs.Places.{Places};
-ghost use Rattle.composition.specs.Scenes.{choices as all_choices, values as all_values, phases as all_phases, vehicles as all_vehicles, root_do};
-ghost use Rattle.composition.specs.SeenScenes.{seen_scene};
+ghost use Rattle.flat_shapes.specs.composition.Scenes.{choices as all_choices, values as all_values, phases as all_phases, vehicles as all_vehicles, root_do};
+ghost use Rattle.flat_shapes.specs.composition.SeenScenes.{seen_scene};
 ghost use Rattle.scene_slots.specs.Numbers.{first_phase, first_value, first_sample, past, track_length};
 
 use crate::counts::Counts;
-use composition::Scene;
+use flat_shapes::composition::Scene;
 use osc_base::Path;
 use path_index::PathIndex;
 

@@ -5,7 +5,7 @@ use Rattle.dsl_tree.specs.declared.rules.PathHead.{PathHead}
 use Rattle.dsl_tree.specs.declared.phases.Argument.{Argument}
 use Rattle.dsl_tree.specs.ExprTree.{ExprTree}
 use Rattle.dsl_tree.specs.Views.{head_tree, path_row, suffix_tree, argument_tree}
-use Rattle.composition.specs.Tokens.{tokens, argument_tokens, arguments_tokens}
+use Rattle.expansion_laws.specs.composition.Tokens.{tokens, argument_tokens, arguments_tokens}
 use Rattle.expansion_laws.specs.Counts.{total}
 use Rattle.scene_texts.specs.RowTokens.{suffix_count, later_count}
 use Rattle.scene_texts.proofs.TokenRows.{suffixed_tokens}

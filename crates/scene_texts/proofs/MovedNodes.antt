@@ -2,15 +2,15 @@
 use Rattle.std.proofs.Common.{◌≡◌, List, ◌∙◌, map, ap, sym}
 use Rattle.std.specs.Prelude.{Bool}
 use Rattle.osc_base.specs.declared.path.Path.{Path}
-use Rattle.expr_nodes.specs.declared.node.Info.{Info}
-use Rattle.expr_nodes.specs.declared.node.Join.{Join}
-use Rattle.expr_nodes.specs.declared.node.Earlier.{Earlier}
-use Rattle.expr_nodes.specs.declared.node.Typed.{Typed}
-use Rattle.expr_nodes.specs.declared.node.Typed.TheViews
-use Rattle.expr_nodes.specs.Typed as Nodes
-use Rattle.expr_nodes.specs.Typed.{moved, row_of}
-use Rattle.expr_nodes.specs.Seen.{Reached, seen, reached, seen_info, joined, grouped}
-use Rattle.expr_nodes.proofs.SeenNodes.{seen_listed, seen_joined}
+use Rattle.expansion_laws.specs.expr_nodes.declared.node.Info.{Info}
+use Rattle.expansion_laws.specs.expr_nodes.declared.node.Join.{Join}
+use Rattle.expansion_laws.specs.expr_nodes.declared.node.Earlier.{Earlier}
+use Rattle.expansion_laws.specs.expr_nodes.declared.node.Typed.{Typed}
+use Rattle.expansion_laws.specs.expr_nodes.declared.node.Typed.TheViews
+use Rattle.expansion_laws.specs.expr_nodes.Typed as Nodes
+use Rattle.expansion_laws.specs.expr_nodes.Typed.{moved, row_of}
+use Rattle.expansion_laws.specs.expr_nodes.Seen.{Reached, seen, reached, seen_info, joined, grouped}
+use Rattle.expansion_laws.proofs.of_expr_nodes.SeenNodes.{seen_listed, seen_joined}
 use Rattle.scene_texts.specs.Moving.{moved_part}
 use Rattle.scene_texts.proofs.MovedRows.{moved_listed, moved_row_of_joined}
 

@@ -1,10 +1,10 @@
 -- Rows of expressions with their paths changed.
 use Rattle.std.proofs.Common.{◌≡◌, List, [], ◌∷◌, ◌∙◌, map, refl, ap}
 use Rattle.osc_base.specs.declared.path.Path.{Path}
-use Rattle.expr_nodes.specs.declared.node.Join.{Join}
-use Rattle.expr_nodes.specs.Typed as Nodes
-use Rattle.expr_nodes.specs.Typed.{Typed, TypedRow, moved, moved_row, row_of}
-use Rattle.expr_nodes.specs.Seen.{Reached, joined, grouped}
+use Rattle.expansion_laws.specs.expr_nodes.declared.node.Join.{Join}
+use Rattle.expansion_laws.specs.expr_nodes.Typed as Nodes
+use Rattle.expansion_laws.specs.expr_nodes.Typed.{Typed, TypedRow, moved, moved_row, row_of}
+use Rattle.expansion_laws.specs.expr_nodes.Seen.{Reached, joined, grouped}
 use Rattle.scene_texts.specs.Moving.{moved_part}
 
 pub moved_joined : (to : Path → Path) (join : Join) (i : Nodes.Info) (left right : Typed) → moved to (joined join i left right) ≡ joined join i (moved to left) (moved to right)

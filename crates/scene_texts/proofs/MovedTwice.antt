@@ -3,9 +3,9 @@ use Rattle.std.proofs.Common.{◌≡◌, List, [], ◌∷◌, ◌∙◌, refl, a
 use Rattle.osc_base.specs.declared.path.Path.{Path}
 use Rattle.osc_base.specs.declared.path.Step.{Step}
 use Rattle.osc_base.specs.Paths.{path_of}
-use Rattle.expr_nodes.specs.Typed as Nodes
-use Rattle.expr_nodes.specs.Typed.{Typed, TypedRow, moved, moved_row}
-use Rattle.composition.specs.Givens.{Here, steps_from, from_root}
+use Rattle.expansion_laws.specs.expr_nodes.Typed as Nodes
+use Rattle.expansion_laws.specs.expr_nodes.Typed.{Typed, TypedRow, moved, moved_row}
+use Rattle.expansion_laws.specs.composition.Givens.{Here, steps_from, from_root}
 use Rattle.scene_texts.specs.Moving.{steps_under, path_under}
 
 mutual

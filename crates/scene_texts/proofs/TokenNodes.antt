@@ -15,7 +15,7 @@ use Rattle.dsl_tree.specs.declared.expr.Expr as Exprs
 use Rattle.dsl_tree.specs.declared.expr.Suffix as Suffixes
 use Rattle.dsl_tree.specs.ExprTree.{ExprTree}
 use Rattle.dsl_tree.specs.Views.{SuffixTree, FurtherTree, expr_tree, suffix_tree, expr_step, suffix_step, further_step}
-use Rattle.composition.specs.Tokens.{tokens}
+use Rattle.expansion_laws.specs.composition.Tokens.{tokens}
 use Rattle.expansion_laws.specs.Counts.{total}
 use Rattle.scene_texts.specs.Capped.{capped}
 use Rattle.scene_texts.specs.RowTokens.{further_count, suffix_count, suffix_tokens, item_count}

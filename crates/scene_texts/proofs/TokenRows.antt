@@ -10,7 +10,7 @@ use Rattle.dsl_tree.specs.declared.expr.Further.{Further}
 use Rattle.dsl_tree.specs.declared.expr.Expr.TheFolds.{fold-roll-Further}
 use Rattle.dsl_tree.specs.ExprTree.{ExprTree, row_of}
 use Rattle.dsl_tree.specs.Views.{SuffixTree, FurtherTree, Named, At, grouped, with_suffixes, named_row, indexed_row, expr_tree, suffix_tree, further_tree, expr_step, suffix_step, further_step}
-use Rattle.composition.specs.Tokens.{tokens, item_tokens}
+use Rattle.expansion_laws.specs.composition.Tokens.{tokens, item_tokens}
 use Rattle.scene_texts.specs.Capped.{capped}
 use Rattle.scene_texts.specs.RowTokens.{further_count, suffix_tokens, suffix_count, item_count}
 use Rattle.scene_texts.proofs.Caps.{capped_twice}

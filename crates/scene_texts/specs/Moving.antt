@@ -4,10 +4,10 @@ use Rattle.osc_base.specs.declared.path.Path.{Path}
 use Rattle.osc_base.specs.declared.path.Step.{Step}
 use Rattle.osc_base.specs.declared.path.Step.TheVariants.{Name}
 use Rattle.osc_base.specs.Paths.{path_of, same_step}
-use Rattle.expr_nodes.specs.Typed.{moved}
-use Rattle.expr_nodes.specs.Seen.{Reached}
-use Rattle.composition.specs.Scenes.{Binding}
-use Rattle.composition.specs.Homes.{home}
+use Rattle.expansion_laws.specs.expr_nodes.Typed.{moved}
+use Rattle.expansion_laws.specs.expr_nodes.Seen.{Reached}
+use Rattle.expansion_laws.specs.composition.Scenes.{Binding}
+use Rattle.expansion_laws.specs.composition.Homes.{home}
 use Rattle.scene_texts.specs.declared.homes.Bound.{Bound}
 use Rattle.scene_texts.specs.declared.homes.Moves.{Moves}
 

@@ -5,7 +5,7 @@ use Rattle.dsl_tree.specs.declared.expr.Suffix.{Suffix}
 use Rattle.dsl_tree.specs.declared.expr.Further.{Further}
 use Rattle.dsl_tree.specs.declared.phases.Argument.{Argument}
 use Rattle.dsl_tree.specs.Views.{SuffixTree, Named, At, expr_tree, suffix_tree, further_tree, argument_tree}
-use Rattle.composition.specs.Tokens.{tokens, argument_tokens}
+use Rattle.expansion_laws.specs.composition.Tokens.{tokens, argument_tokens}
 
 -- an operator with the part after it
 abbrev pub further_count : Further → ℕ

@@ -3,7 +3,7 @@
 ghost use Rattle.std.specs.Prelude.{◌≡◌, codes, map, IfOk};
 ghost use Rattle.osc_base.specs.Paths.{path_of, same_step};
 ghost use Rattle.osc_base.specs.declared.path.Step.TheVariants.{Name};
-ghost use Rattle.composition.specs.Homes.{home as home_by};
+ghost use Rattle.expansion_laws.specs.composition.Homes.{home as home_by};
 ghost use Rattle.scene_texts.specs.Moving.{moved_path, path_under, seen_bound};
 
 use crate::paths::{after, joined};

@@ -4,7 +4,7 @@ ghost use Rattle.std.specs.Prelude.{◌≡◌, [], ◌∷◌, ◌++◌, option_c
 ghost use Rattle.osc_base.specs.Paths as Paths;
 ghost use Rattle.osc_base.specs.Paths.{path_of, same_steps, steps_after};
 ghost use Rattle.osc_base.specs.Paths.{same_path as one_path, same_step as one_step};
-ghost use Rattle.composition.specs.Expansion.{from_object as path_from};
+ghost use Rattle.expansion_laws.specs.composition.Expansion.{from_object as path_from};
 
 use osc_base::{Path, Row, Step, Text};
 use std::alloc::{AllocError, Global};

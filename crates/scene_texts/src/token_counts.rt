@@ -2,7 +2,7 @@
 
 ghost use Rattle.std.specs.Prelude.{◌≡◌, ◌+◌, ◌∷◌, map};
 ghost use Rattle.dsl_tree.specs.Views.{argument_tree, expr_tree, path_tree};
-ghost use Rattle.composition.specs.Tokens as Tokens;
+ghost use Rattle.expansion_laws.specs.composition.Tokens as Tokens;
 ghost use Rattle.expansion_laws.specs.Counts.{total};
 ghost use Rattle.scene_texts.specs.Capped.{capped};
 ghost use Rattle.scene_texts.specs.RowTokens.{further_count, item_count, later_count, suffix_count};

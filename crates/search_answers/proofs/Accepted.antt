@@ -8,24 +8,24 @@ use Rattle.record_text.specs.Lines.{AllShort}
 use Rattle.record_text.specs.Source.{limit}
 use Rattle.record_text.specs.Text.{record_lines, record_text}
 use Rattle.record_text.specs.Written.{HaveShortValues}
-use Rattle.refute_check.specs.Answers.{IsRefutationText, IsOpenText}
-use Rattle.refute_check.proofs.Laws.{refutation_text, open_text}
-use Rattle.record_laws.specs.Points.{points_of}
-use Rattle.record_laws.specs.Short.{HasShortEnds}
-use Rattle.record_laws.proofs.Points.{spent_points}
-use Rattle.record_laws.proofs.Short.{accepted_short}
-use Rattle.composition.specs.declared.run.Run.{Run}
-use Rattle.composition.specs.Claims.{claims}
-use Rattle.composition.specs.Scenes.{Scene}
-use Rattle.composition.specs.TimedRuns.{timed}
-use Rattle.field_flatten.specs.Ends.{bounds}
-use Rattle.field_flatten.specs.Exactness.{IsExpanded, IsLimited, IsFlatOf}
-use Rattle.field_flatten.proofs.FlatForms.{flat_form}
-use Rattle.field_flatten.proofs.RuleTrees.{one_form}
-use Rattle.run_check.specs.Answers.{first_wrong}
+use Rattle.scene_search.specs.refute_check.Answers.{IsRefutationText, IsOpenText}
+use Rattle.scene_search.proofs.of_refute_check.Laws.{refutation_text, open_text}
+use Rattle.scene_search.specs.record_laws.Points.{points_of}
+use Rattle.scene_search.specs.record_laws.Short.{HasShortEnds}
+use Rattle.scene_search.proofs.of_record_laws.Points.{spent_points}
+use Rattle.scene_search.proofs.of_record_laws.Short.{accepted_short}
+use Rattle.instance_check.specs.composition.declared.run.Run.{Run}
+use Rattle.instance_check.specs.composition.Claims.{claims}
+use Rattle.instance_check.specs.composition.Scenes.{Scene}
+use Rattle.instance_check.specs.composition.TimedRuns.{timed}
+use Rattle.instance_check.specs.field_flatten.Ends.{bounds}
+use Rattle.instance_check.specs.field_flatten.Exactness.{IsExpanded, IsLimited, IsFlatOf}
+use Rattle.instance_check.proofs.of_field_flatten.FlatForms.{flat_form}
+use Rattle.instance_check.proofs.of_field_flatten.RuleTrees.{one_form}
+use Rattle.instance_check.specs.run_check.Answers.{first_wrong}
 use Rattle.instance_check.proofs.FirstClaims.{none_fails}
 use Rattle.scene_search.specs.Findings.{IsReachedRun, IsSceneRefutation, IsSpentRecord}
-use Rattle.seeded_search.specs.Draws.{number_of}
+use Rattle.scene_search.specs.seeded_search.Draws.{number_of}
 use Rattle.search_answers.proofs.ShortEnds.{short_ends}
 use Rattle.search_answers.proofs.ShortValues.{values_of}
 use Rattle.search_answers.proofs.TextLengths.{within_limit}

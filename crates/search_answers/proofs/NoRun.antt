@@ -1,7 +1,7 @@
 -- A reply without a run is right whatever the text of runs is.
 use Rattle.std.proofs.Common.{ℕ, List, inl, inr}
-use Rattle.composition.specs.declared.run.Run.{Run}
-use Rattle.composition.specs.Scenes.{Scene}
+use Rattle.instance_check.specs.composition.declared.run.Run.{Run}
+use Rattle.instance_check.specs.composition.Scenes.{Scene}
 use Rattle.command_replies.specs.Reply.{Answer}
 use Rattle.search_answers.specs.SearchAnswers.{IsSearchReply, refuted, undecided}
 use Rattle.search_answers.specs.Searches.{IsNoRun}

@@ -10,21 +10,21 @@ use Rattle.osc_base.specs.Paths.{same_path}
 use Rattle.box_eval.specs.declared.bounds.Pair.{Pair}
 use Rattle.box_eval.specs.Box.{pair}
 use Rattle.record_text.specs.Lines.{IsFewDigits}
-use Rattle.record_laws.specs.Short.{HasShortEnds}
-use Rattle.expr_nodes.specs.Sizes.{field_reach}
-use Rattle.composition.specs.declared.spot.ChoiceSpot.{ChoiceSpot}
-use Rattle.composition.specs.declared.spot.PhaseSpot.{PhaseSpot}
-use Rattle.composition.specs.declared.spot.ValueSpot.{ValueSpot}
-use Rattle.composition.specs.Scenes.{Scene, Spot, Content, Object, Value, Phase, is_one_of, choice_spot, phase_spot, choices, phases, values}
-use Rattle.composition.specs.Slots.{slot_names}
-use Rattle.composition.specs.Invariants.{value_at}
-use Rattle.field_flatten.specs.Ends.{ends_of, range_ends, no_ends, bounds}
-use Rattle.field_flatten.specs.Exactness.{IsExpanded, IsLimited}
-use Rattle.field_flatten.proofs.Tests.{two_ways, path_is, In, all_at, found_in}
-use Rattle.field_flatten.proofs.SlotLaw.{value_is_named}
-use Rattle.field_flatten.proofs.NumberLaw.{made_from, making}
-use Rattle.field_flatten.proofs.FlatReach.{size}
-use Rattle.field_flatten.proofs.ItemReach.{le_number, ends_at, setting_parts, value_fits}
+use Rattle.scene_search.specs.record_laws.Short.{HasShortEnds}
+use Rattle.instance_check.specs.expr_nodes.Sizes.{field_reach}
+use Rattle.instance_check.specs.composition.declared.spot.ChoiceSpot.{ChoiceSpot}
+use Rattle.instance_check.specs.composition.declared.spot.PhaseSpot.{PhaseSpot}
+use Rattle.instance_check.specs.composition.declared.spot.ValueSpot.{ValueSpot}
+use Rattle.instance_check.specs.composition.Scenes.{Scene, Spot, Content, Object, Value, Phase, is_one_of, choice_spot, phase_spot, choices, phases, values}
+use Rattle.instance_check.specs.composition.Slots.{slot_names}
+use Rattle.instance_check.specs.composition.Invariants.{value_at}
+use Rattle.instance_check.specs.field_flatten.Ends.{ends_of, range_ends, no_ends, bounds}
+use Rattle.instance_check.specs.field_flatten.Exactness.{IsExpanded, IsLimited}
+use Rattle.instance_check.proofs.of_field_flatten.Tests.{two_ways, path_is, In, all_at, found_in}
+use Rattle.instance_check.proofs.of_field_flatten.SlotLaw.{value_is_named}
+use Rattle.instance_check.proofs.of_field_flatten.NumberLaw.{made_from, making}
+use Rattle.instance_check.proofs.of_field_flatten.FlatReach.{size}
+use Rattle.instance_check.proofs.of_field_flatten.ItemReach.{le_number, ends_at, setting_parts, value_fits}
 
 -- both ends have at most 18 digits
 abbrev pub AreShort : Pair → Type 0

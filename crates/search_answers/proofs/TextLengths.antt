@@ -7,7 +7,7 @@ use Rattle.record_text.specs.Lines.{AllShort, spelled, text_of}
 use Rattle.record_text.specs.Source.{limit}
 use Rattle.record_text.specs.Text.{record_lines, record_text}
 use Rattle.record_text.proofs.Lines.{spelled_short}
-use Rattle.record_laws.proofs.Accepting.{lines_count}
+use Rattle.scene_search.proofs.of_record_laws.Accepting.{lines_count}
 
 -- a line has at most 43 bytes, and a line feed
 text_length : (lines : List TextLine) → AllShort lines → length (text_of lines) ≤ 44 * length lines

@@ -2,14 +2,14 @@
 use Rattle.std.specs.Prelude.{◌≡◌, ℕ, ◌≤◌, None, length}
 use Rattle.box_eval.specs.declared.flat.Flat.{Flat}
 use Rattle.box_eval.specs.declared.record.Record.{Record}
-use Rattle.composition.specs.declared.run.Run.{Run}
-use Rattle.composition.specs.Scenes.{Scene}
-use Rattle.composition.specs.TimedRuns.{timed}
-use Rattle.field_flatten.specs.Exactness.{IsExpanded, IsLimited, IsFlatOf}
+use Rattle.instance_check.specs.composition.declared.run.Run.{Run}
+use Rattle.instance_check.specs.composition.Scenes.{Scene}
+use Rattle.instance_check.specs.composition.TimedRuns.{timed}
+use Rattle.instance_check.specs.field_flatten.Exactness.{IsExpanded, IsLimited, IsFlatOf}
 use Rattle.record_text.specs.Source.{limit}
 use Rattle.record_text.specs.Text.{record_text}
-use Rattle.refute_check.specs.Answers.{IsRefutationText, IsOpenText}
-use Rattle.run_check.specs.Answers.{first_wrong}
+use Rattle.scene_search.specs.refute_check.Answers.{IsRefutationText, IsOpenText}
+use Rattle.instance_check.specs.run_check.Answers.{first_wrong}
 use Rattle.scene_search.specs.Findings.{IsReachedRun, IsSceneRefutation, IsSpentRecord}
 
 -- the text of a refutation of a scene is one of the scene's flat form

@@ -1,9 +1,9 @@
 -- What is replied of a search for a run of a scene.
 use Rattle.std.specs.Prelude.{◌≡◌, ℕ, List, ◌++◌, length}
 use Rattle.box_eval.specs.declared.record.Record.{Record}
-use Rattle.composition.specs.declared.run.Run.{Run}
-use Rattle.composition.specs.Scenes.{Scene}
-use Rattle.run_check.specs.RunText.{run_text}
+use Rattle.instance_check.specs.composition.declared.run.Run.{Run}
+use Rattle.instance_check.specs.composition.Scenes.{Scene}
+use Rattle.instance_check.specs.run_check.RunText.{run_text}
 use Rattle.command_replies.specs.Reply.{Answer}
 use Rattle.command_replies.specs.Replies as replies
 use Rattle.scene_search.specs.Findings.{IsReachedRun, IsSceneRefutation, IsSpentRecord}

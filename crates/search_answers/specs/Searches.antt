@@ -1,7 +1,7 @@
 -- What a search for a run of a scene ends with.
 use Rattle.std.specs.Prelude.{◌≡◌, ◌⊎◌, ℕ}
 use Rattle.box_eval.specs.declared.record.Record.{Record}
-use Rattle.composition.specs.Scenes.{Scene}
+use Rattle.instance_check.specs.composition.Scenes.{Scene}
 use Rattle.command_replies.specs.Reply.{Answer}
 use Rattle.command_replies.specs.Replies.{refutation, undecided}
 use Rattle.scene_search.specs.Findings.{IsReachedRun, IsSceneRefutation, IsSpentRecord}

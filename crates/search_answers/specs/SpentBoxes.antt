@@ -1,9 +1,9 @@
 -- How few cuts a search makes that stays undecided.
 use Rattle.std.specs.Prelude.{ℕ, ◌<◌}
 use Rattle.box_eval.specs.declared.record.Record.{Record}
-use Rattle.record_laws.specs.Points.{points_of}
-use Rattle.composition.specs.Scenes.{Scene}
-use Rattle.field_flatten.specs.Ends.{bounds}
+use Rattle.scene_search.specs.record_laws.Points.{points_of}
+use Rattle.instance_check.specs.composition.Scenes.{Scene}
+use Rattle.instance_check.specs.field_flatten.Ends.{bounds}
 use Rattle.scene_search.specs.Findings.{IsSpentRecord}
 
 -- a record of a scene is spent only if the scene's flat form has more points than the record has cuts

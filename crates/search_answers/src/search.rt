@@ -1,15 +1,15 @@
 //! From a scene to what is replied of it.
 
 ghost use Rattle.std.specs.Prelude.{◌≤◌, IfOk};
-ghost use Rattle.composition.specs.SeenScenes.{seen_scene};
-ghost use Rattle.field_flatten.specs.Exactness.{IsExpanded, IsLimited};
+ghost use Rattle.instance_check.specs.composition.SeenScenes.{seen_scene};
+ghost use Rattle.instance_check.specs.field_flatten.Exactness.{IsExpanded, IsLimited};
 ghost use Rattle.search_answers.specs.SearchAnswers.{Generates};
 ghost use Rattle.search_answers.specs.Searches.{IsSearched};
 
 use crate::found::RunOrReply;
 use command_replies::{Reply, done, refutation, undecided};
-use composition::Scene;
-use run_check::write_run;
+use instance_check::composition::Scene;
+use instance_check::run_check::write_run;
 use scene_search::{Finding, find_run};
 use std::alloc::{AllocError, Global};
 

@@ -29,3 +29,6 @@ pub use outcome::Outcome;
 #[doc(hidden)]
 pub use script::Script;
 pub use searching::search;
+
+// Crates below, for the crates above.
+pub use bound_trail;

@@ -1,1 +1,3 @@
 pub mod Extremes
+-- Crates below, for the crates above.
+pub use Rattle.scene_slots.proofs.of_field_flatten as of_field_flatten

@@ -3,16 +3,16 @@
 ghost use Rattle.std.specs.Prelude.{◌≡◌, ◌≤◌, ◌-◌, map, fold, option_copied, pos, IfOk};
 ghost use Rattle.std.specs.Int.{int_min, int_max};
 ghost use Rattle.std.specs.Option.{option_map_or};
-ghost use Rattle.type_heads.specs.Bounds.{least_of, greatest_of};
-ghost use Rattle.composition.specs.declared.spot.ChoiceSpot.{ChoiceSpot};
-ghost use Rattle.composition.specs.declared.spot.ValueSpot.{ValueSpot};
-ghost use Rattle.composition.specs.SeenScenes.{seen_scene};
-ghost use Rattle.box_eval.specs.Box.{pair};
-ghost use Rattle.field_flatten.specs.Ends.{ends_of as ends_in, range_ends as range_by, tick_ends as ticks_by, no_ends, bounds as all_ends};
+ghost use Rattle.scene_slots.specs.type_heads.Bounds.{least_of, greatest_of};
+ghost use Rattle.scene_slots.specs.composition.declared.spot.ChoiceSpot.{ChoiceSpot};
+ghost use Rattle.scene_slots.specs.composition.declared.spot.ValueSpot.{ValueSpot};
+ghost use Rattle.scene_slots.specs.composition.SeenScenes.{seen_scene};
+ghost use Rattle.scene_slots.specs.box_eval.Box.{pair};
+ghost use Rattle.scene_slots.specs.field_flatten.Ends.{ends_of as ends_in, range_ends as range_by, tick_ends as ticks_by, no_ends, bounds as all_ends};
 
-use box_eval::{Bounds, Pair};
-use composition::{ChoiceSpot, Scene, Setting, ValueRange, ValueSpot};
-use osc_base::{Row, SlotName, Text};
+use scene_slots::box_eval::{Bounds, Pair};
+use scene_slots::composition::{ChoiceSpot, Scene, Setting, ValueRange, ValueSpot};
+use scene_slots::osc_base::{Row, SlotName, Text};
 use scene_slots::slot_names;
 use std::alloc::{AllocError, Global};
 

@@ -4,3 +4,6 @@
 mod ends;
 
 pub use ends::{bounds, ends_of, number_ends};
+
+// Crates below, for the crates above.
+pub use scene_slots;

@@ -3,7 +3,7 @@ use Rattle.std.proofs.Common.{◌≡◌, ℕ, List, [], ◌∷◌, Some, None}
 use Rattle.std.specs.Prelude.{◌≢◌}
 use Rattle.outside_io.specs.declared.shelf.NamedBytes.{NamedBytes}
 use Rattle.name_scope.specs.FileNumbers.{AddedFile}
-use Rattle.program_load.specs.Loading.{IsLoaded}
+use Rattle.loaded_programs.specs.program_load.Loading.{IsLoaded}
 
 -- it has its main file
 pub loaded_some : (files : List NamedBytes) (main : List ℕ) (program : List AddedFile) → IsLoaded files main program → program ≢ []

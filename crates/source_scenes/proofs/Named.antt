@@ -4,11 +4,11 @@ use Rattle.std.specs.Prelude.{◌≢◌, option_map, slice_get}
 use Rattle.std.specs.Option.{option_or}
 use Rattle.osc_base.specs.declared.fault.Fault.{Fault}
 use Rattle.name_scope.specs.FileNumbers.{AddedFile}
-use Rattle.composition.specs.declared.setting.Setting.{Setting}
-use Rattle.named_scenario.specs.Found.{IsNamed}
-use Rattle.named_scenario.specs.Naming.{fault_in, scenario_in, types_in}
-use Rattle.named_scenario.specs.declared.named.NamedScenario.{NamedScenario}
-use Rattle.program_load.specs.declared.stop.Refusal.{Refusal}
+use Rattle.loaded_programs.specs.composition.declared.setting.Setting.{Setting}
+use Rattle.program_scenes.specs.named_scenario.Found.{IsNamed}
+use Rattle.program_scenes.specs.named_scenario.Naming.{fault_in, scenario_in, types_in}
+use Rattle.program_scenes.specs.named_scenario.declared.named.NamedScenario.{NamedScenario}
+use Rattle.loaded_programs.specs.program_load.declared.stop.Refusal.{Refusal}
 use Rattle.command_replies.specs.Reply.{Answer}
 use Rattle.command_replies.specs.Replies.{refused_source}
 use Rattle.source_scenes.specs.declared.found.FoundScene.{FoundScene}

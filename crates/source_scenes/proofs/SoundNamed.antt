@@ -2,12 +2,12 @@
 use Rattle.std.proofs.Common.{◌≡◌, ℕ, List, Option, Some, None, false}
 use Rattle.name_scope.specs.FileNumbers.{AddedFile}
 use Rattle.type_heads.specs.DeclaredTypes.{program_of}
-use Rattle.composition.specs.declared.setting.Setting.{Setting}
-use Rattle.composition.specs.Expanded.{scene}
-use Rattle.composition.specs.SceneFaults.{is_too_large, named_scenario}
-use Rattle.composition.specs.StaticFaults.{declaration_fault}
-use Rattle.named_scenario.specs.Naming.{fault_in, scenario_in, types_in}
-use Rattle.checkable_scenes.proofs.SceneParts.{scenes_are_limited, scenes_are_expanded, scenes_are_checkable}
+use Rattle.loaded_programs.specs.composition.declared.setting.Setting.{Setting}
+use Rattle.loaded_programs.specs.composition.Expanded.{scene}
+use Rattle.loaded_programs.specs.composition.SceneFaults.{is_too_large, named_scenario}
+use Rattle.loaded_programs.specs.composition.StaticFaults.{declaration_fault}
+use Rattle.program_scenes.specs.named_scenario.Naming.{fault_in, scenario_in, types_in}
+use Rattle.loaded_programs.proofs.of_checkable_scenes.SceneParts.{scenes_are_limited, scenes_are_expanded, scenes_are_checkable}
 use Rattle.loaded_programs.proofs.LoadedPrograms.{loads_are_loaded_programs}
 use Rattle.source_scenes.specs.FoundScenes.{IsKnown}
 use Rattle.source_scenes.specs.SoundScenes.{IsSoundScene}

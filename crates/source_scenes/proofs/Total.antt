@@ -4,12 +4,12 @@ use Rattle.std.specs.Prelude.{◌≢◌}
 use Rattle.std.specs.Option.{option_or}
 use Rattle.outside_io.specs.declared.shelf.NamedBytes.{NamedBytes}
 use Rattle.name_scope.specs.FileNumbers.{AddedFile}
-use Rattle.composition.specs.declared.setting.Setting.{Setting}
-use Rattle.composition.specs.Expanded.{scene}
-use Rattle.composition.specs.Scenes.{Scene}
-use Rattle.named_scenario.specs.Naming.{types_in}
-use Rattle.program_load.specs.declared.stop.Refusal.{Refusal}
-use Rattle.program_load.proofs.Total.{some_load}
+use Rattle.loaded_programs.specs.composition.declared.setting.Setting.{Setting}
+use Rattle.loaded_programs.specs.composition.Expanded.{scene}
+use Rattle.loaded_programs.specs.composition.Scenes.{Scene}
+use Rattle.program_scenes.specs.named_scenario.Naming.{types_in}
+use Rattle.loaded_programs.specs.program_load.declared.stop.Refusal.{Refusal}
+use Rattle.loaded_programs.proofs.of_program_load.Total.{some_load}
 use Rattle.command_replies.specs.Reply.{Answer}
 use Rattle.command_replies.specs.Replies.{refused_source}
 use Rattle.source_scenes.specs.Programs.{first_refusal, scenario_named, scenario_refusal}

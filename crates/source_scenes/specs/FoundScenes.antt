@@ -3,13 +3,13 @@ use Rattle.std.specs.Prelude.{◌≡◌, ℕ, true, List, Option, Some, None, op
 use Rattle.osc_base.specs.declared.fault.Fault.{Fault}
 use Rattle.outside_io.specs.declared.shelf.NamedBytes.{NamedBytes}
 use Rattle.name_scope.specs.FileNumbers.{AddedFile}
-use Rattle.composition.specs.declared.setting.Setting.{Setting}
-use Rattle.composition.specs.Expanded.{scene}
-use Rattle.composition.specs.Invariants.{is_setting}
-use Rattle.composition.specs.SeenScenes.{seen_scene}
-use Rattle.named_scenario.specs.Naming.{fault_in, scenario_in, types_in}
-use Rattle.program_load.specs.declared.stop.LoadStop.{LoadStop}
-use Rattle.program_load.specs.Loading.{IsLoaded, name_at}
+use Rattle.loaded_programs.specs.composition.declared.setting.Setting.{Setting}
+use Rattle.loaded_programs.specs.composition.Expanded.{scene}
+use Rattle.loaded_programs.specs.composition.Invariants.{is_setting}
+use Rattle.loaded_programs.specs.composition.SeenScenes.{seen_scene}
+use Rattle.program_scenes.specs.named_scenario.Naming.{fault_in, scenario_in, types_in}
+use Rattle.loaded_programs.specs.program_load.declared.stop.LoadStop.{LoadStop}
+use Rattle.loaded_programs.specs.program_load.Loading.{IsLoaded, name_at}
 use Rattle.command_replies.specs.Reply.{Answer}
 use Rattle.command_replies.specs.Replies.{failed_shelf, fault_of, refused_source}
 use Rattle.source_scenes.specs.declared.found.FoundScene.{FoundScene}

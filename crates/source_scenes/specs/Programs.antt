@@ -8,11 +8,11 @@ use Rattle.dsl_tree.specs.Views.{file_tree}
 use Rattle.name_scope.specs.FileNumbers.{AddedFile}
 use Rattle.type_heads.specs.Types.{Types}
 use Rattle.type_heads.specs.Members.{body}
-use Rattle.composition.specs.declared.setting.Setting.{Setting}
-use Rattle.composition.specs.SceneFaults.{is_too_large}
-use Rattle.named_scenario.specs.Naming.{fault_in, scenario_in, types_in}
-use Rattle.program_load.specs.declared.stop.Refusal.{Refusal}
-use Rattle.program_load.specs.Loading.{name_at}
+use Rattle.loaded_programs.specs.composition.declared.setting.Setting.{Setting}
+use Rattle.loaded_programs.specs.composition.SceneFaults.{is_too_large}
+use Rattle.program_scenes.specs.named_scenario.Naming.{fault_in, scenario_in, types_in}
+use Rattle.loaded_programs.specs.program_load.declared.stop.Refusal.{Refusal}
+use Rattle.loaded_programs.specs.program_load.Loading.{name_at}
 
 -- ---- The named scenario
 

@@ -3,7 +3,7 @@
 ghost use Rattle.std.specs.Prelude.{◌≡◌, ◌≢◌, [], ℕ, List, IfOk, Some, option_map};
 ghost use Rattle.command_replies.specs.Replies.{fault_of, refused_source};
 ghost use Rattle.name_scope.specs.Declaring.{behaviour_name};
-ghost use Rattle.program_load.specs.Loading.{name_at};
+ghost use Rattle.loaded_programs.specs.program_load.Loading.{name_at};
 ghost use Rattle.source_scenes.specs.Programs.{no_scenario};
 
 use command_replies::{Reply, fault};

@@ -1,19 +1,19 @@
 ghost use Rattle.std.specs.Prelude.{◌≡◌, ◌≢◌, [], IfOk, None, true, option_copied};
-ghost use Rattle.composition.specs.Invariants.{is_setting};
+ghost use Rattle.loaded_programs.specs.composition.Invariants.{is_setting};
 ghost use Rattle.dsl_tree.specs.Views.{compound_tree};
 ghost use Rattle.name_scope.specs.FileNumbers.{wanted_name};
-ghost use Rattle.named_scenario.specs.Declarations.{IsDeclaredBy};
-ghost use Rattle.named_scenario.specs.Naming.{types_in};
+ghost use Rattle.program_scenes.specs.named_scenario.Declarations.{IsDeclaredBy};
+ghost use Rattle.program_scenes.specs.named_scenario.Naming.{types_in};
 ghost use Rattle.source_scenes.specs.FoundScenes.{IsFoundScene, IsKnown, IsSceneOf, IsSomeLoad};
 ghost use Rattle.source_scenes.specs.Programs.{name_in, owner_in};
 ghost use Rattle.type_heads.specs.Told.{told};
 
 use crate::found::FoundScene;
 use crate::refusals::{fault_in, name_place, no_scenario};
-use composition::Setting;
+use loaded_programs::composition::Setting;
 use name_scope::Program;
-use named_scenario::{NameStop, NamedScenario, find_scenario};
 use osc_base::{Fault, FaultCode};
+use program_scenes::named_scenario::{NameStop, NamedScenario, find_scenario};
 use program_scenes::scene_of;
 use std::alloc::{AllocError, Global};
 

@@ -3,23 +3,23 @@ use Rattle.std.proofs.Common.{◌≡◌, ◌∙◌, refl, sym, ap, subst, ℕ, L
 use Rattle.std.specs.Prelude.{flat_map, option_to_list}
 use Rattle.std.proofs.lemmas.List.{append-nil}
 use Rattle.std.proofs.lemmas.Grind.{flat_map-append}
-use Rattle.dsl_tree.specs.declared.expr.Expr.{Expr}
-use Rattle.dsl_tree.specs.declared.expr.Suffix.{Suffix}
-use Rattle.dsl_tree.specs.declared.compounds.Member.{Member}
-use Rattle.dsl_tree.specs.declared.file.Declaration.{Declaration}
-use Rattle.dsl_tree.specs.declared.rules.PathHead.{PathHead}
-use Rattle.dsl_tree.specs.declared.rules.RuleDecl.{RuleDecl}
-use Rattle.dsl_tree.specs.declared.phases.Argument.{Argument}
-use Rattle.dsl_tree.specs.declared.phases.InvokePart.{InvokePart}
-use Rattle.dsl_tree.specs.declared.phases.Phase.{Phase}
-use Rattle.dsl_tree.specs.declared.phases.CompNode.{CompNode}
-use Rattle.dsl_tree.specs.declared.phases.Phase.TheOpen.{Phase-F, CompNode-F}
-use Rattle.dsl_tree.specs.declared.phases.Phase.TheFolds.{fold-roll-Phase, fold-roll-CompNode, ind-Phase, map-Phase, map-CompNode}
-use Rattle.dsl_tree.specs.declared.phases.Phase.TheViews.{roll-Phase, roll-CompNode}
-use Rattle.dsl_tree.specs.ExprTree.{ExprTree}
-use Rattle.dsl_tree.specs.PhaseTree.{PhaseTree, row_of}
-use Rattle.dsl_tree.specs.Views as Views
-use Rattle.dsl_tree.specs.Views.{with_suffixes, path_row, head_tree, expr_tree, suffix_tree, rule_tree, argument_tree, part_tree, phase_tree, comp_tree, member_tree, declaration_tree}
+use Rattle.type_heads.specs.dsl_tree.declared.expr.Expr.{Expr}
+use Rattle.type_heads.specs.dsl_tree.declared.expr.Suffix.{Suffix}
+use Rattle.type_heads.specs.dsl_tree.declared.compounds.Member.{Member}
+use Rattle.type_heads.specs.dsl_tree.declared.file.Declaration.{Declaration}
+use Rattle.type_heads.specs.dsl_tree.declared.rules.PathHead.{PathHead}
+use Rattle.type_heads.specs.dsl_tree.declared.rules.RuleDecl.{RuleDecl}
+use Rattle.type_heads.specs.dsl_tree.declared.phases.Argument.{Argument}
+use Rattle.type_heads.specs.dsl_tree.declared.phases.InvokePart.{InvokePart}
+use Rattle.type_heads.specs.dsl_tree.declared.phases.Phase.{Phase}
+use Rattle.type_heads.specs.dsl_tree.declared.phases.CompNode.{CompNode}
+use Rattle.type_heads.specs.dsl_tree.declared.phases.Phase.TheOpen.{Phase-F, CompNode-F}
+use Rattle.type_heads.specs.dsl_tree.declared.phases.Phase.TheFolds.{fold-roll-Phase, fold-roll-CompNode, ind-Phase, map-Phase, map-CompNode}
+use Rattle.type_heads.specs.dsl_tree.declared.phases.Phase.TheViews.{roll-Phase, roll-CompNode}
+use Rattle.type_heads.specs.dsl_tree.ExprTree.{ExprTree}
+use Rattle.type_heads.specs.dsl_tree.PhaseTree.{PhaseTree, row_of}
+use Rattle.type_heads.specs.dsl_tree.Views as Views
+use Rattle.type_heads.specs.dsl_tree.Views.{with_suffixes, path_row, head_tree, expr_tree, suffix_tree, rule_tree, argument_tree, part_tree, phase_tree, comp_tree, member_tree, declaration_tree}
 use Rattle.type_heads.specs.Texts.{texts_in, argument_exprs, rule_exprs, part_exprs, phase_exprs, row_exprs, member_exprs, declaration_exprs}
 use Rattle.string_texts.specs.Strings.{joined, expr_strings, suffix_strings}
 use Rattle.string_texts.specs.PhaseStrings.{argument_strings, rule_strings, part_strings, phase_strings, comp_strings, phase_step, comp_step}

@@ -1,17 +1,17 @@
 -- The texts of strings by the program's own trees are those by the definitions.
 use Rattle.std.proofs.Common.{◌≡◌, ◌∙◌, refl, sym, ap, subst, ℕ, List, [], ◌∷◌, ◌++◌, map}
 use Rattle.std.proofs.lemmas.List.{append_assoc, append-nil}
-use Rattle.osc_base.specs.declared.fault.Place.{Place}
-use Rattle.dsl_tree.specs.declared.expr.Operator.{Operator}
-use Rattle.dsl_tree.specs.declared.expr.Expr.{Expr}
-use Rattle.dsl_tree.specs.declared.expr.Suffix.{Suffix}
-use Rattle.dsl_tree.specs.declared.expr.Further.{Further}
-use Rattle.dsl_tree.specs.declared.expr.Expr.TheOpen.{Expr-F, Suffix-F, Further-F}
-use Rattle.dsl_tree.specs.declared.expr.Expr.TheFolds.{fold-roll-Expr, fold-roll-Suffix, fold-roll-Further, ind-Expr, ind-Suffix, map-Expr, map-Suffix, map-Further}
-use Rattle.dsl_tree.specs.declared.expr.Expr.TheViews.{roll-Expr, roll-Suffix, roll-Further}
-use Rattle.dsl_tree.specs.ExprTree.{ExprTree, row_of}
-use Rattle.dsl_tree.specs.Views as Views
-use Rattle.dsl_tree.specs.Views.{SuffixTree, FurtherTree, Named, At, grouped, with_suffixes, named_row, indexed_row, expr_tree, suffix_tree, further_tree}
+use Rattle.type_heads.specs.osc_base.declared.fault.Place.{Place}
+use Rattle.type_heads.specs.dsl_tree.declared.expr.Operator.{Operator}
+use Rattle.type_heads.specs.dsl_tree.declared.expr.Expr.{Expr}
+use Rattle.type_heads.specs.dsl_tree.declared.expr.Suffix.{Suffix}
+use Rattle.type_heads.specs.dsl_tree.declared.expr.Further.{Further}
+use Rattle.type_heads.specs.dsl_tree.declared.expr.Expr.TheOpen.{Expr-F, Suffix-F, Further-F}
+use Rattle.type_heads.specs.dsl_tree.declared.expr.Expr.TheFolds.{fold-roll-Expr, fold-roll-Suffix, fold-roll-Further, ind-Expr, ind-Suffix, map-Expr, map-Suffix, map-Further}
+use Rattle.type_heads.specs.dsl_tree.declared.expr.Expr.TheViews.{roll-Expr, roll-Suffix, roll-Further}
+use Rattle.type_heads.specs.dsl_tree.ExprTree.{ExprTree, row_of}
+use Rattle.type_heads.specs.dsl_tree.Views as Views
+use Rattle.type_heads.specs.dsl_tree.Views.{SuffixTree, FurtherTree, Named, At, grouped, with_suffixes, named_row, indexed_row, expr_tree, suffix_tree, further_tree}
 use Rattle.type_heads.specs.Texts.{texts_in, texts_among}
 use Rattle.string_texts.specs.Strings.{joined, expr_step, suffix_step, further_step, expr_strings, suffix_strings, further_strings}
 

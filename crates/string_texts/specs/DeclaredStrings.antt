@@ -1,8 +1,8 @@
 -- The texts of the strings in members and declarations, in the order in which they stand.
 use Rattle.std.specs.Prelude.{ℕ, List, [], ◌++◌, Option, Some, None, map}
-use Rattle.dsl_tree.specs.declared.expr.Expr.{Expr}
-use Rattle.dsl_tree.specs.declared.compounds.Member.{Member}
-use Rattle.dsl_tree.specs.declared.file.Declaration.{Declaration}
+use Rattle.type_heads.specs.dsl_tree.declared.expr.Expr.{Expr}
+use Rattle.type_heads.specs.dsl_tree.declared.compounds.Member.{Member}
+use Rattle.type_heads.specs.dsl_tree.declared.file.Declaration.{Declaration}
 use Rattle.string_texts.specs.Strings.{joined, expr_strings}
 use Rattle.string_texts.specs.PhaseStrings.{rule_strings, phase_strings}
 

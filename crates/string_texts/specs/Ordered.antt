@@ -2,7 +2,7 @@
 use Rattle.std.specs.Prelude.{ℕ, List, flat_map, map}
 use Rattle.std.specs.BTreeSet.{BTreeSet}
 use denote.Ref.{Bor}
-use Rattle.dsl_tree.specs.Views.{declaration_tree}
+use Rattle.type_heads.specs.dsl_tree.Views.{declaration_tree}
 use Rattle.type_heads.specs.Texts.{texts_in, declaration_exprs}
 use Rattle.type_heads.specs.declared.placed.PlacedDecl.{PlacedDecl}
 

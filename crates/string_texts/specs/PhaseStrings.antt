@@ -1,13 +1,13 @@
 -- The texts of the strings in rules and phases, in the order in which they stand.
 use Rattle.std.specs.Prelude.{ℕ, List, ◌++◌, map}
-use Rattle.dsl_tree.specs.declared.rules.RuleDecl.{RuleDecl}
-use Rattle.dsl_tree.specs.declared.phases.Argument.{Argument}
-use Rattle.dsl_tree.specs.declared.phases.InvokePart.{InvokePart}
-use Rattle.dsl_tree.specs.declared.phases.InvokeNode.{InvokeNode}
-use Rattle.dsl_tree.specs.declared.phases.Phase.{Phase}
-use Rattle.dsl_tree.specs.declared.phases.CompNode.{CompNode}
-use Rattle.dsl_tree.specs.declared.phases.Phase.TheOpen.{Phase-F, CompNode-F}
-use Rattle.dsl_tree.specs.declared.phases.Phase.TheFolds.{fold-Phase, fold-CompNode}
+use Rattle.type_heads.specs.dsl_tree.declared.rules.RuleDecl.{RuleDecl}
+use Rattle.type_heads.specs.dsl_tree.declared.phases.Argument.{Argument}
+use Rattle.type_heads.specs.dsl_tree.declared.phases.InvokePart.{InvokePart}
+use Rattle.type_heads.specs.dsl_tree.declared.phases.InvokeNode.{InvokeNode}
+use Rattle.type_heads.specs.dsl_tree.declared.phases.Phase.{Phase}
+use Rattle.type_heads.specs.dsl_tree.declared.phases.CompNode.{CompNode}
+use Rattle.type_heads.specs.dsl_tree.declared.phases.Phase.TheOpen.{Phase-F, CompNode-F}
+use Rattle.type_heads.specs.dsl_tree.declared.phases.Phase.TheFolds.{fold-Phase, fold-CompNode}
 use Rattle.string_texts.specs.Strings.{joined, expr_strings, suffix_strings}
 
 abbrev pub argument_strings : Argument → List (List ℕ)

@@ -1,10 +1,10 @@
 -- The texts of the strings in the program's own trees, in the order in which they stand.
 use Rattle.std.specs.Prelude.{ℕ, List, [], ◌∷◌, ◌++◌, flat_map}
-use Rattle.dsl_tree.specs.declared.expr.Expr.{Expr}
-use Rattle.dsl_tree.specs.declared.expr.Suffix.{Suffix}
-use Rattle.dsl_tree.specs.declared.expr.Further.{Further}
-use Rattle.dsl_tree.specs.declared.expr.Expr.TheOpen.{Expr-F, Suffix-F, Further-F}
-use Rattle.dsl_tree.specs.declared.expr.Expr.TheFolds.{fold-Expr, fold-Suffix, fold-Further}
+use Rattle.type_heads.specs.dsl_tree.declared.expr.Expr.{Expr}
+use Rattle.type_heads.specs.dsl_tree.declared.expr.Suffix.{Suffix}
+use Rattle.type_heads.specs.dsl_tree.declared.expr.Further.{Further}
+use Rattle.type_heads.specs.dsl_tree.declared.expr.Expr.TheOpen.{Expr-F, Suffix-F, Further-F}
+use Rattle.type_heads.specs.dsl_tree.declared.expr.Expr.TheFolds.{fold-Expr, fold-Suffix, fold-Further}
 
 -- the texts of all parts
 abbrev pub joined : List (List (List ℕ)) → List (List ℕ)

@@ -1,7 +1,7 @@
 //! The texts of the strings in members and declarations.
 
 ghost use Rattle.std.specs.Prelude.{◌≡◌, ◌++◌, flat_map, map, OnOk};
-ghost use Rattle.dsl_tree.specs.Views.{declaration_tree};
+ghost use Rattle.type_heads.specs.dsl_tree.Views.{declaration_tree};
 ghost use Rattle.type_heads.specs.Texts.{declaration_exprs, texts_in};
 ghost use Rattle.string_texts.specs.Strings.{joined};
 ghost use Rattle.string_texts.specs.PhaseStrings.{rule_strings};
@@ -9,8 +9,8 @@ ghost use Rattle.string_texts.specs.DeclaredStrings.{declaration_strings, initia
 
 use crate::exprs::push_expr;
 use crate::phases::{push_phase, push_rule};
-use dsl_tree::{Declaration, Expr, Member, RuleDecl};
 use std::alloc::AllocError;
+use type_heads::dsl_tree::{Declaration, Expr, Member, RuleDecl};
 
 fn push_rules<'a>(texts: &mut Vec<&'a str>, rules: &'a [RuleDecl]) -> Result<(), AllocError>
     ensures { OnOk result (map (λ t. t.now) texts.new.items ≡ map (λ t. t.now) texts.old.items ++ joined (map rule_strings rules.entry.now)) }

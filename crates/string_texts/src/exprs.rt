@@ -1,12 +1,12 @@
 //! The texts of the strings in expressions.
 
 ghost use Rattle.std.specs.Prelude.{◌≡◌, ◌++◌, [], ◌∷◌, map, OnOk};
-ghost use Rattle.dsl_tree.specs.Views.{expr_tree};
+ghost use Rattle.type_heads.specs.dsl_tree.Views.{expr_tree};
 ghost use Rattle.type_heads.specs.Texts.{texts_in};
 ghost use Rattle.string_texts.specs.Strings.{expr_strings, further_strings, joined, suffix_strings};
 
-use dsl_tree::{Expr, Further, Suffix};
 use std::alloc::AllocError;
+use type_heads::dsl_tree::{Expr, Further, Suffix};
 
 /// Puts the texts of the strings in an expression at the end, in the order in which they stand.
 pub fn push_texts_in<'a>(texts: &mut Vec<&'a str>, expr: &'a Expr) -> Result<(), AllocError>

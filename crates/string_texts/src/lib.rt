@@ -11,3 +11,7 @@ pub use declared::push_declaration;
 pub use exprs::push_texts_in;
 pub use program::texts;
 pub use sorted::ordered;
+
+// Crates below, for the crates above.
+pub use type_heads;
+pub use type_heads::{dsl_tree, name_scope, osc_base, units_si};

@@ -5,8 +5,8 @@ ghost use Rattle.string_texts.specs.Strings.{joined};
 ghost use Rattle.string_texts.specs.PhaseStrings.{argument_strings, comp_strings, invoke_strings, part_strings, phase_strings, rule_strings};
 
 use crate::exprs::{push_expr, push_suffixes};
-use dsl_tree::{Argument, CompNode, InvokeNode, InvokePart, Phase, RuleDecl};
 use std::alloc::AllocError;
+use type_heads::dsl_tree::{Argument, CompNode, InvokeNode, InvokePart, Phase, RuleDecl};
 
 fn push_arguments<'a>(texts: &mut Vec<&'a str>, arguments: &'a [Argument]) -> Result<(), AllocError>
     ensures { OnOk result (map (λ t. t.now) texts.new.items ≡ map (λ t. t.now) texts.old.items ++ joined (map argument_strings arguments.entry.now)) }

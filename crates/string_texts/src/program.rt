@@ -6,10 +6,10 @@ ghost use Rattle.string_texts.specs.Ordered.{placed_texts, shown};
 
 use crate::declared::push_declaration;
 use crate::sorted::ordered;
-use osc_base::Text;
 use std::alloc::{AllocError, Global};
 use std::collections::BTreeSet;
 use type_heads::PlacedDecl;
+use type_heads::osc_base::Text;
 
 /// The greatest number of texts.
 const MOST_TEXTS: usize = 1_000_000_000;

@@ -4,9 +4,9 @@ ghost use Rattle.std.specs.Prelude.{◌≡◌, ◌++◌, [], ◌∷◌, fold, ma
 ghost use Rattle.type_heads.specs.Texts.{with_text};
 ghost use Rattle.string_texts.specs.Ordered.{shown};
 
-use osc_base::Text;
 use std::alloc::{AllocError, Global};
 use std::collections::BTreeSet;
+use type_heads::osc_base::Text;
 
 /// Puts a text in its place, unless it is there.
 fn put<'a>(texts: &mut BTreeSet<&'a str>, text: &'a str) -> Result<(), AllocError>

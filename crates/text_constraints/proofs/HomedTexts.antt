@@ -9,8 +9,8 @@ use Rattle.expr_nodes.specs.Typing.{is_path, typed}
 use Rattle.composition.specs.Givens.{from_root, left_target, read_at, target_at, typed_here}
 use Rattle.composition.specs.Homes.{home}
 use Rattle.composition.specs.Scenes.{Binding}
-use Rattle.scene_texts.specs.Moving.{path_under}
-use Rattle.scene_texts.proofs.MovedTwice.{from_root_is, moved_home}
+use Rattle.scene_places.specs.scene_texts.Moving.{path_under}
+use Rattle.scene_places.proofs.of_scene_texts.MovedTwice.{from_root_is, moved_home}
 use Rattle.text_constraints.specs.Sites.{Site, at_home, here_of, left_home, path_home, read_home, typed_home}
 use Rattle.scene_places.specs.Placed.{home_under}
 

@@ -20,7 +20,7 @@ use Rattle.composition.specs.Givens.{FieldHere, Given, element, equals, field_he
 use Rattle.composition.specs.Homes.{home}
 use Rattle.composition.specs.Tokens.{tokens, value_tokens}
 use Rattle.composition.specs.Scenes.{Binding}
-use Rattle.expansion_laws.specs.WorkNodes.{own_within}
+use Rattle.scene_places.specs.expansion_laws.WorkNodes.{own_within}
 use Rattle.text_constraints.specs.Kept.{Holder, equal_kept, kept, mark_home, rule_kept}
 use Rattle.text_constraints.specs.OwnTexts.{condition_kept, conditions_kept, elements_kept, field_kept, field_site, held_under, heir_kept, initial_kept, initials_kept, listed_kept, member_kept, rule_site}
 use Rattle.text_constraints.specs.Sites.{Site, here_of, left_home, read_home}

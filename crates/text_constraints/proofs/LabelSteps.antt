@@ -3,7 +3,7 @@ use Rattle.std.proofs.Common.{◌≡◌, ◌∙◌, refl, sym, ap, subst, ℕ, L
 use Rattle.type_heads.specs.Types.{Types}
 use Rattle.expr_nodes.specs.Scope.{Scope}
 use Rattle.composition.specs.Calls.{scope_at}
-use Rattle.program_calls.specs.SeenLabels.{LabelHere, do_labels}
+use Rattle.program_texts.specs.program_calls.SeenLabels.{LabelHere, do_labels}
 use Rattle.program_texts.specs.OwnLabels.{seen_type_labels}
 use Rattle.text_constraints.specs.Labelled.{IsLabelled}
 use Rattle.text_constraints.specs.OwnTexts.{IsTextScope}

@@ -5,7 +5,7 @@ use Rattle.type_heads.specs.Types.{Member}
 use Rattle.type_members.specs.Shared.{part_at, under_inside}
 use Rattle.type_members.specs.declared.places.Part.{Part}
 use Rattle.type_members.specs.declared.places.Span.{Span}
-use Rattle.program_fields.proofs.Fronts.{given_more, left_at}
+use Rattle.program_texts.proofs.of_program_fields.Fronts.{given_more, left_at}
 
 -- after what came before
 pub part_more : {Z : Type 0} (give : Member → List Z) (rows : List (List Member)) (s : Span) (parts : List Part) (i : ℕ) (d : Part) → i < length parts →

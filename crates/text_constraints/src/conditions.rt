@@ -8,7 +8,7 @@ ghost use Rattle.expr_nodes.specs.Checks.{IsChecked};
 ghost use Rattle.expr_nodes.specs.Scope as Scopes;
 ghost use Rattle.expr_nodes.specs.SeenNames.{seen_scope};
 ghost use Rattle.expr_nodes.specs.Typing.{first};
-ghost use Rattle.program_fields.specs.SeenFields.{seen_field};
+ghost use Rattle.program_texts.specs.program_fields.SeenFields.{seen_field};
 ghost use Rattle.program_texts.specs.SeenTexts.{types_in};
 ghost use Rattle.type_heads.specs.Table.{bases};
 ghost use Rattle.text_constraints.specs.Kept.{seen_owner};
@@ -22,12 +22,12 @@ use dsl_tree::{ConditionValue, HeirCondition, Ident};
 use expr_eval::Checked;
 use expr_nodes::others::{enum_name, it};
 use expr_nodes::steps::pointed;
+use expr_nodes::type_model::{TypeId, Types};
 use expr_nodes::{Scope, literals};
 use osc_base::{Boxed, Place, Row, Strength};
-use program_fields::TypeField;
 use program_texts::ProgramTexts;
+use program_texts::program_fields::TypeField;
 use std::alloc::{AllocError, Global};
-use type_model::{TypeId, Types};
 
 /// `true` or `false`.
 fn truth(alloc: Global, types: &Types, place: Place, value: bool) -> Result<Checked, AllocError>

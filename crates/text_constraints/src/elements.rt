@@ -7,11 +7,11 @@ ghost use Rattle.text_constraints.specs.Elements.{element_path, element_read, fi
 
 use expr_eval::Checked;
 use expr_nodes::others::it;
+use expr_nodes::type_model::{FieldType, TypeId, Types};
 use expr_nodes::{Info, It, Scope, Typed};
 use osc_base::{Boxed, Path, Place, Row};
-use scene_texts::{then_index, then_name};
+use scene_places::scene_texts::{then_index, then_name};
 use std::alloc::{AllocError, Global};
-use type_model::{FieldType, TypeId, Types};
 
 /// What an element of a list holds of itself, and over what it is counted.
 #[derive(Clone, Copy)]

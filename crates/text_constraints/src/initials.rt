@@ -23,11 +23,11 @@ use dsl_tree::Expr;
 use expr_eval::checked;
 use expr_nodes::Typed;
 use expr_nodes::others::it;
+use expr_nodes::type_model::{TypeId, Types};
 use osc_base::{Boxed, Place, Strength};
-use program_calls::first_place;
 use program_texts::list_items;
+use program_texts::program_calls::first_place;
 use std::alloc::{AllocError, Global};
-use type_model::{TypeId, Types};
 
 /// The default that `it` has an initial value.
 fn initial(

@@ -10,7 +10,7 @@ ghost use Rattle.program_texts.specs.SeenTexts.{types_in};
 ghost use Rattle.type_heads.specs.Members as told;
 ghost use Rattle.type_members.specs.Listed.{seen_listed};
 ghost use Rattle.type_members.specs.Shared.{under_inside};
-ghost use Rattle.expansion_laws.specs.WorkNodes.{own_within};
+ghost use Rattle.scene_places.specs.expansion_laws.WorkNodes.{own_within};
 ghost use Rattle.composition.specs.Expanded.{occurrence_of};
 ghost use Rattle.text_constraints.specs.Kept.{seen_owner};
 ghost use Rattle.text_constraints.specs.Labelled.{IsLabelled};
@@ -23,14 +23,14 @@ use crate::rules::{Owner, push_rule, push_rules};
 use crate::targets::TextSite;
 use composition::{Guard, Occurrence, Scene};
 use dsl_tree::{Expr, FieldDecl, Ident, Member, RuleDecl};
+use expr_nodes::type_model::{FieldType, ListedMember, TypeId};
 use expr_nodes::{It, Scope};
 use osc_base::{Path, Place};
-use program_calls::scope_at;
+use program_texts::program_calls::scope_at;
 use program_texts::{ProgramTexts, TypeLabels, list_length};
 use scene_places::Places;
-use scene_texts::then_name;
+use scene_places::scene_texts::then_name;
 use std::alloc::{AllocError, Global};
-use type_model::{FieldType, ListedMember, TypeId};
 
 /// An object of a type, and the scene in which it stands.
 #[derive(Clone, Copy)]

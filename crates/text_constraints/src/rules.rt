@@ -20,10 +20,10 @@ use dsl_tree::{Expr, KeepKind, PathNode, RelationSign, RuleDecl};
 use expr_eval::{Checked, checked};
 use expr_nodes::Typed;
 use expr_nodes::steps::related;
+use expr_nodes::type_model::Types;
 use osc_base::{Mark, Path, Place, Strength};
 use scene_places::moved_part;
 use std::alloc::{AllocError, Global};
-use type_model::Types;
 
 /// Whose constraints a text gives: an object or a phase, and the conditions under which they are there.
 #[derive(Clone, Copy)]

@@ -9,12 +9,12 @@ ghost use Rattle.scene_places.specs.Placed.{place_in};
 
 use dsl_tree::{Expr, PathNode};
 use expr_eval::{checked, path_checked};
+use expr_nodes::type_model::Types;
 use expr_nodes::{Scope, Typed};
 use osc_base::{Boxed, Path};
-use program_calls::is_path;
+use program_texts::program_calls::is_path;
 use scene_places::Places;
 use std::alloc::{AllocError, Global};
-use type_model::Types;
 
 /// Where a text stands: the homes of its paths, and the scope of its names.
 #[derive(Clone, Copy)]

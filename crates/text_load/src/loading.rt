@@ -2,7 +2,7 @@ ghost use Rattle.std.specs.Prelude.{◌≡◌, ◌≤◌, IfOk, IfErr, IfSome, l
 ghost use Rattle.outside_io.specs.Files.{SomeFiles};
 ghost use Rattle.text_load.specs.Texts.{Allows, Counts, IsCut};
 
-use osc_base::Row;
+use outside_io::osc_base::Row;
 use outside_io::{ReadStop, Shelf, read_all};
 use std::alloc::Global;
 

@@ -1,12 +1,12 @@
 -- Going through the base units in brackets.
 use Rattle.std.proofs.Common.{◌≡◌, ◌∙◌, ap, ℕ, Bool, not, List, [], ◌∷◌, Option, ◌||◌, bytes_eq}
 use Rattle.std.specs.List.{list_any}
-use Rattle.osc_base.specs.declared.fault.Fault.{Fault}
-use Rattle.osc_base.specs.declared.fault.FaultCode.{FaultCode}
-use Rattle.osc_base.specs.FaultRows.{FaultRow, row, first_from}
-use Rattle.dsl_tree.specs.declared.units.BasePart.{BasePart}
-use Rattle.type_heads.specs.Units.{is_base_unit}
-use Rattle.type_heads.specs.HeadingFaults.{bracket_rows}
+use Rattle.type_members.specs.osc_base.declared.fault.Fault.{Fault}
+use Rattle.type_members.specs.osc_base.declared.fault.FaultCode.{FaultCode}
+use Rattle.type_members.specs.osc_base.FaultRows.{FaultRow, row, first_from}
+use Rattle.type_members.specs.dsl_tree.declared.units.BasePart.{BasePart}
+use Rattle.type_members.specs.type_heads.Units.{is_base_unit}
+use Rattle.type_members.specs.type_heads.HeadingFaults.{bracket_rows}
 use Rattle.type_faults.specs.NameRows.{HasTexts}
 use Rattle.type_faults.proofs.RowSteps.{done, one_text_more}
 

@@ -2,14 +2,14 @@
 use Rattle.std.proofs.Common.{◌≡◌, ◌∙◌, refl, ap, ℕ, Bool, true, false, cond, List, [], ◌∷◌, ◌++◌, Option, Some, None, length}
 use Rattle.std.specs.Prelude.{filter, option_map, option_and_then}
 use Rattle.std.specs.Option.{option_map_or}
-use Rattle.osc_base.specs.declared.fault.FaultCode.{FaultCode}
-use Rattle.osc_base.specs.FaultRows.{FaultRow, row}
-use Rattle.dsl_tree.specs.declared.compounds.HeirCondition.{HeirCondition}
-use Rattle.type_heads.specs.Table.{TypeHead, base, bases}
-use Rattle.type_heads.specs.Types.{TypeBody, Member, Field, Types}
-use Rattle.type_heads.specs.Members.{field, heir_condition, is_conditional}
-use Rattle.type_heads.specs.MemberFaults.{condition_field, condition_rows, depends_on, field_rows}
-use Rattle.type_heads.specs.Cycles.{returns}
+use Rattle.type_members.specs.osc_base.declared.fault.FaultCode.{FaultCode}
+use Rattle.type_members.specs.osc_base.FaultRows.{FaultRow, row}
+use Rattle.type_members.specs.dsl_tree.declared.compounds.HeirCondition.{HeirCondition}
+use Rattle.type_members.specs.type_heads.Table.{TypeHead, base, bases}
+use Rattle.type_members.specs.type_heads.Types.{TypeBody, Member, Field, Types}
+use Rattle.type_members.specs.type_heads.Members.{field, heir_condition, is_conditional}
+use Rattle.type_members.specs.type_heads.MemberFaults.{condition_field, condition_rows, depends_on, field_rows}
+use Rattle.type_members.specs.type_heads.Cycles.{returns}
 use Rattle.type_faults.specs.declared.member_faults.fields.FieldHit.{FieldHit}
 use Rattle.type_faults.specs.ListedRows.{FoundField, field_under, found_field, seen_hit, types_with, under_in}
 use Rattle.type_faults.specs.ConditionRows.{found_rows}

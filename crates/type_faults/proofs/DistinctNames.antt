@@ -3,9 +3,9 @@ use Rattle.std.proofs.Common.{◌≡◌, ◌∙◌, refl, sym, ap, ℕ, ◌||◌
 use Rattle.std.specs.List.{list_any}
 use Rattle.std.proofs.lemmas.List.Folds.{list_any-append}
 use Rattle.std.proofs.lemmas.Slice.Eq.{bytes_eq-Decides}
-use Rattle.dsl_tree.specs.declared.parts.Ident.{Ident}
-use Rattle.type_heads.specs.Types.{Member}
-use Rattle.type_heads.specs.MemberFaults.{member_names, names_among, repeated_rows}
+use Rattle.type_members.specs.dsl_tree.declared.parts.Ident.{Ident}
+use Rattle.type_members.specs.type_heads.Types.{Member}
+use Rattle.type_members.specs.type_heads.MemberFaults.{member_names, names_among, repeated_rows}
 use Rattle.type_faults.specs.NamePlaces.{declares_name, has_text}
 use Rattle.type_faults.specs.RowFacts.{quiet}
 use Rattle.type_faults.proofs.Quiet.{any_flat, any_weaker, both_false, left_false, not_false, or_left, or_right, right_false}

@@ -2,14 +2,14 @@
 use Rattle.std.proofs.Common.{◌≡◌, ◌∙◌, refl, sym, ap, ◌⊎◌, inl, inr, ℕ, zero, suc, ◌&&◌, ◌||◌, Bool, true, false, not, List, [], ◌∷◌, ◌++◌, Option, Some, None, bytes_eq, length, nat_lt, take, true≢false}
 use Rattle.std.specs.Prelude.{codes}
 use Rattle.std.specs.List.{cons_option, list_any}
-use Rattle.osc_base.specs.FaultRows.{FaultRow}
-use Rattle.dsl_tree.specs.declared.compounds.CompoundKind.{CompoundKind}
-use Rattle.dsl_tree.specs.declared.parts.Ident.{Ident}
-use Rattle.type_heads.specs.Form.{Form}
-use Rattle.type_heads.specs.Table.{TypeHead, is_scenario}
-use Rattle.type_heads.specs.Types.{Do, Member}
-use Rattle.type_heads.specs.Members.{do_declared}
-use Rattle.type_heads.specs.MemberFaults.{do_rows, initial_rows, member_names, names_among, repeated_rows}
+use Rattle.type_members.specs.osc_base.FaultRows.{FaultRow}
+use Rattle.type_members.specs.dsl_tree.declared.compounds.CompoundKind.{CompoundKind}
+use Rattle.type_members.specs.dsl_tree.declared.parts.Ident.{Ident}
+use Rattle.type_members.specs.type_heads.Form.{Form}
+use Rattle.type_members.specs.type_heads.Table.{TypeHead, is_scenario}
+use Rattle.type_members.specs.type_heads.Types.{Do, Member}
+use Rattle.type_members.specs.type_heads.Members.{do_declared}
+use Rattle.type_members.specs.type_heads.MemberFaults.{do_rows, initial_rows, member_names, names_among, repeated_rows}
 use Rattle.type_faults.specs.NamePlaces.{has_text}
 use Rattle.type_faults.specs.RowFacts.{AreSo, dos_among, initials_among, is_do, quiet}
 use Rattle.type_faults.specs.declared.member_faults.row_facts.RowFacts.{RowFacts}

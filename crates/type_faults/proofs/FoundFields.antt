@@ -5,10 +5,10 @@ use Rattle.std.specs.Option.{option_or}
 use Rattle.std.specs.List.{list_any}
 use Rattle.std.proofs.lemmas.List.Concat.{flat_map-append}
 use Rattle.std.proofs.lemmas.List.Folds.{find-append}
-use Rattle.dsl_tree.specs.declared.parts.Ident.{Ident}
-use Rattle.dsl_tree.specs.FileTree.{FieldTree}
-use Rattle.type_heads.specs.Types.{Field, Member}
-use Rattle.type_heads.specs.Members.{fields_among, fields_declared}
+use Rattle.type_members.specs.dsl_tree.declared.parts.Ident.{Ident}
+use Rattle.type_members.specs.dsl_tree.FileTree.{FieldTree}
+use Rattle.type_members.specs.type_heads.Types.{Field, Member}
+use Rattle.type_members.specs.type_heads.Members.{fields_among, fields_declared}
 use Rattle.type_faults.specs.ListedRows.{field_found, found_field}
 
 -- the field that a declaration of names declares

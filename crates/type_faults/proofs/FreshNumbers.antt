@@ -3,8 +3,8 @@ use Rattle.std.proofs.Common.{◌≡◌, ◌∙◌, refl, sym, ap, ℕ, ◌+◌,
 use Rattle.std.proofs.lemmas.Bool.Decides.{nat_tests}
 use Rattle.std.proofs.lemmas.List.{take_more}
 use Rattle.std.proofs.lemmas.List.Folds.{list_any-append}
-use Rattle.type_heads.specs.Members.{has}
-use Rattle.type_heads.specs.Cycles.{fresh}
+use Rattle.type_members.specs.type_heads.Members.{has}
+use Rattle.type_members.specs.type_heads.Cycles.{fresh}
 use Rattle.type_faults.specs.Reaching.{AddsFresh, HasNumbers}
 
 -- what is fresh depends on what was met, not on its order

@@ -1,14 +1,14 @@
 -- Extensions and bases worked into heads change no name, so names mean the same.
 use Rattle.std.proofs.Common.{◌≡◌, ◌∙◌, refl, ap, ℕ, ◌+◌, cond, ◌&&◌, List, [], ◌∷◌, ◌++◌, Option, Some, None, map, flat_map, nat_eq, bytes_eq, false}
 use Rattle.std.specs.Option.{option_map_or}
-use Rattle.osc_base.specs.FaultRows.{FaultRow}
-use Rattle.dsl_tree.specs.declared.parts.Ident.{Ident}
-use Rattle.dsl_tree.specs.declared.enums.EnumItem.{EnumItem}
-use Rattle.dsl_tree.specs.FileTree.{DeclarationTree}
-use Rattle.name_scope.specs.Declaring.{first_place, same_owner}
-use Rattle.type_heads.specs.Table.{TypeHead, is_enum, named}
-use Rattle.type_heads.specs.DeclaredTypes.{Placed, Declared, heads_from, items_added, meant, numbered_from}
-use Rattle.type_heads.specs.HeadingFaults.{enum_rows_from, item_rows}
+use Rattle.type_members.specs.osc_base.FaultRows.{FaultRow}
+use Rattle.type_members.specs.dsl_tree.declared.parts.Ident.{Ident}
+use Rattle.type_members.specs.dsl_tree.declared.enums.EnumItem.{EnumItem}
+use Rattle.type_members.specs.dsl_tree.FileTree.{DeclarationTree}
+use Rattle.type_members.specs.name_scope.Declaring.{first_place, same_owner}
+use Rattle.type_members.specs.type_heads.Table.{TypeHead, is_enum, named}
+use Rattle.type_members.specs.type_heads.DeclaredTypes.{Placed, Declared, heads_from, items_added, meant, numbered_from}
+use Rattle.type_members.specs.type_heads.HeadingFaults.{enum_rows_from, item_rows}
 
 named_from : (names : List TypeHead) (all : List Placed) (t n : ℕ) (ds : List Declared) (owner : Option (List ℕ)) (name : List ℕ) →
     first_place (λ (h : TypeHead). same_owner h.owner owner && bytes_eq h.name name) n (heads_from names all t ds)

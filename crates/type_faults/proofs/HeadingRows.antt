@@ -1,15 +1,15 @@
 -- The rows of headings, over what is gathered of a program.
 use Rattle.std.proofs.Common.{◌≡◌, ◌∙◌, sym, ap, List, ◌++◌, flat_map, map}
 use Rattle.std.specs.Prelude.{filter_map}
-use Rattle.osc_base.specs.FaultRows.{FaultRow}
-use Rattle.type_heads.specs.Table.{TypeHead, all_types}
-use Rattle.type_heads.specs.Types.{Program, TypeBody}
-use Rattle.type_heads.specs.DeclaredTypes.{Placed, all_declared, bodies_from, declared_heads, heads_from, placed, types_of}
-use Rattle.type_heads.specs.Gathered.{all_of, heads_of}
-use Rattle.type_heads.specs.HeadsGrouped.{all_heads}
-use Rattle.type_heads.specs.Bodied.{all_bodies}
-use Rattle.type_heads.specs.HeadingFaults.{basic_names, cycle_row, declaration_rows, enum_rows_from, heading_rows, name_declared, twice_rows}
-use Rattle.type_heads.specs.declared.declarations.Declarations.{Declarations}
+use Rattle.type_members.specs.osc_base.FaultRows.{FaultRow}
+use Rattle.type_members.specs.type_heads.Table.{TypeHead, all_types}
+use Rattle.type_members.specs.type_heads.Types.{Program, TypeBody}
+use Rattle.type_members.specs.type_heads.DeclaredTypes.{Placed, all_declared, bodies_from, declared_heads, heads_from, placed, types_of}
+use Rattle.type_members.specs.type_heads.Gathered.{all_of, heads_of}
+use Rattle.type_members.specs.type_heads.HeadsGrouped.{all_heads}
+use Rattle.type_members.specs.type_heads.Bodied.{all_bodies}
+use Rattle.type_members.specs.type_heads.HeadingFaults.{basic_names, cycle_row, declaration_rows, enum_rows_from, heading_rows, name_declared, twice_rows}
+use Rattle.type_members.specs.type_heads.declared.declarations.Declarations.{Declarations}
 use Rattle.type_faults.specs.NameFaults.{rows_of_names}
 use Rattle.type_faults.proofs.HeadNames.{same_enum_rows, same_names}
 

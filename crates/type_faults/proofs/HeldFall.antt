@@ -5,11 +5,11 @@ use Rattle.std.specs.Option.{option_map_or}
 use Rattle.std.specs.List.{list_all}
 use Rattle.std.proofs.lemmas.Bool.Decides.{nat_tests}
 use Rattle.std.proofs.lemmas.List.Folds.{list_all-append}
-use Rattle.type_heads.specs.Table.{TypeHead, all_types, base, bases, form, has_members, int_head, line_within, numbers_from}
-use Rattle.type_heads.specs.Types.{TypeBody}
-use Rattle.type_heads.specs.Members.{body, is_conditional, no_body, subtypes}
-use Rattle.type_heads.specs.Cycles.{fresh, returns}
-use Rattle.type_heads.specs.HeadingFaults.{family, held_types}
+use Rattle.type_members.specs.type_heads.Table.{TypeHead, all_types, base, bases, form, has_members, int_head, line_within, numbers_from}
+use Rattle.type_members.specs.type_heads.Types.{TypeBody}
+use Rattle.type_members.specs.type_heads.Members.{body, is_conditional, no_body, subtypes}
+use Rattle.type_members.specs.type_heads.Cycles.{fresh, returns}
+use Rattle.type_members.specs.type_heads.HeadingFaults.{family, held_types}
 use Rattle.type_faults.specs.Holding.{fields_of}
 use Rattle.type_faults.specs.HeldRanks.{base_fits, type_fits, types_fit}
 use Rattle.type_faults.specs.Ranking.{IsShown, falls, rank}

@@ -1,11 +1,11 @@
 -- The types that a type holds, as they are gathered.
 use Rattle.std.proofs.Common.{◌≡◌, ◌∙◌, refl, sym, ap, ℕ, zero, suc, ◌+◌, List, [], ◌∷◌, ◌++◌, flat_map, length, append_assoc, arith}
 use Rattle.std.specs.Prelude.{slice_index_or}
-use Rattle.type_heads.specs.Table.{TypeHead, bases}
-use Rattle.type_heads.specs.Types.{TypeBody}
-use Rattle.type_heads.specs.Members.{subtypes}
-use Rattle.type_heads.specs.Cycles.{fresh, reached}
-use Rattle.type_heads.specs.HeadingFaults.{family}
+use Rattle.type_members.specs.type_heads.Table.{TypeHead, bases}
+use Rattle.type_members.specs.type_heads.Types.{TypeBody}
+use Rattle.type_members.specs.type_heads.Members.{subtypes}
+use Rattle.type_members.specs.type_heads.Cycles.{fresh, reached}
+use Rattle.type_members.specs.type_heads.HeadingFaults.{family}
 use Rattle.type_members.specs.Listed.{AreSubtypes}
 
 -- some are put at the end, and the rest is left

@@ -4,24 +4,24 @@ use Rattle.std.proofs.lemmas.List.{map-append}
 use Rattle.std.proofs.lemmas.List.Concat.{flat_map-append}
 use Rattle.std.specs.Option.{option_map_or}
 use Rattle.std.proofs.lemmas.List.{take_more}
-use Rattle.osc_base.specs.declared.fault.Fault.{Fault}
-use Rattle.osc_base.specs.declared.fault.FaultCode.{FaultCode}
-use Rattle.osc_base.specs.FaultRows.{FaultRow, row, row_fault, first_of, first_from}
-use Rattle.dsl_tree.specs.declared.enums.EnumItem.{EnumItem}
-use Rattle.type_heads.specs.Form.{EnumMember, greatest_value}
+use Rattle.type_members.specs.osc_base.declared.fault.Fault.{Fault}
+use Rattle.type_members.specs.osc_base.declared.fault.FaultCode.{FaultCode}
+use Rattle.type_members.specs.osc_base.FaultRows.{FaultRow, row, row_fault, first_of, first_from}
+use Rattle.type_members.specs.dsl_tree.declared.enums.EnumItem.{EnumItem}
+use Rattle.type_members.specs.type_heads.Form.{EnumMember, greatest_value}
 use Rattle.std.proofs.Common.{cond, filter, map}
-use Rattle.dsl_tree.specs.FileTree.{DeclarationTree}
-use Rattle.type_heads.specs.Table.{TypeHead, is_enum}
-use Rattle.type_heads.specs.Placing.{seen_placed, seen_type}
-use Rattle.type_heads.specs.Extending.{extends, type_extended}
-use Rattle.type_heads.specs.declared.own_type.OwnType.{OwnType}
+use Rattle.type_members.specs.dsl_tree.FileTree.{DeclarationTree}
+use Rattle.type_members.specs.type_heads.Table.{TypeHead, is_enum}
+use Rattle.type_members.specs.type_heads.Placing.{seen_placed, seen_type}
+use Rattle.type_members.specs.type_heads.Extending.{extends, type_extended}
+use Rattle.type_members.specs.type_heads.declared.own_type.OwnType.{OwnType}
 use Rattle.type_faults.proofs.RowSteps.{done}
-use Rattle.type_heads.specs.DeclaredTypes.{Placed, Declared, items_added, items_with, means, numbered_from}
-use Rattle.type_heads.specs.HeadingFaults.{enum_rows_from, item_rows, number_place, shares_item}
+use Rattle.type_members.specs.type_heads.DeclaredTypes.{Placed, Declared, items_added, items_with, means, numbered_from}
+use Rattle.type_members.specs.type_heads.HeadingFaults.{enum_rows_from, item_rows, number_place, shares_item}
 use Rattle.type_faults.specs.ItemSets.{has_item, HasItems, ContinuesItems, items_in, rows_of_items, rows_of_type}
-use Rattle.dsl_tree.specs.Views.{declaration_tree}
+use Rattle.type_members.specs.dsl_tree.Views.{declaration_tree}
 use Rattle.type_faults.specs.Trees.{trees}
-use Rattle.type_heads.specs.declared.placed.PlacedDecl.{PlacedDecl}
+use Rattle.type_members.specs.type_heads.declared.placed.PlacedDecl.{PlacedDecl}
 use Rattle.type_faults.specs.declared.heading_faults.items.ItemSet.{ItemSet}
 
 pub one_item : (first found : Option Fault) (old new : ItemSet) (i : EnumItem) (number : ℕ) (is_met : Bool) →

@@ -6,17 +6,17 @@ use Rattle.std.specs.List.{cons_option, list_any}
 use Rattle.std.proofs.lemmas.Grind.{flat_map-append}
 use Rattle.std.proofs.lemmas.List.Elements.{filter_map-append}
 use Rattle.std.proofs.lemmas.List.Folds.{list_any-append}
-use Rattle.osc_base.specs.declared.fault.Fault.{Fault}
-use Rattle.osc_base.specs.declared.fault.FaultCode.{FaultCode}
-use Rattle.osc_base.specs.FaultRows.{FaultRow, first_from, row}
-use Rattle.osc_base.proofs.FaultRows.{first_from_joined}
-use Rattle.dsl_tree.specs.declared.compounds.CompoundKind.{CompoundKind}
-use Rattle.dsl_tree.specs.declared.parts.Ident.{Ident}
-use Rattle.type_heads.specs.Form.{Form}
-use Rattle.type_heads.specs.Table.{TypeHead, form, is_behaviour, is_scenario}
-use Rattle.type_heads.specs.Types.{Do, Member, Types}
-use Rattle.type_heads.specs.Members.{do_declared, members}
-use Rattle.type_heads.specs.MemberFaults.{condition_rows, do_rows, names_among, names_given, repeated_rows, type_rows}
+use Rattle.type_members.specs.osc_base.declared.fault.Fault.{Fault}
+use Rattle.type_members.specs.osc_base.declared.fault.FaultCode.{FaultCode}
+use Rattle.type_members.specs.osc_base.FaultRows.{FaultRow, first_from, row}
+use Rattle.type_members.proofs.of_osc_base.FaultRows.{first_from_joined}
+use Rattle.type_members.specs.dsl_tree.declared.compounds.CompoundKind.{CompoundKind}
+use Rattle.type_members.specs.dsl_tree.declared.parts.Ident.{Ident}
+use Rattle.type_members.specs.type_heads.Form.{Form}
+use Rattle.type_members.specs.type_heads.Table.{TypeHead, form, is_behaviour, is_scenario}
+use Rattle.type_members.specs.type_heads.Types.{Do, Member, Types}
+use Rattle.type_members.specs.type_heads.Members.{do_declared, members}
+use Rattle.type_members.specs.type_heads.MemberFaults.{condition_rows, do_rows, names_among, names_given, repeated_rows, type_rows}
 use Rattle.type_members.specs.Listed.{seen_row}
 use Rattle.type_members.specs.Cutting.{cut_out}
 use Rattle.type_members.specs.Shared.{AreStarted, fronts_in, is_cut, members_at, members_in_part, members_in_parts, moved, parts_from, place_parts}

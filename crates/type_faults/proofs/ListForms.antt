@@ -1,19 +1,19 @@
 -- Which expressions are list constructors.
 use Rattle.std.proofs.Common.{◌≡◌, ◌∙◌, refl, ap, suc, Bool, false, not, List, [], ◌∷◌, Some, map, length, nat_lt, nat_le, ℕ, arith}
 use Rattle.std.proofs.lemmas.Bool.Decides.{nat_tests}
-use Rattle.osc_base.specs.declared.fault.Place.{Place}
-use Rattle.dsl_tree.specs.declared.expr.Operator.{Operator}
-use Rattle.dsl_tree.specs.declared.expr.Expr.{Expr}
-use Rattle.dsl_tree.specs.declared.expr.Suffix.{Suffix}
-use Rattle.dsl_tree.specs.declared.expr.Further.{Further}
-use Rattle.dsl_tree.specs.declared.expr.Expr.TheOpen.{Expr-F}
-use Rattle.dsl_tree.specs.declared.expr.Expr.TheFolds.{fold-roll-Expr, ind-Expr, map-Expr}
-use Rattle.dsl_tree.specs.declared.expr.Expr.TheViews
-use Rattle.dsl_tree.specs.declared.expr.Expr.TheViews.{roll-Expr}
-use Rattle.dsl_tree.specs.ExprTree.{ExprTree, items_of, row_of}
-use Rattle.dsl_tree.specs.Views.{SuffixTree, FurtherTree, Named, At, grouped, with_suffixes, named_row, indexed_row, expr_step, suffix_step, further_step, expr_tree, suffix_tree, further_tree}
-use Rattle.dsl_tree.proofs.Seen.{seen_listed}
-use Rattle.type_heads.specs.MemberFaults.{is_list_of, most_elements}
+use Rattle.type_members.specs.osc_base.declared.fault.Place.{Place}
+use Rattle.type_members.specs.dsl_tree.declared.expr.Operator.{Operator}
+use Rattle.type_members.specs.dsl_tree.declared.expr.Expr.{Expr}
+use Rattle.type_members.specs.dsl_tree.declared.expr.Suffix.{Suffix}
+use Rattle.type_members.specs.dsl_tree.declared.expr.Further.{Further}
+use Rattle.type_members.specs.dsl_tree.declared.expr.Expr.TheOpen.{Expr-F}
+use Rattle.type_members.specs.dsl_tree.declared.expr.Expr.TheFolds.{fold-roll-Expr, ind-Expr, map-Expr}
+use Rattle.type_members.specs.dsl_tree.declared.expr.Expr.TheViews
+use Rattle.type_members.specs.dsl_tree.declared.expr.Expr.TheViews.{roll-Expr}
+use Rattle.type_members.specs.dsl_tree.ExprTree.{ExprTree, items_of, row_of}
+use Rattle.type_members.specs.dsl_tree.Views.{SuffixTree, FurtherTree, Named, At, grouped, with_suffixes, named_row, indexed_row, expr_step, suffix_step, further_step, expr_tree, suffix_tree, further_tree}
+use Rattle.type_members.proofs.of_dsl_tree.Seen.{seen_listed}
+use Rattle.type_members.specs.type_heads.MemberFaults.{is_list_of, most_elements}
 
 abbrev makes_list : ExprTree → Bool
 makes_list tree = is_list_of (Some tree)

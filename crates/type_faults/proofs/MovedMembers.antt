@@ -7,15 +7,15 @@ use Rattle.std.proofs.lemmas.Bool.Decides.{nat_tests}
 use Rattle.std.proofs.lemmas.List.Concat.{flat_map-append}
 use Rattle.std.proofs.lemmas.List.Elements.{filter_map-append}
 use Rattle.std.proofs.lemmas.List.Folds.{list_any-append}
-use Rattle.osc_base.specs.FaultRows.{FaultRow}
-use Rattle.dsl_tree.specs.declared.compounds.CompoundKind.{CompoundKind}
-use Rattle.dsl_tree.specs.declared.parts.Ident.{Ident}
-use Rattle.dsl_tree.specs.FileTree.{MemberTree}
-use Rattle.type_heads.specs.Form.{Form}
-use Rattle.type_heads.specs.Table.{TypeHead, is_scenario}
-use Rattle.type_heads.specs.Types.{Do, Member}
-use Rattle.type_heads.specs.Members.{do_declared}
-use Rattle.type_heads.specs.MemberFaults.{do_rows, initial_rows, member_names, names_among, repeated_rows}
+use Rattle.type_members.specs.osc_base.FaultRows.{FaultRow}
+use Rattle.type_members.specs.dsl_tree.declared.compounds.CompoundKind.{CompoundKind}
+use Rattle.type_members.specs.dsl_tree.declared.parts.Ident.{Ident}
+use Rattle.type_members.specs.dsl_tree.FileTree.{MemberTree}
+use Rattle.type_members.specs.type_heads.Form.{Form}
+use Rattle.type_members.specs.type_heads.Table.{TypeHead, is_scenario}
+use Rattle.type_members.specs.type_heads.Types.{Do, Member}
+use Rattle.type_members.specs.type_heads.Members.{do_declared}
+use Rattle.type_members.specs.type_heads.MemberFaults.{do_rows, initial_rows, member_names, names_among, repeated_rows}
 use Rattle.type_members.specs.Shared.{under_inside}
 use Rattle.type_members.proofs.SeenInside.{any_inside, flat_inside}
 use Rattle.type_faults.specs.RowFacts.{AreSo, dos_among, initials_among, is_do, quiet}

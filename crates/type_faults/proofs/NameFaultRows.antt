@@ -1,14 +1,14 @@
 -- The rows of headings over declarations and over their trees.
 use Rattle.std.proofs.Common.{◌≡◌, ◌∙◌, refl, ap, List, [], ◌∷◌, ◌++◌, Option, map, filter_map, flat_map}
 use Rattle.std.specs.List.{cons_option}
-use Rattle.osc_base.specs.declared.fault.Fault.{Fault}
-use Rattle.osc_base.specs.FaultRows.{FaultRow, first_from}
-use Rattle.dsl_tree.specs.FileTree.{DeclarationTree}
-use Rattle.dsl_tree.specs.Views.{declaration_tree}
-use Rattle.type_heads.specs.DeclaredTypes.{Placed}
-use Rattle.type_heads.specs.Placing.{seen_placed}
+use Rattle.type_members.specs.osc_base.declared.fault.Fault.{Fault}
+use Rattle.type_members.specs.osc_base.FaultRows.{FaultRow, first_from}
+use Rattle.type_members.specs.dsl_tree.FileTree.{DeclarationTree}
+use Rattle.type_members.specs.dsl_tree.Views.{declaration_tree}
+use Rattle.type_members.specs.type_heads.DeclaredTypes.{Placed}
+use Rattle.type_members.specs.type_heads.Placing.{seen_placed}
 use Rattle.type_faults.specs.Trees.{trees}
-use Rattle.type_heads.specs.declared.placed.PlacedDecl.{PlacedDecl}
+use Rattle.type_members.specs.type_heads.declared.placed.PlacedDecl.{PlacedDecl}
 use Rattle.type_faults.proofs.RowSteps.{two}
 
 named_trees : {X : Type 0} (f : DeclarationTree → Option X) (ps : List PlacedDecl) → filter_map f (trees ps) ≡ filter_map (λ (p : Placed). f p.declaration) (map seen_placed ps)

@@ -3,9 +3,9 @@ use Rattle.std.proofs.Common.{◌≡◌, ◌∙◌, refl, sym, ap, ℕ, Bool, tr
 use Rattle.std.specs.Bool.{beq}
 use Rattle.std.specs.Option.{option_eq}
 use Rattle.std.proofs.lemmas.Slice.Eq.{bytes_eq-Decides}
-use Rattle.name_scope.specs.declared.ids.NameKind.{NameKind}
-use Rattle.name_scope.specs.Declaring.{DeclaredName, same_owner}
-use Rattle.type_heads.specs.HeadingFaults.{is_unit_name, same_space, shares_name}
+use Rattle.type_members.specs.name_scope.declared.ids.NameKind.{NameKind}
+use Rattle.type_members.specs.name_scope.Declaring.{DeclaredName, same_owner}
+use Rattle.type_members.specs.type_heads.HeadingFaults.{is_unit_name, same_space, shares_name}
 use Rattle.type_faults.specs.SeenNames.{seen_name, key_of, in_space, shares_key}
 use Rattle.type_faults.specs.declared.heading_faults.names.NameDeclared.{NameDeclared}
 use Rattle.type_faults.specs.declared.heading_faults.names.NameKey.{NameKey}

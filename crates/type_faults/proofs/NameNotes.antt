@@ -2,7 +2,7 @@
 use Rattle.std.proofs.Common.{◌≡◌, ◌∙◌, refl, sym, ap, subst, ℕ, zero, suc, ◌+◌, ◌<◌, ◌||◌, Bool, true, false, cond, List, [], ◌∷◌, ◌++◌, Option, Some, None, get_or, length, map, arith}
 use Rattle.std.specs.Prelude.{slice_get, slice_index_or}
 use Rattle.std.specs.Option.{option_map_or, option_or}
-use Rattle.name_scope.specs.Declaring.{first_place}
+use Rattle.type_members.specs.name_scope.Declaring.{first_place}
 use Rattle.type_members.specs.Listed.{seen_row}
 use Rattle.type_members.specs.declared.rows.MemberRow.{MemberRow}
 use Rattle.type_faults.specs.NamePlaces.{ArePlaces, AreRowPlaces}

@@ -1,12 +1,12 @@
 -- Going through declarations for names that are declared twice.
 use Rattle.std.proofs.Common.{◌≡◌, ◌∙◌, sym, ap, Bool, List, ◌∷◌, Option, Some, None, ◌||◌, filter_map}
 use Rattle.std.specs.List.{list_any, cons_option}
-use Rattle.osc_base.specs.declared.fault.Fault.{Fault}
-use Rattle.osc_base.specs.declared.fault.FaultCode.{FaultCode}
-use Rattle.osc_base.specs.FaultRows.{row, row_fault, first_of, first_from}
-use Rattle.dsl_tree.specs.FileTree.{DeclarationTree}
-use Rattle.name_scope.specs.Declaring.{DeclaredName}
-use Rattle.type_heads.specs.HeadingFaults.{name_declared, shares_name, twice_rows}
+use Rattle.type_members.specs.osc_base.declared.fault.Fault.{Fault}
+use Rattle.type_members.specs.osc_base.declared.fault.FaultCode.{FaultCode}
+use Rattle.type_members.specs.osc_base.FaultRows.{row, row_fault, first_of, first_from}
+use Rattle.type_members.specs.dsl_tree.FileTree.{DeclarationTree}
+use Rattle.type_members.specs.name_scope.Declaring.{DeclaredName}
+use Rattle.type_members.specs.type_heads.HeadingFaults.{name_declared, shares_name, twice_rows}
 use Rattle.type_faults.specs.SeenNames.{shares_key, HasNames}
 use Rattle.type_faults.specs.declared.heading_faults.names.NameKey.{NameKey}
 

@@ -3,10 +3,10 @@ use Rattle.std.proofs.Common.{◌≡◌, ◌∙◌, refl, sym, ap, ℕ, zero, su
 use Rattle.std.specs.Prelude.{option_to_list}
 use Rattle.std.specs.List.{list_all}
 use Rattle.std.proofs.lemmas.List.Folds.{list_all-append}
-use Rattle.type_heads.specs.Table.{TypeHead, base, bases, line_within}
-use Rattle.type_heads.specs.Types.{TypeBody, Member}
-use Rattle.type_heads.specs.Members.{is_conditional}
-use Rattle.type_heads.specs.MemberFaults.{depends_on}
+use Rattle.type_members.specs.type_heads.Table.{TypeHead, base, bases, line_within}
+use Rattle.type_members.specs.type_heads.Types.{TypeBody, Member}
+use Rattle.type_members.specs.type_heads.Members.{is_conditional}
+use Rattle.type_members.specs.type_heads.MemberFaults.{depends_on}
 use Rattle.type_faults.specs.ListedRows.{field_under, near_depended, types_with}
 use Rattle.type_faults.specs.Ranking.{HasLevels, IsShown, rank}
 use Rattle.type_faults.specs.declared.returning.Ranking.{Ranking}

@@ -6,12 +6,12 @@ use Rattle.std.specs.List.{list_any}
 use Rattle.std.proofs.lemmas.Bool.Decides.{nat_tests}
 use Rattle.std.proofs.lemmas.List.{take-append-drop}
 use Rattle.std.proofs.lemmas.List.Folds.{list_any-append}
-use Rattle.dsl_tree.specs.declared.parts.Ident.{Ident}
-use Rattle.dsl_tree.specs.FileTree.{MemberTree}
-use Rattle.name_scope.specs.Declaring.{first_place}
-use Rattle.type_heads.specs.Types.{Field, Member}
-use Rattle.type_heads.specs.Members.{fields_declared}
-use Rattle.type_heads.specs.MemberFaults.{member_names, names_among, repeated_rows}
+use Rattle.type_members.specs.dsl_tree.declared.parts.Ident.{Ident}
+use Rattle.type_members.specs.dsl_tree.FileTree.{MemberTree}
+use Rattle.type_members.specs.name_scope.Declaring.{first_place}
+use Rattle.type_members.specs.type_heads.Types.{Field, Member}
+use Rattle.type_members.specs.type_heads.Members.{fields_declared}
+use Rattle.type_members.specs.type_heads.MemberFaults.{member_names, names_among, repeated_rows}
 use Rattle.type_members.specs.Shared.{members_in_part, members_in_parts, part_at, parts_at, under_inside}
 use Rattle.type_members.specs.declared.places.Part.{Part}
 use Rattle.type_members.proofs.SeenInside.{flat_in_parts}

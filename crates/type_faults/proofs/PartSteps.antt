@@ -5,9 +5,9 @@ use Rattle.std.proofs.lemmas.List.{map-append, take_more}
 use Rattle.std.proofs.lemmas.List.Concat.{flat_map-append}
 use Rattle.std.proofs.lemmas.List.Elements.{filter_map-append}
 use Rattle.std.specs.Borrow.{Bor}
-use Rattle.dsl_tree.specs.declared.parts.Ident.{Ident}
-use Rattle.type_heads.specs.Types.{Do, Member}
-use Rattle.type_heads.specs.Members.{do_declared}
+use Rattle.type_members.specs.dsl_tree.declared.parts.Ident.{Ident}
+use Rattle.type_members.specs.type_heads.Types.{Do, Member}
+use Rattle.type_members.specs.type_heads.Members.{do_declared}
 use Rattle.type_members.specs.Shared.{members_in_part, members_in_parts, part_at, under_inside}
 use Rattle.type_members.specs.declared.places.Part.{Part}
 use Rattle.type_faults.specs.NamePlaces.{lent_names}

@@ -2,10 +2,10 @@
 use Rattle.std.proofs.Common.{◌≡◌, ap, refl, ℕ, Bool, true, false, cond, Option, Some, None, ◌&&◌, ◌||◌, nat_eq, arith, sym, true≢false}
 use Rattle.std.specs.Prelude.{nat_lt}
 use Rattle.std.proofs.lemmas.Bool.Decides.{nat_tests}
-use Rattle.osc_base.specs.declared.fault.Place.{Place}
-use Rattle.osc_base.specs.declared.fault.FaultCode.{FaultCode}
-use Rattle.osc_base.specs.declared.fault.Fault.{Fault}
-use Rattle.osc_base.specs.FaultRows.{first_of, row, row_fault}
+use Rattle.type_members.specs.osc_base.declared.fault.Place.{Place}
+use Rattle.type_members.specs.osc_base.declared.fault.FaultCode.{FaultCode}
+use Rattle.type_members.specs.osc_base.declared.fault.Fault.{Fault}
+use Rattle.type_members.specs.osc_base.FaultRows.{first_of, row, row_fault}
 use Rattle.type_faults.specs.Passing.{is_past}
 
 not_before : (a b n m : ℕ) (c : Bool) → (nat_lt b a || (nat_eq b a && nat_lt m n)) ≡ true → (nat_lt a b || (nat_eq a b && (nat_lt n m || (nat_eq n m && c)))) ≡ false

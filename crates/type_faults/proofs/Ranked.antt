@@ -4,8 +4,8 @@ use Rattle.std.specs.Prelude.{nat_lt, slice_index_or}
 use Rattle.std.specs.List.{list_all}
 use Rattle.std.proofs.lemmas.Bool.Decides.{nat_tests}
 use Rattle.std.proofs.lemmas.List.Folds.{list_all-append}
-use Rattle.type_heads.specs.Members.{has}
-use Rattle.type_heads.specs.Cycles.{fresh, reached, returns}
+use Rattle.type_members.specs.type_heads.Members.{has}
+use Rattle.type_members.specs.type_heads.Cycles.{fresh, reached, returns}
 use Rattle.type_faults.specs.Ranking.{rank, is_level, level_from, falls, shows, AreNext, HasLevels, IsShown}
 use Rattle.type_faults.specs.declared.returning.Ranking.{Ranking}
 

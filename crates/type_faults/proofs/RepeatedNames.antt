@@ -1,24 +1,24 @@
 -- Going through the names of members.
 use Rattle.std.proofs.Common.{map, flat_map, option_to_list}
-use Rattle.dsl_tree.specs.declared.phases.CompNode.{CompNode}
-use Rattle.dsl_tree.specs.declared.phases.Phase.{Phase}
-use Rattle.dsl_tree.specs.declared.phases.Phase.TheOpen.{Phase-F}
-use Rattle.dsl_tree.specs.declared.phases.Phase.TheFolds.{fold-roll-Phase, fold-roll-CompNode}
-use Rattle.dsl_tree.specs.declared.phases.Phase.TheViews as PhaseViews
+use Rattle.type_members.specs.dsl_tree.declared.phases.CompNode.{CompNode}
+use Rattle.type_members.specs.dsl_tree.declared.phases.Phase.{Phase}
+use Rattle.type_members.specs.dsl_tree.declared.phases.Phase.TheOpen.{Phase-F}
+use Rattle.type_members.specs.dsl_tree.declared.phases.Phase.TheFolds.{fold-roll-Phase, fold-roll-CompNode}
+use Rattle.type_members.specs.dsl_tree.declared.phases.Phase.TheViews as PhaseViews
 use Rattle.std.proofs.lemmas.List.{map-append}
 use Rattle.std.proofs.lemmas.List.Concat.{flat_map-append}
-use Rattle.dsl_tree.specs.PhaseTree.{PhaseTree, row_of}
-use Rattle.dsl_tree.specs.Views.{argument_tree, comp_step, comp_tree, phase_step, phase_tree}
-use Rattle.type_heads.specs.MemberFaults.{labels_among, labels_in, member_names, names_among}
+use Rattle.type_members.specs.dsl_tree.PhaseTree.{PhaseTree, row_of}
+use Rattle.type_members.specs.dsl_tree.Views.{argument_tree, comp_step, comp_tree, phase_step, phase_tree}
+use Rattle.type_members.specs.type_heads.MemberFaults.{labels_among, labels_in, member_names, names_among}
 use Rattle.std.proofs.Common.{◌≡◌, ◌∙◌, refl, sym, ap, ℕ, ◌+◌, ◌<◌, Bool, ◌||◌, List, [], ◌∷◌, ◌++◌, Option, take, length, get_or, append_assoc, append-nil, bytes_eq, subst, Bor}
 use Rattle.std.specs.List.{list_any}
 use Rattle.std.proofs.lemmas.List.{take_more}
-use Rattle.osc_base.specs.declared.fault.Fault.{Fault}
-use Rattle.osc_base.specs.declared.fault.FaultCode.{FaultCode}
-use Rattle.osc_base.specs.FaultRows.{row, row_fault, first_of, first_from}
-use Rattle.dsl_tree.specs.declared.parts.Ident.{Ident}
-use Rattle.type_heads.specs.MemberFaults.{repeated_rows}
-use Rattle.type_heads.specs.Types.{Member}
+use Rattle.type_members.specs.osc_base.declared.fault.Fault.{Fault}
+use Rattle.type_members.specs.osc_base.declared.fault.FaultCode.{FaultCode}
+use Rattle.type_members.specs.osc_base.FaultRows.{row, row_fault, first_of, first_from}
+use Rattle.type_members.specs.dsl_tree.declared.parts.Ident.{Ident}
+use Rattle.type_members.specs.type_heads.MemberFaults.{repeated_rows}
+use Rattle.type_members.specs.type_heads.Types.{Member}
 use Rattle.type_members.specs.Shared.{members_in_part, members_in_parts}
 use Rattle.type_members.specs.declared.places.Part.{Part}
 use Rattle.type_faults.specs.NamePlaces.{lent_names}
@@ -70,7 +70,7 @@ pub labels_of_comp : (c : CompNode) → labels_in (comp_tree c) ≡ option_to_li
 labels_of_comp c = ap labels_in (seen_members c) ∙ ap (λ is. option_to_list c.label ++ is) (labels_of_row (map phase_tree c.members))
 
 pub phase_of_comp : (c : CompNode) → comp_tree c ≡ phase_tree (PhaseViews.Comp c)
-unfolding Rattle.dsl_tree.specs.declared.phases.Phase.TheViews.roll-Phase denote.Hole.Carrier.roll
+unfolding Rattle.type_members.specs.dsl_tree.declared.phases.Phase.TheViews.roll-Phase denote.Hole.Carrier.roll
 phase_of_comp c = sym (fold-roll-Phase PhaseTree PhaseTree phase_step comp_step (Phase-F.Comp c))
 
 -- the names of one part more

@@ -1,7 +1,7 @@
 -- Rounds in which types are reached.
 use Rattle.std.proofs.Common.{◌≡◌, ◌∙◌, refl, sym, ap, ℕ, zero, suc, ◌+◌, ◌-◌, ◌<◌, ◌≤◌, List, [], ◌∷◌, ◌++◌, flat_map, length, append-nil, arith}
-use Rattle.type_heads.specs.Members.{has}
-use Rattle.type_heads.specs.Cycles.{fresh, reached}
+use Rattle.type_members.specs.type_heads.Members.{has}
+use Rattle.type_members.specs.type_heads.Cycles.{fresh, reached}
 use Rattle.type_faults.specs.Reaching.{AddsFresh, HasNumbers}
 
 -- nothing new is found

@@ -2,10 +2,10 @@
 use Rattle.std.proofs.Common.{◌≡◌, ◌∙◌, sym, ap, ℕ, ◌+◌, ◌<◌, ◌||◌, List, ◌∷◌, ◌++◌, Option, Result, Ok, Err, IfOk, drop, length, get_or, bytes_eq}
 use Rattle.std.specs.List.{list_any}
 use Rattle.std.proofs.lemmas.List.{drop_more}
-use Rattle.osc_base.specs.declared.fault.Fault.{Fault}
-use Rattle.osc_base.specs.FaultRows.{FaultRow, first_from}
+use Rattle.type_members.specs.osc_base.declared.fault.Fault.{Fault}
+use Rattle.type_members.specs.osc_base.FaultRows.{FaultRow, first_from}
 use Rattle.type_faults.specs.NameRows.{HasTexts}
-use Rattle.osc_base.proofs.FaultRows.{first_from_joined}
+use Rattle.type_members.proofs.of_osc_base.FaultRows.{first_from_joined}
 
 -- some rows are done, and others are left
 pub done : (rs later : List FaultRow) (found found' goal : Option Fault) → found' ≡ first_from found rs → goal ≡ first_from found (rs ++ later) → goal ≡ first_from found' later

@@ -1,6 +1,6 @@
 -- The numbers of types, one after the other.
 use Rattle.std.proofs.Common.{◌≡◌, ◌∙◌, refl, sym, ap, ℕ, zero, suc, ◌+◌, ◌<◌, ◌≤◌, List, [], ◌∷◌, drop, length, arith}
-use Rattle.type_heads.specs.Table.{numbers_from}
+use Rattle.type_members.specs.type_heads.Table.{numbers_from}
 
 -- what is left begins with the next number
 pub next_number : {X : Type 0} (xs : List X) (n m : ℕ) → n < length xs → numbers_from m (drop n xs) ≡ m ∷ numbers_from (m + 1) (drop (n + 1) xs)

@@ -1,11 +1,11 @@
 -- The rows of a condition, given what was found of its field.
 use Rattle.std.specs.Prelude.{ℕ, ◌||◌, not, List, [], ◌∷◌, Option, Some, None, is_some, true}
 use Rattle.std.specs.Option.{option_map_or}
-use Rattle.osc_base.specs.declared.fault.FaultCode.{FaultCode}
-use Rattle.osc_base.specs.FaultRows.{FaultRow, row}
-use Rattle.dsl_tree.specs.declared.compounds.HeirCondition.{HeirCondition}
-use Rattle.type_heads.specs.Table.{TypeHead, form, named}
-use Rattle.type_heads.specs.MemberFaults.{can_decide, held_rows}
+use Rattle.type_members.specs.osc_base.declared.fault.FaultCode.{FaultCode}
+use Rattle.type_members.specs.osc_base.FaultRows.{FaultRow, row}
+use Rattle.type_members.specs.dsl_tree.declared.compounds.HeirCondition.{HeirCondition}
+use Rattle.type_members.specs.type_heads.Table.{TypeHead, form, named}
+use Rattle.type_members.specs.type_heads.MemberFaults.{can_decide, held_rows}
 use Rattle.type_faults.specs.ListedRows.{FoundField}
 
 -- a condition on a field of type t

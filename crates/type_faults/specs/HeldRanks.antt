@@ -2,9 +2,9 @@
 use Rattle.std.specs.Prelude.{ℕ, ◌&&◌, ◌||◌, Bool, true, not, List, ◌++◌, length, nat_lt}
 use Rattle.std.specs.Option.{option_map_or}
 use Rattle.std.specs.List.{list_all}
-use Rattle.type_heads.specs.Table.{TypeHead, all_types, base}
-use Rattle.type_heads.specs.Types.{TypeBody}
-use Rattle.type_heads.specs.Members.{body, is_conditional}
+use Rattle.type_members.specs.type_heads.Table.{TypeHead, all_types, base}
+use Rattle.type_members.specs.type_heads.Types.{TypeBody}
+use Rattle.type_members.specs.type_heads.Members.{body, is_conditional}
 use Rattle.type_faults.specs.Holding.{fields_of}
 use Rattle.type_faults.specs.Ranking.{falls, rank}
 

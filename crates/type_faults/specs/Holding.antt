@@ -1,8 +1,8 @@
 -- The types of the fields that members declare.
 use Rattle.std.specs.Prelude.{ℕ, List, flat_map}
-use Rattle.type_heads.specs.Table.{TypeHead}
-use Rattle.type_heads.specs.Types.{Written}
-use Rattle.type_heads.specs.HeadingFaults.{field_types}
+use Rattle.type_members.specs.type_heads.Table.{TypeHead}
+use Rattle.type_members.specs.type_heads.Types.{Written}
+use Rattle.type_members.specs.type_heads.HeadingFaults.{field_types}
 
 -- the types of the fields among members
 abbrev pub fields_of : List TypeHead → List Written → List ℕ

@@ -1,16 +1,16 @@
 -- The members of an enum that were met, as the code holds them.
 use Rattle.std.specs.Prelude.{◌≡◌, cond, flat_map, ◌||◌, Bool, List, [], ◌++◌, Option, nat_eq, bytes_eq}
 use Rattle.std.specs.List.{list_any}
-use Rattle.osc_base.specs.declared.fault.Fault.{Fault}
-use Rattle.osc_base.specs.FaultRows.{FaultRow, first_from}
-use Rattle.dsl_tree.specs.declared.enums.EnumItem.{EnumItem}
-use Rattle.dsl_tree.specs.FileTree.{DeclarationTree}
-use Rattle.type_heads.specs.Form.{EnumMember}
-use Rattle.type_heads.specs.DeclaredTypes.{Declared, numbered_from}
-use Rattle.type_heads.specs.Table.{is_enum}
+use Rattle.type_members.specs.osc_base.declared.fault.Fault.{Fault}
+use Rattle.type_members.specs.osc_base.FaultRows.{FaultRow, first_from}
+use Rattle.type_members.specs.dsl_tree.declared.enums.EnumItem.{EnumItem}
+use Rattle.type_members.specs.dsl_tree.FileTree.{DeclarationTree}
+use Rattle.type_members.specs.type_heads.Form.{EnumMember}
+use Rattle.type_members.specs.type_heads.DeclaredTypes.{Declared, numbered_from}
+use Rattle.type_members.specs.type_heads.Table.{is_enum}
 use Rattle.type_faults.specs.Trees.{trees}
-use Rattle.type_heads.specs.declared.placed.PlacedDecl.{PlacedDecl}
-use Rattle.type_heads.specs.HeadingFaults.{item_rows, shares_item}
+use Rattle.type_members.specs.type_heads.declared.placed.PlacedDecl.{PlacedDecl}
+use Rattle.type_members.specs.type_heads.HeadingFaults.{item_rows, shares_item}
 use Rattle.type_faults.specs.declared.heading_faults.items.ItemSet.{ItemSet}
 
 -- one of the names or numbers that were met is that of a member

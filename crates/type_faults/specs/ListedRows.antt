@@ -1,12 +1,12 @@
 -- The members of types in the lists that the code holds, and the fields found there.
 use Rattle.std.specs.Prelude.{ℕ, List, [], ◌++◌, Option, None, bytes_eq, find, option_and_then, option_map, option_to_list, slice_index_or}
 use Rattle.std.specs.Option.{option_map_or}
-use Rattle.dsl_tree.specs.declared.compounds.HeirCondition.{HeirCondition}
-use Rattle.dsl_tree.specs.Views.{field_tree}
-use Rattle.dsl_tree.specs.FileTree.{FieldTree}
-use Rattle.type_heads.specs.Table.{TypeHead, base}
-use Rattle.type_heads.specs.Members.{fields_among, fields_declared, heir_condition}
-use Rattle.type_heads.specs.Types.{TypeBody, Member, Field, Types}
+use Rattle.type_members.specs.dsl_tree.declared.compounds.HeirCondition.{HeirCondition}
+use Rattle.type_members.specs.dsl_tree.Views.{field_tree}
+use Rattle.type_members.specs.dsl_tree.FileTree.{FieldTree}
+use Rattle.type_members.specs.type_heads.Table.{TypeHead, base}
+use Rattle.type_members.specs.type_heads.Members.{fields_among, fields_declared, heir_condition}
+use Rattle.type_members.specs.type_heads.Types.{TypeBody, Member, Field, Types}
 use Rattle.type_faults.specs.declared.member_faults.fields.FieldHit.{FieldHit}
 
 -- types with these heads, bodies and members, as far as the faults of members look at them

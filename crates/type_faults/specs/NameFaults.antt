@@ -1,11 +1,11 @@
 -- The faults of headings, but for types that depend on themselves, over what is gathered of a program.
 use Rattle.std.specs.Prelude.{List, ◌++◌, filter_map, flat_map}
-use Rattle.osc_base.specs.FaultRows.{FaultRow}
-use Rattle.type_heads.specs.Table.{TypeHead}
-use Rattle.type_heads.specs.DeclaredTypes.{Placed, all_declared}
-use Rattle.type_heads.specs.Gathered.{all_of, heads_of}
-use Rattle.type_heads.specs.HeadingFaults.{basic_names, declaration_rows, enum_rows_from, name_declared, twice_rows}
-use Rattle.type_heads.specs.declared.declarations.Declarations.{Declarations}
+use Rattle.type_members.specs.osc_base.FaultRows.{FaultRow}
+use Rattle.type_members.specs.type_heads.Table.{TypeHead}
+use Rattle.type_members.specs.type_heads.DeclaredTypes.{Placed, all_declared}
+use Rattle.type_members.specs.type_heads.Gathered.{all_of, heads_of}
+use Rattle.type_members.specs.type_heads.HeadingFaults.{basic_names, declaration_rows, enum_rows_from, name_declared, twice_rows}
+use Rattle.type_members.specs.type_heads.declared.declarations.Declarations.{Declarations}
 
 -- names that are declared twice, names that are used, and members of enums
 abbrev pub rows_of_names : List TypeHead → Declarations → List FaultRow

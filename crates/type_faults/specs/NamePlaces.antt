@@ -4,11 +4,11 @@ use Rattle.std.specs.Borrow.{Bor}
 use Rattle.std.specs.Option.{option_map_or}
 use Rattle.std.specs.List.{list_any}
 use Rattle.indexmap.specs.IndexMap.{get_by}
-use Rattle.osc_base.specs.FaultRows.{first_fault}
-use Rattle.dsl_tree.specs.declared.parts.Ident.{Ident}
-use Rattle.name_scope.specs.Declaring.{first_place}
-use Rattle.type_heads.specs.Types.{Member}
-use Rattle.type_heads.specs.MemberFaults.{member_names, names_among, repeated_rows}
+use Rattle.type_members.specs.osc_base.FaultRows.{first_fault}
+use Rattle.type_members.specs.dsl_tree.declared.parts.Ident.{Ident}
+use Rattle.type_members.specs.name_scope.Declaring.{first_place}
+use Rattle.type_members.specs.type_heads.Types.{Member}
+use Rattle.type_members.specs.type_heads.MemberFaults.{member_names, names_among, repeated_rows}
 use Rattle.type_members.specs.declared.places.Part.{Part}
 use Rattle.type_faults.specs.declared.member_faults.name_places.FirstMembers.{FirstMembers}
 use Rattle.type_faults.specs.declared.member_faults.name_places.NamePlaces.{NamePlaces}

@@ -1,10 +1,10 @@
 -- The names of members that were met, as the code holds them.
 use Rattle.std.specs.Prelude.{◌≡◌, ℕ, List, ◌++◌, Option, bytes_eq}
 use Rattle.std.specs.List.{list_any}
-use Rattle.osc_base.specs.declared.fault.Fault.{Fault}
-use Rattle.osc_base.specs.FaultRows.{first_from}
-use Rattle.dsl_tree.specs.declared.parts.Ident.{Ident}
-use Rattle.type_heads.specs.MemberFaults.{repeated_rows}
+use Rattle.type_members.specs.osc_base.declared.fault.Fault.{Fault}
+use Rattle.type_members.specs.osc_base.FaultRows.{first_from}
+use Rattle.type_members.specs.dsl_tree.declared.parts.Ident.{Ident}
+use Rattle.type_members.specs.type_heads.MemberFaults.{repeated_rows}
 
 -- a set has the texts of a list
 abbrev pub HasTexts : List (List ℕ) → List (List ℕ) → Type 0

@@ -1,7 +1,7 @@
 -- Places after the first fault so far.
 use Rattle.std.specs.Prelude.{◌&&◌, ◌||◌, Bool, false, Option, Some, None, nat_eq, nat_lt}
-use Rattle.osc_base.specs.declared.fault.Place.{Place}
-use Rattle.osc_base.specs.declared.fault.Fault.{Fault}
+use Rattle.type_members.specs.osc_base.declared.fault.Place.{Place}
+use Rattle.type_members.specs.osc_base.declared.fault.Fault.{Fault}
 
 -- a place is after another
 abbrev pub is_after : Place → Place → Bool

@@ -1,7 +1,7 @@
 -- Ranks of types, by which it is seen that steps from a type don't lead back to it.
 use Rattle.std.specs.Prelude.{◌≡◌, ℕ, ◌+◌, ◌<◌, ◌&&◌, Bool, true, false, not, List, [], ◌∷◌, length, nat_lt, slice_index_or}
 use Rattle.std.specs.List.{list_all}
-use Rattle.type_heads.specs.Cycles.{returns}
+use Rattle.type_members.specs.type_heads.Cycles.{returns}
 use Rattle.type_faults.specs.declared.returning.Ranking.{Ranking}
 
 -- the rank of a type

@@ -1,7 +1,7 @@
 -- What is met while types are reached.
 use Rattle.std.specs.Prelude.{◌≡◌, ℕ, List, ◌++◌}
-use Rattle.type_heads.specs.Members.{has}
-use Rattle.type_heads.specs.Cycles.{fresh}
+use Rattle.type_members.specs.type_heads.Members.{has}
+use Rattle.type_members.specs.type_heads.Cycles.{fresh}
 
 -- two lists have the same numbers
 abbrev pub HasNumbers : List ℕ → List ℕ → Type 0

@@ -2,14 +2,14 @@
 use Rattle.std.specs.Prelude.{◌≡◌, ℕ, ◌&&◌, ◌||◌, Bool, true, false, not, List, [], ◌++◌, Option, Some, None, codes, filter_map, flat_map, is_none, is_some, length, slice_get, slice_index_or}
 use Rattle.std.specs.Option.{option_map_or}
 use Rattle.std.specs.List.{list_all, list_any}
-use Rattle.osc_base.specs.FaultRows.{FaultRow, first_fault}
-use Rattle.dsl_tree.specs.declared.parts.Ident.{Ident}
-use Rattle.dsl_tree.specs.declared.compounds.CompoundKind.{CompoundKind}
-use Rattle.type_heads.specs.Form.{Form}
-use Rattle.type_heads.specs.Table.{TypeHead, is_behaviour, is_scenario}
-use Rattle.type_heads.specs.Types.{Do, Member}
-use Rattle.type_heads.specs.Members.{do_declared}
-use Rattle.type_heads.specs.MemberFaults.{do_rows, initial_rows, names_among, names_given, repeated_rows}
+use Rattle.type_members.specs.osc_base.FaultRows.{FaultRow, first_fault}
+use Rattle.type_members.specs.dsl_tree.declared.parts.Ident.{Ident}
+use Rattle.type_members.specs.dsl_tree.declared.compounds.CompoundKind.{CompoundKind}
+use Rattle.type_members.specs.type_heads.Form.{Form}
+use Rattle.type_members.specs.type_heads.Table.{TypeHead, is_behaviour, is_scenario}
+use Rattle.type_members.specs.type_heads.Types.{Do, Member}
+use Rattle.type_members.specs.type_heads.Members.{do_declared}
+use Rattle.type_members.specs.type_heads.MemberFaults.{do_rows, initial_rows, names_among, names_given, repeated_rows}
 use Rattle.type_members.specs.Listed.{seen_row}
 use Rattle.type_members.specs.Shared.{members_in_parts}
 use Rattle.type_members.specs.declared.places.Part.{Part}

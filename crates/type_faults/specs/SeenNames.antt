@@ -1,10 +1,10 @@
 -- Declared names as the code holds them.
 use Rattle.std.specs.Prelude.{◌≡◌, ℕ, None, List, Bool, true, false, not, ◌&&◌, option_copied, bytes_eq}
 use Rattle.std.specs.List.{list_any}
-use Rattle.name_scope.specs.declared.ids.NameKind.{NameKind}
-use Rattle.name_scope.specs.Declaring.{DeclaredName, same_owner}
-use Rattle.type_heads.specs.Members.{nowhere}
-use Rattle.type_heads.specs.HeadingFaults.{is_unit_name, shares_name}
+use Rattle.type_members.specs.name_scope.declared.ids.NameKind.{NameKind}
+use Rattle.type_members.specs.name_scope.Declaring.{DeclaredName, same_owner}
+use Rattle.type_members.specs.type_heads.Members.{nowhere}
+use Rattle.type_members.specs.type_heads.HeadingFaults.{is_unit_name, shares_name}
 use Rattle.type_faults.specs.declared.heading_faults.names.NameDeclared.{NameDeclared}
 use Rattle.type_faults.specs.declared.heading_faults.names.NameKey.{NameKey}
 

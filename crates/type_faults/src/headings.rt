@@ -1,20 +1,20 @@
 //! The first fault of headings.
 
 ghost use Rattle.std.specs.Prelude.{◌≡◌, map, IfOk};
-ghost use Rattle.osc_base.specs.FaultRows.{first_fault};
-ghost use Rattle.type_heads.specs.Bodied.{all_bodies, seen_body};
-ghost use Rattle.type_heads.specs.DeclaredTypes.{placed, types_of};
-ghost use Rattle.type_heads.specs.Gathered.{AreGathered, all_of};
-ghost use Rattle.type_heads.specs.HeadingFaults.{heading_rows};
-ghost use Rattle.type_heads.specs.HeadsGrouped.{all_heads};
-ghost use Rattle.type_heads.specs.Types.{Program};
+ghost use Rattle.type_members.specs.osc_base.FaultRows.{first_fault};
+ghost use Rattle.type_members.specs.type_heads.Bodied.{all_bodies, seen_body};
+ghost use Rattle.type_members.specs.type_heads.DeclaredTypes.{placed, types_of};
+ghost use Rattle.type_members.specs.type_heads.Gathered.{AreGathered, all_of};
+ghost use Rattle.type_members.specs.type_heads.HeadingFaults.{heading_rows};
+ghost use Rattle.type_members.specs.type_heads.HeadsGrouped.{all_heads};
+ghost use Rattle.type_members.specs.type_heads.Types.{Program};
 ghost use Rattle.type_members.specs.Listed.{AreSubtypes};
 
 use crate::heading_faults::{HeldTypes, first_name_fault, with_cycles};
-use osc_base::Fault;
 use std::alloc::{AllocError, Global};
-use type_heads::{Body, Declarations, Heads};
 use type_members::Subtypes;
+use type_members::osc_base::Fault;
+use type_members::type_heads::{Body, Declarations, Heads};
 
 /// The first fault of the headings of a program: names that are declared twice or not at all, types that depend on
 /// themselves, and names of a wrong kind. The declarations, heads, bodies and conditional subtypes are those of the

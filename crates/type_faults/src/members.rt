@@ -1,19 +1,19 @@
 //! The first fault of members.
 
 ghost use Rattle.std.specs.Prelude.{◌≡◌, length, map, IfOk};
-ghost use Rattle.osc_base.specs.FaultRows.{first_fault};
-ghost use Rattle.type_heads.specs.Bodied.{seen_body};
-ghost use Rattle.type_heads.specs.MemberFaults.{member_fault_rows};
-ghost use Rattle.type_heads.specs.Types.{Types};
+ghost use Rattle.type_members.specs.osc_base.FaultRows.{first_fault};
+ghost use Rattle.type_members.specs.type_heads.Bodied.{seen_body};
+ghost use Rattle.type_members.specs.type_heads.MemberFaults.{member_fault_rows};
+ghost use Rattle.type_members.specs.type_heads.Types.{Types};
 ghost use Rattle.type_members.specs.Listed.{lists_of, seen_row};
 ghost use Rattle.type_faults.specs.ListedRows.{types_with};
 ghost use Rattle.type_faults.specs.NamePlaces.{AreRowPlaces};
 
 use crate::member_faults::{DependsOn, NamePlaces, row_places, with_types};
-use osc_base::Fault;
 use std::alloc::{AllocError, Global};
-use type_heads::{Body, Heads};
 use type_members::MemberLists;
+use type_members::osc_base::Fault;
+use type_members::type_heads::{Body, Heads};
 
 /// The first fault of the members of all types, given the places of the names in each row.
 fn first_by_places(

@@ -3,7 +3,7 @@
 ghost use Rattle.std.specs.Prelude.{◌≡◌};
 ghost use Rattle.type_faults.specs.Passing.{is_after, is_past as is_past_first};
 
-use osc_base::{Fault, Place};
+use type_members::osc_base::{Fault, Place};
 
 /// Whether a place is after that of a fault.
 fn is_past_fault(fault: Fault, place: Place) -> bool

@@ -3,9 +3,9 @@
 //!
 //! No contract says so. Whoever uses the ranks tests them.
 
-use osc_base::Row;
 use std::alloc::{AllocError, Global};
-use type_heads::TypeId;
+use type_members::osc_base::Row;
+use type_members::type_heads::TypeId;
 
 /// A type on the way, and how many of its steps were followed.
 #[derive(Clone, Copy)]

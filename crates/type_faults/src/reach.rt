@@ -1,12 +1,12 @@
 //! What is reached from types by steps.
 
 ghost use Rattle.std.specs.Prelude.{◌≡◌, ◌++◌, ℕ, List, [], ◌∷◌, flat_map, IfOk, OnOk};
-ghost use Rattle.type_heads.specs.Cycles.{fresh, reached as reached_by, returns};
+ghost use Rattle.type_members.specs.type_heads.Cycles.{fresh, reached as reached_by, returns};
 ghost use Rattle.type_faults.specs.Reaching.{AddsFresh, HasNumbers};
 
 use crate::sets::NumberSet;
 use std::alloc::{AllocError, Global};
-use type_heads::TypeId;
+use type_members::type_heads::TypeId;
 
 /// Steps from a type to others.
 pub trait Steps {

@@ -2,14 +2,14 @@
 
 ghost use Rattle.std.specs.Prelude.{◌≡◌, ◌&&◌, ◌<◌, ℕ, [], length, nat_lt, true, false, slice_index_or, IfOk, OnOk};
 ghost use Rattle.std.specs.List.{list_all};
-ghost use Rattle.type_heads.specs.Cycles.{returns};
+ghost use Rattle.type_members.specs.type_heads.Cycles.{returns};
 ghost use Rattle.type_faults.specs.Ranking.{AreNext, HasLevels, IsShown, falls as all_fall, is_level as is_level_step, level_from, rank, shows as shows_none};
 
 use crate::ranks::ranks_of;
 use crate::reach::{Steps, leads_back};
-use osc_base::Row;
 use std::alloc::{AllocError, Global};
-use type_heads::TypeId;
+use type_members::osc_base::Row;
+use type_members::type_heads::TypeId;
 
 /// Where steps lead from each type, and a rank of each type. If no step leads to a higher rank, then steps that all
 /// lead to lower ranks never lead back.

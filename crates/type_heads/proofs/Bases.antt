@@ -4,7 +4,7 @@ use Rattle.std.specs.Prelude.{not}
 use Rattle.std.specs.List.{list_any}
 use Rattle.std.proofs.lemmas.List.{take_more, drop_more, map-append, reverse-append}
 use Rattle.std.proofs.lemmas.List.Folds.{list_any-append}
-use Rattle.dsl_tree.specs.declared.units.BasePart.{BasePart}
+use Rattle.name_scope.specs.dsl_tree.declared.units.BasePart.{BasePart}
 use Rattle.type_heads.specs.Units.{are_bases, is_base_unit}
 
 -- the names of some parts, the last one first

@@ -2,7 +2,7 @@
 use Rattle.std.proofs.Common.{◌≡◌, ◌∙◌, refl, sym, ap, ℕ, ◌+◌, ◌<◌, ◌≤◌, Bool, true, false, cond, List, [], ◌∷◌, ◌++◌, map, filter, length, slice_index_or, arith}
 use Rattle.std.specs.Prelude.{flat_map}
 use Rattle.std.proofs.lemmas.List.{length-map}
-use Rattle.dsl_tree.specs.FileTree.{DeclarationTree}
+use Rattle.name_scope.specs.dsl_tree.FileTree.{DeclarationTree}
 use Rattle.type_heads.specs.Table.{TypeHead}
 use Rattle.type_heads.specs.Types.{Program, Written}
 use Rattle.type_heads.specs.DeclaredTypes.{Placed, Declared, placed, types_of, body_with, bodies_from, means, members_added}

@@ -2,7 +2,7 @@
 use Rattle.std.proofs.Common.{◌≡◌, ◌∙◌, refl, ap, ℕ, ◌+◌, List, [], ◌∷◌, ◌++◌, map}
 use Rattle.std.specs.Prelude.{flat_map}
 use Rattle.std.proofs.lemmas.Grind.{flat_map-append}
-use Rattle.dsl_tree.specs.FileTree.{DeclarationTree, FileTree}
+use Rattle.name_scope.specs.dsl_tree.FileTree.{DeclarationTree, FileTree}
 use Rattle.type_heads.specs.Types.{Program}
 use Rattle.type_heads.specs.Units.{unit_declared, units_of}
 use Rattle.type_heads.specs.DeclaredTypes.{Placed, placed, placed_in, placed_from}

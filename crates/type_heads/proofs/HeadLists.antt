@@ -2,8 +2,8 @@
 use Rattle.std.proofs.Common.{◌≡◌, ◌∙◌, refl, sym, ap, ℕ, ◌+◌, ◌<◌, ◌≤◌, ◌&&◌, Bool, true, false, cond, List, [], ◌∷◌, ◌++◌, Option, Some, map, filter, length, slice_index_or, bytes_eq, arith}
 use Rattle.std.specs.Prelude.{flat_map}
 use Rattle.std.proofs.lemmas.List.{length-map}
-use Rattle.dsl_tree.specs.declared.enums.EnumItem.{EnumItem}
-use Rattle.dsl_tree.specs.FileTree.{DeclarationTree}
+use Rattle.name_scope.specs.dsl_tree.declared.enums.EnumItem.{EnumItem}
+use Rattle.name_scope.specs.dsl_tree.FileTree.{DeclarationTree}
 use Rattle.name_scope.specs.Declaring.{same_owner, first_place}
 use Rattle.type_heads.specs.Table.{TypeHead}
 use Rattle.type_heads.specs.Types.{Program}

@@ -2,8 +2,8 @@
 use Rattle.std.proofs.Common.{◌≡◌, ◌∙◌, sym, ap, ℕ, ◌+◌, ◌<◌, ◌≤◌, ◌⊎◌, inl, inr, List, ◌∷◌, ◌++◌, Some, None, map, drop, get_or, length, option_map, slice_get, arith}
 use Rattle.std.proofs.lemmas.Option.{slice_get_cases}
 use Rattle.std.proofs.lemmas.List.{drop_more, drop_all, append_assoc}
-use Rattle.dsl_tree.specs.declared.file.File.{File}
-use Rattle.dsl_tree.specs.Views.{file_tree, declaration_tree}
+use Rattle.name_scope.specs.dsl_tree.declared.file.File.{File}
+use Rattle.name_scope.specs.dsl_tree.Views.{file_tree, declaration_tree}
 use Rattle.name_scope.specs.FileNumbers.{AddedFile}
 use Rattle.type_heads.specs.DeclaredTypes.{Placed, placed_in, placed_from}
 use Rattle.type_heads.specs.Placing.{placed_after}

@@ -1,7 +1,7 @@
 -- The bodies of types, given the extensions of each.
 use Rattle.std.specs.Prelude.{ℕ, ◌+◌, List, [], ◌∷◌, map, flat_map, option_copied, slice_index_or}
-use Rattle.dsl_tree.specs.FileTree.{DeclarationTree}
-use Rattle.dsl_tree.specs.Views.{member_tree}
+use Rattle.name_scope.specs.dsl_tree.FileTree.{DeclarationTree}
+use Rattle.name_scope.specs.dsl_tree.Views.{member_tree}
 use Rattle.type_heads.specs.Types.{Written, TypeBody}
 use Rattle.type_heads.specs.DeclaredTypes.{Placed, Declared, all_declared, declared_heads, bodies_from, written_from}
 use Rattle.type_heads.specs.Placing.{seen_placed}

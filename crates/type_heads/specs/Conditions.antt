@@ -1,7 +1,7 @@
 -- The condition of a conditional subtype: the field of its base that it looks at, and the number that this field must have.
 use Rattle.std.specs.Prelude.{ℕ, ℤ, pos, cond, List, Option, Some, None, option_map, option_and_then}
-use Rattle.dsl_tree.specs.declared.compounds.ConditionValue.{ConditionValue}
-use Rattle.dsl_tree.specs.declared.compounds.HeirCondition.{HeirCondition}
+use Rattle.name_scope.specs.dsl_tree.declared.compounds.ConditionValue.{ConditionValue}
+use Rattle.name_scope.specs.dsl_tree.declared.compounds.HeirCondition.{HeirCondition}
 use Rattle.type_heads.specs.Form.{Form}
 use Rattle.type_heads.specs.Table.{form, base, number_of}
 use Rattle.type_heads.specs.Types.{Types}

@@ -1,13 +1,13 @@
 -- The types that a program declares, and the table of them.
 use Rattle.std.specs.Prelude.{ℕ, ◌+◌, Bool, false, cond, List, [], ◌∷◌, ◌++◌, Option, Some, None, map, nat_eq, codes, flat_map, filter_map, option_and_then}
 use Rattle.std.specs.Option.{option_map_or}
-use Rattle.osc_base.specs.declared.fault.Place.{Place}
-use Rattle.dsl_tree.specs.declared.parts.Ident.{Ident}
-use Rattle.dsl_tree.specs.declared.parts.QName.{QName}
-use Rattle.dsl_tree.specs.declared.enums.EnumItem.{EnumItem}
-use Rattle.dsl_tree.specs.declared.compounds.Heir.{Heir}
-use Rattle.dsl_tree.specs.FileTree.{MemberTree, CompoundTree, DeclarationTree, FileTree}
-use Rattle.dsl_tree.specs.Views.{file_tree}
+use Rattle.units_si.specs.osc_base.declared.fault.Place.{Place}
+use Rattle.name_scope.specs.dsl_tree.declared.parts.Ident.{Ident}
+use Rattle.name_scope.specs.dsl_tree.declared.parts.QName.{QName}
+use Rattle.name_scope.specs.dsl_tree.declared.enums.EnumItem.{EnumItem}
+use Rattle.name_scope.specs.dsl_tree.declared.compounds.Heir.{Heir}
+use Rattle.name_scope.specs.dsl_tree.FileTree.{MemberTree, CompoundTree, DeclarationTree, FileTree}
+use Rattle.name_scope.specs.dsl_tree.Views.{file_tree}
 use Rattle.name_scope.specs.FileNumbers.{AddedFile, numbered_names, is_library}
 use Rattle.name_scope.specs.Declaring.{DeclaredName, compound_name, first_place}
 use Rattle.type_heads.specs.Form.{Form, EnumMember}

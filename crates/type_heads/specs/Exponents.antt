@@ -1,8 +1,8 @@
 -- The exponents that brackets give, and the numbers of factors and offsets.
 use Rattle.std.specs.Prelude.{ℕ, Bool, List, codes}
-use Rattle.osc_base.specs.Number.{Number}
-use Rattle.osc_base.specs.LowestTerms.{decimal_number}
-use Rattle.dsl_tree.specs.declared.units.BasePart.{BasePart}
+use Rattle.units_si.specs.osc_base.Number.{Number}
+use Rattle.units_si.specs.osc_base.LowestTerms.{decimal_number}
+use Rattle.name_scope.specs.dsl_tree.declared.units.BasePart.{BasePart}
 use Rattle.units_si.specs.declared.units.Exponents.{Exponents}
 use Rattle.type_heads.specs.Units.{exponent_of, signed}
 

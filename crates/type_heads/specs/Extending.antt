@@ -1,8 +1,8 @@
 -- Which type an extension extends.
 use Rattle.std.specs.Prelude.{ℕ, Bool, false, List, Option, Some, None, nat_eq, map, option_and_then}
 use Rattle.std.specs.Option.{option_map_or}
-use Rattle.dsl_tree.specs.declared.parts.QName.{QName}
-use Rattle.dsl_tree.specs.FileTree.{DeclarationTree}
+use Rattle.name_scope.specs.dsl_tree.declared.parts.QName.{QName}
+use Rattle.name_scope.specs.dsl_tree.FileTree.{DeclarationTree}
 use Rattle.type_heads.specs.Table.{TypeHead}
 use Rattle.type_heads.specs.DeclaredTypes.{Placed, Declared, meant}
 use Rattle.type_heads.specs.Placing.{seen_type}

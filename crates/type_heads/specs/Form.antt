@@ -1,6 +1,6 @@
 -- What a type is, by its declaration and the extensions of an enum.
 use Rattle.std.specs.Prelude.{ℕ, List, Option}
-use Rattle.dsl_tree.specs.declared.compounds.CompoundKind.{CompoundKind}
+use Rattle.name_scope.specs.dsl_tree.declared.compounds.CompoundKind.{CompoundKind}
 use Rattle.units_si.specs.declared.units.Exponents.{Exponents}
 
 -- a member of an enum, and its number

@@ -2,18 +2,18 @@
 use Rattle.std.specs.Prelude.{ℕ, suc, ◌+◌, ◌&&◌, ◌||◌, Bool, true, false, not, cond, List, [], ◌∷◌, ◌++◌, Option, Some, None, map, length, nat_eq, nat_lt, bytes_eq, is_none, is_some, flat_map, filter_map, option_and_then}
 use Rattle.std.specs.Option.{option_map_or}
 use Rattle.std.specs.List.{list_any}
-use Rattle.osc_base.specs.declared.fault.Place.{Place}
-use Rattle.osc_base.specs.declared.fault.FaultCode.{FaultCode}
-use Rattle.osc_base.specs.FaultRows.{FaultRow, row}
-use Rattle.dsl_tree.specs.declared.parts.Ident.{Ident}
-use Rattle.dsl_tree.specs.declared.parts.QName.{QName}
-use Rattle.dsl_tree.specs.declared.units.BasePart.{BasePart}
-use Rattle.dsl_tree.specs.declared.units.UnitDecl.{UnitDecl}
-use Rattle.dsl_tree.specs.declared.enums.EnumItem.{EnumItem}
-use Rattle.dsl_tree.specs.declared.compounds.ConditionValue.{ConditionValue}
-use Rattle.dsl_tree.specs.declared.compounds.HeirCondition.{HeirCondition}
-use Rattle.dsl_tree.specs.declared.compounds.Heir.{Heir}
-use Rattle.dsl_tree.specs.FileTree.{FieldTree, MemberTree, CompoundTree, DeclarationTree}
+use Rattle.units_si.specs.osc_base.declared.fault.Place.{Place}
+use Rattle.units_si.specs.osc_base.declared.fault.FaultCode.{FaultCode}
+use Rattle.units_si.specs.osc_base.FaultRows.{FaultRow, row}
+use Rattle.name_scope.specs.dsl_tree.declared.parts.Ident.{Ident}
+use Rattle.name_scope.specs.dsl_tree.declared.parts.QName.{QName}
+use Rattle.name_scope.specs.dsl_tree.declared.units.BasePart.{BasePart}
+use Rattle.name_scope.specs.dsl_tree.declared.units.UnitDecl.{UnitDecl}
+use Rattle.name_scope.specs.dsl_tree.declared.enums.EnumItem.{EnumItem}
+use Rattle.name_scope.specs.dsl_tree.declared.compounds.ConditionValue.{ConditionValue}
+use Rattle.name_scope.specs.dsl_tree.declared.compounds.HeirCondition.{HeirCondition}
+use Rattle.name_scope.specs.dsl_tree.declared.compounds.Heir.{Heir}
+use Rattle.name_scope.specs.dsl_tree.FileTree.{FieldTree, MemberTree, CompoundTree, DeclarationTree}
 use Rattle.name_scope.specs.declared.ids.NameKind.{NameKind}
 use Rattle.name_scope.specs.Declaring.{DeclaredName, named as name_as, compound_name, same_owner}
 use Rattle.units_si.specs.declared.units.Exponents.{Exponents}

@@ -25,3 +25,8 @@ pub mod DeclaredTypes
 pub mod Cycles
 pub mod HeadingFaults
 pub mod MemberFaults
+-- Crates below, for the crates above.
+pub use Rattle.name_scope.specs.dsl_tree as dsl_tree
+pub use Rattle.name_scope.specs as name_scope
+pub use Rattle.units_si.specs.osc_base as osc_base
+pub use Rattle.units_si.specs as units_si

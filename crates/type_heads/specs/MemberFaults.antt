@@ -2,15 +2,15 @@
 use Rattle.std.specs.Prelude.{ℕ, ◌&&◌, ◌||◌, Bool, true, false, not, cond, List, [], ◌∷◌, ◌++◌, Option, Some, None, length, nat_eq, nat_lt, bytes_eq, codes, is_none, is_some, flat_map, filter, option_and_then, option_to_list}
 use Rattle.std.specs.Option.{option_map_or}
 use Rattle.std.specs.List.{list_any}
-use Rattle.osc_base.specs.declared.fault.Place.{Place}
-use Rattle.osc_base.specs.declared.fault.FaultCode.{FaultCode}
-use Rattle.osc_base.specs.FaultRows.{FaultRow, row}
-use Rattle.dsl_tree.specs.declared.parts.Ident.{Ident}
-use Rattle.dsl_tree.specs.declared.compounds.ConditionValue.{ConditionValue}
-use Rattle.dsl_tree.specs.declared.compounds.HeirCondition.{HeirCondition}
-use Rattle.dsl_tree.specs.ExprTree.{ExprTree, items_of}
-use Rattle.dsl_tree.specs.PhaseTree.{PhaseTree, Comp, Invoke, Wait, PhaseRow, End, Phase}
-use Rattle.dsl_tree.specs.FileTree.{MemberTree}
+use Rattle.units_si.specs.osc_base.declared.fault.Place.{Place}
+use Rattle.units_si.specs.osc_base.declared.fault.FaultCode.{FaultCode}
+use Rattle.units_si.specs.osc_base.FaultRows.{FaultRow, row}
+use Rattle.name_scope.specs.dsl_tree.declared.parts.Ident.{Ident}
+use Rattle.name_scope.specs.dsl_tree.declared.compounds.ConditionValue.{ConditionValue}
+use Rattle.name_scope.specs.dsl_tree.declared.compounds.HeirCondition.{HeirCondition}
+use Rattle.name_scope.specs.dsl_tree.ExprTree.{ExprTree, items_of}
+use Rattle.name_scope.specs.dsl_tree.PhaseTree.{PhaseTree, Comp, Invoke, Wait, PhaseRow, End, Phase}
+use Rattle.name_scope.specs.dsl_tree.FileTree.{MemberTree}
 use Rattle.type_heads.specs.Form.{Form}
 use Rattle.type_heads.specs.Table.{TypeHead, form, base, bases, named, number_of, is_enum, is_object, is_behaviour, is_scenario, all_types}
 use Rattle.type_heads.specs.Types.{Member, Field, Do, Types}

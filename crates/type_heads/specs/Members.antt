@@ -2,11 +2,11 @@
 use Rattle.std.specs.Prelude.{ℕ, zero, suc, ◌&&◌, Bool, true, false, not, List, [], ◌∷◌, ◌++◌, Option, Some, None, map, length, slice_index_or, nat_eq, bytes_eq, is_some, find, flat_map, filter, filter_map, option_map, option_and_then, option_to_list}
 use Rattle.std.specs.Option.{option_map_or}
 use Rattle.std.specs.List.{list_any}
-use Rattle.osc_base.specs.declared.fault.Place.{Place}
-use Rattle.dsl_tree.specs.declared.compounds.HeirCondition.{HeirCondition}
-use Rattle.dsl_tree.specs.declared.compounds.Heir.{Heir}
-use Rattle.dsl_tree.specs.ExprTree.{ExprTree, items_of}
-use Rattle.dsl_tree.specs.FileTree.{FieldTree, MemberTree}
+use Rattle.units_si.specs.osc_base.declared.fault.Place.{Place}
+use Rattle.name_scope.specs.dsl_tree.declared.compounds.HeirCondition.{HeirCondition}
+use Rattle.name_scope.specs.dsl_tree.declared.compounds.Heir.{Heir}
+use Rattle.name_scope.specs.dsl_tree.ExprTree.{ExprTree, items_of}
+use Rattle.name_scope.specs.dsl_tree.FileTree.{FieldTree, MemberTree}
 use Rattle.type_heads.specs.Table.{TypeHead, TableField, base, bases, named, all_types}
 use Rattle.type_heads.specs.Types.{Written, TypeBody, Member, Field, Do, Types}
 

@@ -1,7 +1,7 @@
 -- Members of an enum while they are numbered.
 use Rattle.std.specs.Prelude.{List, [], ◌++◌}
-use Rattle.dsl_tree.specs.declared.enums.EnumItem.{EnumItem}
-use Rattle.dsl_tree.specs.FileTree.{DeclarationTree}
+use Rattle.name_scope.specs.dsl_tree.declared.enums.EnumItem.{EnumItem}
+use Rattle.name_scope.specs.dsl_tree.FileTree.{DeclarationTree}
 use Rattle.type_heads.specs.Form.{EnumMember}
 use Rattle.type_heads.specs.DeclaredTypes.{numbered_from}
 use Rattle.type_heads.specs.Placing.{seen_placed}

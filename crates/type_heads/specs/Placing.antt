@@ -1,6 +1,6 @@
 -- What the program's own lists of declarations are seen as.
 use Rattle.std.specs.Prelude.{ℕ, List, [], codes, map, drop}
-use Rattle.dsl_tree.specs.Views.{file_tree, declaration_tree, compound_tree}
+use Rattle.name_scope.specs.dsl_tree.Views.{file_tree, declaration_tree, compound_tree}
 use Rattle.name_scope.specs.FileNumbers.{AddedFile}
 use Rattle.type_heads.specs.Form.{Form}
 use Rattle.type_heads.specs.Members.{nowhere}

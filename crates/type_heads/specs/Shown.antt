@@ -1,8 +1,8 @@
 -- What the calls on types answer.
 use Rattle.std.specs.Prelude.{ℕ, List, [], ◌∷◌, Option, Some, None, slice_index_or}
-use Rattle.osc_base.specs.Number.{Number}
-use Rattle.osc_base.specs.Fraction.{value}
-use Rattle.dsl_tree.specs.declared.compounds.CompoundKind.{CompoundKind}
+use Rattle.units_si.specs.osc_base.Number.{Number}
+use Rattle.units_si.specs.osc_base.Fraction.{value}
+use Rattle.name_scope.specs.dsl_tree.declared.compounds.CompoundKind.{CompoundKind}
 use Rattle.units_si.specs.declared.units.Exponents.{Exponents}
 use Rattle.units_si.specs.declared.units.Unit.{Unit as BaseUnit}
 use Rattle.type_heads.specs.Form.{Form}

@@ -3,8 +3,8 @@
 use Rattle.std.specs.Prelude.{ℕ, zero, suc, ◌+◌, ◌&&◌, ◌||◌, Bool, true, false, List, [], ◌∷◌, Option, Some, None, length, slice_index_or, nat_eq, bytes_eq, find, option_map, option_and_then, filter}
 use Rattle.std.specs.Option.{option_map_or}
 use Rattle.std.specs.List.{list_any}
-use Rattle.osc_base.specs.Number.{Number}
-use Rattle.dsl_tree.specs.declared.compounds.CompoundKind.{CompoundKind}
+use Rattle.units_si.specs.osc_base.Number.{Number}
+use Rattle.name_scope.specs.dsl_tree.declared.compounds.CompoundKind.{CompoundKind}
 use Rattle.units_si.specs.declared.units.Exponents.{Exponents}
 use Rattle.name_scope.specs.Declaring.{same_owner, first_place}
 use Rattle.type_heads.specs.Form.{Form, EnumMember}

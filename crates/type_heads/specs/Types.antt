@@ -1,10 +1,10 @@
 -- The types of a program, with their members as written.
 use Rattle.std.specs.Prelude.{ℕ, List, Option}
-use Rattle.osc_base.specs.declared.fault.Place.{Place}
-use Rattle.dsl_tree.specs.declared.parts.Ident.{Ident}
-use Rattle.dsl_tree.specs.declared.compounds.Heir.{Heir}
-use Rattle.dsl_tree.specs.PhaseTree.{PhaseTree}
-use Rattle.dsl_tree.specs.FileTree.{FieldTree, MemberTree, FileTree}
+use Rattle.units_si.specs.osc_base.declared.fault.Place.{Place}
+use Rattle.name_scope.specs.dsl_tree.declared.parts.Ident.{Ident}
+use Rattle.name_scope.specs.dsl_tree.declared.compounds.Heir.{Heir}
+use Rattle.name_scope.specs.dsl_tree.PhaseTree.{PhaseTree}
+use Rattle.name_scope.specs.dsl_tree.FileTree.{FieldTree, MemberTree, FileTree}
 use Rattle.type_heads.specs.Table.{Table}
 
 -- a program: its files in load order, and the number of the library if it is one of them

@@ -2,13 +2,13 @@
 use Rattle.std.specs.Prelude.{ℕ, ℤ, pos, neg_ℤ, min, ◌&&◌, Bool, true, not, cond, List, [], ◌∷◌, Option, Some, None, bytes_eq, codes, find, flat_map}
 use Rattle.std.specs.Option.{option_map_or}
 use Rattle.std.specs.List.{list_any}
-use Rattle.osc_base.specs.Number.{Number, whole}
-use Rattle.osc_base.specs.LowestTerms.{decimal_number}
-use Rattle.dsl_tree.specs.declared.parts.Digits.{Digits}
-use Rattle.dsl_tree.specs.declared.parts.Signed.{Signed}
-use Rattle.dsl_tree.specs.declared.units.BasePart.{BasePart}
-use Rattle.dsl_tree.specs.declared.units.UnitDecl.{UnitDecl}
-use Rattle.dsl_tree.specs.FileTree.{DeclarationTree, FileTree}
+use Rattle.units_si.specs.osc_base.Number.{Number, whole}
+use Rattle.units_si.specs.osc_base.LowestTerms.{decimal_number}
+use Rattle.name_scope.specs.dsl_tree.declared.parts.Digits.{Digits}
+use Rattle.name_scope.specs.dsl_tree.declared.parts.Signed.{Signed}
+use Rattle.name_scope.specs.dsl_tree.declared.units.BasePart.{BasePart}
+use Rattle.name_scope.specs.dsl_tree.declared.units.UnitDecl.{UnitDecl}
+use Rattle.name_scope.specs.dsl_tree.FileTree.{DeclarationTree, FileTree}
 use Rattle.units_si.specs.declared.units.Exponents.{Exponents}
 use Rattle.type_heads.specs.Table.{TableUnit}
 

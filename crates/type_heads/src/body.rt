@@ -1,7 +1,7 @@
 //! The bodies of types: their members as written, and those of their extensions.
 
 ghost use Rattle.std.specs.Prelude.{◌≡◌, ◌++◌, flat_map, map, IfOk, OnOk};
-ghost use Rattle.dsl_tree.specs.Views.{member_tree};
+ghost use Rattle.name_scope.specs.dsl_tree.Views.{member_tree};
 ghost use Rattle.type_heads.specs.DeclaredTypes.{written_from};
 ghost use Rattle.type_heads.specs.Placing.{seen_type};
 ghost use Rattle.type_heads.specs.Bodied.{all_bodies, bodies_grouped, body_grouped, members_placed, seen_body, seen_written};
@@ -12,9 +12,9 @@ use crate::declarations::Declarations;
 use crate::names::next_place;
 use crate::own_type::OwnType;
 use crate::placed::PlacedDecl;
-use dsl_tree::{Declaration, Heir, Member};
-use osc_base::{Place, Row};
+use name_scope::dsl_tree::{Declaration, Heir, Member};
 use std::alloc::{AllocError, Global};
+use units_si::osc_base::{Place, Row};
 
 /// A member as written: the numbers of its file, of its declaration there, and of the member in that.
 #[derive(Clone, Copy)]

@@ -2,11 +2,11 @@
 
 ghost use Rattle.std.specs.Prelude.{◌≡◌, ◌&&◌, not, pos, List, [], bytes_eq, find, min, option_copied};
 ghost use Rattle.std.specs.List.{list_any};
-ghost use Rattle.dsl_tree.specs.declared.units.BasePart.{BasePart as Part};
+ghost use Rattle.name_scope.specs.dsl_tree.declared.units.BasePart.{BasePart as Part};
 ghost use Rattle.type_heads.specs.Units.{are_bases, exponent_of, exponents_of, greatest_exponent, is_base_unit, signed};
 ghost use Rattle.type_heads.specs.Exponents.{exponents_in};
 
-use dsl_tree::{BasePart, Signed};
+use name_scope::dsl_tree::{BasePart, Signed};
 use units_si::Exponents;
 
 /// Whether it is one of the eight base units.

@@ -2,14 +2,14 @@
 
 ghost use Rattle.std.specs.Prelude.{◌≡◌, ◌≤◌, pos};
 ghost use Rattle.std.specs.Option.{option_map_or};
-ghost use Rattle.osc_base.specs.LowestTerms.{gcd as divisor};
-ghost use Rattle.osc_base.specs.Number.{whole};
-ghost use Rattle.osc_base.specs.Fraction.{value};
+ghost use Rattle.units_si.specs.osc_base.LowestTerms.{gcd as divisor};
+ghost use Rattle.units_si.specs.osc_base.Number.{whole};
+ghost use Rattle.units_si.specs.osc_base.Fraction.{value};
 ghost use Rattle.type_heads.specs.Exponents.{signed_decimal};
 ghost use Rattle.type_heads.specs.Units.{signed, signed_number};
 
-use dsl_tree::Signed;
-use osc_base::Fraction;
+use name_scope::dsl_tree::Signed;
+use units_si::osc_base::Fraction;
 
 /// The greatest common divisor.
 #[tactic(auto, using(crate::proofs::Divisors::gcd_step, crate::proofs::Divisors::gcd_end))]

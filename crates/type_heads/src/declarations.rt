@@ -5,10 +5,10 @@ use crate::grouping::{extensions_of, type_meant, type_named};
 use crate::names::NameIndex;
 use crate::own_type::{OwnType, own_types};
 use crate::placed::{PlacedDecl, placed_decls};
-use dsl_tree::QName;
 use name_scope::Program;
-use osc_base::Row;
+use name_scope::dsl_tree::QName;
 use std::alloc::{AllocError, Global};
+use units_si::osc_base::Row;
 
 /// The declarations of a program in load order, its types and their names, and the extensions of each type.
 #[derive(Drop)]

@@ -1,10 +1,10 @@
 ghost use Rattle.std.specs.Prelude.{◌≡◌, Some, None, cond, is_some, option_map};
-ghost use Rattle.osc_base.specs.Fraction.{value};
+ghost use Rattle.units_si.specs.osc_base.Fraction.{value};
 ghost use Rattle.type_heads.specs.Shown.{shown_field, shown_unit, unit_parts};
 
 use crate::{FieldType, TypeId};
-use osc_base::{Fraction, Text};
 use std::marker::Model;
+use units_si::osc_base::{Fraction, Text};
 use units_si::{Exponents, Unit};
 
 /// A field of a type.
@@ -53,7 +53,7 @@ pub struct UnitEntry {
 }
 
 impl Model for UnitEntry {
-    ghost use Rattle.osc_base.specs.Fraction.{value};
+    ghost use Rattle.units_si.specs.osc_base.Fraction.{value};
     ghost use Rattle.type_heads.specs.Table.{TableUnit};
 
     ghost Value = { TableUnit };

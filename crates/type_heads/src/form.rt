@@ -1,10 +1,10 @@
 ghost use Rattle.std.specs.Prelude.{◌≡◌, ◌<◌, ◌^◌, pos};
 ghost use Rattle.type_heads.specs.Seen.{seen_form, kept_form};
 
-use dsl_tree::CompoundKind;
-use osc_base::{Row, Text};
+use name_scope::dsl_tree::CompoundKind;
 use std::marker::Model;
 use units_si::Exponents;
+use units_si::osc_base::{Row, Text};
 
 /// A member of an enum, and its number.
 #[derive(Drop)]

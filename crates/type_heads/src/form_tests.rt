@@ -7,7 +7,7 @@ ghost use Rattle.type_heads.specs.Table.{is_compound, is_struct, is_actor, is_sc
 ghost use Rattle.type_heads.specs.HeadingFaults.{is_physical};
 
 use crate::Form;
-use dsl_tree::CompoundKind;
+use name_scope::dsl_tree::CompoundKind;
 
 fn same_compound(a: CompoundKind, b: CompoundKind) -> bool
     ensures { result ≡ is_same a b }

@@ -1,7 +1,7 @@
 //! The extensions of each type.
 
 ghost use Rattle.std.specs.Prelude.{◌≡◌, ℕ, List, Some, [], length, replicate, option_copied, IfOk, OnOk};
-ghost use Rattle.dsl_tree.specs.Views.{declaration_tree};
+ghost use Rattle.name_scope.specs.dsl_tree.Views.{declaration_tree};
 ghost use Rattle.type_heads.specs.Table.{TypeHead, named};
 ghost use Rattle.type_heads.specs.DeclaredTypes.{meant};
 ghost use Rattle.type_heads.specs.Extending.{type_extended};
@@ -10,9 +10,9 @@ ghost use Rattle.type_heads.specs.Grouped.{AreGrouped, IsIndex, put_at};
 use crate::TypeId;
 use crate::names::NameIndex;
 use crate::placed::PlacedDecl;
-use dsl_tree::{Declaration, QName};
-use osc_base::Row;
+use name_scope::dsl_tree::{Declaration, QName};
 use std::alloc::{AllocError, Global};
+use units_si::osc_base::Row;
 
 /// The first type of that name. Only a behaviour that is asked for with its owner has one.
 pub fn type_named(names: &NameIndex, owner: Option<&str>, name: &str) -> Option<TypeId>

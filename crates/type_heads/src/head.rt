@@ -4,8 +4,8 @@ ghost use Rattle.name_scope.specs.Declaring.{same_owner};
 
 use crate::form::OwnForm;
 use crate::{Form, TypeId};
-use osc_base::Text;
 use std::marker::Model;
+use units_si::osc_base::Text;
 
 /// The head of a type: its name, the actor that owns it, what it is, and the type that it inherits from.
 #[derive(Drop)]

@@ -13,8 +13,8 @@ use crate::form::OwnForm;
 use crate::numbering::Numbering;
 use crate::own_type::{BasicType, OwnType};
 use crate::{Head, TypeId};
-use osc_base::Text;
 use std::alloc::{AllocError, Global};
+use units_si::osc_base::Text;
 
 /// What a type is, with the extensions of an enum worked in.
 fn own_form(

@@ -36,3 +36,9 @@ pub use own_type::OwnType;
 pub use placed::PlacedDecl;
 pub use type_id::TypeId;
 pub use units::unit_entries;
+
+// Crates below, for the crates above.
+pub use name_scope;
+pub use name_scope::dsl_tree;
+pub use units_si;
+pub use units_si::osc_base;

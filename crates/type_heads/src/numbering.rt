@@ -2,9 +2,9 @@
 
 use crate::EnumEntry;
 use crate::placed::PlacedDecl;
-use dsl_tree::{Declaration, EnumItem};
-use osc_base::{Row, Text};
+use name_scope::dsl_tree::{Declaration, EnumItem};
 use std::alloc::{AllocError, Global};
+use units_si::osc_base::{Row, Text};
 
 /// The members of an enum so far, and the number that the next one has if none is written.
 #[derive(Drop)]
@@ -19,7 +19,7 @@ const MOST: u64 = 0x7fff_ffff_ffff_ffff;
 
 impl Numbering {
     ghost use Rattle.std.specs.Prelude.{◌≡◌, ◌++◌, ◌∷◌, List, flat_map, IfOk, OnOk};
-    ghost use Rattle.dsl_tree.specs.declared.enums.EnumItem.{EnumItem as Item};
+    ghost use Rattle.name_scope.specs.dsl_tree.declared.enums.EnumItem.{EnumItem as Item};
     ghost use Rattle.type_heads.specs.DeclaredTypes.{numbered_from};
     ghost use Rattle.type_heads.specs.Numbering.{with_items, items_placed};
 

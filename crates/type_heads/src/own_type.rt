@@ -1,7 +1,7 @@
 //! The types of a program as they are declared.
 
 ghost use Rattle.std.specs.Prelude.{◌≡◌, ◌++◌, map, filter_map, option_copied, option_map, IfOk, OnOk};
-ghost use Rattle.dsl_tree.specs.Views.{declaration_tree};
+ghost use Rattle.name_scope.specs.dsl_tree.Views.{declaration_tree};
 ghost use Rattle.name_scope.specs.Declaring.{compound_name as named_compound};
 ghost use Rattle.type_heads.specs.DeclaredTypes.{Placed, all_declared, basic_types, type_declared};
 ghost use Rattle.type_heads.specs.Seen.{kept_form};
@@ -9,9 +9,11 @@ ghost use Rattle.type_heads.specs.Placing.{basic_form, basic_name, seen_placed, 
 
 use crate::form::OwnForm;
 use crate::placed::PlacedDecl;
-use dsl_tree::{CompoundDecl, CompoundKind, Declaration, EnumDecl, Heir, PhysicalDecl, QName};
-use osc_base::Place;
+use name_scope::dsl_tree::{
+    CompoundDecl, CompoundKind, Declaration, EnumDecl, Heir, PhysicalDecl, QName,
+};
 use std::alloc::{AllocError, Global};
+use units_si::osc_base::Place;
 
 /// A type that is there without a declaration.
 #[derive(Clone, Copy)]

@@ -1,12 +1,12 @@
 //! All declarations of a program, in load order.
 
 ghost use Rattle.std.specs.Prelude.{◌≡◌, ◌+◌, ◌<◌, ◌^◌, ◌++◌, length, map, IfOk, OnOk};
-ghost use Rattle.dsl_tree.specs.Views.{declaration_tree};
+ghost use Rattle.name_scope.specs.dsl_tree.Views.{declaration_tree};
 ghost use Rattle.type_heads.specs.DeclaredTypes.{placed, placed_in, program_of};
 ghost use Rattle.type_heads.specs.Placing.{placed_after, seen_placed};
 
-use dsl_tree::Declaration;
 use name_scope::Program;
+use name_scope::dsl_tree::Declaration;
 use std::alloc::{AllocError, Global};
 
 /// A declaration, the number of its file, and its number there.

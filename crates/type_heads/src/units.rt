@@ -10,9 +10,9 @@ use crate::decimals::{factor, offset};
 use crate::declarations::Declarations;
 use crate::entries::UnitEntry;
 use crate::placed::PlacedDecl;
-use dsl_tree::{Declaration, UnitDecl};
-use osc_base::Text;
+use name_scope::dsl_tree::{Declaration, UnitDecl};
 use std::alloc::{AllocError, Global};
+use units_si::osc_base::Text;
 
 fn unit_entry(alloc: Global, decl: &UnitDecl) -> Result<UnitEntry, AllocError>
     ensures { IfOk result (λ unit. unit ≡ unit_of decl.now) }

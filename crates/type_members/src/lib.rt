@@ -22,3 +22,7 @@ pub use member_lists::MemberLists;
 pub use places::{Part, Span};
 pub use rows::{Cut, MemberRow, RowEnd, Start};
 pub use subtypes::Subtypes;
+
+// Crates below, for the crates above.
+pub use type_heads;
+pub use type_heads::{dsl_tree, name_scope, osc_base, units_si};

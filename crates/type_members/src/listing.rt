@@ -7,8 +7,8 @@ ghost use Rattle.type_members.specs.Listed.{seen_listed};
 ghost use Rattle.type_members.specs.Listing.{Way, deeper as deeper_under, kept, listed_within, member_in, pending, task_members, way_of};
 
 use crate::{ListedMember, Subtypes};
-use osc_base::Row;
 use std::alloc::{AllocError, Global};
+use type_heads::osc_base::Row;
 use type_heads::{Body, TypeId, WrittenMember};
 
 /// What of a type is left to be listed: all that comes down from it, in at most so many steps through conditional

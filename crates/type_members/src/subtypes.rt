@@ -5,9 +5,9 @@ ghost use Rattle.type_heads.specs.Bodied.{seen_body};
 ghost use Rattle.type_members.specs.Listed.{AreSubtypes, is_subtype};
 
 use crate::bodied::conditional_base;
-use osc_base::Row;
 use std::alloc::{AllocError, Global};
 use std::marker::Model;
+use type_heads::osc_base::Row;
 use type_heads::{Body, Heads, TypeId};
 
 /// The conditional subtypes of each type. Contracts see them as a list of lists.

@@ -2,7 +2,7 @@
 use Rattle.std.proofs.Common.{◌≡◌, ◌∙◌, refl, ap, arith, ℕ, zero, suc, ◌-◌, ◌<◌, ◌≤◌, Bool, true, false, List, [], ◌∷◌, None, cond, drop, length, slice_get}
 use Rattle.std.specs.Prelude.{nat_lt}
 use Rattle.std.proofs.lemmas.Bool.Decides.{nat_tests}
-use Rattle.type_heads.specs.Told.{last_number}
+use Rattle.string_texts.specs.type_heads.Told.{last_number}
 
 pub last_is : (ts : List ℕ) → slice_get ts (length ts - 1) ≡ last_number ts
 last_is [] = refl

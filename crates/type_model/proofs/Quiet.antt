@@ -3,9 +3,9 @@ use Rattle.std.proofs.Common.{◌≡◌, ◌∙◌, refl, sym, ap₂, inl, inr, 
 use Rattle.std.specs.Prelude.{flat_map, not}
 use Rattle.std.specs.List.{list_all}
 use Rattle.std.proofs.lemmas.List.Folds.{list_all-append}
-use Rattle.osc_base.specs.declared.fault.Fault.{Fault}
-use Rattle.osc_base.specs.FaultRows.{FaultRow, IsFault, IsFirst, first_fault}
-use Rattle.osc_base.proofs.FaultRows.{is_first}
+use Rattle.string_texts.specs.osc_base.declared.fault.Fault.{Fault}
+use Rattle.string_texts.specs.osc_base.FaultRows.{FaultRow, IsFault, IsFirst, first_fault}
+use Rattle.string_texts.proofs.of_osc_base.FaultRows.{is_first}
 
 -- no row holds
 abbrev pub are_quiet : List FaultRow → Bool

@@ -2,12 +2,12 @@
 use Rattle.std.proofs.Common.{◌≡◌, ◌∙◌, refl, sym, ap, ap₂, ℕ, List, [], ◌∷◌, ◌++◌, Option, map, take, drop, slice_index_or}
 use Rattle.std.proofs.lemmas.List.{drop-map, map-append, take-map}
 use Rattle.std.proofs.Math.ListN.{get_or-map}
-use Rattle.type_heads.specs.Told.{member_told}
-use Rattle.type_heads.specs.Types.{Member}
-use Rattle.type_members.specs.Shared.{members_at, members_in_part, members_in_parts, part_at, under_inside}
-use Rattle.type_members.specs.declared.places.Part.{Part}
-use Rattle.type_members.specs.declared.places.Span.{Span}
-use Rattle.type_members.proofs.Moves.{inside_none}
+use Rattle.string_texts.specs.type_heads.Told.{member_told}
+use Rattle.string_texts.specs.type_heads.Types.{Member}
+use Rattle.type_tables.specs.type_members.Shared.{members_at, members_in_part, members_in_parts, part_at, under_inside}
+use Rattle.type_tables.specs.type_members.declared.places.Part.{Part}
+use Rattle.type_tables.specs.type_members.declared.places.Span.{Span}
+use Rattle.type_tables.proofs.of_type_members.Moves.{inside_none}
 use Rattle.type_model.specs.RowRefs.{ref_of, refs_in_part, refs_in_parts, told_at, told_inside}
 use Rattle.type_model.specs.declared.refs.RowRef.{RowRef}
 use Rattle.type_model.proofs.LastNumbers.{last_left}

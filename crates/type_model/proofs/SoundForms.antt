@@ -4,19 +4,19 @@ use Rattle.std.specs.Prelude.{filter_map, find, flat_map, is_some, not}
 use Rattle.std.specs.Option.{option_map_or}
 use Rattle.std.specs.List.{cons_option, list_all, list_any}
 use Rattle.std.proofs.lemmas.List.Folds.{list_all-append}
-use Rattle.osc_base.specs.FaultRows.{FaultRow, first_fault}
-use Rattle.dsl_tree.specs.declared.enums.EnumItem.{EnumItem}
-use Rattle.dsl_tree.specs.declared.units.BasePart.{BasePart}
-use Rattle.dsl_tree.specs.FileTree.{DeclarationTree}
-use Rattle.units_si.specs.declared.units.Exponents.{Exponents}
-use Rattle.type_heads.specs.Form.{Form}
-use Rattle.type_heads.specs.Table.{TypeHead, TableUnit, all_types, form, int_head}
-use Rattle.type_heads.specs.Types.{Program}
-use Rattle.type_heads.specs.Units.{are_bases, exponents_of, is_base_unit, unit_declared}
-use Rattle.type_heads.specs.UnitsPlaced.{units_in}
-use Rattle.type_heads.specs.DeclaredTypes.{Placed, placed, Declared, all_declared, basic_types, declared_heads, form_with, head_with, heads_from, items_with, type_declared, types_of}
-use Rattle.type_heads.specs.HeadsGrouped.{all_heads}
-use Rattle.type_heads.specs.HeadingFaults.{basic_names, bracket_rows, cycle_row, declaration_rows, enum_rows_from, heading_rows, name_declared, twice_rows}
+use Rattle.string_texts.specs.osc_base.FaultRows.{FaultRow, first_fault}
+use Rattle.string_texts.specs.dsl_tree.declared.enums.EnumItem.{EnumItem}
+use Rattle.string_texts.specs.dsl_tree.declared.units.BasePart.{BasePart}
+use Rattle.string_texts.specs.dsl_tree.FileTree.{DeclarationTree}
+use Rattle.string_texts.specs.units_si.declared.units.Exponents.{Exponents}
+use Rattle.string_texts.specs.type_heads.Form.{Form}
+use Rattle.string_texts.specs.type_heads.Table.{TypeHead, TableUnit, all_types, form, int_head}
+use Rattle.string_texts.specs.type_heads.Types.{Program}
+use Rattle.string_texts.specs.type_heads.Units.{are_bases, exponents_of, is_base_unit, unit_declared}
+use Rattle.string_texts.specs.type_heads.UnitsPlaced.{units_in}
+use Rattle.string_texts.specs.type_heads.DeclaredTypes.{Placed, placed, Declared, all_declared, basic_types, declared_heads, form_with, head_with, heads_from, items_with, type_declared, types_of}
+use Rattle.string_texts.specs.type_heads.HeadsGrouped.{all_heads}
+use Rattle.string_texts.specs.type_heads.HeadingFaults.{basic_names, bracket_rows, cycle_row, declaration_rows, enum_rows_from, heading_rows, name_declared, twice_rows}
 use Rattle.type_model.specs.Kept.{AreKept, has_exponents, have_exponents, is_sound, is_sound_unit}
 use Rattle.type_model.specs.Built.{AreOfProgram, AreProgramTables, HeadingsAreSound}
 use Rattle.type_model.specs.declared.parts.ProgramTables.{ProgramTables}

@@ -2,9 +2,9 @@
 use Rattle.std.proofs.Common.{◌≡◌, ◌∙◌, ap, ℕ, List, Option, Some, None, true, cond, bytes_eq, option_map}
 use Rattle.std.specs.Prelude.{find, is_some}
 use Rattle.std.specs.Option.{option_map_or}
-use Rattle.type_heads.specs.Table.{TableUnit}
+use Rattle.string_texts.specs.type_heads.Table.{TableUnit}
 use Rattle.type_model.specs.Kept.{is_sound_unit}
-use Rattle.type_heads.specs.Shown.{UnitParts, unit_parts}
+use Rattle.string_texts.specs.type_heads.Shown.{UnitParts, unit_parts}
 
 pub unit_found : (units : List TableUnit) (name : List ℕ) (u : TableUnit) (shown : Option UnitParts) → is_sound_unit units name ≡ true →
     Some u ≡ find (λ (u : TableUnit). bytes_eq u.name name) units → shown ≡ cond (is_some u.exponents) (Some (unit_parts u)) None →

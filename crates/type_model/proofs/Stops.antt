@@ -2,13 +2,13 @@
 use Rattle.std.proofs.Common.{◌≡◌, ◌∙◌, sym, ap, List, Result, Ok, Err, IfErr}
 use Rattle.std.specs.Prelude.{IsErrAnd}
 use Rattle.std.specs.Option.{option_or}
-use Rattle.osc_base.specs.declared.fault.Fault.{Fault}
-use Rattle.osc_base.specs.declared.stop.Stop.{Stop}
-use Rattle.osc_base.specs.FaultRows.{first_fault}
-use Rattle.type_heads.specs.Table.{TypeHead}
-use Rattle.type_heads.specs.Types.{Program, TypeBody, Member}
-use Rattle.type_heads.specs.DeclaredTypes.{Placed, placed, types_of}
-use Rattle.type_heads.specs.MemberFaults.{member_fault_rows}
+use Rattle.string_texts.specs.osc_base.declared.fault.Fault.{Fault}
+use Rattle.string_texts.specs.osc_base.declared.stop.Stop.{Stop}
+use Rattle.string_texts.specs.osc_base.FaultRows.{first_fault}
+use Rattle.string_texts.specs.type_heads.Table.{TypeHead}
+use Rattle.string_texts.specs.type_heads.Types.{Program, TypeBody, Member}
+use Rattle.string_texts.specs.type_heads.DeclaredTypes.{Placed, placed, types_of}
+use Rattle.string_texts.specs.type_heads.MemberFaults.{member_fault_rows}
 use Rattle.type_model.specs.Built.{HaveParts, HeadingsAreSound, IsHeadingFault, IsMemberFault, IsFirstFault}
 
 -- what is known of the fault is passed on with it

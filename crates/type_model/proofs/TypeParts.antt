@@ -2,21 +2,21 @@
 use Rattle.std.proofs.Common.{◌≡◌, ◌∙◌, refl, sym, ap, ℕ, suc, ◌+◌, List, [], ◌∷◌, Option, map, length}
 use Rattle.std.specs.Prelude.{flat_map, fold}
 use Rattle.std.proofs.lemmas.List.{length-map}
-use Rattle.type_heads.specs.Table.{TypeHead, TableField, TableUnit, all_types, numbers_from}
-use Rattle.type_heads.specs.Types.{Program, TypeBody, Member, Types}
-use Rattle.type_heads.specs.Conditions.{Condition}
-use Rattle.type_heads.specs.Members.{members_of, table_fields}
-use Rattle.type_heads.specs.Texts.{declaration_exprs, texts_in, texts_of, with_text}
-use Rattle.type_heads.specs.Told.{MemberAt, Told, member_told, told}
-use Rattle.type_heads.specs.Units.{units_of}
-use Rattle.type_heads.specs.UnitsPlaced.{units_in}
-use Rattle.type_heads.specs.DeclaredTypes.{Placed, placed, types_from, types_of}
-use Rattle.type_heads.specs.HeadsGrouped.{all_heads}
-use Rattle.type_heads.specs.Bodied.{all_bodies, seen_body}
-use Rattle.type_heads.specs.declared.body.Body.{Body}
-use Rattle.type_heads.specs.Placing.{seen_placed}
-use Rattle.type_heads.specs.declared.placed.PlacedDecl.{PlacedDecl}
-use Rattle.type_heads.proofs.FileLists.{among, in_files, program_units}
+use Rattle.string_texts.specs.type_heads.Table.{TypeHead, TableField, TableUnit, all_types, numbers_from}
+use Rattle.string_texts.specs.type_heads.Types.{Program, TypeBody, Member, Types}
+use Rattle.string_texts.specs.type_heads.Conditions.{Condition}
+use Rattle.string_texts.specs.type_heads.Members.{members_of, table_fields}
+use Rattle.string_texts.specs.type_heads.Texts.{declaration_exprs, texts_in, texts_of, with_text}
+use Rattle.string_texts.specs.type_heads.Told.{MemberAt, Told, member_told, told}
+use Rattle.string_texts.specs.type_heads.Units.{units_of}
+use Rattle.string_texts.specs.type_heads.UnitsPlaced.{units_in}
+use Rattle.string_texts.specs.type_heads.DeclaredTypes.{Placed, placed, types_from, types_of}
+use Rattle.string_texts.specs.type_heads.HeadsGrouped.{all_heads}
+use Rattle.string_texts.specs.type_heads.Bodied.{all_bodies, seen_body}
+use Rattle.string_texts.specs.type_heads.declared.body.Body.{Body}
+use Rattle.string_texts.specs.type_heads.Placing.{seen_placed}
+use Rattle.string_texts.specs.type_heads.declared.placed.PlacedDecl.{PlacedDecl}
+use Rattle.string_texts.proofs.of_type_heads.FileLists.{among, in_files, program_units}
 use Rattle.type_tables.specs.Looked.{condition_of}
 use Rattle.type_model.specs.Built.{AreMemberTables, AreProgramTables, HaveParts, texts_among}
 use Rattle.type_model.specs.declared.parts.MemberTables.{MemberTables}

@@ -1,19 +1,19 @@
 -- What is built of the declarations of a program.
 use Rattle.std.specs.Prelude.{◌≡◌, ℕ, ◌<◌, ◌^◌, List, [], ◌∷◌, Some, None, map, length, flat_map, fold}
 use Rattle.std.specs.Option.{option_or}
-use Rattle.osc_base.specs.declared.fault.Fault.{Fault}
-use Rattle.osc_base.specs.FaultRows.{first_fault}
-use Rattle.type_heads.specs.Table.{TypeHead, all_types}
-use Rattle.type_heads.specs.Types.{Program, TypeBody, Member, Types}
-use Rattle.type_heads.specs.Texts.{declaration_exprs, texts_in, with_text}
-use Rattle.type_heads.specs.Told.{Told, member_told, told}
-use Rattle.type_heads.specs.DeclaredTypes.{Placed, placed, types_of}
-use Rattle.type_heads.specs.HeadingFaults.{heading_rows}
-use Rattle.type_heads.specs.MemberFaults.{member_fault_rows}
-use Rattle.type_heads.specs.Members.{table_fields}
-use Rattle.type_heads.specs.UnitsPlaced.{units_in}
-use Rattle.type_heads.specs.Bodied.{all_bodies, seen_body}
-use Rattle.type_members.specs.Listed.{AreSubtypes}
+use Rattle.string_texts.specs.osc_base.declared.fault.Fault.{Fault}
+use Rattle.string_texts.specs.osc_base.FaultRows.{first_fault}
+use Rattle.string_texts.specs.type_heads.Table.{TypeHead, all_types}
+use Rattle.string_texts.specs.type_heads.Types.{Program, TypeBody, Member, Types}
+use Rattle.string_texts.specs.type_heads.Texts.{declaration_exprs, texts_in, with_text}
+use Rattle.string_texts.specs.type_heads.Told.{Told, member_told, told}
+use Rattle.string_texts.specs.type_heads.DeclaredTypes.{Placed, placed, types_of}
+use Rattle.string_texts.specs.type_heads.HeadingFaults.{heading_rows}
+use Rattle.string_texts.specs.type_heads.MemberFaults.{member_fault_rows}
+use Rattle.string_texts.specs.type_heads.Members.{table_fields}
+use Rattle.string_texts.specs.type_heads.UnitsPlaced.{units_in}
+use Rattle.string_texts.specs.type_heads.Bodied.{all_bodies, seen_body}
+use Rattle.type_tables.specs.type_members.Listed.{AreSubtypes}
 use Rattle.type_tables.specs.Looked.{condition_of}
 use Rattle.type_model.specs.Kept.{all_numbers}
 use Rattle.type_model.specs.declared.parts.Bodies.{Bodies}

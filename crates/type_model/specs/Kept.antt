@@ -2,12 +2,12 @@
 use Rattle.std.specs.Prelude.{◌≡◌, ℕ, ℤ, ◌<◌, ◌^◌, Bool, true, false, List, None, map, length, is_some, find, bytes_eq}
 use Rattle.std.specs.Option.{option_map_or}
 use Rattle.std.specs.List.{list_all}
-use Rattle.dsl_tree.specs.FileTree.{DeclarationTree}
-use Rattle.type_heads.specs.Form.{Form}
-use Rattle.type_heads.specs.Bounds.{numbers_of}
-use Rattle.type_heads.specs.Table.{TypeHead, TableUnit, form, enum_members}
-use Rattle.type_heads.specs.Units.{exponents_of}
-use Rattle.type_heads.specs.DeclaredTypes.{Placed}
+use Rattle.string_texts.specs.dsl_tree.FileTree.{DeclarationTree}
+use Rattle.string_texts.specs.type_heads.Form.{Form}
+use Rattle.string_texts.specs.type_heads.Bounds.{numbers_of}
+use Rattle.string_texts.specs.type_heads.Table.{TypeHead, TableUnit, form, enum_members}
+use Rattle.string_texts.specs.type_heads.Units.{exponents_of}
+use Rattle.string_texts.specs.type_heads.DeclaredTypes.{Placed}
 
 -- a physical type has exponents: its brackets have no fault
 abbrev pub is_sound : Form → Bool

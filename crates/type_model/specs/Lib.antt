@@ -1,3 +1,9 @@
 pub mod Kept
 pub mod Built
 pub mod RowRefs
+-- Crates below, for the crates above.
+pub use Rattle.string_texts.specs.dsl_tree as dsl_tree
+pub use Rattle.string_texts.specs.name_scope as name_scope
+pub use Rattle.type_faults.specs as type_faults
+pub use Rattle.string_texts.specs.type_heads as type_heads
+pub use Rattle.string_texts.specs.units_si as units_si

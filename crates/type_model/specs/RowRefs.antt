@@ -1,11 +1,11 @@
 -- Where members are written, in rows that are read as rows of members are.
 use Rattle.std.specs.Prelude.{ℕ, List, [], ◌++◌, None, cond, flat_map, length, map, nat_lt, slice_index_or, take}
-use Rattle.type_heads.specs.Shown.{shown_member}
-use Rattle.type_heads.specs.Told.{MemberAt, last_number}
-use Rattle.type_heads.specs.Types.{Member}
-use Rattle.type_members.specs.Shared.{part_at}
-use Rattle.type_members.specs.declared.places.Part.{Part}
-use Rattle.type_members.specs.declared.places.Span.{Span}
+use Rattle.string_texts.specs.type_heads.Shown.{shown_member}
+use Rattle.string_texts.specs.type_heads.Told.{MemberAt, last_number}
+use Rattle.string_texts.specs.type_heads.Types.{Member}
+use Rattle.type_tables.specs.type_members.Shared.{part_at}
+use Rattle.type_tables.specs.type_members.declared.places.Part.{Part}
+use Rattle.type_tables.specs.type_members.declared.places.Span.{Span}
 use Rattle.type_model.specs.declared.refs.RowRef.{RowRef}
 
 -- what a row keeps of a member

@@ -2,29 +2,29 @@
 
 ghost use Rattle.std.specs.Prelude.{◌≡◌, IfErr, IfOk, Some, None, map};
 ghost use Rattle.std.specs.Option.{option_or};
-ghost use Rattle.osc_base.specs.FaultRows.{first_fault};
-ghost use Rattle.osc_base.specs.declared.fault.Fault.{Fault};
-ghost use Rattle.osc_base.specs.declared.stop.Stop.{Stop};
-ghost use Rattle.type_heads.specs.Bodied.{seen_body};
-ghost use Rattle.type_heads.specs.DeclaredTypes.{program_of, types_of};
-ghost use Rattle.type_heads.specs.Gathered.{AreGathered, all_of};
-ghost use Rattle.type_heads.specs.HeadingFaults.{heading_rows};
-ghost use Rattle.type_heads.specs.HeadsGrouped.{all_heads};
-ghost use Rattle.type_heads.specs.MemberFaults.{member_fault_rows};
-ghost use Rattle.type_heads.specs.Members.{members_of};
-ghost use Rattle.type_heads.specs.Table.{all_types};
-ghost use Rattle.type_heads.specs.Told.{told};
-ghost use Rattle.type_members.specs.Listed.{lists_of};
+ghost use Rattle.string_texts.specs.osc_base.FaultRows.{first_fault};
+ghost use Rattle.string_texts.specs.osc_base.declared.fault.Fault.{Fault};
+ghost use Rattle.string_texts.specs.osc_base.declared.stop.Stop.{Stop};
+ghost use Rattle.string_texts.specs.type_heads.Bodied.{seen_body};
+ghost use Rattle.string_texts.specs.type_heads.DeclaredTypes.{program_of, types_of};
+ghost use Rattle.string_texts.specs.type_heads.Gathered.{AreGathered, all_of};
+ghost use Rattle.string_texts.specs.type_heads.HeadingFaults.{heading_rows};
+ghost use Rattle.string_texts.specs.type_heads.HeadsGrouped.{all_heads};
+ghost use Rattle.string_texts.specs.type_heads.MemberFaults.{member_fault_rows};
+ghost use Rattle.string_texts.specs.type_heads.Members.{members_of};
+ghost use Rattle.string_texts.specs.type_heads.Table.{all_types};
+ghost use Rattle.string_texts.specs.type_heads.Told.{told};
+ghost use Rattle.type_tables.specs.type_members.Listed.{lists_of};
 ghost use Rattle.type_model.specs.Built.{AreBodies, AreOfProgram, AreTold, AreTypes, HeadingsAreSound, IsFirstFault};
 
 use crate::Types;
 use crate::parts::{Bodies, MemberTables, ProgramTables};
 use crate::refusing::{refuse_headings, refuse_members};
-use name_scope::Program;
-use osc_base::{Fault, Stop};
 use std::alloc::{AllocError, Global};
-use type_heads::{Declarations, Heads};
-use type_members::MemberLists;
+use string_texts::name_scope::Program;
+use string_texts::osc_base::{Fault, Stop};
+use string_texts::type_heads::{Declarations, Heads};
+use type_tables::type_members::MemberLists;
 
 /// Why no types were built: the first fault of headings, else of members; or out of memory.
 pub type BuildStop = Stop<Fault>;

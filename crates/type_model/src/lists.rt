@@ -1,19 +1,19 @@
 //! The members of each type of a program, with what they are under.
 
 ghost use Rattle.std.specs.Prelude.{◌≡◌, map, IfOk};
-ghost use Rattle.type_heads.specs.Bodied.{all_bodies};
-ghost use Rattle.type_heads.specs.DeclaredTypes.{program_of, types_of};
-ghost use Rattle.type_heads.specs.Gathered.{AreGathered, all_of};
-ghost use Rattle.type_heads.specs.HeadsGrouped.{all_heads};
-ghost use Rattle.type_heads.specs.Members.{members_of};
-ghost use Rattle.type_heads.specs.Table.{all_types};
-ghost use Rattle.type_members.specs.Listed.{lists_of};
+ghost use Rattle.string_texts.specs.type_heads.Bodied.{all_bodies};
+ghost use Rattle.string_texts.specs.type_heads.DeclaredTypes.{program_of, types_of};
+ghost use Rattle.string_texts.specs.type_heads.Gathered.{AreGathered, all_of};
+ghost use Rattle.string_texts.specs.type_heads.HeadsGrouped.{all_heads};
+ghost use Rattle.string_texts.specs.type_heads.Members.{members_of};
+ghost use Rattle.string_texts.specs.type_heads.Table.{all_types};
+ghost use Rattle.type_tables.specs.type_members.Listed.{lists_of};
 
 use crate::parts::Bodies;
-use name_scope::Program;
 use std::alloc::{AllocError, Global};
-use type_heads::{Declarations, Heads};
-use type_members::MemberLists;
+use string_texts::name_scope::Program;
+use string_texts::type_heads::{Declarations, Heads};
+use type_tables::type_members::MemberLists;
 
 /// The members of each type that is declared.
 fn declared_lists<'a>(

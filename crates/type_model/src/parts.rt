@@ -1,18 +1,18 @@
 //! What types are put together from.
 
 ghost use Rattle.std.specs.Prelude.{◌≡◌, ◌<◌, ◌^◌, length, map, IfOk};
-ghost use Rattle.type_heads.specs.Bodied.{seen_body};
-ghost use Rattle.type_heads.specs.Gathered.{AreGathered, all_of};
-ghost use Rattle.type_heads.specs.UnitsPlaced.{units_in};
-ghost use Rattle.type_members.specs.Listed.{lists_of};
+ghost use Rattle.string_texts.specs.type_heads.Bodied.{seen_body};
+ghost use Rattle.string_texts.specs.type_heads.Gathered.{AreGathered, all_of};
+ghost use Rattle.string_texts.specs.type_heads.UnitsPlaced.{units_in};
+ghost use Rattle.type_tables.specs.type_members.Listed.{lists_of};
 ghost use Rattle.type_model.specs.Built.{AreBodies, AreMemberTables, AreProgramTables, texts_among};
 
 use crate::refs::MemberRefs;
-use osc_base::{Row, Text};
 use std::alloc::{AllocError, Global};
+use string_texts::osc_base::{Row, Text};
 use string_texts::texts;
-use type_heads::{Body, ConditionEntry, Declarations, Heads, bodies, unit_entries};
-use type_members::{MemberLists, Subtypes};
+use string_texts::type_heads::{Body, ConditionEntry, Declarations, Heads, bodies, unit_entries};
+use type_tables::type_members::{MemberLists, Subtypes};
 use type_tables::{FieldLists, TextTable, UnitTable, all_conditions, all_numbers};
 
 /// The bodies and the conditional subtypes of all types.

@@ -1,18 +1,18 @@
 //! Where the members of types are written.
 
 ghost use Rattle.std.specs.Prelude.{◌≡◌, ◌++◌, [], drop, map, slice_index_or, take, IfOk, OnOk};
-ghost use Rattle.type_heads.specs.Shown.{shown_member};
-ghost use Rattle.type_heads.specs.Told.{last_number, member_told};
-ghost use Rattle.type_members.specs.Listed.{lists_of, seen_listed, seen_row};
-ghost use Rattle.type_members.specs.Shared.{fronts_in, part_at};
+ghost use Rattle.string_texts.specs.type_heads.Shown.{shown_member};
+ghost use Rattle.string_texts.specs.type_heads.Told.{last_number, member_told};
+ghost use Rattle.type_tables.specs.type_members.Listed.{lists_of, seen_listed, seen_row};
+ghost use Rattle.type_tables.specs.type_members.Shared.{fronts_in, part_at};
 ghost use Rattle.type_model.specs.RowRefs.{ref_of, refs_in_parts, told_at, told_inside};
 
-use name_scope::DeclId;
-use osc_base::Row;
 use std::alloc::{AllocError, Global};
 use std::marker::Model;
-use type_heads::{MemberRef, TypeId};
-use type_members::{ListedMember, MemberLists, MemberRow, Part, Span};
+use string_texts::name_scope::DeclId;
+use string_texts::osc_base::Row;
+use string_texts::type_heads::{MemberRef, TypeId};
+use type_tables::type_members::{ListedMember, MemberLists, MemberRow, Part, Span};
 
 /// The innermost of the conditional subtypes that a member is under.
 fn innermost(under: &[TypeId]) -> Option<TypeId>
@@ -91,7 +91,7 @@ pub struct MemberRefs {
 
 impl Model for MemberRefs {
     ghost use Rattle.std.specs.Prelude.{List, map};
-    ghost use Rattle.type_heads.specs.Told.{MemberAt};
+    ghost use Rattle.string_texts.specs.type_heads.Told.{MemberAt};
     ghost use Rattle.type_model.specs.RowRefs.{told_at};
 
     ghost Value = { List (List MemberAt) };

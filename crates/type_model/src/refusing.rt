@@ -1,24 +1,24 @@
 //! The faults for which no types are built.
 
 ghost use Rattle.std.specs.Prelude.{◌≡◌, Some, None, length, map, IfErr, OnOk};
-ghost use Rattle.osc_base.specs.FaultRows.{first_fault};
-ghost use Rattle.osc_base.specs.declared.fault.Fault.{Fault};
-ghost use Rattle.osc_base.specs.declared.stop.Stop.{Stop};
-ghost use Rattle.type_heads.specs.Bodied.{seen_body};
-ghost use Rattle.type_heads.specs.Gathered.{AreGathered, all_of};
-ghost use Rattle.type_heads.specs.HeadsGrouped.{all_heads};
-ghost use Rattle.type_heads.specs.MemberFaults.{member_fault_rows};
-ghost use Rattle.type_heads.specs.Types.{Types};
-ghost use Rattle.type_members.specs.Listed.{lists_of};
+ghost use Rattle.string_texts.specs.osc_base.FaultRows.{first_fault};
+ghost use Rattle.string_texts.specs.osc_base.declared.fault.Fault.{Fault};
+ghost use Rattle.string_texts.specs.osc_base.declared.stop.Stop.{Stop};
+ghost use Rattle.string_texts.specs.type_heads.Bodied.{seen_body};
+ghost use Rattle.string_texts.specs.type_heads.Gathered.{AreGathered, all_of};
+ghost use Rattle.string_texts.specs.type_heads.HeadsGrouped.{all_heads};
+ghost use Rattle.string_texts.specs.type_heads.MemberFaults.{member_fault_rows};
+ghost use Rattle.string_texts.specs.type_heads.Types.{Types};
+ghost use Rattle.type_tables.specs.type_members.Listed.{lists_of};
 ghost use Rattle.type_model.specs.Built.{AreBodies, HeadingsAreSound, IsHeadingFault, MembersAreSound, IsMemberFault};
 
 use crate::BuildStop;
 use crate::parts::Bodies;
-use osc_base::{Fault, Stop};
 use std::alloc::Global;
+use string_texts::osc_base::{Fault, Stop};
+use string_texts::type_heads::{Body, Declarations, Heads};
 use type_faults::{first_heading_fault, first_member_fault};
-use type_heads::{Body, Declarations, Heads};
-use type_members::MemberLists;
+use type_tables::type_members::MemberLists;
 
 /// Stops at a fault, if there is one.
 fn refuse(found: Option<Fault>) -> Result<(), BuildStop>

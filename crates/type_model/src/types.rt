@@ -1,21 +1,23 @@
 ghost use Rattle.std.specs.Prelude.{◌≡◌, ℕ, ℤ, bytes_eq, fold, List, Option, Some, None, map, length, pos, option_copied, option_map, slice_index_or, unwrap_or, IfOk};
 ghost use Rattle.std.specs.Int.{int_min, int_max};
-ghost use Rattle.name_scope.specs.Declaring.{first_place};
-ghost use Rattle.type_heads.specs.Bounds.{numbers_of, bounds, least_of, greatest_of};
-ghost use Rattle.type_heads.specs.Table.{base, enum_members, enums_with, field_of, form, head, is_kind_of as is_kind, named, owner};
-ghost use Rattle.type_heads.specs.Table.{enum_number as number_in, unit as unit_in};
+ghost use Rattle.string_texts.specs.name_scope.Declaring.{first_place};
+ghost use Rattle.string_texts.specs.type_heads.Bounds.{numbers_of, bounds, least_of, greatest_of};
+ghost use Rattle.string_texts.specs.type_heads.Table.{base, enum_members, enums_with, field_of, form, head, is_kind_of as is_kind, named, owner};
+ghost use Rattle.string_texts.specs.type_heads.Table.{enum_number as number_in, unit as unit_in};
 ghost use Rattle.type_model.specs.Kept.{AreKept};
-ghost use Rattle.type_heads.specs.Shown.{bare, condition_told, hit_of, kind_form, members_told, shown_field, shown_member, shown_unit, unit_parts};
+ghost use Rattle.string_texts.specs.type_heads.Shown.{bare, condition_told, hit_of, kind_form, members_told, shown_field, shown_member, shown_unit, unit_parts};
 
 use crate::parts::{MemberTables, ProgramTables};
 use crate::refs::MemberRefs;
-use dsl_tree::CompoundKind;
-use osc_base::{Row, Text};
 use std::alloc::{AllocError, Global};
 use std::marker::Model;
-use type_heads::{ConditionEntry, EnumHit, FieldType, Form, Heads, MemberRef, TypeId, TypeKind};
+use string_texts::dsl_tree::CompoundKind;
+use string_texts::osc_base::{Row, Text};
+use string_texts::type_heads::{
+    ConditionEntry, EnumHit, FieldType, Form, Heads, MemberRef, TypeId, TypeKind,
+};
+use string_texts::units_si::Unit;
 use type_tables::{FieldLists, TextTable, UnitTable};
-use units_si::Unit;
 
 /// The greatest magnitude of what a field holds.
 const GREATEST_VALUE: i64 = 1_000_000_000;
@@ -36,7 +38,7 @@ pub struct Types {
 }
 
 impl Model for Types {
-    ghost use Rattle.type_heads.specs.Told.{Told};
+    ghost use Rattle.string_texts.specs.type_heads.Told.{Told};
 
     ghost Value = { Told };
 

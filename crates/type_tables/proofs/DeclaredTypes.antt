@@ -4,12 +4,12 @@ use Rattle.std.specs.Prelude.{find, filter_map, is_some, option_and_then}
 use Rattle.std.specs.List.{cons_option, list_all}
 use Rattle.std.proofs.lemmas.List.Folds.{list_all-append}
 use Rattle.std.proofs.Math.ListN.{get_or-map}
-use Rattle.dsl_tree.specs.declared.parts.Ident.{Ident}
-use Rattle.dsl_tree.specs.declared.compounds.HeirCondition.{HeirCondition}
-use Rattle.dsl_tree.specs.FileTree.{FieldTree, MemberTree}
-use Rattle.type_heads.specs.Members.{fields_among, fields_declared, heir_condition, list_length, table_field, table_fields}
-use Rattle.type_heads.specs.Table.{TypeHead, TableField, base, field_in, named}
-use Rattle.type_heads.specs.Types.{Field, Member, TypeBody}
+use Rattle.type_members.specs.dsl_tree.declared.parts.Ident.{Ident}
+use Rattle.type_members.specs.dsl_tree.declared.compounds.HeirCondition.{HeirCondition}
+use Rattle.type_members.specs.dsl_tree.FileTree.{FieldTree, MemberTree}
+use Rattle.type_members.specs.type_heads.Members.{fields_among, fields_declared, heir_condition, list_length, table_field, table_fields}
+use Rattle.type_members.specs.type_heads.Table.{TypeHead, TableField, base, field_in, named}
+use Rattle.type_members.specs.type_heads.Types.{Field, Member, TypeBody}
 use Rattle.type_members.specs.Shared.{list_at, members_at, part_at, parts_at}
 use Rattle.type_members.specs.declared.places.Part.{Part}
 use Rattle.type_members.specs.declared.places.Span.{Span}

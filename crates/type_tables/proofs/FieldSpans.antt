@@ -3,9 +3,9 @@ use Rattle.std.proofs.Common.{◌≡◌, ◌∙◌, refl, sym, ap, ap₂, ℕ, z
 use Rattle.std.proofs.lemmas.List.{append_assoc, drop_more}
 use Rattle.std.proofs.lemmas.List.Elements.{filter_map-append}
 use Rattle.std.proofs.Math.ListN.{get_or-map}
-use Rattle.type_heads.specs.Table.{TypeHead, TableField}
-use Rattle.type_heads.specs.Types.{Member}
-use Rattle.type_heads.specs.Members.{fields_among, fields_declared, table_field, table_fields}
+use Rattle.type_members.specs.type_heads.Table.{TypeHead, TableField}
+use Rattle.type_members.specs.type_heads.Types.{Member}
+use Rattle.type_members.specs.type_heads.Members.{fields_among, fields_declared, table_field, table_fields}
 use Rattle.type_members.specs.Listed.{seen_listed, seen_row}
 use Rattle.type_members.specs.Shared.{fronts_in, list_at, members_at, part_at}
 use Rattle.type_members.specs.declared.listed.ListedMember.{ListedMember}

@@ -9,8 +9,8 @@ use Rattle.std.proofs.lemmas.List.{take_more}
 use Rattle.std.proofs.lemmas.List.Folds.{list_any-append}
 use Rattle.std.proofs.lemmas.Slice.Eq.{bytes_eq-Decides}
 use Rattle.std.proofs.lemmas.Option.{slice_get_past, slice_get-get_or}
-use Rattle.name_scope.specs.Declaring.{first_place}
-use Rattle.name_scope.proofs.Tables.{place_next}
+use Rattle.type_members.specs.name_scope.Declaring.{first_place}
+use Rattle.type_members.proofs.of_name_scope.Tables.{place_next}
 use Rattle.type_tables.specs.Places.{AreDistinct, high_place, low_place, passes_once}
 
 -- what stands at the first place is the first that passes

@@ -8,3 +8,5 @@ mod SeenInside
 pub mod Firsts
 pub mod FlatParts
 pub mod SharedLists
+-- Crates below, for the crates above.
+pub use Rattle.type_members.proofs as of_type_members

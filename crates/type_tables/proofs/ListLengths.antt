@@ -1,18 +1,18 @@
 -- The number of elements of list constructors, and of other expressions.
 use Rattle.std.proofs.Common.{◌≡◌, ◌∙◌, refl, ap, suc, List, [], ◌∷◌, Some, map, length, ℕ}
-use Rattle.osc_base.specs.declared.fault.Place.{Place}
-use Rattle.dsl_tree.specs.declared.expr.Operator.{Operator}
-use Rattle.dsl_tree.specs.declared.expr.Expr.{Expr}
-use Rattle.dsl_tree.specs.declared.expr.Suffix.{Suffix}
-use Rattle.dsl_tree.specs.declared.expr.Further.{Further}
-use Rattle.dsl_tree.specs.declared.expr.Expr.TheOpen.{Expr-F}
-use Rattle.dsl_tree.specs.declared.expr.Expr.TheFolds.{fold-roll-Expr, ind-Expr, map-Expr}
-use Rattle.dsl_tree.specs.declared.expr.Expr.TheViews
-use Rattle.dsl_tree.specs.declared.expr.Expr.TheViews.{roll-Expr}
-use Rattle.dsl_tree.specs.ExprTree.{ExprTree, items_of, row_of}
-use Rattle.dsl_tree.specs.Views.{SuffixTree, FurtherTree, Named, At, grouped, with_suffixes, named_row, indexed_row, expr_step, suffix_step, further_step, expr_tree, suffix_tree, further_tree}
-use Rattle.dsl_tree.proofs.Seen.{seen_listed}
-use Rattle.type_heads.specs.Members.{items_in}
+use Rattle.type_members.specs.osc_base.declared.fault.Place.{Place}
+use Rattle.type_members.specs.dsl_tree.declared.expr.Operator.{Operator}
+use Rattle.type_members.specs.dsl_tree.declared.expr.Expr.{Expr}
+use Rattle.type_members.specs.dsl_tree.declared.expr.Suffix.{Suffix}
+use Rattle.type_members.specs.dsl_tree.declared.expr.Further.{Further}
+use Rattle.type_members.specs.dsl_tree.declared.expr.Expr.TheOpen.{Expr-F}
+use Rattle.type_members.specs.dsl_tree.declared.expr.Expr.TheFolds.{fold-roll-Expr, ind-Expr, map-Expr}
+use Rattle.type_members.specs.dsl_tree.declared.expr.Expr.TheViews
+use Rattle.type_members.specs.dsl_tree.declared.expr.Expr.TheViews.{roll-Expr}
+use Rattle.type_members.specs.dsl_tree.ExprTree.{ExprTree, items_of, row_of}
+use Rattle.type_members.specs.dsl_tree.Views.{SuffixTree, FurtherTree, Named, At, grouped, with_suffixes, named_row, indexed_row, expr_step, suffix_step, further_step, expr_tree, suffix_tree, further_tree}
+use Rattle.type_members.proofs.of_dsl_tree.Seen.{seen_listed}
+use Rattle.type_members.specs.type_heads.Members.{items_in}
 
 abbrev count_in : ExprTree → ℕ
 count_in tree = items_in (Some tree)

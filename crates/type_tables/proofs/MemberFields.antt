@@ -5,11 +5,11 @@ use Rattle.std.proofs.lemmas.List.Elements.{filter_map-append}
 use Rattle.std.specs.Prelude.{find, filter_map}
 use Rattle.std.specs.Option.{option_or}
 use Rattle.std.specs.List.{cons_option, list_any}
-use Rattle.dsl_tree.specs.declared.parts.Ident.{Ident}
-use Rattle.dsl_tree.specs.FileTree.{FieldTree, MemberTree}
-use Rattle.type_heads.specs.Table.{TypeHead, TableField, named}
-use Rattle.type_heads.specs.Types.{Field, Member}
-use Rattle.type_heads.specs.Members.{fields_among, fields_declared, list_length, table_field, table_fields}
+use Rattle.type_members.specs.dsl_tree.declared.parts.Ident.{Ident}
+use Rattle.type_members.specs.dsl_tree.FileTree.{FieldTree, MemberTree}
+use Rattle.type_members.specs.type_heads.Table.{TypeHead, TableField, named}
+use Rattle.type_members.specs.type_heads.Types.{Field, Member}
+use Rattle.type_members.specs.type_heads.Members.{fields_among, fields_declared, list_length, table_field, table_fields}
 use Rattle.type_members.specs.Listed.{seen_listed}
 use Rattle.type_members.specs.declared.listed.ListedMember.{ListedMember}
 use Rattle.type_tables.specs.Entries.{entries_if, field_entries, member_entries, named_among, named_in}

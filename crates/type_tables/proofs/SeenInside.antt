@@ -2,10 +2,10 @@
 use Rattle.std.proofs.Common.{◌≡◌, ◌∙◌, refl, sym, ap, ap₂, ℕ, List, [], ◌∷◌, ◌++◌, ◌&&◌, map, take, slice_index_or}
 use Rattle.std.specs.Prelude.{None, filter_map}
 use Rattle.std.specs.Option.{option_or}
-use Rattle.dsl_tree.specs.FileTree.{MemberTree}
-use Rattle.type_heads.specs.Members.{fields_declared, table_field, table_fields}
-use Rattle.type_heads.specs.Table.{TypeHead, named}
-use Rattle.type_heads.specs.Types.{Member}
+use Rattle.type_members.specs.dsl_tree.FileTree.{MemberTree}
+use Rattle.type_members.specs.type_heads.Members.{fields_declared, table_field, table_fields}
+use Rattle.type_members.specs.type_heads.Table.{TypeHead, named}
+use Rattle.type_members.specs.type_heads.Types.{Member}
 use Rattle.type_members.specs.Shared.{list_at, members_at, members_in_part, members_in_parts, part_at, parts_at, under_inside}
 use Rattle.type_members.specs.declared.places.Part.{Part}
 use Rattle.type_members.specs.declared.places.Span.{Span}

@@ -2,11 +2,11 @@
 use Rattle.std.specs.Prelude.{ℕ, cond, List, [], ◌∷◌, Option, Some, None, bytes_eq, map, filter_map}
 use Rattle.std.specs.Option.{option_or}
 use Rattle.std.specs.List.{list_any}
-use Rattle.dsl_tree.specs.declared.parts.Ident.{Ident}
-use Rattle.dsl_tree.specs.FileTree.{FieldTree, MemberTree}
-use Rattle.type_heads.specs.Table.{TypeHead, TableField, named}
-use Rattle.type_heads.specs.Types.{Member}
-use Rattle.type_heads.specs.Members.{fields_declared, list_length, table_field}
+use Rattle.type_members.specs.dsl_tree.declared.parts.Ident.{Ident}
+use Rattle.type_members.specs.dsl_tree.FileTree.{FieldTree, MemberTree}
+use Rattle.type_members.specs.type_heads.Table.{TypeHead, TableField, named}
+use Rattle.type_members.specs.type_heads.Types.{Member}
+use Rattle.type_members.specs.type_heads.Members.{fields_declared, list_length, table_field}
 
 -- a field of each name
 abbrev pub entries : ℕ → Option ℕ → List Ident → List TableField

@@ -1,8 +1,8 @@
 -- How many fields the first members of a list declare, and where the fields of types stand in rows.
 use Rattle.std.specs.Prelude.{ℕ, ◌+◌, List, [], ◌∷◌, length, slice_get, slice_index_or}
 use Rattle.std.specs.Option.{option_map_or}
-use Rattle.type_heads.specs.Table.{TypeHead}
-use Rattle.type_heads.specs.Types.{Member}
+use Rattle.type_members.specs.type_heads.Table.{TypeHead}
+use Rattle.type_members.specs.type_heads.Types.{Member}
 use Rattle.type_members.specs.declared.places.Part.{Part}
 use Rattle.type_members.specs.declared.places.Span.{Span}
 use Rattle.type_tables.specs.Entries.{member_entries}

@@ -1,12 +1,12 @@
 -- The conditions of conditional subtypes, among the members of their bases.
 use Rattle.std.specs.Prelude.{ℕ, Bool, true, List, [], Option, None, bytes_eq, find, is_some, option_map, option_and_then, slice_index_or}
 use Rattle.std.specs.List.{list_all}
-use Rattle.dsl_tree.specs.FileTree.{MemberTree}
-use Rattle.dsl_tree.specs.declared.compounds.HeirCondition.{HeirCondition}
-use Rattle.type_heads.specs.Table.{TypeHead, TableField, base, field_in, form, named}
-use Rattle.type_heads.specs.Types.{TypeBody, Member, Field}
-use Rattle.type_heads.specs.Members.{fields_among, heir_condition}
-use Rattle.type_heads.specs.Conditions.{Condition, condition_value}
+use Rattle.type_members.specs.dsl_tree.FileTree.{MemberTree}
+use Rattle.type_members.specs.dsl_tree.declared.compounds.HeirCondition.{HeirCondition}
+use Rattle.type_members.specs.type_heads.Table.{TypeHead, TableField, base, field_in, form, named}
+use Rattle.type_members.specs.type_heads.Types.{TypeBody, Member, Field}
+use Rattle.type_members.specs.type_heads.Members.{fields_among, heir_condition}
+use Rattle.type_members.specs.type_heads.Conditions.{Condition, condition_value}
 
 -- the type of the first field of that name
 abbrev pub field_type_among : List TypeHead → List Member → List ℕ → Option ℕ

@@ -2,7 +2,7 @@
 use Rattle.std.specs.Prelude.{◌≡◌, ℕ, Bool, true, not, List, [], ◌∷◌, Option, Some, None, bytes_eq, cond, nat_lt, option_and_then}
 use Rattle.std.specs.HashMap.{get_by_text}
 use Rattle.std.specs.List.{list_any}
-use Rattle.name_scope.specs.Declaring.{first_place}
+use Rattle.type_members.specs.name_scope.Declaring.{first_place}
 use Rattle.type_tables.specs.declared.first_places.FirstPlaces.{FirstPlaces}
 
 -- the place that is kept for a name

@@ -1,19 +1,19 @@
 //! The conditions of conditional subtypes.
 
 ghost use Rattle.std.specs.Prelude.{◌≡◌, map, IfOk};
-ghost use Rattle.type_heads.specs.Bodied.{seen_body};
-ghost use Rattle.type_heads.specs.Conditions.{condition_value as value_in};
-ghost use Rattle.type_heads.specs.Members.{table_fields};
-ghost use Rattle.type_heads.specs.Table.{all_types, form};
+ghost use Rattle.type_members.specs.type_heads.Bodied.{seen_body};
+ghost use Rattle.type_members.specs.type_heads.Conditions.{condition_value as value_in};
+ghost use Rattle.type_members.specs.type_heads.Members.{table_fields};
+ghost use Rattle.type_members.specs.type_heads.Table.{all_types, form};
 ghost use Rattle.type_members.specs.Listed.{lists_of};
 ghost use Rattle.type_tables.specs.Looked.{condition_by, condition_of, condition_with, field_type_in};
 
 use crate::FieldLists;
 use crate::field_types::{all_have_types, listed_type};
-use dsl_tree::{ConditionValue, HeirCondition};
-use osc_base::Text;
 use std::alloc::{AllocError, Global};
-use type_heads::{Body, ConditionEntry, Form, Heads, TypeId};
+use type_members::dsl_tree::{ConditionValue, HeirCondition};
+use type_members::osc_base::Text;
+use type_members::type_heads::{Body, ConditionEntry, Form, Heads, TypeId};
 use type_members::{MemberLists, heir_condition};
 
 /// The number of a value in a type that the field of a condition has, if such fields hold such values.

@@ -1,18 +1,18 @@
 //! The fields of each type.
 
 ghost use Rattle.std.specs.Prelude.{◌≡◌, [], map, option_copied, slice_index_or, take, IfOk};
-ghost use Rattle.type_heads.specs.Members.{table_fields};
-ghost use Rattle.type_heads.specs.Table.{field_in};
+ghost use Rattle.type_members.specs.type_heads.Members.{table_fields};
+ghost use Rattle.type_members.specs.type_heads.Table.{field_in};
 ghost use Rattle.type_members.specs.Listed.{lists_of};
 ghost use Rattle.type_members.specs.Shared.{fronts_in, list_at, part_at};
 ghost use Rattle.type_tables.specs.FieldEnds.{count_in, part_of_fields, span_of_fields};
 ghost use Rattle.type_tables.specs.InParts.{first_found};
 
 use crate::field_rows::{FieldRow, field_rows};
-use osc_base::Row;
 use std::alloc::{AllocError, Global};
 use std::marker::Model;
-use type_heads::{FieldEntry, Heads, TypeId};
+use type_members::osc_base::Row;
+use type_members::type_heads::{FieldEntry, Heads, TypeId};
 use type_members::{MemberLists, MemberRow, Part, Span};
 
 /// How many fields the first members of a row declare.
@@ -146,7 +146,7 @@ pub struct FieldLists {
 
 impl Model for FieldLists {
     ghost use Rattle.std.specs.Prelude.{List, map};
-    ghost use Rattle.type_heads.specs.Table.{TableField};
+    ghost use Rattle.type_members.specs.type_heads.Table.{TableField};
     ghost use Rattle.type_members.specs.Shared.{list_at};
 
     ghost Value = { List (List TableField) };

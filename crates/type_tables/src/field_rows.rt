@@ -1,7 +1,7 @@
 //! The fields of each row of members.
 
 ghost use Rattle.std.specs.Prelude.{◌≡◌, ◌++◌, [], ◌∷◌, length, map, slice_index_or, IfOk, OnOk};
-ghost use Rattle.type_heads.specs.Members.{table_fields};
+ghost use Rattle.type_members.specs.type_heads.Members.{table_fields};
 ghost use Rattle.type_members.specs.Listed.{seen_listed, seen_row};
 ghost use Rattle.type_tables.specs.Entries.{member_entries};
 ghost use Rattle.type_tables.specs.FieldEnds.{all_ends};
@@ -9,7 +9,7 @@ ghost use Rattle.type_tables.specs.FieldEnds.{all_ends};
 use crate::FieldTable;
 use crate::fields::push_member;
 use std::alloc::{AllocError, Global};
-use type_heads::{FieldEntry, Heads};
+use type_members::type_heads::{FieldEntry, Heads};
 use type_members::{ListedMember, MemberRow};
 
 /// The fields that a row of members declares, and how many of them the first members of the row declare: none of them, the

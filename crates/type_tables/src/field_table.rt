@@ -1,12 +1,12 @@
 //! The fields of a row of members.
 
 ghost use Rattle.std.specs.Prelude.{◌≡◌, drop, length, option_copied, take, IfOk};
-ghost use Rattle.type_heads.specs.Table.{field_in};
+ghost use Rattle.type_members.specs.type_heads.Table.{field_in};
 
 use crate::first_places::{FirstPlaces, HasName, found_between};
 use std::alloc::{AllocError, Global};
 use std::marker::Model;
-use type_heads::FieldEntry;
+use type_members::type_heads::FieldEntry;
 
 impl HasName for FieldEntry {
     ghost name_of = { λ f. f.name };
@@ -25,7 +25,7 @@ pub struct FieldTable {
 
 impl Model for FieldTable {
     ghost use Rattle.std.specs.Prelude.{List};
-    ghost use Rattle.type_heads.specs.Table.{TableField};
+    ghost use Rattle.type_members.specs.type_heads.Table.{TableField};
     ghost use Rattle.type_tables.specs.Places.{Places};
 
     ghost Value = { List TableField };

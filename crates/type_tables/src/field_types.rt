@@ -2,17 +2,17 @@
 
 ghost use Rattle.std.specs.Prelude.{◌≡◌, [], None, Some, bytes_eq, cond, find, map, option_map, slice_index_or};
 ghost use Rattle.std.specs.List.{list_all, list_any};
-ghost use Rattle.dsl_tree.specs.Views.{field_tree, member_tree};
-ghost use Rattle.type_heads.specs.Members.{fields_among};
-ghost use Rattle.type_heads.specs.Types.{Field};
+ghost use Rattle.type_members.specs.dsl_tree.Views.{field_tree, member_tree};
+ghost use Rattle.type_members.specs.type_heads.Members.{fields_among};
+ghost use Rattle.type_members.specs.type_heads.Types.{Field};
 ghost use Rattle.type_members.specs.Listed.{lists_of, seen_listed, seen_row};
 ghost use Rattle.type_members.specs.Shared.{part_at};
 ghost use Rattle.type_tables.specs.Entries.{named_among, named_in};
 ghost use Rattle.type_tables.specs.InParts.{first_found};
 ghost use Rattle.type_tables.specs.Looked.{field_type_among, has_type as type_there, have_types as types_there};
 
-use dsl_tree::{FieldDecl, Ident, Member};
-use type_heads::{Heads, TypeId};
+use type_members::dsl_tree::{FieldDecl, Ident, Member};
+use type_members::type_heads::{Heads, TypeId};
 use type_members::{ListedMember, MemberLists, MemberRow, Part};
 
 /// Whether one of the names is that name.

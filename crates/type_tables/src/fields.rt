@@ -1,16 +1,16 @@
 //! The fields that members declare.
 
 ghost use Rattle.std.specs.Prelude.{◌≡◌, ◌++◌, Some, option_map, IfOk, OnOk};
-ghost use Rattle.dsl_tree.specs.Views.{expr_tree, field_tree};
-ghost use Rattle.type_heads.specs.Members.{items_in, list_length as length_of};
+ghost use Rattle.type_members.specs.dsl_tree.Views.{expr_tree, field_tree};
+ghost use Rattle.type_members.specs.type_heads.Members.{items_in, list_length as length_of};
 ghost use Rattle.type_members.specs.Listed.{seen_listed};
 ghost use Rattle.type_tables.specs.Entries.{entries, field_entries, member_entries};
 
-use dsl_tree::{Expr, FieldDecl, Ident, Member};
-use osc_base::Text;
 use std::alloc::{AllocError, Global};
-use type_heads::{FieldEntry, FieldType, Heads, TypeId};
 use type_members::ListedMember;
+use type_members::dsl_tree::{Expr, FieldDecl, Ident, Member};
+use type_members::osc_base::Text;
+use type_members::type_heads::{FieldEntry, FieldType, Heads, TypeId};
 
 /// The number of elements of a list constructor, and 0 of another expression. More of them than a `u32` counts are
 /// out of memory.

@@ -2,7 +2,7 @@
 
 ghost use Rattle.std.specs.Prelude.{◌≡◌, ℕ, ◌<◌, ◌^◌, ◌&&◌, List, None, Some, bytes_eq, cond, drop, find, is_some, length, not, option_copied, take, true, IfOk, OnOk};
 ghost use Rattle.std.specs.Option.{option_or};
-ghost use Rattle.name_scope.specs.Declaring.{first_place};
+ghost use Rattle.type_members.specs.name_scope.Declaring.{first_place};
 ghost use Rattle.type_tables.specs.Places.{AreDistinct, HasPlaces, Places, high_place, low_place, place_in};
 
 use indexmap::IndexMap;

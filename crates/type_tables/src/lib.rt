@@ -19,3 +19,6 @@ pub use first_places::{FirstPlaces, HasName, found_between};
 pub use numbers::all_numbers;
 pub use text_table::TextTable;
 pub use unit_table::UnitTable;
+
+// Crates below, for the crates above.
+pub use type_members;

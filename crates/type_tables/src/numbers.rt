@@ -1,14 +1,14 @@
 //! The numbers of enums.
 
 ghost use Rattle.std.specs.Prelude.{◌≡◌, map, pos, IfOk};
-ghost use Rattle.type_heads.specs.Form.{EnumMember};
-ghost use Rattle.type_heads.specs.Bounds.{numbers_of};
-ghost use Rattle.type_heads.specs.Seen.{seen_form};
-ghost use Rattle.type_heads.specs.Table.{TypeHead, enum_members};
+ghost use Rattle.type_members.specs.type_heads.Form.{EnumMember};
+ghost use Rattle.type_members.specs.type_heads.Bounds.{numbers_of};
+ghost use Rattle.type_members.specs.type_heads.Seen.{seen_form};
+ghost use Rattle.type_members.specs.type_heads.Table.{TypeHead, enum_members};
 
-use osc_base::Row;
 use std::alloc::{AllocError, Global};
-use type_heads::{EnumEntry, Form, Heads, TypeId};
+use type_members::osc_base::Row;
+use type_members::type_heads::{EnumEntry, Form, Heads, TypeId};
 
 /// The numbers of members, in their order.
 fn values(alloc: Global, members: &[EnumEntry]) -> Result<Vec<i64>, AllocError>

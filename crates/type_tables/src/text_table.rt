@@ -1,12 +1,12 @@
 //! The texts of a program.
 
 ghost use Rattle.std.specs.Prelude.{◌≡◌, bytes_eq, IfOk};
-ghost use Rattle.name_scope.specs.Declaring.{first_place};
+ghost use Rattle.type_members.specs.name_scope.Declaring.{first_place};
 
 use crate::first_places::{FirstPlaces, HasName, place_of};
-use osc_base::Text;
 use std::alloc::{AllocError, Global};
 use std::marker::Model;
+use type_members::osc_base::Text;
 
 impl HasName for Text {
     ghost name_of = { λ t. t };

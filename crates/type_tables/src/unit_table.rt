@@ -1,12 +1,12 @@
 //! The units of a program.
 
 ghost use Rattle.std.specs.Prelude.{◌≡◌, bytes_eq, find, option_copied, IfOk};
-ghost use Rattle.type_heads.specs.Table.{TableUnit};
+ghost use Rattle.type_members.specs.type_heads.Table.{TableUnit};
 
 use crate::first_places::{FirstPlaces, HasName, found};
 use std::alloc::{AllocError, Global};
 use std::marker::Model;
-use type_heads::UnitEntry;
+use type_members::type_heads::UnitEntry;
 
 impl HasName for UnitEntry {
     ghost name_of = { λ u. u.name };
@@ -25,7 +25,7 @@ pub struct UnitTable {
 
 impl Model for UnitTable {
     ghost use Rattle.std.specs.Prelude.{List};
-    ghost use Rattle.type_heads.specs.Table.{TableUnit};
+    ghost use Rattle.type_members.specs.type_heads.Table.{TableUnit};
     ghost use Rattle.type_tables.specs.Places.{Places};
 
     ghost Value = { List TableUnit };

@@ -1,3 +1,5 @@
 pub mod Units
 pub mod ExponentTests
 pub mod Literals
+-- Crates below, for the crates above.
+pub use Rattle.osc_base.specs as osc_base

@@ -7,3 +7,6 @@ pub use units::{Exponents, Unit, literal};
 
 #[cfg(test)]
 mod tests;
+
+// Crates below, for the crates above.
+pub use osc_base;

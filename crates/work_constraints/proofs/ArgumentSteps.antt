@@ -15,8 +15,8 @@ use Rattle.osc_base.specs.declared.fault.Place.{Place}
 use Rattle.osc_base.specs.declared.path.Path.{Path}
 use Rattle.expr_nodes.specs.Typed.{Typed, moved}
 use Rattle.expr_nodes.specs.Typing.{first, typed}
-use Rattle.composition.specs.Givens.{read_at}
-use Rattle.composition.specs.Scenes.{Occurrence}
+use Rattle.text_constraints.specs.composition.Givens.{read_at}
+use Rattle.text_constraints.specs.composition.Scenes.{Occurrence}
 use Rattle.text_constraints.specs.Kept.{Holder}
 use Rattle.text_constraints.specs.Sites.{Site, at_home}
 use Rattle.text_constraints.proofs.ListSteps.{numbered_more, on_ok, put_two}

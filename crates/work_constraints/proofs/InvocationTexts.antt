@@ -9,15 +9,15 @@ use Rattle.dsl_tree.specs.PhaseTree.{ArgumentTree, PartTree}
 use Rattle.type_heads.specs.Table.{Table}
 use Rattle.type_heads.specs.Types.{Field, Types}
 use Rattle.type_heads.specs.Members.{field, fields}
-use Rattle.expansion_laws.specs.WorkNodes.{node_of}
-use Rattle.expansion_laws.specs.Works.{Work}
+use Rattle.scene_expansion.specs.expansion_laws.WorkNodes.{node_of}
+use Rattle.scene_expansion.specs.expansion_laws.Works.{Work}
 use Rattle.expr_nodes.specs.Names.{is_duration}
 use Rattle.expr_nodes.specs.Scope.{It, Scope}
-use Rattle.composition.specs.Calls.{Assigned, assigned, scope_at}
-use Rattle.composition.specs.Expanded.{occurrence_of}
-use Rattle.composition.specs.Expansion.{Calling, given_argument, here_in, of_arguments, part_rule}
-use Rattle.composition.specs.Givens.{Here}
-use Rattle.composition.specs.Scenes.{Binding, Occurrence}
+use Rattle.text_constraints.specs.composition.Calls.{Assigned, assigned, scope_at}
+use Rattle.text_constraints.specs.composition.Expanded.{occurrence_of}
+use Rattle.text_constraints.specs.composition.Expansion.{Calling, given_argument, here_in, of_arguments, part_rule}
+use Rattle.text_constraints.specs.composition.Givens.{Here}
+use Rattle.text_constraints.specs.composition.Scenes.{Binding, Occurrence}
 use Rattle.text_constraints.specs.Kept.{Holder}
 use Rattle.text_constraints.specs.Sites.{Site}
 use Rattle.text_constraints.proofs.KeptTexts.{each_is, rule_is}

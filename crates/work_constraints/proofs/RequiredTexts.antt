@@ -10,12 +10,12 @@ use Rattle.expr_nodes.specs.Names.{duration_at}
 use Rattle.expr_nodes.specs.Typed as Nodes
 use Rattle.expr_nodes.specs.Typed.{Typed, moved}
 use Rattle.expr_nodes.specs.Typing.{first, typed}
-use Rattle.composition.specs.Expanded.{occurrence_of}
-use Rattle.composition.specs.Expansion.{Calling, given_duration, parameter}
-use Rattle.composition.specs.Calls.{scope_at}
-use Rattle.composition.specs.Givens.{from_root, given_required, read_at, required, typed_here}
-use Rattle.composition.specs.Homes.{home}
-use Rattle.composition.specs.Scenes.{Binding}
+use Rattle.text_constraints.specs.composition.Expanded.{occurrence_of}
+use Rattle.text_constraints.specs.composition.Expansion.{Calling, given_duration, parameter}
+use Rattle.text_constraints.specs.composition.Calls.{scope_at}
+use Rattle.text_constraints.specs.composition.Givens.{from_root, given_required, read_at, required, typed_here}
+use Rattle.text_constraints.specs.composition.Homes.{home}
+use Rattle.text_constraints.specs.composition.Scenes.{Binding}
 use Rattle.text_constraints.specs.Sites.{Site, at_home, here_of}
 use Rattle.text_constraints.proofs.HomedTexts.{moved_is, read_moved, typed_is}
 use Rattle.work_constraints.specs.CallTexts.{call_site, duration_kept, one_read, parameter_kept, phase_holder, required_kept}

@@ -14,12 +14,12 @@ use Rattle.expr_nodes.specs.Names.{duration_at, is_duration}
 use Rattle.expr_nodes.specs.Scope.{It, Scope}
 use Rattle.expr_nodes.specs.Typed.{Span, Typed, moved}
 use Rattle.expr_nodes.specs.Typing.{first, typed}
-use Rattle.composition.specs.Calls.{scope_at}
-use Rattle.composition.specs.Expansion.{Calling}
-use Rattle.composition.specs.Givens.{read_at, required}
-use Rattle.composition.specs.Homes.{home}
-use Rattle.composition.specs.Scenes.{Binding, Occurrence}
-use Rattle.program_fields.specs.SeenFields.{has_name}
+use Rattle.text_constraints.specs.composition.Calls.{scope_at}
+use Rattle.text_constraints.specs.composition.Expansion.{Calling}
+use Rattle.text_constraints.specs.composition.Givens.{read_at, required}
+use Rattle.text_constraints.specs.composition.Homes.{home}
+use Rattle.text_constraints.specs.composition.Scenes.{Binding, Occurrence}
+use Rattle.text_constraints.specs.program_fields.SeenFields.{has_name}
 use Rattle.text_constraints.specs.Kept.{Holder, constraint, rule_kept}
 use Rattle.text_constraints.specs.Sites.{Site, at_home, typed_home}
 

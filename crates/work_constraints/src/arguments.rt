@@ -1,26 +1,26 @@
 //! The constraints of an invocation: of its arguments and of its `with:`.
 
 ghost use Rattle.std.specs.Prelude.{◌≡◌, ◌++◌, ◌∷◌, [], None, Some, flat_map, map, option_map, option_to_list, IfOk, OnOk};
-ghost use Rattle.composition.specs.SeenParts.{seen_occurrence};
+ghost use Rattle.text_constraints.specs.composition.SeenParts.{seen_occurrence};
 ghost use Rattle.dsl_tree.specs.Views.{argument_tree, expr_tree, part_tree};
 ghost use Rattle.expr_nodes.specs.Scope as Scopes;
 ghost use Rattle.expr_nodes.specs.SeenNames.{seen_scope};
-ghost use Rattle.program_fields.specs.SeenFields.{seen_field};
-ghost use Rattle.program_fields.specs.Tables.{fields_in};
+ghost use Rattle.text_constraints.specs.program_fields.SeenFields.{seen_field};
+ghost use Rattle.text_constraints.specs.program_fields.Tables.{fields_in};
 ghost use Rattle.work_constraints.specs.CallTexts.{argument_field, argument_kept, arguments_kept, for_duration, invocation_kept, part_kept, with_it};
 ghost use Rattle.work_constraints.specs.CallTexts as CallTexts;
 ghost use Rattle.text_constraints.specs.Kept.{seen_owner};
 ghost use Rattle.text_constraints.specs.Sites.{seen_site, site_of};
 
 use crate::required::{push_duration, push_parameter};
-use composition::Occurrence;
 use dsl_tree::{Argument, Expr, Ident, InvokeNode, InvokePart};
+use expr_nodes::type_model::{FieldType, TypeId, Types};
 use expr_nodes::{It, Scope};
-use program_fields::{FieldsOf, TypeField};
-use scene_places::Places;
 use std::alloc::{AllocError, Global};
+use text_constraints::composition::Occurrence;
+use text_constraints::program_fields::{FieldsOf, TypeField};
+use text_constraints::scene_places::Places;
 use text_constraints::{Owner, TextSite, push_rule};
-use type_model::{FieldType, TypeId, Types};
 
 /// Whether an argument is for the duration.
 fn is_for_duration(name: &Option<Ident>) -> bool

@@ -6,3 +6,6 @@ mod required;
 mod works;
 
 pub use works::push_occurrences;
+
+// Crates below, for the crates above.
+pub use expr_nodes::type_model;

@@ -1,10 +1,10 @@
 //! Constraints on what is read: of stated durations and of arguments.
 
 ghost use Rattle.std.specs.Prelude.{◌≡◌, ◌++◌, ◌∷◌, [], map, option_map, IfOk, OnOk};
-ghost use Rattle.composition.specs.Givens.{read_at as read_in, required as required_by};
-ghost use Rattle.composition.specs.SeenParts.{seen_occurrence};
-ghost use Rattle.composition.specs.Homes.{home};
-ghost use Rattle.composition.specs.SeenScenes.{seen_scene};
+ghost use Rattle.text_constraints.specs.composition.Givens.{read_at as read_in, required as required_by};
+ghost use Rattle.text_constraints.specs.composition.SeenParts.{seen_occurrence};
+ghost use Rattle.text_constraints.specs.composition.Homes.{home};
+ghost use Rattle.text_constraints.specs.composition.SeenScenes.{seen_scene};
 ghost use Rattle.dsl_tree.specs.ExprTree.{ExprTree};
 ghost use Rattle.dsl_tree.specs.Views.{expr_tree};
 ghost use Rattle.expr_nodes.specs.Names.{duration_at as duration_read};
@@ -18,19 +18,19 @@ ghost use Rattle.osc_base.specs.Paths.{then_duration as duration_of};
 ghost use Rattle.work_constraints.specs.CallTexts.{duration_kept, is_span as span, one_read, parameter_kept, required_kept};
 ghost use Rattle.text_constraints.specs.Kept.{seen_owner};
 ghost use Rattle.text_constraints.specs.Sites.{at_home, seen_site, typed_home as home_typed};
-ghost use Rattle.scene_places.specs.Placed.{place_in};
+ghost use Rattle.text_constraints.specs.scene_places.Placed.{place_in};
 
-use composition::Occurrence;
 use dsl_tree::{Expr, Ident};
+use expr_nodes::type_model::Types;
 use expr_nodes::{Compare, Info, Size, Typed, ValueKind};
 use osc_base::{Boxed, Path, Place, Strength};
-use program_calls::first_place;
-use scene_places::{Places, moved_part};
-use scene_texts::then_duration;
+use scene_expansion::program_calls::first_place;
+use scene_expansion::scene_texts::then_duration;
 use std::alloc::{AllocError, Global};
+use text_constraints::composition::Occurrence;
+use text_constraints::scene_places::{Places, moved_part};
 use text_constraints::{Owner, TextSite, constraint, field_checked, read_at, read_of, typed_home};
-use type_model::Types;
-use units_si::Exponents;
+use type_heads::units_si::Exponents;
 
 /// The kind of a duration.
 const SECONDS: Exponents = Exponents {

@@ -1,17 +1,17 @@
 //! The constraints of a work.
 
 ghost use Rattle.std.specs.Prelude.{◌≡◌, ◌++◌, ◌∷◌, [], None, codes, map, option_to_list, OnOk};
-ghost use Rattle.composition.specs.Calls as Calls;
-ghost use Rattle.composition.specs.Expanded.{occurrence_of};
-ghost use Rattle.composition.specs.Expansion.{argument_named, given_duration};
-ghost use Rattle.composition.specs.SeenParts.{seen_occurrence};
-ghost use Rattle.composition.specs.SeenScenes.{seen_scene};
+ghost use Rattle.text_constraints.specs.composition.Calls as Calls;
+ghost use Rattle.text_constraints.specs.composition.Expanded.{occurrence_of};
+ghost use Rattle.text_constraints.specs.composition.Expansion.{argument_named, given_duration};
+ghost use Rattle.text_constraints.specs.composition.SeenParts.{seen_occurrence};
+ghost use Rattle.text_constraints.specs.composition.SeenScenes.{seen_scene};
 ghost use Rattle.dsl_tree.specs.Views.{argument_tree, expr_tree, part_tree};
-ghost use Rattle.expansion_laws.specs.WorkNodes.{node_of};
+ghost use Rattle.scene_expansion.specs.expansion_laws.WorkNodes.{node_of};
 ghost use Rattle.expr_nodes.specs.SeenNames.{seen_scope};
-ghost use Rattle.program_calls.specs.PlacedPhases.{seen_turn};
-ghost use Rattle.program_calls.specs.SeenLabels.{do_labels, seen_labels};
-ghost use Rattle.program_texts.specs.SeenTexts.{types_in};
+ghost use Rattle.scene_expansion.specs.program_calls.PlacedPhases.{seen_turn};
+ghost use Rattle.scene_expansion.specs.program_calls.SeenLabels.{do_labels, seen_labels};
+ghost use Rattle.text_constraints.specs.program_texts.SeenTexts.{types_in};
 ghost use Rattle.type_heads.specs.Types.{Types};
 ghost use Rattle.scene_expansion.specs.SeenWorks.{seen_call, seen_work};
 ghost use Rattle.work_constraints.specs.CallTexts.{invoke_kept, phase_holder};
@@ -19,16 +19,16 @@ ghost use Rattle.text_constraints.specs.Kept.{seen_owner};
 
 use crate::arguments::push_invocation;
 use crate::required::push_duration;
-use composition::{Occurrence, Scene};
 use dsl_tree::{CompNode, Expr, InvokeNode};
+use expr_nodes::type_model::TypeId;
 use expr_nodes::{LabelTable, Scope};
-use program_calls::{argument_named, scope_at};
-use program_texts::ProgramTexts;
+use scene_expansion::program_calls::{argument_named, scope_at};
 use scene_expansion::{Call, Work};
-use scene_places::Places;
 use std::alloc::{AllocError, Global};
+use text_constraints::composition::{Occurrence, Scene};
+use text_constraints::program_texts::ProgramTexts;
+use text_constraints::scene_places::Places;
 use text_constraints::{Owner, Standing, TextSite, push_own};
-use type_model::TypeId;
 
 /// The scope of the texts of a phase, in which `it` is nothing. The labels are those of the `do` in which it stands.
 fn call_scope<'c>(labels: &'c LabelTable, call: &'c Call) -> Scope<'c>

@@ -4,9 +4,9 @@ use Rattle.std.specs.Option.{option_map_or}
 use Rattle.dsl_tree.specs.declared.compounds.HeirCondition.{HeirCondition}
 use Rattle.type_heads.specs.Types.{Field, Types}
 use Rattle.type_heads.specs.Members.{field, heir_condition}
-use Rattle.composition.specs.Tokens.{value_tokens}
-use Rattle.program_fields.specs.SeenFields.{seen_field}
-use Rattle.program_fields.specs.declared.fields.TypeField.{TypeField}
+use Rattle.program_texts.specs.composition.Tokens.{value_tokens}
+use Rattle.program_texts.specs.program_fields.SeenFields.{seen_field}
+use Rattle.program_texts.specs.program_fields.declared.fields.TypeField.{TypeField}
 use Rattle.work_counts.specs.Amounts.{no_amount}
 use Rattle.work_counts.specs.TextAmounts.{base_amount, heir_amount}
 

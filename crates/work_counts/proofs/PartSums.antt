@@ -4,8 +4,8 @@ use Rattle.type_heads.specs.Types.{Member}
 use Rattle.type_members.specs.Shared.{members_in_part, part_at, under_inside}
 use Rattle.type_members.specs.declared.places.Part.{Part}
 use Rattle.type_members.specs.declared.places.Span.{Span}
-use Rattle.expansion_laws.specs.Counts.{total}
-use Rattle.program_fields.proofs.Fronts.{left_at, one_more}
+use Rattle.program_texts.specs.expansion_laws.Counts.{total}
+use Rattle.program_texts.proofs.of_program_fields.Fronts.{left_at, one_more}
 use Rattle.work_counts.specs.declared.tally.Tally.{Tally}
 use Rattle.work_counts.specs.Amounts.{Amount, kept, sum_of}
 use Rattle.work_counts.proofs.Sums.{counted_split, joined}

@@ -2,9 +2,9 @@
 use Rattle.std.proofs.Common.{◌≡◌, ◌∙◌, refl, sym, ap, ap₂, ℕ, zero, suc, ◌+◌, ◌*◌, ◌-◌, ◌<◌, ◌≤◌, ◌⊎◌, inl, inr, List, [], ◌∷◌, ◌++◌, Option, Some, None, length, take, map, get_or, arith}
 use Rattle.std.proofs.lemmas.List.{take_more, map-append}
 use Rattle.std.proofs.lemmas.Bool.{cases_lt}
-use Rattle.scene_texts.specs.Capped.{capped, greatest_count}
-use Rattle.scene_texts.proofs.Caps.{capped_left, capped_right, capped_twice}
-use Rattle.expansion_laws.specs.Counts.{total}
+use Rattle.program_texts.specs.scene_texts.Capped.{capped, greatest_count}
+use Rattle.program_texts.proofs.of_scene_texts.Caps.{capped_left, capped_right, capped_twice}
+use Rattle.program_texts.specs.expansion_laws.Counts.{total}
 use Rattle.type_heads.specs.Table.{TypeHead, base, line_within}
 use Rattle.work_counts.specs.declared.tally.Tally.{Tally}
 use Rattle.work_counts.specs.Amounts.{Amount, kept, no_amount, plus, sum_of}

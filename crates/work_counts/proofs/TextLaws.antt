@@ -14,12 +14,12 @@ use Rattle.dsl_tree.specs.FileTree.{FieldTree, MemberTree}
 use Rattle.type_heads.specs.Table.{bases}
 use Rattle.type_heads.specs.Types.{Types, Field, Member}
 use Rattle.type_heads.specs.Members.{field, field_type, heir_condition, members}
-use Rattle.expr_nodes.specs.Typing.{first}
-use Rattle.composition.specs.declared.guard.Guard.{Guard}
-use Rattle.composition.specs.Givens.{FieldHere, Given, Here, element, field_here, given_condition, given_conditions, given_elements, given_field, given_initial, given_initials, given_member, given_rule, own_givens}
-use Rattle.composition.specs.Tokens.{tokens, value_tokens}
-use Rattle.expansion_laws.specs.WorkNodes.{own_within}
-use Rattle.expansion_laws.specs.Counts.{total, given_rules, given_tokens}
+use Rattle.program_texts.specs.expr_nodes.Typing.{first}
+use Rattle.program_texts.specs.composition.declared.guard.Guard.{Guard}
+use Rattle.program_texts.specs.composition.Givens.{FieldHere, Given, Here, element, field_here, given_condition, given_conditions, given_elements, given_field, given_initial, given_initials, given_member, given_rule, own_givens}
+use Rattle.program_texts.specs.composition.Tokens.{tokens, value_tokens}
+use Rattle.program_texts.specs.expansion_laws.WorkNodes.{own_within}
+use Rattle.program_texts.specs.expansion_laws.Counts.{total, given_rules, given_tokens}
 use Rattle.work_counts.proofs.Sums.{total_append}
 use Rattle.work_counts.specs.Amounts.{Amount, amount_of, no_amount, plus, sum_of}
 use Rattle.work_counts.specs.TextAmounts.{base_amount, field_amount, heir_amount, initial_amount, member_amount, rule_amount, times_amount, type_amount, value_amount}

@@ -1,8 +1,8 @@
 -- How many rules and copied tokens constraints have.
 use Rattle.std.specs.Prelude.{ℕ, ◌+◌, List}
-use Rattle.composition.specs.Givens.{Given}
-use Rattle.expansion_laws.specs.Counts.{total, given_rules, given_tokens}
-use Rattle.scene_texts.specs.Capped.{capped}
+use Rattle.program_texts.specs.composition.Givens.{Given}
+use Rattle.program_texts.specs.expansion_laws.Counts.{total, given_rules, given_tokens}
+use Rattle.program_texts.specs.scene_texts.Capped.{capped}
 use Rattle.work_counts.specs.declared.tally.Tally.{Tally}
 
 pub record Amount : Type 0 where

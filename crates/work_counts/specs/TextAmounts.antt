@@ -8,7 +8,7 @@ use Rattle.dsl_tree.specs.FileTree.{FieldTree, MemberTree}
 use Rattle.type_heads.specs.Table.{bases}
 use Rattle.type_heads.specs.Types.{Types}
 use Rattle.type_heads.specs.Members.{declared_type, field, heir_condition}
-use Rattle.composition.specs.Tokens.{tokens, value_tokens}
+use Rattle.program_texts.specs.composition.Tokens.{tokens, value_tokens}
 use Rattle.work_counts.specs.Amounts.{Amount, no_amount, plus, sum_of}
 
 -- of a rule; a `remove_default` has no rule

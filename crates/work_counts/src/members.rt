@@ -3,7 +3,7 @@
 ghost use Rattle.std.specs.Prelude.{◌≡◌, ◌+◌, length, map, option_map, suc};
 ghost use Rattle.std.specs.Option.{option_map_or};
 ghost use Rattle.dsl_tree.specs.Views.{expr_tree, field_tree, member_tree};
-ghost use Rattle.expansion_laws.specs.WorkNodes.{own_within};
+ghost use Rattle.program_texts.specs.expansion_laws.WorkNodes.{own_within};
 ghost use Rattle.osc_base.specs.declared.path.Path.{Path};
 ghost use Rattle.type_heads.specs.Members as told;
 ghost use Rattle.type_heads.specs.Table.{line_within};
@@ -16,7 +16,7 @@ use crate::Tally;
 use crate::texts::{base_tally, initial_tally, rule_tally, rules_tally};
 use dsl_tree::{Expr, FieldDecl, Member};
 use program_texts::ProgramTexts;
-use type_model::{ListedMember, TypeId};
+use program_texts::type_model::{ListedMember, TypeId};
 
 /// The conditions of the types on a line, the nearest first.
 fn line_tally(texts: &ProgramTexts<'_>, of: TypeId, first: Option<TypeId>) -> Tally

@@ -1,10 +1,10 @@
 //! Numbers of rules and of copied tokens.
 
 ghost use Rattle.std.specs.Prelude.{◌≡◌, ◌+◌, ◌*◌};
-ghost use Rattle.scene_texts.specs.Capped.{capped};
+ghost use Rattle.program_texts.specs.scene_texts.Capped.{capped};
 ghost use Rattle.work_counts.specs.Amounts.{kept, no_amount};
 
-use scene_texts::{add, times};
+use program_texts::scene_texts::{add, times};
 
 /// Numbers of rules and of copied tokens. Each stops at the greatest number of 64 bits.
 #[derive(Clone, Copy)]

@@ -5,21 +5,21 @@ use Rattle.std.specs.Result.{OnOk}
 use Rattle.osc_base.specs.declared.path.Path.{Path}
 use Rattle.dsl_tree.specs.ExprTree.{ExprTree}
 use Rattle.dsl_tree.specs.PhaseTree.{ModifierTree, PartTree}
-use Rattle.type_heads.specs.Table.{Table}
-use Rattle.type_heads.specs.Types.{Types}
-use Rattle.expr_nodes.specs.Scope.{It, Scope}
-use Rattle.expr_nodes.specs.Typed as Nodes
-use Rattle.expr_nodes.specs.Typed.{Typed, moved}
-use Rattle.expr_nodes.specs.Typing.{typed}
-use Rattle.composition.specs.Expansion.{Calling, given_modifier, here_in, high_end, low_end, object_at, part_modifier}
-use Rattle.composition.specs.Givens.{Here, from_root, typed_here}
-use Rattle.composition.specs.Homes.{home}
-use Rattle.composition.specs.ModifierLines.{ModifierForm, modifier_form}
-use Rattle.composition.specs.Scenes.{Binding, ModifierSpot}
-use Rattle.scene_expansion.specs.Walks.{modifier_at}
+use Rattle.object_works.specs.type_heads.Table.{Table}
+use Rattle.object_works.specs.type_heads.Types.{Types}
+use Rattle.object_works.specs.expr_nodes.Scope.{It, Scope}
+use Rattle.object_works.specs.expr_nodes.Typed as Nodes
+use Rattle.object_works.specs.expr_nodes.Typed.{Typed, moved}
+use Rattle.object_works.specs.expr_nodes.Typing.{typed}
+use Rattle.object_works.specs.composition.Expansion.{Calling, given_modifier, here_in, high_end, low_end, object_at, part_modifier}
+use Rattle.object_works.specs.composition.Givens.{Here, from_root, typed_here}
+use Rattle.object_works.specs.composition.Homes.{home}
+use Rattle.object_works.specs.composition.ModifierLines.{ModifierForm, modifier_form}
+use Rattle.object_works.specs.composition.Scenes.{Binding, ModifierSpot}
+use Rattle.object_works.specs.scene_expansion.Walks.{modifier_at}
 use Rattle.scene_places.specs.Placed.{home_under as placed_under}
-use Rattle.scene_texts.specs.Moving.{path_under}
-use Rattle.scene_texts.proofs.MovedTwice.{from_root_is, moved_home}
+use Rattle.scene_places.specs.scene_texts.Moving.{path_under}
+use Rattle.scene_places.proofs.of_scene_texts.MovedTwice.{from_root_is, moved_home}
 use Rattle.work_modifiers.specs.Modifiers.{actor_home, high_at, home_under, low_at, modifier_there, part_there, parts_there}
 
 -- an end of a range with its paths changed is that of the range with its paths changed

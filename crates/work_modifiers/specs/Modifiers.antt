@@ -3,15 +3,15 @@ use Rattle.std.specs.Prelude.{List, [], codes, flat_map, map, option_and_then, o
 use Rattle.osc_base.specs.declared.path.Path.{Path}
 use Rattle.osc_base.specs.Paths.{then_name}
 use Rattle.dsl_tree.specs.PhaseTree.{ModifierTree, PartTree}
-use Rattle.type_heads.specs.Table.{Table}
-use Rattle.expr_nodes.specs.Scope.{Scope}
-use Rattle.expr_nodes.specs.Typed.{Typed, moved}
-use Rattle.expr_nodes.specs.Typing.{typed}
-use Rattle.composition.specs.Expansion.{Calling, high_end, low_end, object_at}
-use Rattle.composition.specs.Homes.{home}
-use Rattle.composition.specs.ModifierLines.{ModifierForm, modifier_form}
-use Rattle.composition.specs.Scenes.{Binding, ModifierSpot}
-use Rattle.scene_texts.specs.Moving.{path_under}
+use Rattle.object_works.specs.type_heads.Table.{Table}
+use Rattle.object_works.specs.expr_nodes.Scope.{Scope}
+use Rattle.object_works.specs.expr_nodes.Typed.{Typed, moved}
+use Rattle.object_works.specs.expr_nodes.Typing.{typed}
+use Rattle.object_works.specs.composition.Expansion.{Calling, high_end, low_end, object_at}
+use Rattle.object_works.specs.composition.Homes.{home}
+use Rattle.object_works.specs.composition.ModifierLines.{ModifierForm, modifier_form}
+use Rattle.object_works.specs.composition.Scenes.{Binding, ModifierSpot}
+use Rattle.scene_places.specs.scene_texts.Moving.{path_under}
 
 -- the home of a path of the invocation's text
 abbrev pub home_under : List Binding → Calling → Path → Path

@@ -1,22 +1,22 @@
 //! The ends of the range of a modifier, and its other vehicle, at their homes.
 
 ghost use Rattle.std.specs.Prelude.{◌≡◌, option_and_then, option_map, IfOk};
-ghost use Rattle.composition.specs.Expansion as expansions;
-ghost use Rattle.expr_nodes.specs.Seen.{seen, seen_part};
-ghost use Rattle.expr_nodes.specs.Typing.{typed as typed_in};
-ghost use Rattle.expr_nodes.specs.SeenNames.{seen_scope};
-ghost use Rattle.program_calls.specs.SeenModifiers.{seen_value};
+ghost use Rattle.object_works.specs.composition.Expansion as expansions;
+ghost use Rattle.object_works.specs.expr_nodes.Seen.{seen, seen_part};
+ghost use Rattle.object_works.specs.expr_nodes.Typing.{typed as typed_in};
+ghost use Rattle.object_works.specs.expr_nodes.SeenNames.{seen_scope};
+ghost use Rattle.object_works.specs.program_calls.SeenModifiers.{seen_value};
 ghost use Rattle.scene_places.specs.Placed.{place_in};
 ghost use Rattle.work_modifiers.specs.Modifiers.{high_at as high_of, low_at as low_of};
 
 use dsl_tree::Expr;
-use expr_eval::checked;
-use expr_nodes::{Scope, Typed};
+use object_works::expr_eval::checked;
+use object_works::expr_nodes::{Scope, Typed};
 use object_works::object_at;
+use object_works::type_model::Types;
 use osc_base::{Boxed, Path};
 use scene_places::{Places, moved};
 use std::alloc::{AllocError, Global};
-use type_model::Types;
 
 /// The least value of a range. A value is the range from it to itself.
 fn low_end(typed: &Typed) -> &Typed

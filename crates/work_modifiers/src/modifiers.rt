@@ -1,29 +1,29 @@
 //! A modifier of an invocation.
 
 ghost use Rattle.std.specs.Prelude.{◌≡◌, option_and_then, option_map, IfOk};
-ghost use Rattle.composition.specs.Expansion.{object_at as object_in};
-ghost use Rattle.composition.specs.SeenParts.{seen_modifier};
-ghost use Rattle.composition.specs.SeenScenes.{seen_scene};
+ghost use Rattle.object_works.specs.composition.Expansion.{object_at as object_in};
+ghost use Rattle.object_works.specs.composition.SeenParts.{seen_modifier};
+ghost use Rattle.object_works.specs.composition.SeenScenes.{seen_scene};
 ghost use Rattle.dsl_tree.specs.Views.{modifier_tree};
-ghost use Rattle.expr_nodes.specs.Seen.{seen_part};
-ghost use Rattle.expr_nodes.specs.SeenNames.{seen_scope};
-ghost use Rattle.expr_nodes.specs.Typing.{typed as typed_in};
-ghost use Rattle.program_calls.specs.SeenModifiers.{seen_form, seen_value};
-ghost use Rattle.scene_expansion.specs.SeenWorks.{seen_call};
+ghost use Rattle.object_works.specs.expr_nodes.Seen.{seen_part};
+ghost use Rattle.object_works.specs.expr_nodes.SeenNames.{seen_scope};
+ghost use Rattle.object_works.specs.expr_nodes.Typing.{typed as typed_in};
+ghost use Rattle.object_works.specs.program_calls.SeenModifiers.{seen_form, seen_value};
+ghost use Rattle.object_works.specs.scene_expansion.SeenWorks.{seen_call};
 ghost use Rattle.scene_places.specs.Placed.{place_in};
 ghost use Rattle.work_modifiers.specs.Modifiers.{actor_home, high_at as high_of, low_at as low_of, modifier_there};
 
 use crate::ends::{high_at, low_at, typed_part, vehicle_at};
-use composition::ModifierSpot;
 use dsl_tree::{Expr, ModifierNode};
-use expr_nodes::{Scope, Typed};
+use object_works::composition::ModifierSpot;
+use object_works::expr_nodes::{Scope, Typed};
+use object_works::program_calls::ModifierForm;
+use object_works::scene_expansion::Call;
+use object_works::type_model::Types;
 use osc_base::{Boxed, Path};
-use program_calls::ModifierForm;
-use scene_expansion::Call;
 use scene_places::Places;
-use scene_texts::then_name;
+use scene_places::scene_texts::then_name;
 use std::alloc::{AllocError, Global};
-use type_model::Types;
 
 /// The invocation in whose `with:` modifiers stand: the types, the invocation, the scope of its text, and where the
 /// paths of the text lead.

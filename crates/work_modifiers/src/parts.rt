@@ -1,29 +1,29 @@
 //! The modifiers among the parts of a `with:`.
 
 ghost use Rattle.std.specs.Prelude.{◌≡◌, ◌++◌, None, Some, flat_map, map, OnOk};
-ghost use Rattle.composition.specs.Expansion.{here_in, part_modifier};
-ghost use Rattle.composition.specs.SeenParts.{seen_modifier};
-ghost use Rattle.composition.specs.SeenScenes.{seen_scene};
+ghost use Rattle.object_works.specs.composition.Expansion.{here_in, part_modifier};
+ghost use Rattle.object_works.specs.composition.SeenParts.{seen_modifier};
+ghost use Rattle.object_works.specs.composition.SeenScenes.{seen_scene};
 ghost use Rattle.dsl_tree.specs.Views.{modifier_tree, part_tree};
-ghost use Rattle.expansion_laws.specs.WorkNodes.{node_of};
-ghost use Rattle.expr_nodes.specs.Scope as scopes;
-ghost use Rattle.expr_nodes.specs.SeenNames.{seen_scope};
-ghost use Rattle.program_texts.specs.SeenTexts.{types_in};
-ghost use Rattle.scene_expansion.specs.SeenWorks.{seen_call, seen_work};
-ghost use Rattle.scene_expansion.specs.Walks.{modifier_at};
+ghost use Rattle.scene_places.specs.expansion_laws.WorkNodes.{node_of};
+ghost use Rattle.object_works.specs.expr_nodes.Scope as scopes;
+ghost use Rattle.object_works.specs.expr_nodes.SeenNames.{seen_scope};
+ghost use Rattle.object_works.specs.program_texts.SeenTexts.{types_in};
+ghost use Rattle.object_works.specs.scene_expansion.SeenWorks.{seen_call, seen_work};
+ghost use Rattle.object_works.specs.scene_expansion.Walks.{modifier_at};
 ghost use Rattle.scene_places.specs.Placed.{place_in};
 ghost use Rattle.work_modifiers.specs.Modifiers.{actor_home, modifier_among, part_there, parts_there};
 
 use crate::modifiers::Within;
-use composition::{ModifierSpot, Scene};
 use dsl_tree::{InvokeNode, InvokePart, ModifierNode};
 use object_works::call_scope;
-use program_calls::modifier_form;
-use program_texts::ProgramTexts;
-use scene_expansion::{Call, Work};
+use object_works::composition::{ModifierSpot, Scene};
+use object_works::program_calls::modifier_form;
+use object_works::program_texts::ProgramTexts;
+use object_works::scene_expansion::{Call, Work};
+use object_works::type_model::TypeId;
 use scene_places::Places;
 use std::alloc::{AllocError, Global};
-use type_model::TypeId;
 
 /// Puts a modifier at the end, if it has a form.
 fn push_modifier(

@@ -1,12 +1,12 @@
 //! The texts of the program.
 
 ghost use Rattle.std.specs.Prelude.{◌≡◌, IfOk};
-ghost use Rattle.program_texts.specs.SeenTexts.{types_in};
+ghost use Rattle.object_works.specs.program_texts.SeenTexts.{types_in};
 
+use object_works::program_texts::ProgramTexts;
+use object_works::type_tables::TextTable;
 use osc_base::Text;
-use program_texts::ProgramTexts;
 use std::alloc::{AllocError, Global};
-use type_tables::TextTable;
 
 /// Equal texts.
 fn copies(alloc: Global, texts: &[Text]) -> Result<Vec<Text>, AllocError>

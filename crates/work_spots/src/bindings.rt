@@ -1,15 +1,15 @@
 //! The bindings that a work makes.
 
 ghost use Rattle.std.specs.Prelude.{◌≡◌, ◌++◌, map, OnOk};
-ghost use Rattle.composition.specs.SeenParts.{seen_binding};
-ghost use Rattle.expansion_laws.specs.WorkNodes.{node_of};
-ghost use Rattle.scene_expansion.specs.SeenWorks.{seen_work};
-ghost use Rattle.type_heads.specs.Types.{Types};
+ghost use Rattle.object_works.specs.composition.SeenParts.{seen_binding};
+ghost use Rattle.object_works.specs.expansion_laws.WorkNodes.{node_of};
+ghost use Rattle.object_works.specs.scene_expansion.SeenWorks.{seen_work};
+ghost use Rattle.object_works.specs.type_heads.Types.{Types};
 
-use composition::Binding;
+use object_works::composition::Binding;
 use object_works::copy_binding;
+use object_works::scene_expansion::Work;
 use osc_base::Row;
-use scene_expansion::Work;
 use std::alloc::{AllocError, Global};
 
 /// Puts copies of bindings at the end.

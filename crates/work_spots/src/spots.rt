@@ -2,29 +2,29 @@
 
 ghost use Rattle.std.specs.Prelude.{◌≡◌, ◌∷◌, [], cond, is_some, length, map, IfOk};
 ghost use Rattle.std.specs.List.{range_with_len};
-ghost use Rattle.composition.specs.Expanded.{spot as spot_of};
-ghost use Rattle.composition.specs.Expanded as expanded;
-ghost use Rattle.composition.specs.Expansion.{composition_kind as composition_of};
-ghost use Rattle.composition.specs.Scenes as scenes;
-ghost use Rattle.composition.specs.SeenParts.{seen_spot};
-ghost use Rattle.composition.specs.declared.spot.PhaseKind.{PhaseKind};
+ghost use Rattle.object_works.specs.composition.Expanded.{spot as spot_of};
+ghost use Rattle.object_works.specs.composition.Expanded as expanded;
+ghost use Rattle.object_works.specs.composition.Expansion.{composition_kind as composition_of};
+ghost use Rattle.object_works.specs.composition.Scenes as scenes;
+ghost use Rattle.object_works.specs.composition.SeenParts.{seen_spot};
+ghost use Rattle.object_works.specs.composition.declared.spot.PhaseKind.{PhaseKind};
 ghost use Rattle.dsl_tree.specs.Views.{argument_tree};
-ghost use Rattle.expansion_laws.specs.WorkNodes.{node_of};
+ghost use Rattle.object_works.specs.expansion_laws.WorkNodes.{node_of};
 ghost use Rattle.osc_base.specs.Paths as paths;
-ghost use Rattle.program_texts.specs.SeenTexts.{types_in};
-ghost use Rattle.scene_expansion.specs.SeenWorks.{seen_work};
-ghost use Rattle.type_heads.specs.Members as told;
+ghost use Rattle.object_works.specs.program_texts.SeenTexts.{types_in};
+ghost use Rattle.object_works.specs.scene_expansion.SeenWorks.{seen_work};
+ghost use Rattle.object_works.specs.type_heads.Members as told;
 
 use crate::kinds::composition_kind;
 use crate::members::{do_paths, member_paths};
-use composition::{Content, Guard, PhaseKind, Spot, ValueRange};
 use dsl_tree::CompNode;
+use object_works::composition::{Content, Guard, PhaseKind, Spot, ValueRange};
+use object_works::program_texts::ProgramTexts;
+use object_works::scene_expansion::{Call, Work};
+use object_works::type_model::TypeId;
 use object_works::{copy_guards, copy_range};
 use osc_base::{Path, Row};
-use program_texts::ProgramTexts;
-use scene_expansion::{Call, Work};
 use std::alloc::{AllocError, Global};
-use type_model::TypeId;
 
 /// A spot of an object.
 fn object_spot(

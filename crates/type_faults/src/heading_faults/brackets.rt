@@ -1,15 +1,15 @@
 //! The faults of the base units in brackets.
 
 ghost use Rattle.std.specs.Prelude.{◌≡◌, [], ◌∷◌, not, IfOk};
-ghost use Rattle.osc_base.specs.FaultRows.{first_from, row};
-ghost use Rattle.type_heads.specs.HeadingFaults.{bracket_rows};
-ghost use Rattle.type_heads.specs.Units.{is_base_unit as is_base};
+ghost use Rattle.type_members.specs.osc_base.FaultRows.{first_from, row};
+ghost use Rattle.type_members.specs.type_heads.HeadingFaults.{bracket_rows};
+ghost use Rattle.type_members.specs.type_heads.Units.{is_base_unit as is_base};
 
 use crate::sets::TextSet;
-use dsl_tree::BasePart;
-use name_scope::with_fault;
-use osc_base::{Fault, FaultCode};
 use std::alloc::{AllocError, Global};
+use type_members::dsl_tree::BasePart;
+use type_members::name_scope::with_fault;
+use type_members::osc_base::{Fault, FaultCode};
 
 /// Whether it is one of the eight base units.
 pub fn is_base_unit(name: &str) -> bool

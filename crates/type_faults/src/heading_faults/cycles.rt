@@ -1,12 +1,12 @@
 //! The faults of types that depend on themselves.
 
 ghost use Rattle.std.specs.Prelude.{◌≡◌, ◌&&◌, ◌||◌, [], ◌∷◌, length, map, IfOk};
-ghost use Rattle.osc_base.specs.FaultRows.{first_from, row};
-ghost use Rattle.type_heads.specs.Bodied.{seen_body};
-ghost use Rattle.type_heads.specs.Table.{all_types, bases, form, has_members};
-ghost use Rattle.type_heads.specs.Members.{body, has};
-ghost use Rattle.type_heads.specs.Cycles.{returns};
-ghost use Rattle.type_heads.specs.HeadingFaults.{cycle_row, held_types};
+ghost use Rattle.type_members.specs.osc_base.FaultRows.{first_from, row};
+ghost use Rattle.type_members.specs.type_heads.Bodied.{seen_body};
+ghost use Rattle.type_members.specs.type_heads.Table.{all_types, bases, form, has_members};
+ghost use Rattle.type_members.specs.type_heads.Members.{body, has};
+ghost use Rattle.type_members.specs.type_heads.Cycles.{returns};
+ghost use Rattle.type_members.specs.type_heads.HeadingFaults.{cycle_row, held_types};
 ghost use Rattle.type_faults.specs.Ranking.{IsShown};
 
 use super::held_types::HeldTypes;
@@ -14,10 +14,10 @@ use super::levels::held_ranking;
 use crate::passing::is_past;
 use crate::reach::Steps;
 use crate::returning::Ranking;
-use name_scope::with_fault;
-use osc_base::{Fault, FaultCode, Place};
 use std::alloc::{AllocError, Global};
-use type_heads::{Body, Heads, TypeId};
+use type_members::name_scope::with_fault;
+use type_members::osc_base::{Fault, FaultCode, Place};
+use type_members::type_heads::{Body, Heads, TypeId};
 
 /// Whether a type inherits from itself, or steps lead from it back to it.
 fn depends_on_itself<S: Steps>(

@@ -1,24 +1,24 @@
 //! The faults of the names that all declarations use, and of the members of all enums.
 
 ghost use Rattle.std.specs.Prelude.{◌≡◌, ◌++◌, ◌<◌, [], flat_map, length, map, IfOk};
-ghost use Rattle.osc_base.specs.FaultRows.{first_fault, first_from};
-ghost use Rattle.dsl_tree.specs.Views.{declaration_tree};
-ghost use Rattle.type_heads.specs.Placing.{seen_type};
+ghost use Rattle.type_members.specs.osc_base.FaultRows.{first_fault, first_from};
+ghost use Rattle.type_members.specs.dsl_tree.Views.{declaration_tree};
+ghost use Rattle.type_members.specs.type_heads.Placing.{seen_type};
 ghost use Rattle.type_faults.specs.Trees.{trees};
 ghost use Rattle.type_faults.specs.ItemSets.{rows_of_type};
 ghost use Rattle.type_faults.specs.NameFaults.{rows_of_names};
-ghost use Rattle.type_heads.specs.Gathered.{AreGathered, all_of, heads_of};
-ghost use Rattle.type_heads.specs.DeclaredTypes.{all_declared};
-ghost use Rattle.type_heads.specs.HeadingFaults.{declaration_rows, enum_rows_from, unit_rows};
+ghost use Rattle.type_members.specs.type_heads.Gathered.{AreGathered, all_of, heads_of};
+ghost use Rattle.type_members.specs.type_heads.DeclaredTypes.{all_declared};
+ghost use Rattle.type_members.specs.type_heads.HeadingFaults.{declaration_rows, enum_rows_from, unit_rows};
 
 use super::brackets::with_brackets;
 use super::items::with_enum;
 use super::names::with_names;
 use super::uses::{with_compound, with_enum_extension, with_extension, with_unit};
-use dsl_tree::{Declaration, UnitDecl};
-use osc_base::Fault;
 use std::alloc::{AllocError, Global};
-use type_heads::{Declarations, Heads, OwnType, PlacedDecl, TypeId, exponents};
+use type_members::dsl_tree::{Declaration, UnitDecl};
+use type_members::osc_base::Fault;
+use type_members::type_heads::{Declarations, Heads, OwnType, PlacedDecl, TypeId, exponents};
 
 fn with_unit_declaration(
     alloc: Global,

@@ -2,17 +2,17 @@
 
 ghost use Rattle.std.specs.Prelude.{◌≡◌, [], ◌∷◌, None, false, not};
 ghost use Rattle.std.specs.Option.{option_map_or};
-ghost use Rattle.osc_base.specs.FaultRows.{first_from};
-ghost use Rattle.dsl_tree.specs.Views.{compound_tree};
-ghost use Rattle.type_heads.specs.DeclaredTypes.{meant as meaning};
-ghost use Rattle.type_heads.specs.HeadingFaults.{fits_base as fits, fits_owner as fits_with, heir_rows, meant_row, own_owner as owner_of, value_rows};
+ghost use Rattle.type_members.specs.osc_base.FaultRows.{first_from};
+ghost use Rattle.type_members.specs.dsl_tree.Views.{compound_tree};
+ghost use Rattle.type_members.specs.type_heads.DeclaredTypes.{meant as meaning};
+ghost use Rattle.type_members.specs.type_heads.HeadingFaults.{fits_base as fits, fits_owner as fits_with, heir_rows, meant_row, own_owner as owner_of, value_rows};
 
 use super::names::compound;
 use super::references::{last_place, meant, with_name, with_unknown};
-use dsl_tree::{CompoundDecl, ConditionValue, Heir, HeirCondition};
-use name_scope::with_fault;
-use osc_base::{Fault, FaultCode};
-use type_heads::{Heads, TypeId};
+use type_members::dsl_tree::{CompoundDecl, ConditionValue, Heir, HeirCondition};
+use type_members::name_scope::with_fault;
+use type_members::osc_base::{Fault, FaultCode};
+use type_members::type_heads::{Heads, TypeId};
 
 fn fits_owner(heads: &Heads, own: Option<TypeId>, other: Option<TypeId>) -> bool
     ensures { result ≡ fits_with heads.now own other }

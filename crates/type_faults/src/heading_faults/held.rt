@@ -1,23 +1,23 @@
 //! The types that a type holds.
 
 ghost use Rattle.std.specs.Prelude.{◌≡◌, ◌+◌, ◌++◌, ℕ, List, [], ◌∷◌, flat_map, length, map, slice_index_or, IfOk, OnOk};
-ghost use Rattle.dsl_tree.specs.Views.{member_tree};
-ghost use Rattle.type_heads.specs.Bodied.{seen_body, seen_written};
-ghost use Rattle.type_heads.specs.Cycles.{fresh, reached as reached_by};
-ghost use Rattle.type_heads.specs.HeadingFaults.{field_types, held_types};
-ghost use Rattle.type_heads.specs.Members.{body};
-ghost use Rattle.type_heads.specs.Table.{bases};
-ghost use Rattle.type_heads.specs.Types.{Written};
+ghost use Rattle.type_members.specs.dsl_tree.Views.{member_tree};
+ghost use Rattle.type_members.specs.type_heads.Bodied.{seen_body, seen_written};
+ghost use Rattle.type_members.specs.type_heads.Cycles.{fresh, reached as reached_by};
+ghost use Rattle.type_members.specs.type_heads.HeadingFaults.{field_types, held_types};
+ghost use Rattle.type_members.specs.type_heads.Members.{body};
+ghost use Rattle.type_members.specs.type_heads.Table.{bases};
+ghost use Rattle.type_members.specs.type_heads.Types.{Written};
 ghost use Rattle.type_faults.specs.Holding.{fields_of};
 ghost use Rattle.type_faults.specs.Reaching.{HasNumbers};
 ghost use Rattle.type_members.specs.Listed.{AreSubtypes};
 
 use crate::reach::{Steps, all_fresh, push_types, reached};
 use crate::sets::NumberSet;
-use dsl_tree::Member;
 use std::alloc::{AllocError, Global};
-use type_heads::{Body, Heads, TypeId, WrittenMember, line};
 use type_members::Subtypes;
+use type_members::dsl_tree::Member;
+use type_members::type_heads::{Body, Heads, TypeId, WrittenMember, line};
 
 /// Steps from a type to its conditional subtypes.
 #[derive(Drop)]

@@ -1,15 +1,15 @@
 //! Steps from a type to the types that it holds.
 
 ghost use Rattle.std.specs.Prelude.{◌≡◌, ◌++◌, map, OnOk};
-ghost use Rattle.type_heads.specs.Bodied.{seen_body};
-ghost use Rattle.type_heads.specs.HeadingFaults.{held_types};
+ghost use Rattle.type_members.specs.type_heads.Bodied.{seen_body};
+ghost use Rattle.type_members.specs.type_heads.HeadingFaults.{held_types};
 ghost use Rattle.type_members.specs.Listed.{AreSubtypes};
 
 use super::held::push_held;
 use crate::reach::Steps;
 use std::alloc::{AllocError, Global};
-use type_heads::{Body, Heads, TypeId};
 use type_members::Subtypes;
+use type_members::type_heads::{Body, Heads, TypeId};
 
 /// Steps from a type to the types that it holds, with the conditional subtypes of all types.
 #[derive(Drop)]

@@ -2,19 +2,19 @@
 
 ghost use Rattle.std.specs.Prelude.{◌≡◌, ◌||◌, ◌+◌, ◌++◌, [], ◌∷◌, nat_lt, flat_map, IfOk, OnOk};
 ghost use Rattle.std.specs.Option.{option_map_or};
-ghost use Rattle.osc_base.specs.FaultRows.{first_from, row};
-ghost use Rattle.type_heads.specs.Form.{EnumMember, greatest_value};
-ghost use Rattle.type_heads.specs.HeadingFaults.{number_place as place_of_number, shares_item};
+ghost use Rattle.type_members.specs.osc_base.FaultRows.{first_from, row};
+ghost use Rattle.type_members.specs.type_heads.Form.{EnumMember, greatest_value};
+ghost use Rattle.type_members.specs.type_heads.HeadingFaults.{number_place as place_of_number, shares_item};
 ghost use Rattle.type_faults.specs.ItemSets.{has_item, HasItems, ContinuesItems, items_in, rows_of_items};
-ghost use Rattle.dsl_tree.specs.Views.{declaration_tree};
+ghost use Rattle.type_members.specs.dsl_tree.Views.{declaration_tree};
 ghost use Rattle.type_faults.specs.Trees.{trees};
 
 use crate::sets::{NumberSet, TextSet};
-use dsl_tree::{Declaration, EnumItem};
-use name_scope::with_fault;
-use osc_base::{Fault, FaultCode, Place};
 use std::alloc::{AllocError, Global};
-use type_heads::PlacedDecl;
+use type_members::dsl_tree::{Declaration, EnumItem};
+use type_members::name_scope::with_fault;
+use type_members::osc_base::{Fault, FaultCode, Place};
+use type_members::type_heads::PlacedDecl;
 
 /// The members of an enum that were met, and the number that the next one has if none is written.
 #[derive(Drop)]

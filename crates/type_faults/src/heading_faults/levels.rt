@@ -5,9 +5,9 @@
 
 ghost use Rattle.std.specs.Prelude.{◌≡◌, ◌&&◌, length, map, IfOk};
 ghost use Rattle.std.specs.List.{list_all};
-ghost use Rattle.type_heads.specs.Bodied.{seen_body};
-ghost use Rattle.type_heads.specs.HeadingFaults.{held_types};
-ghost use Rattle.type_heads.specs.Table.{all_types};
+ghost use Rattle.type_members.specs.type_heads.Bodied.{seen_body};
+ghost use Rattle.type_members.specs.type_heads.HeadingFaults.{held_types};
+ghost use Rattle.type_members.specs.type_heads.Table.{all_types};
 ghost use Rattle.type_faults.specs.HeldRanks.{base_fits, type_fits, types_fit};
 ghost use Rattle.type_faults.specs.Ranking.{IsShown};
 
@@ -15,9 +15,9 @@ use super::held::push_own;
 use super::held_types::HeldTypes;
 use crate::ranks::ranks_of;
 use crate::returning::{Ranking, falls, rank_of};
-use osc_base::Row;
 use std::alloc::{AllocError, Global};
-use type_heads::{Body, Heads, TypeId};
+use type_members::osc_base::Row;
+use type_members::type_heads::{Body, Heads, TypeId};
 use type_members::{Subtypes, heir_condition};
 
 /// The types that a type inherits from or holds by its own fields, and its conditional subtypes.

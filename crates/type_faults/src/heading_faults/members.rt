@@ -2,17 +2,17 @@
 
 ghost use Rattle.std.specs.Prelude.{◌≡◌, [], ◌∷◌, None, false, not, flat_map, map};
 ghost use Rattle.std.specs.Option.{option_map_or};
-ghost use Rattle.osc_base.specs.FaultRows.{first_from};
-ghost use Rattle.dsl_tree.specs.Views.{field_tree, member_tree};
-ghost use Rattle.type_heads.specs.Seen.{seen_form};
-ghost use Rattle.type_heads.specs.Table.{form, named};
-ghost use Rattle.type_heads.specs.HeadingFaults.{can_hold as holds, kind_row, member_rows, unknown_row};
+ghost use Rattle.type_members.specs.osc_base.FaultRows.{first_from};
+ghost use Rattle.type_members.specs.dsl_tree.Views.{field_tree, member_tree};
+ghost use Rattle.type_members.specs.type_heads.Seen.{seen_form};
+ghost use Rattle.type_members.specs.type_heads.Table.{form, named};
+ghost use Rattle.type_members.specs.type_heads.HeadingFaults.{can_hold as holds, kind_row, member_rows, unknown_row};
 
 use super::references::with_unknown;
-use dsl_tree::{FieldDecl, Member};
-use name_scope::with_fault;
-use osc_base::{Fault, FaultCode};
-use type_heads::{Form, Heads};
+use type_members::dsl_tree::{FieldDecl, Member};
+use type_members::name_scope::with_fault;
+use type_members::osc_base::{Fault, FaultCode};
+use type_members::type_heads::{Form, Heads};
 
 fn can_hold(field: &FieldDecl, form: Form<'_>) -> bool
     ensures { result ≡ holds (field_tree field.now) (seen_form form.entry) }

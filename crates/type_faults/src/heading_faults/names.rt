@@ -2,21 +2,21 @@
 
 ghost use Rattle.std.specs.Prelude.{◌≡◌, ◌||◌, List, ◌∷◌, option_map, None, filter_map, IfOk, OnOk};
 ghost use Rattle.std.specs.List.{list_any};
-ghost use Rattle.osc_base.specs.FaultRows.{first_from};
-ghost use Rattle.dsl_tree.specs.FileTree.{DeclarationTree};
-ghost use Rattle.dsl_tree.specs.Views.{declaration_tree};
-ghost use Rattle.name_scope.specs.Declaring.{DeclaredName};
-ghost use Rattle.name_scope.specs.Declaring.{behaviour_name, compound_name};
-ghost use Rattle.type_heads.specs.HeadingFaults.{basic_names, name_declared as name_of, shares_name, twice_rows};
+ghost use Rattle.type_members.specs.osc_base.FaultRows.{first_from};
+ghost use Rattle.type_members.specs.dsl_tree.FileTree.{DeclarationTree};
+ghost use Rattle.type_members.specs.dsl_tree.Views.{declaration_tree};
+ghost use Rattle.type_members.specs.name_scope.Declaring.{DeclaredName};
+ghost use Rattle.type_members.specs.name_scope.Declaring.{behaviour_name, compound_name};
+ghost use Rattle.type_members.specs.type_heads.HeadingFaults.{basic_names, name_declared as name_of, shares_name, twice_rows};
 ghost use Rattle.type_faults.specs.SeenNames.{seen_name, key_of, basic_name, shares_key, HasNames};
 ghost use Rattle.type_faults.specs.Trees.{trees};
 
-use dsl_tree::{CompoundKind, Declaration, Ident, QName};
 use indexmap::IndexSet;
-use name_scope::{NameKind, with_fault};
-use osc_base::{Fault, FaultCode, Place};
 use std::alloc::{AllocError, Global};
-use type_heads::PlacedDecl;
+use type_members::dsl_tree::{CompoundKind, Declaration, Ident, QName};
+use type_members::name_scope::{NameKind, with_fault};
+use type_members::osc_base::{Fault, FaultCode, Place};
+use type_members::type_heads::PlacedDecl;
 
 /// The place of a name that no file declares.
 const NOWHERE: Place = Place {

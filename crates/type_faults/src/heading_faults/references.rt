@@ -2,16 +2,16 @@
 
 ghost use Rattle.std.specs.Prelude.{◌≡◌, [], ◌∷◌, ◌++◌, ◌&&◌, Some, None, false, not, is_none, is_some};
 ghost use Rattle.std.specs.Option.{option_map_or};
-ghost use Rattle.osc_base.specs.FaultRows.{first_from};
-ghost use Rattle.type_heads.specs.Table.{named, form};
-ghost use Rattle.type_heads.specs.DeclaredTypes.{meant as meaning};
-ghost use Rattle.type_heads.specs.HeadingFaults.{unknown_row, owner_rows, name_rows, last_name};
-ghost use Rattle.type_heads.specs.Table.{is_actor};
+ghost use Rattle.type_members.specs.osc_base.FaultRows.{first_from};
+ghost use Rattle.type_members.specs.type_heads.Table.{named, form};
+ghost use Rattle.type_members.specs.type_heads.DeclaredTypes.{meant as meaning};
+ghost use Rattle.type_members.specs.type_heads.HeadingFaults.{unknown_row, owner_rows, name_rows, last_name};
+ghost use Rattle.type_members.specs.type_heads.Table.{is_actor};
 
-use dsl_tree::{Ident, QName};
-use name_scope::with_fault;
-use osc_base::{Fault, FaultCode, Place};
-use type_heads::{Heads, TypeId};
+use type_members::dsl_tree::{Ident, QName};
+use type_members::name_scope::with_fault;
+use type_members::osc_base::{Fault, FaultCode, Place};
+use type_members::type_heads::{Heads, TypeId};
 
 /// A fault of the name of a type or of a behaviour without an owner.
 pub fn with_unknown(first: Option<Fault>, heads: &Heads, name: &Ident) -> Option<Fault>

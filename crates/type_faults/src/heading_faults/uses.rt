@@ -2,23 +2,25 @@
 
 ghost use Rattle.std.specs.Prelude.{◌≡◌, [], ◌∷◌, ◌++◌, ◌&&◌, None, false, not, flat_map, map};
 ghost use Rattle.std.specs.Option.{option_map_or};
-ghost use Rattle.osc_base.specs.FaultRows.{first_from, row};
-ghost use Rattle.dsl_tree.specs.Views.{compound_tree, member_tree};
-ghost use Rattle.osc_base.specs.Comparisons.{same_number};
-ghost use Rattle.units_si.specs.ExponentTests.{same_exponents};
-ghost use Rattle.type_heads.specs.Table.{form, has_members, is_enum, named};
-ghost use Rattle.type_heads.specs.DeclaredTypes.{meant as meaning};
-ghost use Rattle.type_heads.specs.Seen.{seen_form};
-ghost use Rattle.type_heads.specs.HeadingFaults.{compound_rows, differ as differs, heir_rows, is_physical, kind_row, meant_row, member_rows, name_rows, owner_rows, unknown_row};
+ghost use Rattle.type_members.specs.osc_base.FaultRows.{first_from, row};
+ghost use Rattle.type_members.specs.dsl_tree.Views.{compound_tree, member_tree};
+ghost use Rattle.type_members.specs.osc_base.Comparisons.{same_number};
+ghost use Rattle.type_members.specs.units_si.ExponentTests.{same_exponents};
+ghost use Rattle.type_members.specs.type_heads.Table.{form, has_members, is_enum, named};
+ghost use Rattle.type_members.specs.type_heads.DeclaredTypes.{meant as meaning};
+ghost use Rattle.type_members.specs.type_heads.Seen.{seen_form};
+ghost use Rattle.type_members.specs.type_heads.HeadingFaults.{compound_rows, differ as differs, heir_rows, is_physical, kind_row, meant_row, member_rows, name_rows, owner_rows, unknown_row};
 
 use super::heirs::with_heir;
 use super::members::with_members;
 use super::references::{last_place, meant, with_name, with_owner, with_unknown};
-use dsl_tree::{CompoundDecl, EnumExtension, Ident, MemberExtension, QName, UnitDecl};
-use name_scope::with_fault;
-use osc_base::{Fault, FaultCode};
-use type_heads::{Form, Heads};
-use units_si::Exponents;
+use type_members::dsl_tree::{
+    CompoundDecl, EnumExtension, Ident, MemberExtension, QName, UnitDecl,
+};
+use type_members::name_scope::with_fault;
+use type_members::osc_base::{Fault, FaultCode};
+use type_members::type_heads::{Form, Heads};
+use type_members::units_si::Exponents;
 
 /// Faults of the owner of a declared behaviour.
 fn with_own_owner(first: Option<Fault>, heads: &Heads, name: &QName) -> Option<Fault>

@@ -2,16 +2,16 @@
 
 ghost use Rattle.std.specs.Prelude.{◌≡◌, ◌||◌, ◌∷◌, None, false, not, is_none, is_some, nat_eq};
 ghost use Rattle.std.specs.Option.{option_map_or};
-ghost use Rattle.osc_base.specs.FaultRows.{first_from, row};
-ghost use Rattle.type_heads.specs.Form.{Form as FormOf};
-ghost use Rattle.type_heads.specs.Seen.{seen_form};
-ghost use Rattle.type_heads.specs.Table.{enum_members, enum_number, form, named};
-ghost use Rattle.type_heads.specs.MemberFaults.{can_decide as decides, held_rows};
+ghost use Rattle.type_members.specs.osc_base.FaultRows.{first_from, row};
+ghost use Rattle.type_members.specs.type_heads.Form.{Form as FormOf};
+ghost use Rattle.type_members.specs.type_heads.Seen.{seen_form};
+ghost use Rattle.type_members.specs.type_heads.Table.{enum_members, enum_number, form, named};
+ghost use Rattle.type_members.specs.type_heads.MemberFaults.{can_decide as decides, held_rows};
 
-use dsl_tree::{ConditionValue, FieldDecl, HeirCondition, Ident};
-use name_scope::with_fault;
-use osc_base::{Fault, FaultCode};
-use type_heads::{Form, Heads, TypeId};
+use type_members::dsl_tree::{ConditionValue, FieldDecl, HeirCondition, Ident};
+use type_members::name_scope::with_fault;
+use type_members::osc_base::{Fault, FaultCode};
+use type_members::type_heads::{Form, Heads, TypeId};
 
 /// Whether a condition can look at a field of this type.
 pub fn can_decide(form: Form<'_>) -> bool

@@ -1,12 +1,12 @@
 //! The faults of the members of all types.
 
 ghost use Rattle.std.specs.Prelude.{◌≡◌, [], ◌∷◌, Some, flat_map, length, map, option_and_then, option_map, slice_index_or, IfOk};
-ghost use Rattle.osc_base.specs.FaultRows.{first_from, row};
-ghost use Rattle.type_heads.specs.Bodied.{seen_body};
-ghost use Rattle.type_heads.specs.Cycles.{returns};
-ghost use Rattle.type_heads.specs.Members.{field};
-ghost use Rattle.type_heads.specs.MemberFaults.{condition_rows, depends_on, type_rows};
-ghost use Rattle.type_heads.specs.Table.{all_types, base};
+ghost use Rattle.type_members.specs.osc_base.FaultRows.{first_from, row};
+ghost use Rattle.type_members.specs.type_heads.Bodied.{seen_body};
+ghost use Rattle.type_members.specs.type_heads.Cycles.{returns};
+ghost use Rattle.type_members.specs.type_heads.Members.{field};
+ghost use Rattle.type_members.specs.type_heads.MemberFaults.{condition_rows, depends_on, type_rows};
+ghost use Rattle.type_members.specs.type_heads.Table.{all_types, base};
 ghost use Rattle.type_members.specs.Listed.{lists_of, seen_row};
 ghost use Rattle.type_members.specs.Shared.{fronts_in, members_at};
 ghost use Rattle.type_faults.specs.ConditionRows.{found_rows};
@@ -25,11 +25,11 @@ use super::row_facts::{RowFacts, facts_at, is_plain, row_facts};
 use crate::passing::is_past;
 use crate::reach::Steps;
 use crate::returning::Ranking;
-use dsl_tree::HeirCondition;
-use name_scope::with_fault;
-use osc_base::{Fault, FaultCode, Place};
 use std::alloc::{AllocError, Global};
-use type_heads::{Heads, TypeId};
+use type_members::dsl_tree::HeirCondition;
+use type_members::name_scope::with_fault;
+use type_members::osc_base::{Fault, FaultCode, Place};
+use type_members::type_heads::{Heads, TypeId};
 use type_members::{Span, heir_condition};
 
 /// A fault at this place, if steps lead from a type back to it. There are `count` types.

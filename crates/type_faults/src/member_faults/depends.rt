@@ -2,10 +2,10 @@
 
 ghost use Rattle.std.specs.Prelude.{◌≡◌, ◌++◌, List, [], ◌∷◌, None, bytes_eq, cond, filter, find, map, option_and_then, option_to_list, slice_index_or, OnOk};
 ghost use Rattle.std.specs.Option.{option_map_or};
-ghost use Rattle.type_heads.specs.Bodied.{seen_body};
-ghost use Rattle.type_heads.specs.Members.{fields_among, is_conditional as is_conditional_type};
-ghost use Rattle.type_heads.specs.MemberFaults.{depends_on};
-ghost use Rattle.type_heads.specs.Table.{base, bases};
+ghost use Rattle.type_members.specs.type_heads.Bodied.{seen_body};
+ghost use Rattle.type_members.specs.type_heads.Members.{fields_among, is_conditional as is_conditional_type};
+ghost use Rattle.type_members.specs.type_heads.MemberFaults.{depends_on};
+ghost use Rattle.type_members.specs.type_heads.Table.{base, bases};
 ghost use Rattle.type_members.specs.Listed.{lists_of, seen_row};
 ghost use Rattle.type_faults.specs.ListedRows.{field_under, near_depended, types_with, under_in};
 ghost use Rattle.type_faults.specs.NamePlaces.{AreRowPlaces};
@@ -13,9 +13,9 @@ ghost use Rattle.type_faults.specs.NamePlaces.{AreRowPlaces};
 use super::fields::{FieldHit, condition_field};
 use super::name_places::NamePlaces;
 use crate::reach::push_types;
-use dsl_tree::HeirCondition;
 use std::alloc::{AllocError, Global};
-use type_heads::{Body, Heads, TypeId, line};
+use type_members::dsl_tree::HeirCondition;
+use type_members::type_heads::{Body, Heads, TypeId, line};
 use type_members::{MemberLists, heir_condition};
 
 /// Puts the conditional subtypes that a field is under at the end.

@@ -1,8 +1,8 @@
 //! Steps from a conditional subtype to those on which it depends.
 
 ghost use Rattle.std.specs.Prelude.{◌≡◌, ◌++◌, map, OnOk};
-ghost use Rattle.type_heads.specs.Bodied.{seen_body};
-ghost use Rattle.type_heads.specs.MemberFaults.{depends_on};
+ghost use Rattle.type_members.specs.type_heads.Bodied.{seen_body};
+ghost use Rattle.type_members.specs.type_heads.MemberFaults.{depends_on};
 ghost use Rattle.type_members.specs.Listed.{lists_of, seen_row};
 ghost use Rattle.type_faults.specs.ListedRows.{types_with};
 ghost use Rattle.type_faults.specs.NamePlaces.{AreRowPlaces};
@@ -11,8 +11,8 @@ use super::depends::push_depended;
 use super::name_places::NamePlaces;
 use crate::reach::Steps;
 use std::alloc::{AllocError, Global};
-use type_heads::{Body, Heads, TypeId};
 use type_members::MemberLists;
+use type_members::type_heads::{Body, Heads, TypeId};
 
 /// The types of a program, with steps from a conditional subtype to those on which it depends.
 #[derive(Drop)]

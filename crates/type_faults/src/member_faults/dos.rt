@@ -2,20 +2,20 @@
 
 ghost use Rattle.std.specs.Prelude.{◌≡◌, ◌||◌, ◌++◌, List, [], ◌∷◌, false, map, not};
 ghost use Rattle.std.specs.List.{cons_option};
-ghost use Rattle.osc_base.specs.FaultRows.{first_from, row};
-ghost use Rattle.type_heads.specs.Seen.{seen_form};
-ghost use Rattle.type_heads.specs.Table.{is_scenario};
-ghost use Rattle.type_heads.specs.Types.{Do};
-ghost use Rattle.type_heads.specs.Members.{do_declared};
-ghost use Rattle.type_heads.specs.MemberFaults.{do_rows};
+ghost use Rattle.type_members.specs.osc_base.FaultRows.{first_from, row};
+ghost use Rattle.type_members.specs.type_heads.Seen.{seen_form};
+ghost use Rattle.type_members.specs.type_heads.Table.{is_scenario};
+ghost use Rattle.type_members.specs.type_heads.Types.{Do};
+ghost use Rattle.type_members.specs.type_heads.Members.{do_declared};
+ghost use Rattle.type_members.specs.type_heads.MemberFaults.{do_rows};
 ghost use Rattle.type_members.specs.Listed.{seen_listed, seen_row};
 ghost use Rattle.type_members.specs.Shared.{fronts_in, members_at, members_in_parts, under_inside};
 ghost use Rattle.type_faults.specs.RowFacts.{dos_among};
 
-use dsl_tree::Member;
-use name_scope::with_fault;
-use osc_base::{Fault, FaultCode, Place};
-use type_heads::Form;
+use type_members::dsl_tree::Member;
+use type_members::name_scope::with_fault;
+use type_members::osc_base::{Fault, FaultCode, Place};
+use type_members::type_heads::Form;
 use type_members::{ListedMember, MemberLists, Part, Span};
 
 /// Faults of a `do`, under a conditional subtype or not, that is the first or a later one.

@@ -2,17 +2,17 @@
 
 ghost use Rattle.std.specs.Prelude.{◌≡◌, None, Some, [], bytes_eq, cond, find, map, option_and_then, option_map, slice_get, slice_index_or};
 ghost use Rattle.std.specs.List.{list_any};
-ghost use Rattle.dsl_tree.specs.Views.{field_tree};
-ghost use Rattle.type_heads.specs.Members.{fields_among};
-ghost use Rattle.type_heads.specs.Table.{base};
+ghost use Rattle.type_members.specs.dsl_tree.Views.{field_tree};
+ghost use Rattle.type_members.specs.type_heads.Members.{fields_among};
+ghost use Rattle.type_members.specs.type_heads.Table.{base};
 ghost use Rattle.type_members.specs.Listed.{lists_of, seen_listed, seen_row};
 ghost use Rattle.type_members.specs.Shared.{members_in_part, members_in_parts, under_inside};
 ghost use Rattle.type_faults.specs.ListedRows.{field_declared, field_found, found_field, seen_hit};
 ghost use Rattle.type_faults.specs.NamePlaces.{ArePlaces, AreRowPlaces};
 
 use super::name_places::NamePlaces;
-use dsl_tree::{FieldDecl, HeirCondition, Ident, Member};
-use type_heads::{Heads, TypeId};
+use type_members::dsl_tree::{FieldDecl, HeirCondition, Ident, Member};
+use type_members::type_heads::{Heads, TypeId};
 use type_members::{ListedMember, MemberLists, Part};
 
 /// A field, and the conditional subtypes that it is under.

@@ -2,18 +2,18 @@
 
 ghost use Rattle.std.specs.Prelude.{◌≡◌, ◌&&◌, [], ◌∷◌, None, Some, false, map, not, is_some, option_map};
 ghost use Rattle.std.specs.Option.{option_map_or};
-ghost use Rattle.osc_base.specs.FaultRows.{first_from, row};
+ghost use Rattle.type_members.specs.osc_base.FaultRows.{first_from, row};
 ghost use Rattle.type_members.specs.Listed.{seen_listed, seen_row};
 ghost use Rattle.type_members.specs.Shared.{fronts_in, members_at, members_in_parts};
-ghost use Rattle.dsl_tree.specs.Views.{expr_tree, field_tree, member_tree};
-ghost use Rattle.type_heads.specs.Table.{form, is_object, named};
-ghost use Rattle.type_heads.specs.MemberFaults.{first_name_place as place_of_first, initial_rows, is_list_of as makes_list};
+ghost use Rattle.type_members.specs.dsl_tree.Views.{expr_tree, field_tree, member_tree};
+ghost use Rattle.type_members.specs.type_heads.Table.{form, is_object, named};
+ghost use Rattle.type_members.specs.type_heads.MemberFaults.{first_name_place as place_of_first, initial_rows, is_list_of as makes_list};
 ghost use Rattle.type_faults.specs.RowFacts.{initials_among};
 
-use dsl_tree::{Expr, FieldDecl, Ident, Member};
-use name_scope::with_fault;
-use osc_base::{Fault, FaultCode, Place};
-use type_heads::Heads;
+use type_members::dsl_tree::{Expr, FieldDecl, Ident, Member};
+use type_members::name_scope::with_fault;
+use type_members::osc_base::{Fault, FaultCode, Place};
+use type_members::type_heads::Heads;
 use type_members::{ListedMember, MemberLists, Part, Span};
 
 /// The most elements of a list.

@@ -1,14 +1,14 @@
 //! The names and labels of members.
 
 ghost use Rattle.std.specs.Prelude.{◌≡◌, ◌++◌, map, option_to_list, IfOk, OnOk};
-ghost use Rattle.dsl_tree.specs.Views.{comp_tree, member_tree, phase_tree};
-ghost use Rattle.type_heads.specs.MemberFaults.{labels_in, member_names, names_among as names_and_labels};
+ghost use Rattle.type_members.specs.dsl_tree.Views.{comp_tree, member_tree, phase_tree};
+ghost use Rattle.type_members.specs.type_heads.MemberFaults.{labels_in, member_names, names_among as names_and_labels};
 ghost use Rattle.type_members.specs.Listed.{seen_listed};
 ghost use Rattle.type_faults.specs.NamePlaces.{lent_names};
 
-use dsl_tree::{CompNode, Ident, Member, Phase};
 use std::alloc::{AllocError, Global};
 use type_members::ListedMember;
+use type_members::dsl_tree::{CompNode, Ident, Member, Phase};
 
 fn push_label<'a>(label: &'a Option<Ident>, into: &mut Vec<&'a Ident>) -> Result<(), AllocError>
     ensures { OnOk result (lent_names into.new.items ≡ lent_names into.old.items ++ option_to_list label.entry.now) }

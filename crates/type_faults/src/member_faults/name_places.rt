@@ -8,9 +8,9 @@ ghost use Rattle.type_faults.specs.NamePlaces.{ArePlaces, AreRowPlaces, HasFirst
 
 use super::labels::names_of;
 use super::names::are_distinct;
-use dsl_tree::Ident;
 use indexmap::IndexMap;
 use std::alloc::{AllocError, Global};
+use type_members::dsl_tree::Ident;
 use type_members::{ListedMember, MemberRow, Part};
 
 /// For each name, the number of the first member that declares it.

@@ -1,9 +1,9 @@
 //! The faults of names that a member list has twice.
 
 ghost use Rattle.std.specs.Prelude.{◌≡◌, [], ◌∷◌, map, IfOk};
-ghost use Rattle.osc_base.specs.FaultRows.{first_from};
-ghost use Rattle.type_heads.specs.Seen.{seen_form};
-ghost use Rattle.type_heads.specs.MemberFaults.{names_among as names_and_labels, names_given, repeated_rows};
+ghost use Rattle.type_members.specs.osc_base.FaultRows.{first_from};
+ghost use Rattle.type_members.specs.type_heads.Seen.{seen_form};
+ghost use Rattle.type_members.specs.type_heads.MemberFaults.{names_among as names_and_labels, names_given, repeated_rows};
 ghost use Rattle.type_members.specs.Listed.{seen_listed, seen_row};
 ghost use Rattle.type_members.specs.Shared.{fronts_in, members_at, members_in_parts};
 ghost use Rattle.type_faults.specs.NamePlaces.{are_distinct as are_distinct_names, lent_names};
@@ -11,11 +11,11 @@ ghost use Rattle.type_faults.specs.NameRows.{ContinuesNames, HasTexts};
 
 use super::labels::names_among;
 use crate::sets::TextSet;
-use dsl_tree::Ident;
-use name_scope::with_fault;
-use osc_base::{Fault, FaultCode};
 use std::alloc::{AllocError, Global};
-use type_heads::Form;
+use type_members::dsl_tree::Ident;
+use type_members::name_scope::with_fault;
+use type_members::osc_base::{Fault, FaultCode};
+use type_members::type_heads::Form;
 use type_members::{ListedMember, MemberLists, Part, Span};
 
 /// A fault of one name more.

@@ -3,8 +3,8 @@
 //! A near step leads to the base of a type, and not to all bases. So the ranks of a chain of types cost one walk along it.
 
 ghost use Rattle.std.specs.Prelude.{◌≡◌, ◌++◌, length, map, IfOk, OnOk};
-ghost use Rattle.type_heads.specs.Bodied.{seen_body};
-ghost use Rattle.type_heads.specs.MemberFaults.{depends_on};
+ghost use Rattle.type_members.specs.type_heads.Bodied.{seen_body};
+ghost use Rattle.type_members.specs.type_heads.MemberFaults.{depends_on};
 ghost use Rattle.type_members.specs.Listed.{lists_of};
 ghost use Rattle.type_faults.specs.ListedRows.{near_depended, types_with};
 ghost use Rattle.type_faults.specs.Ranking.{IsShown};
@@ -14,7 +14,7 @@ use super::depends_on::DependsOn;
 use crate::reach::Steps;
 use crate::returning::Ranking;
 use std::alloc::{AllocError, Global};
-use type_heads::TypeId;
+use type_members::type_heads::TypeId;
 
 /// The types of a program, with steps from a type to its base, and to the conditional subtypes that the field of its
 /// condition is under.

@@ -2,10 +2,10 @@
 
 ghost use Rattle.std.specs.Prelude.{◌≡◌, codes, is_some, map, slice_index_or, IfOk};
 ghost use Rattle.std.specs.List.{list_any};
-ghost use Rattle.dsl_tree.specs.Views.{member_tree};
-ghost use Rattle.type_heads.specs.Seen.{seen_form};
-ghost use Rattle.type_heads.specs.Types.{Member as TypeMember};
-ghost use Rattle.type_heads.specs.Members.{do_declared};
+ghost use Rattle.type_members.specs.dsl_tree.Views.{member_tree};
+ghost use Rattle.type_members.specs.type_heads.Seen.{seen_form};
+ghost use Rattle.type_members.specs.type_heads.Types.{Member as TypeMember};
+ghost use Rattle.type_members.specs.type_heads.Members.{do_declared};
 ghost use Rattle.type_members.specs.Listed.{seen_listed, seen_row};
 ghost use Rattle.type_members.specs.Shared.{AreStarted, fronts_in};
 ghost use Rattle.type_faults.specs.NamePlaces.{AreRowPlaces, has_text, lent_names};
@@ -15,9 +15,9 @@ use super::dos::{AfterDos, with_dos};
 use super::initial::with_initials;
 use super::labels::names_among;
 use super::name_places::{NamePlaces, may_meet};
-use dsl_tree::{CompoundKind, Ident, Member};
 use std::alloc::{AllocError, Global};
-use type_heads::{Form, Heads};
+use type_members::dsl_tree::{CompoundKind, Ident, Member};
+use type_members::type_heads::{Form, Heads};
 use type_members::{ListedMember, MemberRow, Start};
 
 /// What is known of members. What isn't known may hold all the same.

@@ -1,5 +1,5 @@
 use Rattle.std.proofs.Common.{◌∙◌, ap}
-use Rattle.type_heads.specs.Table.{form}
+use Rattle.type_model.specs.type_heads.Table.{form}
 use Rattle.expr_nodes.specs.SeenNames.{single_in}
 use Rattle.expr_nodes.proofs.Forms.{single_bare}
 use Rattle.expr_nodes.proofs.fields.single.Goals as goal

@@ -1,6 +1,6 @@
 use Rattle.std.proofs.Common.{◌≡◌, ◌∙◌, ap, subst, Some}
 use Rattle.std.specs.Prelude.{IfOk}
-use Rattle.type_heads.specs.Table.{form}
+use Rattle.type_model.specs.type_heads.Table.{form}
 use Rattle.expr_nodes.specs.Seen.{seen}
 use Rattle.expr_nodes.specs.SeenNames.{list_in}
 use Rattle.expr_nodes.proofs.Forms.{list_bare}

@@ -1,5 +1,5 @@
 use Rattle.std.proofs.Common.{◌∙◌, ap, Some}
-use Rattle.type_heads.specs.Shown.{kind_form}
+use Rattle.type_model.specs.type_heads.Shown.{kind_form}
 use Rattle.expr_nodes.specs.Seen.{seen_kind, seen_size}
 use Rattle.expr_nodes.proofs.Forms.{list_made}
 use Rattle.expr_nodes.proofs.Results.{if_ok_more}

@@ -6,7 +6,7 @@ use Rattle.osc_base.specs.declared.fault.FaultCode.{FaultCode}
 use Rattle.osc_base.specs.FaultRows.{row, row_fault, first_of}
 use Rattle.expr_nodes.specs.Parts.{of_one}
 use Rattle.expr_nodes.specs.Operators.{element, index_of}
-use Rattle.dsl_tree.specs.Views.{expr_tree}
+use Rattle.type_model.specs.dsl_tree.Views.{expr_tree}
 use Rattle.expr_nodes.specs.Seen.{seen_part}
 use Rattle.expr_nodes.proofs.lists.index_fault.Goals as goal
 

@@ -1,5 +1,5 @@
 use Rattle.std.proofs.Common.{◌∙◌, ap}
-use Rattle.type_heads.specs.Table.{form, is_behaviour}
+use Rattle.type_model.specs.type_heads.Table.{form, is_behaviour}
 use Rattle.expr_nodes.proofs.Forms.{behaviour_bare}
 use Rattle.expr_nodes.proofs.names.is_behaviour.Goals as goal
 

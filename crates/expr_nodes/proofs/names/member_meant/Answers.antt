@@ -1,5 +1,5 @@
 use Rattle.std.proofs.Common.{sym}
-use Rattle.type_heads.specs.Table.{enums_with}
+use Rattle.type_model.specs.type_heads.Table.{enums_with}
 use Rattle.expr_nodes.proofs.Forms.{hit_absent, hit_several, hit_one}
 use Rattle.expr_nodes.proofs.names.member_meant.Goals as goal
 

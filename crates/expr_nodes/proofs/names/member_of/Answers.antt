@@ -1,4 +1,4 @@
-use Rattle.type_heads.specs.Table.{enum_number}
+use Rattle.type_model.specs.type_heads.Table.{enum_number}
 use Rattle.expr_nodes.specs.Names.{member_at}
 use Rattle.expr_nodes.proofs.Forms.{member_none}
 use Rattle.expr_nodes.proofs.names.member_of.Goals as goal

@@ -4,7 +4,7 @@ use Rattle.std.specs.Prelude.{is_none}
 use Rattle.std.specs.Option.{option_map_or}
 use Rattle.osc_base.specs.declared.fault.FaultCode.{FaultCode}
 use Rattle.osc_base.specs.FaultRows.{row, row_fault, first_of}
-use Rattle.type_heads.specs.Table.{enum_number}
+use Rattle.type_model.specs.type_heads.Table.{enum_number}
 use Rattle.expr_nodes.specs.Names.{enum_named}
 use Rattle.expr_nodes.proofs.others.enum_fault.Goals as goal
 

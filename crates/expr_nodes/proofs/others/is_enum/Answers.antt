@@ -1,5 +1,5 @@
 use Rattle.std.proofs.Common.{◌∙◌, ap}
-use Rattle.type_heads.specs.Table.{form, is_enum}
+use Rattle.type_model.specs.type_heads.Table.{form, is_enum}
 use Rattle.expr_nodes.proofs.Forms.{enum_bare}
 use Rattle.expr_nodes.proofs.others.is_enum.Goals as goal
 

@@ -2,7 +2,7 @@ use Rattle.std.proofs.Common.{◌∙◌, ap}
 use Rattle.expr_nodes.proofs.Results.{none_as}
 use Rattle.osc_base.specs.declared.fault.FaultCode.{FaultCode}
 use Rattle.osc_base.specs.FaultRows.{row, row_fault}
-use Rattle.type_heads.specs.Shown.{shown_unit}
+use Rattle.type_model.specs.type_heads.Shown.{shown_unit}
 use Rattle.expr_nodes.specs.SeenNames.{count_of}
 use Rattle.expr_nodes.proofs.LiteralUnits.{unit_faults, unit_typed, lost_faults, lost_typed}
 use Rattle.expr_nodes.proofs.physical.physical.Goals as goal

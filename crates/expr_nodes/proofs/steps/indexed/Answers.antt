@@ -1,5 +1,5 @@
 use Rattle.std.proofs.Common.{◌∙◌, ap}
-use Rattle.dsl_tree.specs.Views.{expr_tree}
+use Rattle.type_model.specs.dsl_tree.Views.{expr_tree}
 use Rattle.expr_nodes.specs.Operators.{index_rows, index_typed}
 use Rattle.expr_nodes.specs.Seen.{seen_part}
 use Rattle.expr_nodes.specs.Typing.{typed, expr_rows}

@@ -1,5 +1,5 @@
-use Rattle.composition.specs.SeenParts.{seen_occurrence}
-use Rattle.scene_slots.specs.SeenSlots.{scene_of}
+use Rattle.scene_rules.specs.composition.SeenParts.{seen_occurrence}
+use Rattle.slot_ends.specs.scene_slots.SeenSlots.{scene_of}
 use Rattle.flat_forms.proofs.SceneParts.{occurrence_sound, occurrence_values}
 use Rattle.flat_forms.proofs.constraints.push_constraint.Goals as goal
 

@@ -1,9 +1,9 @@
 use Rattle.std.proofs.Common.{◌≡◌, ◌++◌, map, drop}
 use Rattle.box_eval.specs.FlatRules.{flat_rule}
-use Rattle.scene_slots.specs.SeenSlots.{scene_of, layout_of}
-use Rattle.composition.specs.Items.{occurrence_items}
-use Rattle.composition.specs.SeenParts.{seen_occurrence}
-use Rattle.field_flatten.specs.Rules.{item_rule}
+use Rattle.slot_ends.specs.scene_slots.SeenSlots.{scene_of, layout_of}
+use Rattle.scene_rules.specs.composition.Items.{occurrence_items}
+use Rattle.scene_rules.specs.composition.SeenParts.{seen_occurrence}
+use Rattle.slot_ends.specs.field_flatten.Rules.{item_rule}
 use Rattle.flat_forms.proofs.constraints.push_each.Given as goal
 
 abbrev pub invariant-constraints : goal.invariant-constraints

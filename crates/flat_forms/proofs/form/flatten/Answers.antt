@@ -1,5 +1,5 @@
-use Rattle.composition.specs.SeenScenes.{seen_scene}
-use Rattle.field_flatten.proofs.FlatForms.{flat_form}
+use Rattle.scene_rules.specs.composition.SeenScenes.{seen_scene}
+use Rattle.slot_ends.proofs.of_field_flatten.FlatForms.{flat_form}
 use Rattle.flat_forms.proofs.SceneParts as Parts
 use Rattle.flat_forms.proofs.form.flatten.Goals as goal
 

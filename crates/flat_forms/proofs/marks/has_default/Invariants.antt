@@ -1,6 +1,6 @@
 use Rattle.std.proofs.Common.{◌≡◌, map, drop}
 use Rattle.std.specs.List.{list_any}
-use Rattle.composition.specs.SeenParts.{seen_occurrence}
+use Rattle.scene_rules.specs.composition.SeenParts.{seen_occurrence}
 use Rattle.flat_forms.proofs.Defaults.{marks_default}
 use Rattle.flat_forms.proofs.marks.has_default.Given as goal
 

@@ -1,5 +1,5 @@
 use Rattle.std.proofs.Common.{◌≡◌, map, take}
-use Rattle.composition.specs.SeenParts.{seen_occurrence}
+use Rattle.scene_rules.specs.composition.SeenParts.{seen_occurrence}
 use Rattle.flat_forms.proofs.marks.marks_of.Given as goal
 
 abbrev pub invariant-constraints : goal.invariant-constraints

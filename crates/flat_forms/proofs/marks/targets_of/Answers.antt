@@ -1,7 +1,7 @@
 use Rattle.std.proofs.Common.{◌∙◌, ap, map}
 use Rattle.std.proofs.lemmas.Result.{IfOk-weaker}
 use Rattle.keep_rules.specs.Overriding.{overriders}
-use Rattle.composition.specs.Scenes.{Occurrence}
+use Rattle.scene_rules.specs.composition.Scenes.{Occurrence}
 use Rattle.flat_forms.proofs.marks.targets_of.Goals as goal
 
 pub returns : goal.returns

@@ -1,7 +1,7 @@
 use Rattle.std.proofs.Common.{◌∙◌, ap, sym, map}
 use Rattle.keep_rules.specs.Overriding.{overriders}
-use Rattle.composition.specs.Scenes.{Occurrence}
-use Rattle.composition.specs.SeenParts.{seen_occurrence}
+use Rattle.scene_rules.specs.composition.Scenes.{Occurrence}
+use Rattle.scene_rules.specs.composition.SeenParts.{seen_occurrence}
 use Rattle.flat_forms.proofs.Defaults.{none_override}
 use Rattle.flat_forms.proofs.marks.telling_marks.Goals as goal
 

@@ -1,7 +1,7 @@
 use Rattle.std.proofs.Common.{◌≡◌, ◌++◌, map, drop}
-use Rattle.composition.specs.Scenes.{Scene}
-use Rattle.composition.specs.Items.{occurrence_items, item_name}
-use Rattle.composition.specs.SeenParts.{seen_occurrence}
+use Rattle.scene_rules.specs.composition.Scenes.{Scene}
+use Rattle.scene_rules.specs.composition.Items.{occurrence_items, item_name}
+use Rattle.scene_rules.specs.composition.SeenParts.{seen_occurrence}
 use Rattle.flat_forms.proofs.names.push_constraints.Given as goal
 
 abbrev pub invariant-constraints : goal.invariant-constraints

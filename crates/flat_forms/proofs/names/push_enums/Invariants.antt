@@ -1,6 +1,6 @@
 use Rattle.std.proofs.Common.{◌≡◌, ◌++◌, map, take, flat_map}
-use Rattle.composition.specs.declared.spot.ValueSpot.{ValueSpot}
-use Rattle.composition.specs.Items.{typed_item, item_name}
+use Rattle.scene_rules.specs.composition.declared.spot.ValueSpot.{ValueSpot}
+use Rattle.scene_rules.specs.composition.Items.{typed_item, item_name}
 use Rattle.flat_forms.proofs.names.push_enums.Given as goal
 
 abbrev pub invariant-values : goal.invariant-values

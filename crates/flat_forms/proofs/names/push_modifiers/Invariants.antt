@@ -1,7 +1,7 @@
 use Rattle.std.proofs.Common.{◌≡◌, ◌++◌, map, take, flat_map}
 use Rattle.osc_base.specs.declared.listing.RuleName.{RuleName}
 use Rattle.std.specs.List.{range_with_len}
-use Rattle.composition.specs.SeenParts.{seen_modifier}
+use Rattle.scene_rules.specs.composition.SeenParts.{seen_modifier}
 use Rattle.flat_forms.proofs.names.push_modifiers.Given as goal
 
 abbrev pub invariant-modifiers : goal.invariant-modifiers

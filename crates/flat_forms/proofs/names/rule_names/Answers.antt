@@ -1,8 +1,8 @@
 use Rattle.std.proofs.Common.{◌∙◌, ap, ◌+◌, ◌++◌, map}
 use Rattle.std.specs.List.{range_with_len}
-use Rattle.composition.specs.declared.setting.Setting.{Setting}
-use Rattle.composition.specs.Items.{item_name, occurrence_items}
-use Rattle.composition.specs.SeenScenes.{seen_scene}
+use Rattle.scene_rules.specs.composition.declared.setting.Setting.{Setting}
+use Rattle.scene_rules.specs.composition.Items.{item_name, occurrence_items}
+use Rattle.scene_rules.specs.composition.SeenScenes.{seen_scene}
 use Rattle.flat_forms.proofs.ItemRows.{all_made}
 use Rattle.flat_forms.proofs.names.rule_names.Goals as goal
 

@@ -1,9 +1,9 @@
 use Rattle.std.proofs.Common.{◌≡◌, ◌++◌, map, take, flat_map}
 use Rattle.box_eval.specs.FlatRules.{flat_rule}
-use Rattle.scene_slots.specs.SeenSlots.{scene_of, layout_of}
-use Rattle.composition.specs.declared.spot.ValueSpot.{ValueSpot}
-use Rattle.composition.specs.Items.{typed_item}
-use Rattle.field_flatten.specs.Rules.{item_rule}
+use Rattle.slot_ends.specs.scene_slots.SeenSlots.{scene_of, layout_of}
+use Rattle.scene_rules.specs.composition.declared.spot.ValueSpot.{ValueSpot}
+use Rattle.scene_rules.specs.composition.Items.{typed_item}
+use Rattle.slot_ends.specs.field_flatten.Rules.{item_rule}
 use Rattle.flat_forms.proofs.rules.push_enums.Given as goal
 
 abbrev pub invariant-values : goal.invariant-values

@@ -1,5 +1,5 @@
-use Rattle.composition.specs.SeenParts.{seen_modifier}
-use Rattle.scene_slots.specs.SeenSlots.{scene_of}
+use Rattle.scene_rules.specs.composition.SeenParts.{seen_modifier}
+use Rattle.slot_ends.specs.scene_slots.SeenSlots.{scene_of}
 use Rattle.flat_forms.specs.SoundParts.{is_sound_modifier}
 use Rattle.flat_forms.proofs.RowSteps.{item_of}
 use Rattle.flat_forms.proofs.SceneParts.{modifier_parts}

@@ -1,9 +1,9 @@
 use Rattle.std.proofs.Common.{◌≡◌, ◌++◌, map, take, flat_map}
 use Rattle.box_eval.specs.FlatRules.{flat_rule}
-use Rattle.scene_slots.specs.SeenSlots.{scene_of, layout_of}
-use Rattle.composition.specs.SeenParts.{seen_modifier}
-use Rattle.composition.specs.Slots.{ticks_of}
-use Rattle.field_flatten.specs.Rules.{modifier_rule}
+use Rattle.slot_ends.specs.scene_slots.SeenSlots.{scene_of, layout_of}
+use Rattle.scene_rules.specs.composition.SeenParts.{seen_modifier}
+use Rattle.scene_rules.specs.composition.Slots.{ticks_of}
+use Rattle.slot_ends.specs.field_flatten.Rules.{modifier_rule}
 use Rattle.flat_forms.proofs.rules.push_modifiers.Given as goal
 
 abbrev pub invariant-modifiers : goal.invariant-modifiers

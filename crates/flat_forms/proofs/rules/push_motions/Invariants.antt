@@ -1,8 +1,8 @@
 use Rattle.std.proofs.Common.{◌≡◌, ◌++◌, map, take, flat_map}
 use Rattle.box_eval.specs.FlatRules.{flat_rule}
-use Rattle.scene_slots.specs.SeenSlots.{scene_of, layout_of}
-use Rattle.composition.specs.Slots.{ticks_of}
-use Rattle.field_flatten.specs.Rules.{motion_rule}
+use Rattle.slot_ends.specs.scene_slots.SeenSlots.{scene_of, layout_of}
+use Rattle.scene_rules.specs.composition.Slots.{ticks_of}
+use Rattle.slot_ends.specs.field_flatten.Rules.{motion_rule}
 use Rattle.flat_forms.proofs.rules.push_motions.Given as goal
 
 abbrev pub invariant-vehicles : goal.invariant-vehicles

@@ -1,5 +1,5 @@
-use Rattle.field_flatten.specs.Rules.{arranged_rule}
-use Rattle.scene_slots.specs.SeenSlots.{scene_of, layout_of}
+use Rattle.slot_ends.specs.field_flatten.Rules.{arranged_rule}
+use Rattle.slot_ends.specs.scene_slots.SeenSlots.{scene_of, layout_of}
 use Rattle.flat_forms.proofs.RowSteps.{rule_more}
 use Rattle.flat_forms.proofs.rules.push_phases.Goals as goal
 

@@ -1,7 +1,7 @@
 use Rattle.std.proofs.Common.{◌≡◌, ◌++◌, map, take}
 use Rattle.box_eval.specs.FlatRules.{flat_rule}
-use Rattle.scene_slots.specs.SeenSlots.{scene_of, layout_of}
-use Rattle.field_flatten.specs.Rules.{arranged_rule}
+use Rattle.slot_ends.specs.scene_slots.SeenSlots.{scene_of, layout_of}
+use Rattle.slot_ends.specs.field_flatten.Rules.{arranged_rule}
 use Rattle.flat_forms.proofs.rules.push_phases.Given as goal
 
 abbrev pub invariant-phases : goal.invariant-phases

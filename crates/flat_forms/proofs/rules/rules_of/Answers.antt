@@ -1,7 +1,7 @@
 use Rattle.std.proofs.Common.{◌∙◌, ap}
 use Rattle.std.proofs.lemmas.Result.{IfOk-weaker}
-use Rattle.composition.specs.SeenScenes.{seen_scene}
-use Rattle.field_flatten.specs.Rules.{rules as all_rules}
+use Rattle.scene_rules.specs.composition.SeenScenes.{seen_scene}
+use Rattle.slot_ends.specs.field_flatten.Rules.{rules as all_rules}
 use Rattle.flat_forms.proofs.rules.rules_of.Goals as goal
 
 pub returns : goal.returns

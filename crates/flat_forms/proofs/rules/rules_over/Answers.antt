@@ -1,12 +1,12 @@
 use Rattle.std.proofs.Common.{◌∙◌, ap, refl, map}
 use Rattle.std.specs.List.{list_all}
 use Rattle.box_eval.specs.FlatRules.{flat_rule}
-use Rattle.composition.specs.Scenes.{values, phases, vehicles}
-use Rattle.composition.specs.SeenScenes.{seen_scene}
-use Rattle.composition.specs.Slots.{ticks_of}
-use Rattle.field_flatten.specs.Rules.{item_rule}
+use Rattle.scene_rules.specs.composition.Scenes.{values, phases, vehicles}
+use Rattle.scene_rules.specs.composition.SeenScenes.{seen_scene}
+use Rattle.scene_rules.specs.composition.Slots.{ticks_of}
+use Rattle.slot_ends.specs.field_flatten.Rules.{item_rule}
 use Rattle.flat_forms.specs.SoundParts.{is_sound_modifier}
-use Rattle.scene_slots.specs.SeenSlots.{scene_of, layout_of}
+use Rattle.slot_ends.specs.scene_slots.SeenSlots.{scene_of, layout_of}
 use Rattle.flat_forms.proofs.ItemRows.{all_made}
 use Rattle.flat_forms.proofs.rules.rules_over.Goals as goal
 

@@ -3,9 +3,9 @@ use Rattle.std.proofs.lemmas.Result.{IfOk-weaker}
 use Rattle.std.specs.Prelude.{max}
 use Rattle.std.specs.List.{list_all}
 use denote.Param.Weighed.{most}
-use Rattle.box_eval.specs.FlatRules.{flat_term, flat_rule}
-use Rattle.expr_nodes.specs.declared.node.Typed.TheViews.{size-Typed, size-Earlier}
-use Rattle.expr_nodes.specs.Seen.{Reached, seen, reached}
+use Rattle.flat_terms.specs.box_eval.FlatRules.{flat_term, flat_rule}
+use Rattle.expr_value.specs.expr_nodes.declared.node.Typed.TheViews.{size-Typed, size-Earlier}
+use Rattle.expr_value.specs.expr_nodes.Seen.{Reached, seen, reached}
 use Rattle.expr_value.proofs.Falls
 use Rattle.flat_shapes.specs.Room.{has_room}
 use Rattle.flat_shapes.specs.Nodes.{part_scale}

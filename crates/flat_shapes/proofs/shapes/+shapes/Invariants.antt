@@ -1,10 +1,10 @@
 use Rattle.std.proofs.Common.{◌≡◌, ◌++◌, ◌+◌, ◌*◌, map, take}
 use Rattle.std.specs.Prelude.{max}
 use denote.Param.Weighed.{most}
-use Rattle.box_eval.specs.FlatRules.{flat_term, flat_rule}
-use Rattle.expr_nodes.specs.declared.node.Typed.TheViews.{size-Typed, size-Earlier}
-use Rattle.expr_nodes.specs.Seen.{Reached, seen, reached}
-use Rattle.field_flatten.specs.Shapes.{shape}
+use Rattle.flat_terms.specs.box_eval.FlatRules.{flat_term, flat_rule}
+use Rattle.expr_value.specs.expr_nodes.declared.node.Typed.TheViews.{size-Typed, size-Earlier}
+use Rattle.expr_value.specs.expr_nodes.Seen.{Reached, seen, reached}
+use Rattle.flat_terms.specs.field_flatten.Shapes.{shape}
 use Rattle.flat_shapes.specs.Nodes.{part_term, equalities}
 use Rattle.flat_shapes.proofs.shapes.+shapes.Given as goal
 

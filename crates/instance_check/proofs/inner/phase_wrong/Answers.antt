@@ -1,7 +1,7 @@
 use Rattle.std.proofs.Common.{Some, None}
-use Rattle.composition.specs.SeenScenes.{seen_scene}
-use Rattle.run_entries.specs.SeenRuns.{seen_run}
-use Rattle.run_values.specs.SeenNumbers.{scene_in, run_in}
+use Rattle.run_check.specs.composition.SeenScenes.{seen_scene}
+use Rattle.run_constraints.specs.run_entries.SeenRuns.{seen_run}
+use Rattle.run_constraints.specs.run_values.SeenNumbers.{scene_in, run_in}
 use Rattle.instance_check.proofs.Inside.{told, phase_told}
 use Rattle.instance_check.proofs.inner.phase_wrong.Goals as goal
 

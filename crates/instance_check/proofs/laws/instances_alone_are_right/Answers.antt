@@ -1,4 +1,4 @@
-use Rattle.composition.specs.Claims.{claims}
+use Rattle.run_check.specs.composition.Claims.{claims}
 use Rattle.instance_check.proofs.FirstClaims.{all_hold, none_fails}
 use Rattle.instance_check.proofs.laws.instances_alone_are_right.Goals as goal
 

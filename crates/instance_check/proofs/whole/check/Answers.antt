@@ -1,5 +1,5 @@
 use Rattle.std.proofs.Common.{ap}
-use Rattle.composition.specs.SeenScenes.{seen_scene}
+use Rattle.run_check.specs.composition.SeenScenes.{seen_scene}
 use Rattle.run_check.specs.Answers.{first_wrong}
 use Rattle.instance_check.proofs.Inside.{told}
 use Rattle.instance_check.proofs.whole.check.Goals as goal

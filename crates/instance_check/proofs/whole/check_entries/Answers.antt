@@ -1,6 +1,6 @@
 use Rattle.std.proofs.Common.{◌∙◌, sym}
-use Rattle.composition.specs.SeenScenes.{seen_scene}
-use Rattle.run_entries.specs.SeenRuns.{seen_run}
+use Rattle.run_check.specs.composition.SeenScenes.{seen_scene}
+use Rattle.run_constraints.specs.run_entries.SeenRuns.{seen_run}
 use Rattle.instance_check.proofs.Inside.{ended, bounded, found, passed_ok}
 use Rattle.instance_check.proofs.whole.check_entries.Goals as goal
 

@@ -1,4 +1,4 @@
-use Rattle.composition.specs.SeenScenes.{seen_scene}
+use Rattle.flat_forms.specs.composition.SeenScenes.{seen_scene}
 use Rattle.flat_forms.proofs.SceneParts.{few_ticks}
 use Rattle.listing_answers.proofs.form.flat.Goals as goal
 

@@ -1,5 +1,5 @@
 use Rattle.std.proofs.Common.{◌≡◌, take, drop}
-use Rattle.osc_base.specs.FaultRows.{first_from, first_fault}
+use Rattle.dsl_tree.specs.osc_base.FaultRows.{first_from, first_fault}
 use Rattle.name_scope.specs.Headings.{declarations, rows_behind, heading_rows}
 use Rattle.name_scope.proofs.headings.first_heading_fault.Given as goal
 

@@ -1,5 +1,5 @@
 use Rattle.std.proofs.Common.{◌∙◌, ap, flat_map}
-use Rattle.osc_base.specs.FaultRows.{first_from}
+use Rattle.dsl_tree.specs.osc_base.FaultRows.{first_from}
 use Rattle.name_scope.specs.Headings.{declarations, owner_rows, heir_rows, member_rows}
 use Rattle.name_scope.proofs.HeadingRows.{three}
 use Rattle.name_scope.proofs.headings.with_compound.Goals as goal

@@ -1,5 +1,5 @@
 use Rattle.std.proofs.Common.{◌≡◌, ◌++◌, take, drop}
-use Rattle.osc_base.specs.FaultRows.{first_from}
+use Rattle.dsl_tree.specs.osc_base.FaultRows.{first_from}
 use Rattle.name_scope.specs.Headings.{declarations, rows_behind}
 use Rattle.name_scope.proofs.headings.with_file.Given as goal
 

@@ -1,8 +1,8 @@
 use Rattle.std.proofs.Common.{◌+◌, ap, map, refl}
 use Rattle.std.proofs.lemmas.List.{drop_all}
 use Rattle.dsl_tree.specs.Views.{argument_tree}
-use Rattle.program_fields.specs.Tables.{fields_in}
-use Rattle.program_texts.specs.SeenTexts.{types_in}
+use Rattle.work_counts.specs.program_fields.Tables.{fields_in}
+use Rattle.work_counts.specs.program_texts.SeenTexts.{types_in}
 use Rattle.work_counts.specs.Amounts.{kept}
 use Rattle.work_counts.proofs.Sums.{counted_all, counted_init, counted_more}
 use Rattle.node_counts.specs.Arguments.{arguments_amount}

@@ -1,5 +1,5 @@
 use Rattle.std.proofs.Common.{◌∙◌, ◌<◌, ◌^◌, arith, sym}
-use Rattle.program_texts.specs.SeenTexts.{types_in}
+use Rattle.work_counts.specs.program_texts.SeenTexts.{types_in}
 use Rattle.node_counts.proofs.Nodes.{object_is, vehicle_is}
 use Rattle.node_counts.proofs.objects.object_counts.Goals as goal
 

@@ -1,6 +1,6 @@
 use Rattle.std.proofs.Common.{◌∙◌, ap, map}
 use Rattle.dsl_tree.specs.Views.{argument_tree, part_tree}
-use Rattle.program_texts.specs.SeenTexts.{types_in}
+use Rattle.work_counts.specs.program_texts.SeenTexts.{types_in}
 use Rattle.type_heads.specs.Members.{fields}
 use Rattle.work_counts.specs.Amounts.{kept, sum_of}
 use Rattle.node_counts.specs.Arguments.{arguments_amount}

@@ -1,8 +1,8 @@
 use Rattle.std.proofs.Common.{◌∙◌, ap, map, ℕ}
 use Rattle.dsl_tree.specs.Views.{argument_tree, modifier_tree}
-use Rattle.composition.specs.Tokens.{arguments_tokens}
-use Rattle.program_calls.specs.SeenModifiers.{seen_form}
-use Rattle.scene_texts.specs.Capped.{capped}
+use Rattle.scene_expansion.specs.composition.Tokens.{arguments_tokens}
+use Rattle.scene_expansion.specs.program_calls.SeenModifiers.{seen_form}
+use Rattle.scene_expansion.specs.scene_texts.Capped.{capped}
 use Rattle.work_counts.specs.declared.tally.Tally.{Tally}
 use Rattle.work_counts.specs.Amounts.{kept}
 use Rattle.work_counts.proofs.Sums.{kept_times, times_joined}

@@ -1,4 +1,4 @@
-use Rattle.program_texts.specs.SeenTexts.{types_in}
+use Rattle.work_counts.specs.program_texts.SeenTexts.{types_in}
 use Rattle.node_counts.proofs.WorkForms.{of_composition, of_invocation, of_object, of_value, of_wait}
 use Rattle.node_counts.proofs.works.counts.Goals as goal
 

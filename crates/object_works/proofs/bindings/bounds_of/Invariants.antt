@@ -1,6 +1,6 @@
 use Rattle.std.proofs.Common.{◌≡◌, ◌++◌, drop, map}
-use Rattle.composition.specs.SeenParts.{seen_binding}
-use Rattle.scene_texts.specs.Moving.{seen_bound}
+use Rattle.scene_expansion.specs.composition.SeenParts.{seen_binding}
+use Rattle.scene_expansion.specs.scene_texts.Moving.{seen_bound}
 use Rattle.object_works.proofs.bindings.bounds_of.Given as goal
 
 abbrev pub invariant-loop-binding : goal.invariant-loop-binding

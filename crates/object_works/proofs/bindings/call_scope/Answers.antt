@@ -1,7 +1,7 @@
 use Rattle.std.proofs.Common.{◌∙◌, ap, map, Some, None}
-use Rattle.composition.specs.Calls.{scope_at}
-use Rattle.expr_nodes.specs.Scope.{It}
-use Rattle.program_calls.specs.PlacedPhases.{seen_turn}
+use Rattle.scene_expansion.specs.composition.Calls.{scope_at}
+use Rattle.expr_eval.specs.expr_nodes.Scope.{It}
+use Rattle.scene_expansion.specs.program_calls.PlacedPhases.{seen_turn}
 use Rattle.object_works.proofs.bindings.call_scope.Goals as goal
 
 pub returns : goal.returns

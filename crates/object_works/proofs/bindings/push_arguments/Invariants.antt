@@ -1,11 +1,11 @@
 use Rattle.std.proofs.Common.{◌≡◌, ◌++◌, drop, map}
-use Rattle.composition.specs.SeenParts.{seen_binding}
+use Rattle.scene_expansion.specs.composition.SeenParts.{seen_binding}
 use Rattle.dsl_tree.specs.Views.{argument_tree}
-use Rattle.expr_nodes.specs.SeenNames.{seen_scope}
-use Rattle.program_fields.specs.Tables.{fields_in}
+use Rattle.expr_eval.specs.expr_nodes.SeenNames.{seen_scope}
+use Rattle.program_texts.specs.program_fields.Tables.{fields_in}
 use Rattle.program_texts.specs.SeenTexts.{types_in}
 use Rattle.scene_expansion.specs.SeenWorks.{seen_call}
-use Rattle.scene_texts.specs.Moving.{seen_bound}
+use Rattle.scene_expansion.specs.scene_texts.Moving.{seen_bound}
 use Rattle.object_works.specs.Arguments.{arguments_bound}
 use Rattle.object_works.proofs.bindings.push_arguments.Given as goal
 

@@ -1,5 +1,5 @@
 use Rattle.std.proofs.Common.{◌≡◌, ◌++◌, drop, map}
-use Rattle.program_calls.specs.PlacedPhases.{seen_turn}
+use Rattle.scene_expansion.specs.program_calls.PlacedPhases.{seen_turn}
 use Rattle.object_works.specs.Phases.{choice_of}
 use Rattle.object_works.proofs.calls.push_choices.Given as goal
 

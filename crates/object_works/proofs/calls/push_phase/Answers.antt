@@ -1,7 +1,7 @@
 use Rattle.std.proofs.Common.{◌∙◌, ◌++◌, ap, map, sym}
 use Rattle.std.proofs.lemmas.List.{map-append}
 use Rattle.dsl_tree.specs.Views.{phase_tree}
-use Rattle.expansion_laws.specs.Works.{phase_works}
+use Rattle.scene_expansion.specs.expansion_laws.Works.{phase_works}
 use Rattle.program_texts.specs.SeenTexts.{types_in}
 use Rattle.scene_expansion.specs.SeenWorks.{seen_call, seen_work}
 use Rattle.object_works.proofs.WorkParts.{comp_works, wait_works}

@@ -1,7 +1,7 @@
 use Rattle.std.proofs.Common.{◌≡◌, ◌++◌, drop, flat_map, map}
-use Rattle.composition.specs.SeenParts.{seen_binding}
-use Rattle.program_calls.specs.PlacedPhases.{seen_phase}
-use Rattle.program_fields.specs.SeenFields.{seen_do}
+use Rattle.scene_expansion.specs.composition.SeenParts.{seen_binding}
+use Rattle.scene_expansion.specs.program_calls.PlacedPhases.{seen_phase}
+use Rattle.program_texts.specs.program_fields.SeenFields.{seen_do}
 use Rattle.program_texts.specs.SeenTexts.{types_in}
 use Rattle.scene_expansion.specs.SeenWorks.{seen_work}
 use Rattle.object_works.specs.Phases.{phase_here_works}

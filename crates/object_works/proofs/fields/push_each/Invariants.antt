@@ -1,7 +1,7 @@
 use Rattle.std.proofs.Common.{◌≡◌, ◌++◌, drop, flat_map, map}
-use Rattle.composition.specs.SeenParts.{seen_binding}
-use Rattle.expansion_laws.specs.Works.{field_works}
-use Rattle.program_fields.specs.SeenFields.{seen_field}
+use Rattle.scene_expansion.specs.composition.SeenParts.{seen_binding}
+use Rattle.scene_expansion.specs.expansion_laws.Works.{field_works}
+use Rattle.program_texts.specs.program_fields.SeenFields.{seen_field}
 use Rattle.program_texts.specs.SeenTexts.{types_in}
 use Rattle.scene_expansion.specs.SeenWorks.{seen_work}
 use Rattle.object_works.proofs.fields.push_each.Given as goal

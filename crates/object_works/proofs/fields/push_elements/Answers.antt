@@ -1,6 +1,6 @@
 use Rattle.std.proofs.Common.{◌∙◌, ◌++◌, ◌∷◌, [], ap, map}
 use Rattle.std.specs.List.{range_with_len}
-use Rattle.expansion_laws.specs.Works.{Value}
+use Rattle.scene_expansion.specs.expansion_laws.Works.{Value}
 use Rattle.scene_expansion.specs.SeenWorks.{seen_work}
 use Rattle.object_works.proofs.ElementSteps.{element_at, element_more}
 use Rattle.object_works.proofs.fields.push_elements.Goals as goal

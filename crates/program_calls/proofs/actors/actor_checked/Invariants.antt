@@ -1,6 +1,6 @@
 use Rattle.std.proofs.Common.{take}
-use Rattle.expr_nodes.specs.Checks.{IsChecked}
-use Rattle.expr_nodes.specs.SeenNames.{seen_scope}
+use Rattle.composition.specs.expr_nodes.Checks.{IsChecked}
+use Rattle.composition.specs.expr_nodes.SeenNames.{seen_scope}
 use Rattle.program_calls.specs.SeenCallees.{actor_tree}
 use Rattle.program_calls.proofs.actors.actor_checked.Given as goal
 

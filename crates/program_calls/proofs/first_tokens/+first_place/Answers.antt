@@ -1,6 +1,6 @@
 use Rattle.std.proofs.Common.{◌∙◌, sym, ap}
 use Rattle.dsl_tree.specs.Views.{expr_tree}
-use Rattle.expr_nodes.specs.Typing.{first}
+use Rattle.composition.specs.expr_nodes.Typing.{first}
 use Rattle.program_calls.proofs.FirstTokens.{of_or, of_and, of_sum, of_product, of_dot, of_index}
 use Rattle.program_calls.proofs.first_tokens.+first_place.Goals as goal
 

@@ -2,7 +2,7 @@ use Rattle.std.proofs.Common.{◌∙◌, ap, refl, sym}
 use Rattle.dsl_tree.specs.ExprTree.{ExprTree}
 use Rattle.dsl_tree.specs.Views.{expr_tree}
 use Rattle.dsl_tree.proofs.Seen.{seen_or, seen_and, seen_sum, seen_product}
-use Rattle.expr_nodes.specs.Typing.{is_path}
+use Rattle.composition.specs.expr_nodes.Typing.{is_path}
 use Rattle.program_calls.proofs.PathTests.{path_of_dot, path_of_index, path_of_more}
 use Rattle.program_calls.proofs.name_exprs.+is_path.Goals as goal
 

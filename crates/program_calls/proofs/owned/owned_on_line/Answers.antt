@@ -1,5 +1,5 @@
 use Rattle.std.proofs.Common.{◌∙◌, length, sym}
-use Rattle.type_heads.specs.Table.{line_within}
+use Rattle.composition.specs.type_heads.Table.{line_within}
 use Rattle.program_calls.specs.SeenCallees.{owned_along}
 use Rattle.program_calls.proofs.CalleeNames.{owned_later}
 use Rattle.program_calls.proofs.owned.owned_on_line.Goals as goal

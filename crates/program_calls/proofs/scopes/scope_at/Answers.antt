@@ -1,5 +1,5 @@
 use Rattle.std.proofs.Common.{map, option_map}
-use Rattle.expr_nodes.specs.SeenNames.{seen_it, seen_label}
+use Rattle.composition.specs.expr_nodes.SeenNames.{seen_it, seen_label}
 use Rattle.program_calls.specs.PlacedPhases.{seen_turn}
 use Rattle.program_calls.specs.SeenLabels.{seen_labels}
 use Rattle.program_calls.proofs.PhaseLabels.{scope_is}

@@ -1,6 +1,6 @@
 use Rattle.std.proofs.Common.{◌≡◌, ◌∙◌, sym, subst, arith, length, None}
 use Rattle.std.specs.Prelude.{slice_get}
-use Rattle.name_scope.specs.FileNumbers.{is_library, numbered_names}
+use Rattle.type_members.specs.name_scope.FileNumbers.{is_library, numbered_names}
 use Rattle.program_members.proofs.FirstLibrary.{found_there, not_there, nowhere}
 use Rattle.program_members.proofs.library.library_of.Goals as goal
 

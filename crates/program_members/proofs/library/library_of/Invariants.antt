@@ -1,6 +1,6 @@
 use Rattle.std.proofs.Common.{◌≡◌, drop}
-use Rattle.name_scope.specs.Declaring.{first_place}
-use Rattle.name_scope.specs.FileNumbers.{is_library, numbered_names}
+use Rattle.type_members.specs.name_scope.Declaring.{first_place}
+use Rattle.type_members.specs.name_scope.FileNumbers.{is_library, numbered_names}
 use Rattle.program_members.proofs.library.library_of.Given as goal
 
 abbrev pub invariant-loop-number : goal.invariant-loop-number

@@ -1,5 +1,5 @@
 use Rattle.std.proofs.Common.{◌∙◌, ap}
-use Rattle.composition.specs.SceneFaults.{is_too_large}
+use Rattle.named_scenario.specs.composition.SceneFaults.{is_too_large}
 use Rattle.type_heads.specs.Types.{Types}
 use Rattle.program_scenes.proofs.large.is_large_among.Goals as goal
 

@@ -1,7 +1,7 @@
 use Rattle.std.proofs.Common.{◌≡◌, drop, map}
 use Rattle.std.specs.List.{list_any}
-use Rattle.cond_inherit.specs.Conditions.{same_condition}
-use Rattle.cond_inherit.specs.SubtypeConditions.{seen_condition}
+use Rattle.program_calls.specs.cond_inherit.Conditions.{same_condition}
+use Rattle.program_calls.specs.cond_inherit.SubtypeConditions.{seen_condition}
 use Rattle.program_texts.proofs.asked.is_asked.Given as goal
 
 abbrev pub invariant-loop-other : goal.invariant-loop-other

@@ -1,5 +1,5 @@
 use Rattle.std.proofs.Common.{◌≡◌, ◌++◌, drop, map}
-use Rattle.cond_inherit.specs.SubtypeConditions.{seen_condition}
+use Rattle.program_calls.specs.cond_inherit.SubtypeConditions.{seen_condition}
 use Rattle.program_texts.specs.SeenConditions.{guard_of}
 use Rattle.program_texts.proofs.conditions.guards_of.Given as goal
 

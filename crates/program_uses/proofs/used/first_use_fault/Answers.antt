@@ -2,7 +2,7 @@ use Rattle.std.proofs.Common.{◌≡◌, map}
 use Rattle.osc_base.specs.FaultRows.{first_fault}
 use Rattle.type_heads.specs.Bodied.{seen_body}
 use Rattle.type_heads.specs.Types.{Types}
-use Rattle.type_members.specs.Listed.{lists_of}
+use Rattle.program_fields.specs.type_members.Listed.{lists_of}
 use Rattle.composition.specs.Uses.{use_rows}
 use Rattle.program_uses.specs.SeenTexts.{Tells}
 use Rattle.program_uses.proofs.RowSteps.{if_ok}

@@ -1,4 +1,4 @@
-use Rattle.composition.specs.SeenScenes.{seen_scene}
+use Rattle.flat_forms.specs.composition.SeenScenes.{seen_scene}
 use Rattle.record_answers.proofs.Fetching.{scene_replied}
 use Rattle.record_answers.proofs.verdicts.verify.Goals as goal
 

@@ -1,4 +1,4 @@
-use Rattle.composition.specs.SeenScenes.{seen_scene}
+use Rattle.run_texts.specs.composition.SeenScenes.{seen_scene}
 use Rattle.run_answers.proofs.Checked.{file_read, file_missing, file_long, file_failed}
 use Rattle.run_answers.proofs.run_files.check.Goals as goal
 

@@ -1,4 +1,4 @@
-use Rattle.composition.specs.SeenScenes.{seen_scene}
+use Rattle.run_texts.specs.composition.SeenScenes.{seen_scene}
 use Rattle.run_answers.proofs.Checked.{no_run_read, run_read}
 use Rattle.run_answers.proofs.run_files.check_text.Goals as goal
 

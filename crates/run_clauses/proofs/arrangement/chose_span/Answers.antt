@@ -1,8 +1,8 @@
 use Rattle.std.proofs.Common.{◌∙◌, sym, ap, true, option_copied}
 use Rattle.std.specs.Option.{option_map_or}
-use Rattle.composition.specs.Arrangement.{same_span}
-use Rattle.composition.specs.Items.{times_of}
-use Rattle.path_index.proofs.Firsts.{item_is}
+use Rattle.run_entries.specs.composition.Arrangement.{same_span}
+use Rattle.run_entries.specs.composition.Items.{times_of}
+use Rattle.run_entries.proofs.of_path_index.Firsts.{item_is}
 use Rattle.run_entries.specs.SeenRuns.{seen_run}
 use Rattle.run_clauses.proofs.Ticks.{chosen_span}
 use Rattle.run_clauses.proofs.arrangement.chose_span.Goals as goal

@@ -1,5 +1,5 @@
 use Rattle.std.proofs.Common.{◌∙◌}
-use Rattle.composition.specs.Items.{times_of}
+use Rattle.run_entries.specs.composition.Items.{times_of}
 use Rattle.run_entries.specs.SeenRuns.{seen_run}
 use Rattle.run_clauses.proofs.Ticks.{covers_is}
 use Rattle.run_clauses.proofs.arrangement.covers.Goals as goal

@@ -1,6 +1,6 @@
 use Rattle.std.proofs.Common.{◌≡◌, length}
-use Rattle.composition.specs.Arrangement.{follow as are_followed}
-use Rattle.composition.specs.Items.{times_of}
+use Rattle.run_entries.specs.composition.Arrangement.{follow as are_followed}
+use Rattle.run_entries.specs.composition.Items.{times_of}
 use Rattle.run_entries.specs.SeenRuns.{seen_run}
 use Rattle.run_clauses.proofs.arrangement.follow.Given as goal
 

@@ -1,6 +1,6 @@
 use Rattle.std.proofs.Common.{◌≡◌, length, pos}
-use Rattle.composition.specs.Arrangement.{starts_of}
-use Rattle.composition.specs.Items.{times_of}
+use Rattle.run_entries.specs.composition.Arrangement.{starts_of}
+use Rattle.run_entries.specs.composition.Items.{times_of}
 use Rattle.run_entries.specs.SeenRuns.{seen_run}
 use Rattle.run_clauses.specs.Latest.{latest}
 use Rattle.run_clauses.proofs.arrangement.latest_start.Given as goal

@@ -1,7 +1,7 @@
 use Rattle.std.proofs.Common.{◌∙◌, sym, pos}
 use Rattle.std.specs.Prelude.{int_le}
-use Rattle.composition.specs.Arrangement.{starts_of, ends_of}
-use Rattle.composition.specs.Items.{times_of}
+use Rattle.run_entries.specs.composition.Arrangement.{starts_of, ends_of}
+use Rattle.run_entries.specs.composition.Items.{times_of}
 use Rattle.run_entries.specs.SeenRuns.{seen_run}
 use Rattle.run_clauses.specs.Latest.{latest}
 use Rattle.run_clauses.proofs.Ticks.{all_mapped, overlap_latest, ends_from_first}

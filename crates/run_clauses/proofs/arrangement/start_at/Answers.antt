@@ -1,6 +1,6 @@
 use Rattle.std.proofs.Common.{◌∙◌, sym}
 use Rattle.osc_base.specs.Comparisons.{same_number}
-use Rattle.composition.specs.Items.{times_of}
+use Rattle.run_entries.specs.composition.Items.{times_of}
 use Rattle.run_entries.specs.SeenRuns.{seen_run}
 use Rattle.run_clauses.proofs.Ticks.{all_mapped}
 use Rattle.run_clauses.proofs.arrangement.start_at.Goals as goal

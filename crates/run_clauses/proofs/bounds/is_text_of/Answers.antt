@@ -1,7 +1,7 @@
 use Rattle.std.proofs.Common.{◌∙◌, sym, ap, bytes_eq}
 use Rattle.std.specs.Prelude.{is_some}
-use Rattle.composition.specs.SeenScenes.{seen_scene}
-use Rattle.composition.proofs.TextPlaces.{any_is}
+use Rattle.run_entries.specs.composition.SeenScenes.{seen_scene}
+use Rattle.run_entries.proofs.of_composition.TextPlaces.{any_is}
 use Rattle.run_clauses.proofs.bounds.is_text_of.Goals as goal
 
 pub returns : goal.returns

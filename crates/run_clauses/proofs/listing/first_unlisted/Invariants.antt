@@ -1,6 +1,6 @@
 use Rattle.std.proofs.Common.{◌≡◌, length}
-use Rattle.composition.specs.SeenScenes.{seen_scene}
-use Rattle.composition.specs.There.{is_there}
+use Rattle.run_entries.specs.composition.SeenScenes.{seen_scene}
+use Rattle.run_entries.specs.composition.There.{is_there}
 use Rattle.run_entries.specs.SeenRuns.{seen_run}
 use Rattle.run_clauses.specs.Listing.{first_unlisted}
 use Rattle.run_clauses.proofs.listing.first_unlisted.Given as goal

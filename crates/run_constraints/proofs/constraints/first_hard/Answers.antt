@@ -1,8 +1,8 @@
 use Rattle.std.proofs.Common.{◌∙◌, sym, ap}
 use Rattle.std.specs.Prelude.{find}
 use Rattle.std.specs.List.{list_all}
-use Rattle.composition.specs.SeenParts.{seen_occurrence}
-use Rattle.composition.specs.Scenes.{Scene, Occurrence}
+use Rattle.scene_conditions.specs.composition.SeenParts.{seen_occurrence}
+use Rattle.scene_conditions.specs.composition.Scenes.{Scene, Occurrence}
 use Rattle.run_values.specs.SeenNumbers.{scene_in, run_in}
 use Rattle.run_values.proofs.Rows.{find_later, find_first, all_first, all_later}
 use Rattle.run_constraints.specs.FirstConstraints.{fails_hard, is_sound_part}

@@ -1,7 +1,7 @@
 use Rattle.std.proofs.Common.{◌∙◌, ap, arith}
-use Rattle.composition.specs.Scenes.{Scene}
-use Rattle.composition.specs.SeenParts.{seen_occurrence}
-use Rattle.composition.specs.There.{is_asked}
+use Rattle.scene_conditions.specs.composition.Scenes.{Scene}
+use Rattle.scene_conditions.specs.composition.SeenParts.{seen_occurrence}
+use Rattle.scene_conditions.specs.composition.There.{is_asked}
 use Rattle.run_values.specs.SeenNumbers.{scene_in, run_in}
 use Rattle.run_constraints.proofs.Overridden.{all_taken}
 use Rattle.run_constraints.proofs.defaults.all_asked.Goals as goal

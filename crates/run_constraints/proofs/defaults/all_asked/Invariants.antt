@@ -1,6 +1,6 @@
 use Rattle.std.proofs.Common.{◌≡◌, take, map}
-use Rattle.composition.specs.SeenParts.{seen_occurrence}
-use Rattle.composition.specs.There.{is_asked}
+use Rattle.scene_conditions.specs.composition.SeenParts.{seen_occurrence}
+use Rattle.scene_conditions.specs.composition.There.{is_asked}
 use Rattle.run_values.specs.SeenNumbers.{scene_in, run_in}
 use Rattle.run_constraints.proofs.defaults.all_asked.Given as goal
 

@@ -1,7 +1,7 @@
 use Rattle.std.proofs.Common.{◌∙◌, sym, ap, map}
 use Rattle.std.specs.List.{list_all}
-use Rattle.composition.specs.SeenParts.{seen_occurrence}
-use Rattle.composition.specs.Scenes.{Scene, Occurrence}
+use Rattle.scene_conditions.specs.composition.SeenParts.{seen_occurrence}
+use Rattle.scene_conditions.specs.composition.Scenes.{Scene, Occurrence}
 use Rattle.run_values.specs.SeenNumbers.{scene_in, run_in}
 use Rattle.run_values.proofs.Rows.{all_first, all_later, later}
 use Rattle.run_constraints.specs.FirstConstraints.{first_default, is_sound_part}

@@ -1,7 +1,7 @@
 use Rattle.std.proofs.Common.{◌≡◌, length, true, map}
 use Rattle.std.specs.List.{list_all}
-use Rattle.composition.specs.SeenParts.{seen_occurrence}
-use Rattle.composition.specs.Scenes.{Occurrence}
+use Rattle.scene_conditions.specs.composition.SeenParts.{seen_occurrence}
+use Rattle.scene_conditions.specs.composition.Scenes.{Occurrence}
 use Rattle.run_constraints.specs.FirstConstraints.{first_default, is_sound_part}
 use Rattle.run_values.specs.SeenNumbers.{scene_in, run_in}
 use Rattle.run_constraints.proofs.defaults.first_failing.Given as goal

@@ -1,6 +1,6 @@
 use Rattle.std.proofs.Common.{◌∙◌, ap, arith}
-use Rattle.composition.specs.Scenes.{Scene, Occurrence}
-use Rattle.composition.specs.SeenParts.{seen_occurrence}
+use Rattle.scene_conditions.specs.composition.Scenes.{Scene, Occurrence}
+use Rattle.scene_conditions.specs.composition.SeenParts.{seen_occurrence}
 use Rattle.run_values.specs.SeenNumbers.{scene_in}
 use Rattle.run_constraints.proofs.Overridden.{all_taken}
 use Rattle.run_constraints.proofs.defaults.marks_of.Goals as goal

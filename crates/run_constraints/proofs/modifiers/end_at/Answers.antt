@@ -1,6 +1,6 @@
 use Rattle.std.proofs.Common.{ap}
 use Rattle.osc_base.specs.Fraction.{value}
-use Rattle.expr_nodes.specs.Seen.{seen_part}
+use Rattle.scene_conditions.specs.expr_nodes.Seen.{seen_part}
 use Rattle.run_values.specs.SeenNumbers.{scene_in, run_in}
 use Rattle.run_constraints.proofs.Narrow.{zero_end}
 use Rattle.run_constraints.proofs.modifiers.end_at.Goals as goal

@@ -1,12 +1,12 @@
 use Rattle.std.proofs.Common.{◌≡◌, length, true, map, not}
 use Rattle.std.specs.Prelude.{find}
 use Rattle.std.specs.List.{list_all}
-use Rattle.composition.specs.SeenParts.{seen_modifier}
-use Rattle.composition.specs.Scenes.{ModifierSpot}
-use Rattle.composition.specs.Items.{modifier_holds}
-use Rattle.composition.specs.Invariants.{is_modifier}
-use Rattle.composition.specs.Slots.{ticks_of}
-use Rattle.field_flatten.specs.Exactness.{is_narrow_range}
+use Rattle.scene_conditions.specs.composition.SeenParts.{seen_modifier}
+use Rattle.scene_conditions.specs.composition.Scenes.{ModifierSpot}
+use Rattle.scene_conditions.specs.composition.Items.{modifier_holds}
+use Rattle.scene_conditions.specs.composition.Invariants.{is_modifier}
+use Rattle.scene_conditions.specs.composition.Slots.{ticks_of}
+use Rattle.run_values.specs.field_flatten.Exactness.{is_narrow_range}
 use Rattle.run_values.specs.SeenNumbers.{scene_in, run_in}
 use Rattle.run_constraints.proofs.modifiers.first_modifier.Given as goal
 

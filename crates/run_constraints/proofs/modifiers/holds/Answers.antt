@@ -1,7 +1,7 @@
 use Rattle.std.proofs.Common.{◌∙◌, sym, ap, ◌+◌}
 use Rattle.std.specs.List.{list_all, range_with_len}
-use Rattle.composition.specs.SeenParts.{seen_modifier}
-use Rattle.composition.specs.Slots.{ticks_of}
+use Rattle.scene_conditions.specs.composition.SeenParts.{seen_modifier}
+use Rattle.scene_conditions.specs.composition.Slots.{ticks_of}
 use Rattle.run_values.specs.SeenNumbers.{scene_in, run_in}
 use Rattle.run_constraints.specs.Watched.{watch_holds}
 use Rattle.run_constraints.proofs.Watches.{there_holds, absent_holds}

@@ -1,7 +1,7 @@
 use Rattle.osc_base.specs.Fraction.{value}
-use Rattle.composition.specs.Numbers.{number_at}
-use Rattle.expr_nodes.specs.Seen.{seen}
-use Rattle.expr_nodes.specs.Typed.{scale, reach}
+use Rattle.scene_conditions.specs.composition.Numbers.{number_at}
+use Rattle.scene_conditions.specs.expr_nodes.Seen.{seen}
+use Rattle.scene_conditions.specs.expr_nodes.Typed.{scale, reach}
 use Rattle.run_values.specs.SeenNumbers.{scene_in, run_in}
 use Rattle.run_constraints.proofs.Sound.{sound_is, within_is}
 use Rattle.run_constraints.proofs.Truths.{end_none, end_some}

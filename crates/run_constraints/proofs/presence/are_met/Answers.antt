@@ -1,6 +1,6 @@
 use Rattle.std.proofs.Common.{◌∙◌}
-use Rattle.composition.specs.There.{is_met}
-use Rattle.run_entries.specs.SeenRuns.{seen_run}
+use Rattle.scene_conditions.specs.composition.There.{is_met}
+use Rattle.run_values.specs.run_entries.SeenRuns.{seen_run}
 use Rattle.run_values.proofs.Rows.{all_mapped}
 use Rattle.scene_conditions.specs.SeenConditions.{seen_condition}
 use Rattle.run_constraints.proofs.presence.are_met.Goals as goal

@@ -1,7 +1,7 @@
 use Rattle.std.proofs.Common.{◌∙◌, ap, ap₂}
-use Rattle.composition.specs.Scenes.{Scene}
-use Rattle.composition.specs.SeenParts.{seen_occurrence}
-use Rattle.composition.specs.There.{are_met, presence}
+use Rattle.scene_conditions.specs.composition.Scenes.{Scene}
+use Rattle.scene_conditions.specs.composition.SeenParts.{seen_occurrence}
+use Rattle.scene_conditions.specs.composition.There.{are_met, presence}
 use Rattle.run_constraints.proofs.presence.is_asked.Goals as goal
 
 pub returns : goal.returns

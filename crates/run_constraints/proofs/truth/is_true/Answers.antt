@@ -1,6 +1,6 @@
 use Rattle.std.proofs.Common.{◌∙◌}
-use Rattle.composition.specs.Numbers.{number_at}
-use Rattle.expr_nodes.specs.Seen.{seen}
+use Rattle.scene_conditions.specs.composition.Numbers.{number_at}
+use Rattle.scene_conditions.specs.expr_nodes.Seen.{seen}
 use Rattle.run_values.specs.SeenNumbers.{scene_in, run_in}
 use Rattle.run_constraints.proofs.Sound.{sound_is, within_is}
 use Rattle.run_constraints.proofs.Truths.{truth_none, truth_some}

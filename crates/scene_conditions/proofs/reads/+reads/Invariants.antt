@@ -1,5 +1,5 @@
 use Rattle.std.proofs.Common.{◌≡◌, drop, map}
-use Rattle.expr_nodes.specs.Seen.{seen, reached}
+use Rattle.composition.specs.expr_nodes.Seen.{seen, reached}
 use Rattle.composition.specs.SeenScenes.{seen_scene}
 use Rattle.scene_conditions.specs.SeenConditions.{seen_conditions}
 use Rattle.scene_conditions.specs.Gathered.{after_parts, after_items}

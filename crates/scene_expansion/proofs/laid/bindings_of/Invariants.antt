@@ -1,6 +1,6 @@
 use Rattle.std.proofs.Common.{◌≡◌, map, take}
-use Rattle.composition.specs.SeenParts.{seen_binding}
-use Rattle.expansion_laws.specs.Laid.{bindings_laid}
+use Rattle.program_calls.specs.composition.SeenParts.{seen_binding}
+use Rattle.scene_texts.specs.expansion_laws.Laid.{bindings_laid}
 use Rattle.scene_expansion.specs.Walks.{nodes_done}
 use Rattle.scene_expansion.proofs.laid.bindings_of.Given as goal
 

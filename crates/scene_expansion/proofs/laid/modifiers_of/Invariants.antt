@@ -1,7 +1,7 @@
 use Rattle.std.proofs.Common.{◌≡◌, map, take}
-use Rattle.composition.specs.SeenParts.{seen_modifier}
-use Rattle.composition.specs.SeenScenes.{seen_scene}
-use Rattle.expansion_laws.specs.Laid.{modifiers_laid}
+use Rattle.program_calls.specs.composition.SeenParts.{seen_modifier}
+use Rattle.program_calls.specs.composition.SeenScenes.{seen_scene}
+use Rattle.scene_texts.specs.expansion_laws.Laid.{modifiers_laid}
 use Rattle.scene_expansion.specs.Walks.{modifier_at, nodes_done}
 use Rattle.scene_expansion.proofs.laid.modifiers_of.Given as goal
 

@@ -1,8 +1,8 @@
 use Rattle.std.proofs.Common.{◌≡◌, map, take}
-use Rattle.composition.specs.Expanded.{occurrence_of}
-use Rattle.composition.specs.SeenParts.{seen_occurrence}
-use Rattle.composition.specs.SeenScenes.{seen_scene}
-use Rattle.expansion_laws.specs.Laid.{givens_laid}
+use Rattle.program_calls.specs.composition.Expanded.{occurrence_of}
+use Rattle.program_calls.specs.composition.SeenParts.{seen_occurrence}
+use Rattle.program_calls.specs.composition.SeenScenes.{seen_scene}
+use Rattle.scene_texts.specs.expansion_laws.Laid.{givens_laid}
 use Rattle.scene_expansion.specs.Walks.{nodes_done}
 use Rattle.scene_expansion.proofs.laid.occurrences_of.Given as goal
 

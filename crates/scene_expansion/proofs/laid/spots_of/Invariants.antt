@@ -1,6 +1,6 @@
 use Rattle.std.proofs.Common.{◌≡◌, map, take}
-use Rattle.composition.specs.SeenParts.{seen_spot}
-use Rattle.expansion_laws.specs.Laid.{spots_laid}
+use Rattle.program_calls.specs.composition.SeenParts.{seen_spot}
+use Rattle.scene_texts.specs.expansion_laws.Laid.{spots_laid}
 use Rattle.scene_expansion.specs.Walks.{nodes_done}
 use Rattle.scene_expansion.proofs.laid.spots_of.Given as goal
 

@@ -1,5 +1,5 @@
 use Rattle.std.proofs.Common.{◌∙◌, ap, true, false}
-use Rattle.composition.specs.SeenScenes.{seen_scene}
+use Rattle.program_calls.specs.composition.SeenScenes.{seen_scene}
 use Rattle.scene_expansion.specs.Walks.{nodes_done}
 use Rattle.scene_expansion.proofs.NamedScenes.{judged, scene_is}
 use Rattle.scene_expansion.proofs.named.scene_of.Goals as goal

@@ -1,6 +1,6 @@
 use Rattle.std.proofs.Common.{◌∙◌, ap, refl, map}
 use Rattle.std.specs.List.{list_all}
-use Rattle.expr_nodes.specs.Seen.{seen, reached}
+use Rattle.program_calls.specs.expr_nodes.Seen.{seen, reached}
 use Rattle.scene_expansion.specs.Readable.{has_reads, has_part}
 use Rattle.scene_expansion.proofs.ReadRows.{row_last, row_parts, row_first}
 use Rattle.scene_expansion.proofs.reads.+reads.Goals as goal

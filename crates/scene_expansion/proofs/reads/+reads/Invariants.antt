@@ -1,7 +1,7 @@
 use Rattle.std.proofs.Common.{◌≡◌, map, drop}
 use Rattle.std.specs.List.{list_all}
-use Rattle.expr_nodes.specs.Typed.{row_of}
-use Rattle.expr_nodes.specs.Seen.{seen, reached}
+use Rattle.program_calls.specs.expr_nodes.Typed.{row_of}
+use Rattle.program_calls.specs.expr_nodes.Seen.{seen, reached}
 use Rattle.scene_expansion.specs.Readable.{has_row, has_part}
 use Rattle.scene_expansion.proofs.reads.+reads.Given as goal
 

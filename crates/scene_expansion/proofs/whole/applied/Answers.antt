@@ -1,7 +1,7 @@
 use Rattle.std.proofs.Common.{◌∙◌, ap}
 use Rattle.std.specs.List.{filter}
-use Rattle.composition.specs.Expanded.{can_apply}
-use Rattle.composition.specs.SeenScenes.{seen_scene}
+use Rattle.program_calls.specs.composition.Expanded.{can_apply}
+use Rattle.program_calls.specs.composition.SeenScenes.{seen_scene}
 use Rattle.scene_expansion.proofs.whole.applied.Goals as goal
 
 pub returns : goal.returns

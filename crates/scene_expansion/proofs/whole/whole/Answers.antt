@@ -1,7 +1,7 @@
 use Rattle.std.proofs.Common.{◌∙◌, ap}
 use Rattle.std.specs.List.{filter}
-use Rattle.composition.specs.Expanded.{can_be_asked}
-use Rattle.composition.specs.SeenScenes.{seen_scene}
+use Rattle.program_calls.specs.composition.Expanded.{can_be_asked}
+use Rattle.program_calls.specs.composition.SeenScenes.{seen_scene}
 use Rattle.scene_expansion.specs.Walks.{nodes_done}
 use Rattle.scene_expansion.proofs.WholeScenes.{whole_is}
 use Rattle.scene_expansion.proofs.whole.whole.Goals as goal

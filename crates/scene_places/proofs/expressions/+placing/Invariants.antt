@@ -1,6 +1,6 @@
 use Rattle.std.proofs.Common.{◌≡◌, map, take}
-use Rattle.expr_nodes.specs.Typed.{moved}
-use Rattle.expr_nodes.specs.Seen.{seen, reached}
+use Rattle.scene_texts.specs.expr_nodes.Typed.{moved}
+use Rattle.scene_texts.specs.expr_nodes.Seen.{seen, reached}
 use Rattle.scene_texts.specs.Moving.{moved_part}
 use Rattle.scene_places.specs.Placed.{place_in}
 use Rattle.scene_places.proofs.expressions.+placing.Given as goal

@@ -1,4 +1,4 @@
-use Rattle.composition.specs.SeenParts.{seen_occurrence}
+use Rattle.scene_conditions.specs.composition.SeenParts.{seen_occurrence}
 use Rattle.scene_slots.specs.SeenSlots.{scene_of}
 use Rattle.scene_rules.proofs.Rooms.{occurrence_room}
 use Rattle.scene_rules.proofs.constraints.default_rule.Goals as goal

@@ -1,6 +1,6 @@
 use Rattle.std.proofs.Common.{◌≡◌, map, take}
 use Rattle.box_eval.specs.FlatRules.{flat_rule}
-use Rattle.field_flatten.specs.Rules.{presence_of_number}
+use Rattle.scene_slots.specs.field_flatten.Rules.{presence_of_number}
 use Rattle.scene_slots.specs.SeenSlots.{scene_of, layout_of}
 use Rattle.scene_rules.proofs.constraints.presences.Given as goal
 

@@ -1,5 +1,5 @@
-use Rattle.composition.specs.SeenParts.{seen_modifier}
-use Rattle.field_flatten.specs.Rules.{modifier_rule}
+use Rattle.scene_conditions.specs.composition.SeenParts.{seen_modifier}
+use Rattle.scene_slots.specs.field_flatten.Rules.{modifier_rule}
 use Rattle.scene_slots.specs.SeenSlots.{scene_of, layout_of}
 use Rattle.scene_rules.proofs.Rooms.{modifier_room}
 use Rattle.scene_rules.proofs.TickRows.{one_more_tick}

@@ -1,8 +1,8 @@
 use Rattle.std.proofs.Common.{◌≡◌, ◌++◌, map}
 use Rattle.std.specs.List.{range_with_len}
 use Rattle.box_eval.specs.FlatRules.{flat_rule}
-use Rattle.composition.specs.SeenParts.{seen_modifier}
-use Rattle.field_flatten.specs.Rules.{modifier_rule}
+use Rattle.scene_conditions.specs.composition.SeenParts.{seen_modifier}
+use Rattle.scene_slots.specs.field_flatten.Rules.{modifier_rule}
 use Rattle.scene_slots.specs.SeenSlots.{scene_of, layout_of}
 use Rattle.scene_rules.proofs.modifiers.modifier_rules.Given as goal
 

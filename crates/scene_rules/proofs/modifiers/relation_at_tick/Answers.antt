@@ -1,6 +1,6 @@
 use Rattle.std.proofs.Common.{◌∙◌, ap, ap₂}
-use Rattle.modifier_rules.specs.Relations.{relation_at}
-use Rattle.field_flatten.specs.Rules.{sample_slots}
+use Rattle.scene_slots.specs.modifier_rules.Relations.{relation_at}
+use Rattle.scene_slots.specs.field_flatten.Rules.{sample_slots}
 use Rattle.scene_slots.specs.SeenSlots.{layout_of}
 use Rattle.scene_rules.proofs.modifiers.relation_at_tick.Goals as goal
 

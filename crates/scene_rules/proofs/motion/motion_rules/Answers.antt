@@ -1,4 +1,4 @@
-use Rattle.field_flatten.specs.Rules.{motion_rule}
+use Rattle.scene_slots.specs.field_flatten.Rules.{motion_rule}
 use Rattle.scene_slots.specs.SeenSlots.{scene_of, layout_of}
 use Rattle.scene_rules.proofs.TickRows.{one_more_tick}
 use Rattle.scene_rules.proofs.motion.motion_rules.Goals as goal

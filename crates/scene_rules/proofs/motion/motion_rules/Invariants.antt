@@ -1,7 +1,7 @@
 use Rattle.std.proofs.Common.{◌≡◌, ◌++◌, map}
 use Rattle.std.specs.List.{range_with_len}
 use Rattle.box_eval.specs.FlatRules.{flat_rule}
-use Rattle.field_flatten.specs.Rules.{motion_rule}
+use Rattle.scene_slots.specs.field_flatten.Rules.{motion_rule}
 use Rattle.scene_slots.specs.SeenSlots.{scene_of, layout_of}
 use Rattle.scene_rules.proofs.motion.motion_rules.Given as goal
 

@@ -1,9 +1,9 @@
 use Rattle.std.proofs.Common.{◌∙◌, ap, ap₂, map, List}
 use Rattle.std.proofs.lemmas.Result.{IfOk-weaker}
 use Rattle.box_eval.specs.FlatRules.{FlatRule, flat_rule, all_of, under}
-use Rattle.composition.specs.Scenes.{guards}
-use Rattle.composition.specs.SeenScenes.{seen_scene}
-use Rattle.field_flatten.specs.Rules.{presence_rules}
+use Rattle.scene_conditions.specs.composition.Scenes.{guards}
+use Rattle.scene_conditions.specs.composition.SeenScenes.{seen_scene}
+use Rattle.scene_slots.specs.field_flatten.Rules.{presence_rules}
 use Rattle.scene_slots.specs.SeenSlots.{layout_of}
 use Rattle.scene_rules.proofs.phases.arranged_rule.Goals as goal
 

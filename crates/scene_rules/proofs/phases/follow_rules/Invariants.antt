@@ -1,6 +1,6 @@
 use Rattle.std.proofs.Common.{◌≡◌, ◌++◌, map, drop}
 use Rattle.box_eval.specs.FlatRules.{flat_rule, Slot}
-use Rattle.field_flatten.specs.Rules.{follow_rules}
+use Rattle.scene_slots.specs.field_flatten.Rules.{follow_rules}
 use Rattle.scene_slots.specs.SeenSlots.{layout_of}
 use Rattle.scene_rules.proofs.phases.follow_rules.Given as goal
 

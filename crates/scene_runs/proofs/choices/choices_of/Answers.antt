@@ -1,4 +1,4 @@
-use Rattle.field_flatten.specs.Points.{slot_value}
+use Rattle.scene_slots.specs.field_flatten.Points.{slot_value}
 use Rattle.scene_slots.specs.SeenSlots.{scene_of}
 use Rattle.scene_runs.specs.Entries.{is_chosen}
 use Rattle.scene_runs.proofs.EntryRows.{item_of}

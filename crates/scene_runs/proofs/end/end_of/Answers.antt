@@ -1,6 +1,6 @@
 use Rattle.std.proofs.Common.{◌∙◌, ap, ◌≤◌, subst}
-use Rattle.composition.specs.declared.setting.Setting.{Setting}
-use Rattle.composition.specs.SeenScenes.{seen_scene}
+use Rattle.scene_slots.specs.composition.declared.setting.Setting.{Setting}
+use Rattle.scene_slots.specs.composition.SeenScenes.{seen_scene}
 use Rattle.scene_slots.specs.SeenSlots.{scene_of}
 use Rattle.scene_runs.proofs.SlotBounds.{whole_low, whole_high, ended}
 use Rattle.scene_runs.proofs.end.end_of.Goals as goal

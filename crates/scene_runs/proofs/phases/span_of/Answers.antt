@@ -1,6 +1,6 @@
 use Rattle.std.proofs.Common.{◌∙◌, ap, w64}
-use Rattle.composition.specs.declared.setting.Setting.{Setting}
-use Rattle.composition.specs.SeenScenes.{seen_scene}
+use Rattle.scene_slots.specs.composition.declared.setting.Setting.{Setting}
+use Rattle.scene_slots.specs.composition.SeenScenes.{seen_scene}
 use Rattle.std.proofs.lemmas.Int.{to_z-of_z}
 use Rattle.scene_slots.specs.SeenSlots.{scene_of}
 use Rattle.scene_runs.proofs.SlotBounds as Slots

@@ -1,5 +1,5 @@
 use Rattle.std.proofs.Common.{◌≡◌, take, flat_map}
-use Rattle.field_flatten.specs.Points.{slot_value}
+use Rattle.scene_slots.specs.field_flatten.Points.{slot_value}
 use Rattle.scene_slots.specs.SeenSlots.{scene_of}
 use Rattle.scene_runs.specs.Entries.{span_entry}
 use Rattle.scene_runs.proofs.phases.spans_of.Given as goal

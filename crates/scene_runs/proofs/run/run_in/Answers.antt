@@ -1,8 +1,8 @@
 use Rattle.std.proofs.Common.{◌∙◌, ap}
 use Rattle.std.specs.List.{list_all}
-use Rattle.composition.specs.Scenes.{choices, values, phases, vehicles}
-use Rattle.composition.specs.SeenScenes.{seen_scene}
-use Rattle.field_flatten.specs.Points.{slot_value}
+use Rattle.scene_slots.specs.composition.Scenes.{choices, values, phases, vehicles}
+use Rattle.scene_slots.specs.composition.SeenScenes.{seen_scene}
+use Rattle.scene_slots.specs.field_flatten.Points.{slot_value}
 use Rattle.scene_slots.specs.SeenSlots.{scene_of}
 use Rattle.scene_runs.specs.Entries.{is_chosen}
 use Rattle.scene_runs.proofs.EntryRows.{run_made}

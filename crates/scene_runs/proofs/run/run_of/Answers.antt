@@ -1,11 +1,11 @@
 use Rattle.std.proofs.Common.{◌∙◌, sym, ap, ap₂, subst}
 use Rattle.std.proofs.lemmas.Result.{IfOk-weaker}
 use Rattle.box_eval.specs.Box.{IsPointOf}
-use Rattle.composition.specs.SeenScenes.{seen_scene}
-use Rattle.composition.specs.TimedRuns.{timed}
-use Rattle.field_flatten.specs.Ends.{bounds}
-use Rattle.field_flatten.specs.Exactness.{IsExpanded}
-use Rattle.field_flatten.specs.Points.{run_of as run_by}
+use Rattle.scene_slots.specs.composition.SeenScenes.{seen_scene}
+use Rattle.scene_slots.specs.composition.TimedRuns.{timed}
+use Rattle.scene_slots.specs.field_flatten.Ends.{bounds}
+use Rattle.scene_slots.specs.field_flatten.Exactness.{IsExpanded}
+use Rattle.scene_slots.specs.field_flatten.Points.{run_of as run_by}
 use Rattle.scene_runs.proofs.SceneSizes as Sizes
 use Rattle.scene_runs.proofs.run.run_of.Goals as goal
 

@@ -1,5 +1,5 @@
 use Rattle.std.proofs.Common.{◌∙◌, ◌^◌, ◌≤◌, ap, arith}
-use Rattle.field_flatten.specs.Points.{slot_value, sample_named}
+use Rattle.scene_slots.specs.field_flatten.Points.{slot_value, sample_named}
 use Rattle.scene_slots.specs.SeenSlots.{scene_of}
 use Rattle.scene_runs.specs.Entries.{sample_by}
 use Rattle.scene_runs.proofs.EntryRows.{one_tick_more, track_room}

@@ -1,6 +1,6 @@
 use Rattle.std.proofs.Common.{◌≡◌, map}
 use Rattle.std.specs.List.{range_with_len}
-use Rattle.field_flatten.specs.Points.{slot_value, sample_named}
+use Rattle.scene_slots.specs.field_flatten.Points.{slot_value, sample_named}
 use Rattle.scene_slots.specs.SeenSlots.{scene_of}
 use Rattle.scene_runs.proofs.traces.samples_of.Given as goal
 

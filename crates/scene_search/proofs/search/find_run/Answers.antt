@@ -1,7 +1,7 @@
 use Rattle.std.proofs.Common.{subst}
-use Rattle.composition.specs.SeenScenes.{seen_scene}
+use Rattle.flat_forms.specs.composition.SeenScenes.{seen_scene}
 use Rattle.scene_search.specs.Outcomes.{IsOutcome}
-use Rattle.scene_search.proofs.Found.{reached_run, scene_refutation}
+use Rattle.scene_search.proofs.Found.{reached_run, scene_refutation, spent_record}
 use Rattle.scene_search.proofs.search.find_run.Goals as goal
 
 pub search_flat-requires-clause-flat : goal.search_flat-requires-clause-flat
@@ -16,3 +16,8 @@ pub returns-in-Refuted : goal.returns-in-Refuted
 returns-in-Refuted c =
     scene_refutation (seen_scene c.args.scene.now) c.in_ok-flat.flat c.args.seed c.args.cuts c.in-Refuted.record c.requires.expanded c.in_ok-flat.ensures.form
     (subst (IsOutcome c.args.seed c.args.cuts c.in_ok-flat.flat) c.in-Refuted.is c.in_ok-point.ensures)
+
+pub returns-in-Undecided : goal.returns-in-Undecided
+returns-in-Undecided c =
+    spent_record (seen_scene c.args.scene.now) c.in_ok-flat.flat c.args.seed c.args.cuts c.in-Undecided.record c.in_ok-flat.ensures.form
+    (subst (IsOutcome c.args.seed c.args.cuts c.in_ok-flat.flat) c.in-Undecided.is c.in_ok-point.ensures)

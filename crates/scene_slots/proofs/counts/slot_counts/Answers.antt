@@ -1,6 +1,6 @@
 use Rattle.std.proofs.Common.{◌∙◌, ◌^◌, ap, length}
-use Rattle.composition.specs.declared.setting.Setting.{Setting}
-use Rattle.composition.specs.SeenScenes.{seen_scene}
+use Rattle.flat_shapes.specs.composition.declared.setting.Setting.{Setting}
+use Rattle.flat_shapes.specs.composition.SeenScenes.{seen_scene}
 use Rattle.scene_slots.proofs.QuerySteps as Steps
 use Rattle.scene_slots.proofs.counts.slot_counts.Goals as goal
 

@@ -1,6 +1,6 @@
 use Rattle.std.proofs.Common.{◌≡◌, ◌++◌, flat_map}
 use Rattle.std.specs.List.{range_with_len}
-use Rattle.composition.specs.Slots.{sample_names}
+use Rattle.flat_shapes.specs.composition.Slots.{sample_names}
 use Rattle.scene_slots.proofs.names.push_track.Given as goal
 
 abbrev pub invariant-ticks : goal.invariant-ticks

@@ -1,6 +1,6 @@
 use Rattle.std.proofs.Common.{subst, IfOk, List}
 use Rattle.path_index.specs.Places.{Places}
-use Rattle.composition.specs.declared.spot.ChoiceSpot.{ChoiceSpot}
+use Rattle.flat_shapes.specs.composition.declared.spot.ChoiceSpot.{ChoiceSpot}
 use Rattle.scene_slots.proofs.queries.choice_index.Goals as goal
 
 pub returns : goal.returns

@@ -1,6 +1,6 @@
 use Rattle.std.proofs.Common.{subst, IfOk, List}
 use Rattle.path_index.specs.Places.{Places}
-use Rattle.composition.specs.declared.spot.PhaseSpot.{PhaseSpot}
+use Rattle.flat_shapes.specs.composition.declared.spot.PhaseSpot.{PhaseSpot}
 use Rattle.scene_slots.proofs.queries.phase_index.Goals as goal
 
 pub returns : goal.returns

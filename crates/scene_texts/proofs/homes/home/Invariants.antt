@@ -1,6 +1,6 @@
 use Rattle.std.proofs.Common.{◌≡◌, length, map}
 use Rattle.osc_base.specs.Paths.{path_of}
-use Rattle.composition.specs.Homes.{home}
+use Rattle.expansion_laws.specs.composition.Homes.{home}
 use Rattle.scene_texts.specs.Moving.{seen_bound}
 use Rattle.scene_texts.proofs.homes.home.Given as goal
 

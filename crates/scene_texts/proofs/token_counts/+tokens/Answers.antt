@@ -3,7 +3,7 @@ use Rattle.dsl_tree.specs.declared.expr.Further.{Further}
 use Rattle.dsl_tree.specs.declared.expr.Suffix.{Suffix}
 use Rattle.dsl_tree.specs.declared.expr.Expr.{Expr}
 use Rattle.dsl_tree.specs.Views.{expr_tree}
-use Rattle.composition.specs.Tokens.{tokens}
+use Rattle.expansion_laws.specs.composition.Tokens.{tokens}
 use Rattle.expansion_laws.specs.Counts.{total}
 use Rattle.scene_texts.specs.Capped.{capped}
 use Rattle.scene_texts.specs.RowTokens.{further_count, item_count, suffix_count}

@@ -1,7 +1,7 @@
 use Rattle.std.proofs.Common.{◌+◌, ◌∙◌, ap, sym}
 use Rattle.std.specs.Option.{option_map_or}
 use Rattle.dsl_tree.specs.Views.{expr_tree}
-use Rattle.composition.specs.Tokens.{tokens}
+use Rattle.expansion_laws.specs.composition.Tokens.{tokens}
 use Rattle.scene_texts.specs.Capped.{capped}
 use Rattle.scene_texts.proofs.TokenNodes.{with_more}
 use Rattle.scene_texts.proofs.token_counts.argument_tokens.Goals as goal

@@ -1,6 +1,6 @@
 use Rattle.std.proofs.Common.{refl}
 use Rattle.dsl_tree.specs.Views.{argument_tree}
-use Rattle.composition.specs.Tokens.{argument_tokens}
+use Rattle.expansion_laws.specs.composition.Tokens.{argument_tokens}
 use Rattle.scene_texts.specs.Capped.{capped}
 use Rattle.scene_texts.specs.RowTokens.{later_count}
 use Rattle.scene_texts.proofs.TokenRows.{total_more}

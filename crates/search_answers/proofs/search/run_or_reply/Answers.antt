@@ -1,5 +1,5 @@
 use Rattle.std.proofs.Common.{subst}
-use Rattle.composition.specs.SeenScenes.{seen_scene}
+use Rattle.instance_check.specs.composition.SeenScenes.{seen_scene}
 use Rattle.scene_search.specs.Findings.{IsFinding}
 use Rattle.search_answers.proofs.Accepted.{refutation_short, spent_short}
 use Rattle.search_answers.proofs.search.run_or_reply.Goals as goal

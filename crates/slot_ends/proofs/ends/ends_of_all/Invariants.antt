@@ -1,6 +1,6 @@
 use Rattle.std.proofs.Common.{◌≡◌, map, take}
-use Rattle.composition.specs.SeenScenes.{seen_scene}
-use Rattle.field_flatten.specs.Ends.{ends_of}
+use Rattle.scene_slots.specs.composition.SeenScenes.{seen_scene}
+use Rattle.scene_slots.specs.field_flatten.Ends.{ends_of}
 use Rattle.slot_ends.proofs.ends.ends_of_all.Given as goal
 
 abbrev pub invariant-names : goal.invariant-names

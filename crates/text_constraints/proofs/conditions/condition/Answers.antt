@@ -5,7 +5,7 @@ use Rattle.composition.specs.SeenParts.{seen_occurrence}
 use Rattle.dsl_tree.specs.ExprTree.{ExprTree}
 use Rattle.expr_nodes.specs.Checks.{IsChecked}
 use Rattle.expr_nodes.specs.Typing.{first}
-use Rattle.program_fields.specs.SeenFields.{seen_field}
+use Rattle.program_texts.specs.program_fields.SeenFields.{seen_field}
 use Rattle.type_heads.specs.Table.{Table}
 use Rattle.text_constraints.specs.Kept.{equal_kept, seen_owner}
 use Rattle.text_constraints.specs.OwnTexts.{condition_kept}

@@ -1,5 +1,5 @@
 use Rattle.expr_nodes.specs.SeenNames.{seen_scope}
-use Rattle.program_calls.specs.SeenLabels.{seen_labels}
+use Rattle.program_texts.specs.program_calls.SeenLabels.{seen_labels}
 use Rattle.program_texts.specs.SeenTexts.{types_in}
 use Rattle.text_constraints.proofs.LabelSteps.{scope_of_labels}
 use Rattle.text_constraints.proofs.ListSteps.{on_ok}

@@ -4,7 +4,7 @@ use Rattle.composition.specs.SeenScenes.{seen_scene}
 use Rattle.type_heads.specs.Members.{members}
 use Rattle.type_members.specs.Listed.{seen_listed, seen_row}
 use Rattle.type_members.specs.Shared.{fronts_in}
-use Rattle.program_fields.proofs.Fronts.{all_left, own_at, own_left}
+use Rattle.program_texts.proofs.of_program_fields.Fronts.{all_left, own_at, own_left}
 use Rattle.program_texts.specs.SeenTexts.{types_in}
 use Rattle.text_constraints.specs.OwnTexts.{listed_kept}
 use Rattle.text_constraints.proofs.ListSteps.{put_last}

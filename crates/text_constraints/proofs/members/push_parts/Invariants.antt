@@ -3,7 +3,7 @@ use Rattle.composition.specs.SeenParts.{seen_occurrence}
 use Rattle.composition.specs.SeenScenes.{seen_scene}
 use Rattle.type_heads.specs.Members.{members}
 use Rattle.type_members.specs.Listed.{seen_row}
-use Rattle.program_fields.proofs.Fronts.{left_at}
+use Rattle.program_texts.proofs.of_program_fields.Fronts.{left_at}
 use Rattle.program_texts.specs.SeenTexts.{types_in}
 use Rattle.text_constraints.specs.OwnTexts.{listed_kept}
 use Rattle.text_constraints.proofs.members.push_parts.Given as goal

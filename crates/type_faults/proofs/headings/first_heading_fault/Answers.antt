@@ -1,8 +1,8 @@
 use Rattle.std.proofs.Common.{◌∙◌, ap, map, None}
-use Rattle.osc_base.specs.FaultRows.{first_from}
-use Rattle.type_heads.specs.Bodied.{seen_body}
-use Rattle.type_heads.specs.Table.{all_types}
-use Rattle.type_heads.specs.HeadingFaults.{cycle_row}
+use Rattle.type_members.specs.osc_base.FaultRows.{first_from}
+use Rattle.type_members.specs.type_heads.Bodied.{seen_body}
+use Rattle.type_members.specs.type_heads.Table.{all_types}
+use Rattle.type_members.specs.type_heads.HeadingFaults.{cycle_row}
 use Rattle.type_faults.specs.NameFaults.{rows_of_names}
 use Rattle.type_faults.proofs.RowSteps.{two}
 use Rattle.type_faults.proofs.HeadingRows.{heading_rows_are}

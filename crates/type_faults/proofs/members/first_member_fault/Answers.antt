@@ -1,7 +1,7 @@
 use Rattle.std.proofs.Common.{◌∙◌, ap, sym, map}
-use Rattle.osc_base.specs.FaultRows.{first_fault}
-use Rattle.type_heads.specs.Bodied.{seen_body}
-use Rattle.type_heads.specs.MemberFaults.{member_fault_rows}
+use Rattle.type_members.specs.osc_base.FaultRows.{first_fault}
+use Rattle.type_members.specs.type_heads.Bodied.{seen_body}
+use Rattle.type_members.specs.type_heads.MemberFaults.{member_fault_rows}
 use Rattle.type_members.specs.Listed.{lists_of}
 use Rattle.type_faults.specs.ListedRows.{types_with}
 use Rattle.type_faults.proofs.members.first_member_fault.Goals as goal

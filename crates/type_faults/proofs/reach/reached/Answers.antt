@@ -1,6 +1,6 @@
 use Rattle.std.proofs.Common.{◌≡◌, ◌∙◌, ◌-◌, ◌++◌, [], length, ap, sym, arith}
-use Rattle.type_heads.specs.Members.{has}
-use Rattle.type_heads.specs.Cycles.{reached}
+use Rattle.type_members.specs.type_heads.Members.{has}
+use Rattle.type_members.specs.type_heads.Cycles.{reached}
 use Rattle.type_faults.proofs.FreshNumbers.{nat_eq_is}
 use Rattle.type_faults.proofs.Rounds.{round_more, no_round, none_of, settled}
 use Rattle.type_faults.proofs.reach.reached.Goals as goal

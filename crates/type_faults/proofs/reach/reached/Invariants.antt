@@ -1,5 +1,5 @@
 use Rattle.std.proofs.Common.{◌-◌, []}
-use Rattle.type_heads.specs.Cycles.{reached}
+use Rattle.type_members.specs.type_heads.Cycles.{reached}
 use Rattle.type_faults.proofs.Rounds.{RoundsLeft}
 use Rattle.type_faults.proofs.reach.reached.Given as goal
 

@@ -1,5 +1,5 @@
 use Rattle.std.proofs.Common.{◌≡◌, ◌++◌, map, drop}
-use Rattle.dsl_tree.specs.Views.{member_tree}
+use Rattle.name_scope.specs.dsl_tree.Views.{member_tree}
 use Rattle.type_heads.specs.DeclaredTypes.{written_from}
 use Rattle.type_heads.specs.Bodied.{seen_written}
 use Rattle.type_heads.proofs.body.push_members.Given as goal

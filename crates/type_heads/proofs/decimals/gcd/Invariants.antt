@@ -1,5 +1,5 @@
 use Rattle.std.proofs.Common.{◌≡◌}
-use Rattle.osc_base.specs.LowestTerms.{gcd as divisor}
+use Rattle.units_si.specs.osc_base.LowestTerms.{gcd as divisor}
 use Rattle.type_heads.proofs.decimals.gcd.Given as goal
 
 abbrev pub invariant-loop-y : goal.invariant-loop-y

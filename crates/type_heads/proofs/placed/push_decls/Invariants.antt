@@ -1,5 +1,5 @@
 use Rattle.std.proofs.Common.{◌≡◌, ◌++◌, map, drop}
-use Rattle.dsl_tree.specs.Views.{declaration_tree}
+use Rattle.name_scope.specs.dsl_tree.Views.{declaration_tree}
 use Rattle.type_heads.specs.DeclaredTypes.{placed_in}
 use Rattle.type_heads.specs.Placing.{seen_placed}
 use Rattle.type_heads.proofs.placed.push_decls.Given as goal

@@ -1,6 +1,6 @@
 use Rattle.std.proofs.Common.{◌≡◌, ◌+◌, ◌++◌, ap, map, subst, sym, rules, OnOk}
 use Rattle.std.proofs.lemmas.Result.{on_ok_weaker}
-use Rattle.dsl_tree.specs.Views.{declaration_tree}
+use Rattle.name_scope.specs.dsl_tree.Views.{declaration_tree}
 use Rattle.type_heads.specs.DeclaredTypes.{placed_in}
 use Rattle.type_heads.specs.Placing.{seen_placed, placed_after}
 use Rattle.type_heads.proofs.PlacedFiles.{in_file, beyond, more_file}

@@ -1,10 +1,10 @@
 use Rattle.std.proofs.Common.{◌∙◌, ap, map}
-use Rattle.type_heads.specs.Bodied.{seen_body}
-use Rattle.type_heads.specs.DeclaredTypes.{types_of}
-use Rattle.type_heads.specs.Gathered.{all_of}
-use Rattle.type_heads.specs.Members.{members_of}
-use Rattle.type_heads.specs.Table.{all_types}
-use Rattle.type_members.specs.Listed.{lists_of}
+use Rattle.string_texts.specs.type_heads.Bodied.{seen_body}
+use Rattle.string_texts.specs.type_heads.DeclaredTypes.{types_of}
+use Rattle.string_texts.specs.type_heads.Gathered.{all_of}
+use Rattle.string_texts.specs.type_heads.Members.{members_of}
+use Rattle.string_texts.specs.type_heads.Table.{all_types}
+use Rattle.type_tables.specs.type_members.Listed.{lists_of}
 use Rattle.type_model.specs.Built.{IsFirstFault, IsMemberFault}
 use Rattle.type_model.proofs.Stops.{exit, member_first}
 use Rattle.type_model.proofs.TypeParts.{have_parts, list_count}

@@ -1,4 +1,4 @@
-use Rattle.type_heads.specs.Gathered.{all_of}
+use Rattle.string_texts.specs.type_heads.Gathered.{all_of}
 use Rattle.type_model.specs.Built.{IsFirstFault, IsHeadingFault}
 use Rattle.type_model.proofs.Stops.{exit, heading_first}
 use Rattle.type_model.proofs.build.with_heads.Goals as goal

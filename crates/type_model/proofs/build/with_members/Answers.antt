@@ -1,6 +1,6 @@
 use Rattle.std.proofs.Common.{◌∙◌}
-use Rattle.type_heads.specs.Gathered.{all_of}
-use Rattle.type_members.specs.Listed.{lists_of}
+use Rattle.string_texts.specs.type_heads.Gathered.{all_of}
+use Rattle.type_tables.specs.type_members.Listed.{lists_of}
 use Rattle.type_model.proofs.SoundForms.{kept}
 use Rattle.type_model.proofs.TypeParts.{told_parts}
 use Rattle.type_model.proofs.build.with_members.Goals as goal

@@ -1,8 +1,8 @@
 use Rattle.std.proofs.Common.{◌∙◌, ap, map}
 use Rattle.std.proofs.lemmas.Result.{IfOk-weaker}
-use Rattle.type_heads.specs.Bodied.{seen_body}
-use Rattle.type_heads.specs.Members.{members_of}
-use Rattle.type_heads.specs.Table.{all_types}
+use Rattle.string_texts.specs.type_heads.Bodied.{seen_body}
+use Rattle.string_texts.specs.type_heads.Members.{members_of}
+use Rattle.string_texts.specs.type_heads.Table.{all_types}
 use Rattle.type_model.proofs.lists.declared_lists.Goals as goal
 
 pub returns : goal.returns

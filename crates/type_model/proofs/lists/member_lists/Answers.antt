@@ -1,7 +1,7 @@
 use Rattle.std.proofs.Common.{◌∙◌}
 use Rattle.std.proofs.lemmas.Result.{IfOk-weaker}
-use Rattle.type_heads.specs.DeclaredTypes.{program_of}
-use Rattle.type_heads.specs.Gathered.{all_of}
+use Rattle.string_texts.specs.type_heads.DeclaredTypes.{program_of}
+use Rattle.string_texts.specs.type_heads.Gathered.{all_of}
 use Rattle.type_model.proofs.TypeParts.{program_lists}
 use Rattle.type_model.proofs.lists.member_lists.Goals as goal
 

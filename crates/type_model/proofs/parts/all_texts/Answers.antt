@@ -1,7 +1,7 @@
 use Rattle.std.proofs.Common.{◌∙◌, ◌<◌, ◌^◌, ap, arith, [], ◌∷◌, length}
 use Rattle.std.specs.Prelude.{flat_map, fold}
 use Rattle.std.proofs.lemmas.Result.{IfOk-weaker}
-use Rattle.type_heads.specs.Texts.{with_text}
+use Rattle.string_texts.specs.type_heads.Texts.{with_text}
 use Rattle.string_texts.specs.Ordered.{placed_texts}
 use Rattle.type_model.proofs.TypeParts.{texts_placed}
 use Rattle.type_model.proofs.parts.all_texts.Goals as goal

@@ -1,5 +1,5 @@
 use Rattle.std.proofs.Common.{◌≡◌, ◌++◌, drop, map}
-use Rattle.type_heads.specs.Shown.{shown_member}
+use Rattle.string_texts.specs.type_heads.Shown.{shown_member}
 use Rattle.type_model.specs.RowRefs.{refs_in_parts}
 use Rattle.type_model.proofs.refs.parts_refs.Given as goal
 

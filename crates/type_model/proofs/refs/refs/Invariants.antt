@@ -1,5 +1,5 @@
 use Rattle.std.proofs.Common.{◌≡◌, ◌++◌, drop, map}
-use Rattle.type_members.specs.Listed.{seen_listed}
+use Rattle.type_tables.specs.type_members.Listed.{seen_listed}
 use Rattle.type_model.specs.RowRefs.{ref_of}
 use Rattle.type_model.proofs.refs.refs.Given as goal
 

@@ -1,5 +1,5 @@
 use Rattle.std.proofs.Common.{◌≡◌, ◌++◌, drop}
-use Rattle.type_members.specs.Shared.{fronts_in}
+use Rattle.type_tables.specs.type_members.Shared.{fronts_in}
 use Rattle.type_model.proofs.refs.row_fronts.Given as goal
 
 abbrev pub invariant-loop-row : goal.invariant-loop-row

@@ -1,7 +1,7 @@
 use Rattle.std.proofs.Common.{◌∙◌, ap, map, subst, sym}
 use Rattle.std.proofs.lemmas.Result.{IfErr-weaker, IfOk-weaker}
-use Rattle.type_heads.specs.Bodied.{seen_body}
-use Rattle.type_members.specs.Listed.{AreSubtypes}
+use Rattle.string_texts.specs.type_heads.Bodied.{seen_body}
+use Rattle.type_tables.specs.type_members.Listed.{AreSubtypes}
 use Rattle.type_model.proofs.refusing.refuse_headings.Goals as goal
 
 pub first_heading_fault-requires-clause-same_bodies : goal.first_heading_fault-requires-clause-same_bodies

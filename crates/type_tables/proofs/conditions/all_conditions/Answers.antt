@@ -1,8 +1,8 @@
 use Rattle.std.proofs.Common.{◌∙◌, sym, ap, map}
 use Rattle.std.proofs.lemmas.Result.{IfOk-weaker}
 use Rattle.std.specs.List.{list_all}
-use Rattle.type_heads.specs.Bodied.{seen_body}
-use Rattle.type_heads.specs.Table.{all_types}
+use Rattle.type_members.specs.type_heads.Bodied.{seen_body}
+use Rattle.type_members.specs.type_heads.Table.{all_types}
 use Rattle.type_members.specs.Listed.{lists_of, seen_row}
 use Rattle.type_members.specs.Shared.{fronts_in}
 use Rattle.type_tables.specs.Looked.{have_types}

@@ -1,6 +1,6 @@
 use Rattle.std.proofs.Common.{◌≡◌, ◌++◌, drop, map}
-use Rattle.type_heads.specs.Bodied.{seen_body}
-use Rattle.type_heads.specs.Table.{numbers_from}
+use Rattle.type_members.specs.type_heads.Bodied.{seen_body}
+use Rattle.type_members.specs.type_heads.Table.{numbers_from}
 use Rattle.type_members.specs.Listed.{lists_of}
 use Rattle.type_tables.specs.Looked.{condition_of}
 use Rattle.type_tables.proofs.conditions.listed_conditions.Given as goal

@@ -1,6 +1,6 @@
 use Rattle.std.proofs.Common.{◌≡◌, ◌++◌, drop, map}
-use Rattle.type_heads.specs.Bodied.{seen_body}
-use Rattle.type_heads.specs.Table.{numbers_from}
+use Rattle.type_members.specs.type_heads.Bodied.{seen_body}
+use Rattle.type_members.specs.type_heads.Table.{numbers_from}
 use Rattle.type_tables.specs.Looked.{condition_by, field_type_in}
 use Rattle.type_tables.proofs.conditions.named_conditions.Given as goal
 

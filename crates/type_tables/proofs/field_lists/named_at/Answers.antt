@@ -1,7 +1,7 @@
 use Rattle.std.proofs.Common.{◌∙◌, refl, sym, ap, List, [], Option, map, option_copied, slice_index_or, take, bytes_eq}
 use Rattle.std.specs.Option.{option_or}
 use Rattle.std.proofs.lemmas.List.Folds.{find-append}
-use Rattle.type_heads.specs.Table.{TableField, field_in}
+use Rattle.type_members.specs.type_heads.Table.{TableField, field_in}
 use Rattle.type_members.specs.Shared.{part_at}
 use Rattle.type_tables.specs.InParts.{first_found}
 use Rattle.type_tables.specs.declared.field_rows.FieldRow.{FieldRow}

@@ -1,5 +1,5 @@
 use Rattle.std.proofs.Common.{◌≡◌, drop, map}
-use Rattle.type_heads.specs.Table.{field_in}
+use Rattle.type_members.specs.type_heads.Table.{field_in}
 use Rattle.type_members.specs.Shared.{part_at}
 use Rattle.type_tables.specs.InParts.{first_found}
 use Rattle.type_tables.specs.declared.field_rows.FieldRow.{FieldRow}

@@ -1,5 +1,5 @@
 use Rattle.std.proofs.Common.{◌≡◌, ◌++◌, length, drop, map}
-use Rattle.type_heads.specs.Members.{table_fields}
+use Rattle.type_members.specs.type_heads.Members.{table_fields}
 use Rattle.type_members.specs.Listed.{seen_listed}
 use Rattle.type_tables.specs.FieldEnds.{all_ends, ends_from}
 use Rattle.type_tables.proofs.field_rows.fields.Given as goal

@@ -1,8 +1,8 @@
 use Rattle.std.proofs.Common.{◌∙◌, refl, sym, ap, Bor, List, [], map, option_map, slice_index_or, take}
 use Rattle.std.specs.Option.{option_or}
-use Rattle.dsl_tree.specs.Views.{field_tree}
-use Rattle.dsl_tree.specs.declared.compounds.FieldDecl.{FieldDecl}
-use Rattle.type_heads.specs.Types.{Member}
+use Rattle.type_members.specs.dsl_tree.Views.{field_tree}
+use Rattle.type_members.specs.dsl_tree.declared.compounds.FieldDecl.{FieldDecl}
+use Rattle.type_members.specs.type_heads.Types.{Member}
 use Rattle.type_members.specs.Listed.{lists_of, seen_row}
 use Rattle.type_members.specs.Shared.{fronts_in, part_at}
 use Rattle.type_tables.specs.Entries.{named_among}

@@ -1,7 +1,7 @@
 use Rattle.std.proofs.Common.{◌∙◌, sym, ap, Some, length}
 use Rattle.std.proofs.lemmas.Result.{IfOk-weaker}
-use Rattle.dsl_tree.specs.Views.{expr_tree}
-use Rattle.type_heads.specs.Members.{items_in}
+use Rattle.type_members.specs.dsl_tree.Views.{expr_tree}
+use Rattle.type_members.specs.type_heads.Members.{items_in}
 use Rattle.type_tables.proofs.ListLengths.{no_items, items_are}
 use Rattle.type_tables.proofs.fields.item_count.Goals as goal
 

@@ -1,5 +1,5 @@
 use Rattle.std.proofs.Common.{◌∙◌, ◌++◌, ap}
-use Rattle.dsl_tree.specs.Views.{field_tree, member_tree}
+use Rattle.type_members.specs.dsl_tree.Views.{field_tree, member_tree}
 use Rattle.type_members.specs.Listed.{seen_listed}
 use Rattle.type_tables.proofs.MemberFields.{member_fields}
 use Rattle.type_tables.proofs.fields.push_member.Goals as goal

@@ -1,6 +1,6 @@
 use Rattle.std.proofs.Common.{◌≡◌, drop}
 use Rattle.std.specs.Prelude.{bytes_eq}
-use Rattle.name_scope.specs.Declaring.{first_place}
+use Rattle.type_members.specs.name_scope.Declaring.{first_place}
 use Rattle.type_tables.proofs.first_places.place_among.Given as goal
 
 abbrev pub invariant-loop-thing : goal.invariant-loop-thing

@@ -1,6 +1,6 @@
 use Rattle.std.proofs.Common.{◌≡◌, ◌++◌, drop, map}
-use Rattle.type_heads.specs.Bounds.{numbers_of}
-use Rattle.type_heads.specs.Table.{TypeHead, enum_members}
+use Rattle.type_members.specs.type_heads.Bounds.{numbers_of}
+use Rattle.type_members.specs.type_heads.Table.{TypeHead, enum_members}
 use Rattle.type_tables.proofs.numbers.all_numbers.Given as goal
 
 abbrev pub invariant-loop-number : goal.invariant-loop-number

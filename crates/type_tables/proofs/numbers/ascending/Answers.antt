@@ -1,5 +1,5 @@
 use Rattle.std.proofs.Common.{◌∙◌, ap}
-use Rattle.type_heads.specs.Bounds.{ascending}
+use Rattle.type_members.specs.type_heads.Bounds.{ascending}
 use Rattle.type_tables.proofs.Ascending.{sorted_is}
 use Rattle.type_tables.proofs.numbers.ascending.Goals as goal
 

@@ -1,5 +1,5 @@
 use Rattle.std.proofs.Common.{◌≡◌, ◌++◌, drop, map, pos}
-use Rattle.type_heads.specs.Form.{EnumMember}
+use Rattle.type_members.specs.type_heads.Form.{EnumMember}
 use Rattle.type_tables.proofs.numbers.values.Given as goal
 
 abbrev pub invariant-loop-member : goal.invariant-loop-member

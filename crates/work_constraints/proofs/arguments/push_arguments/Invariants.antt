@@ -1,8 +1,8 @@
 use Rattle.std.proofs.Common.{◌≡◌, ◌++◌, drop, map}
-use Rattle.composition.specs.SeenParts.{seen_occurrence}
+use Rattle.text_constraints.specs.composition.SeenParts.{seen_occurrence}
 use Rattle.dsl_tree.specs.Views.{argument_tree}
 use Rattle.expr_nodes.specs.SeenNames.{seen_scope}
-use Rattle.program_fields.specs.Tables.{fields_in}
+use Rattle.text_constraints.specs.program_fields.Tables.{fields_in}
 use Rattle.text_constraints.specs.Kept.{seen_owner}
 use Rattle.text_constraints.specs.Sites.{site_of}
 use Rattle.work_constraints.specs.CallTexts.{arguments_kept}

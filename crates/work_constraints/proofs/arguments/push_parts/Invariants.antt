@@ -1,5 +1,5 @@
 use Rattle.std.proofs.Common.{◌≡◌, ◌++◌, drop, flat_map, map}
-use Rattle.composition.specs.SeenParts.{seen_occurrence}
+use Rattle.text_constraints.specs.composition.SeenParts.{seen_occurrence}
 use Rattle.dsl_tree.specs.Views.{part_tree}
 use Rattle.text_constraints.specs.Kept.{seen_owner}
 use Rattle.text_constraints.specs.Sites.{seen_site}

@@ -1,6 +1,6 @@
 use Rattle.std.proofs.Common.{◌∙◌, ap, option_map}
 use Rattle.expr_nodes.specs.Typed.{moved}
-use Rattle.scene_places.specs.Placed.{place_in}
+use Rattle.text_constraints.specs.scene_places.Placed.{place_in}
 use Rattle.work_constraints.specs.CallTexts.{one_read}
 use Rattle.work_constraints.proofs.ArgumentSteps.{if_ok}
 use Rattle.work_constraints.proofs.required.parameter.Goals as goal

@@ -1,4 +1,4 @@
-use Rattle.composition.specs.SeenParts.{seen_occurrence}
+use Rattle.text_constraints.specs.composition.SeenParts.{seen_occurrence}
 use Rattle.dsl_tree.specs.Views.{expr_tree}
 use Rattle.expr_nodes.specs.Seen.{seen, seen_part}
 use Rattle.std.proofs.Common.{ap, sym}

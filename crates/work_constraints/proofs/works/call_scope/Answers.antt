@@ -1,6 +1,6 @@
 use Rattle.std.proofs.Common.{◌∙◌, None, ap, map}
-use Rattle.composition.specs.Calls.{scope_at}
-use Rattle.program_calls.specs.PlacedPhases.{seen_turn}
+use Rattle.text_constraints.specs.composition.Calls.{scope_at}
+use Rattle.scene_expansion.specs.program_calls.PlacedPhases.{seen_turn}
 use Rattle.work_constraints.proofs.works.call_scope.Goals as goal
 
 pub returns : goal.returns

@@ -1,9 +1,9 @@
 use Rattle.std.proofs.Common.{◌∙◌, map}
-use Rattle.composition.specs.SeenParts.{seen_occurrence}
-use Rattle.composition.specs.SeenScenes.{seen_scene}
+use Rattle.text_constraints.specs.composition.SeenParts.{seen_occurrence}
+use Rattle.text_constraints.specs.composition.SeenScenes.{seen_scene}
 use Rattle.dsl_tree.specs.Views.{argument_tree, part_tree}
-use Rattle.program_fields.specs.Tables.{fields_in}
-use Rattle.program_texts.specs.SeenTexts.{types_in}
+use Rattle.text_constraints.specs.program_fields.Tables.{fields_in}
+use Rattle.text_constraints.specs.program_texts.SeenTexts.{types_in}
 use Rattle.scene_expansion.specs.SeenWorks.{seen_call}
 use Rattle.expr_nodes.specs.SeenNames.{seen_scope}
 use Rattle.text_constraints.specs.Kept.{seen_owner}

@@ -1,11 +1,11 @@
 use Rattle.std.proofs.Common.{◌∷◌, [], ap, codes, map, option_to_list, refl, sym}
-use Rattle.composition.specs.Expanded.{occurrence_of}
-use Rattle.composition.specs.Expansion.{argument_named, given_duration}
-use Rattle.expansion_laws.specs.WorkNodes.{own_within}
-use Rattle.composition.specs.SeenParts.{seen_occurrence}
-use Rattle.composition.specs.SeenScenes.{seen_scene}
+use Rattle.text_constraints.specs.composition.Expanded.{occurrence_of}
+use Rattle.text_constraints.specs.composition.Expansion.{argument_named, given_duration}
+use Rattle.scene_expansion.specs.expansion_laws.WorkNodes.{own_within}
+use Rattle.text_constraints.specs.composition.SeenParts.{seen_occurrence}
+use Rattle.text_constraints.specs.composition.SeenScenes.{seen_scene}
 use Rattle.dsl_tree.specs.Views.{argument_tree, expr_tree, part_tree}
-use Rattle.program_texts.specs.SeenTexts.{types_in}
+use Rattle.text_constraints.specs.program_texts.SeenTexts.{types_in}
 use Rattle.scene_expansion.specs.SeenWorks.{seen_call, seen_work}
 use Rattle.work_constraints.specs.CallTexts.{invoke_kept}
 use Rattle.work_constraints.proofs.InvocationTexts.{given_by, invoke_is}

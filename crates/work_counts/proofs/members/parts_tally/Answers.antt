@@ -3,7 +3,7 @@ use Rattle.type_heads.specs.Members.{members}
 use Rattle.type_heads.specs.Types.{Member}
 use Rattle.type_members.specs.Listed.{seen_listed, seen_row}
 use Rattle.type_members.specs.Shared.{fronts_in}
-use Rattle.program_fields.proofs.Fronts.{all_left, left_at, own_left}
+use Rattle.program_texts.proofs.of_program_fields.Fronts.{all_left, left_at, own_left}
 use Rattle.program_texts.specs.SeenTexts.{types_in}
 use Rattle.work_counts.specs.Amounts.{kept, sum_of}
 use Rattle.work_counts.specs.TextAmounts.{member_amount}

@@ -1,5 +1,5 @@
 use Rattle.std.proofs.Common.{◌∙◌, ◌+◌, ap, ℕ}
-use Rattle.scene_texts.specs.Capped.{capped}
+use Rattle.program_texts.specs.scene_texts.Capped.{capped}
 use Rattle.type_heads.specs.Members.{field}
 use Rattle.program_texts.specs.SeenTexts.{types_in}
 use Rattle.work_counts.specs.declared.tally.Tally.{Tally}

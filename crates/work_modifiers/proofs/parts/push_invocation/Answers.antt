@@ -1,11 +1,11 @@
 use Rattle.std.proofs.Common.{◌∙◌, Some, None, ap, map, refl}
-use Rattle.composition.specs.SeenParts.{seen_modifier}
-use Rattle.composition.specs.SeenScenes.{seen_scene}
+use Rattle.object_works.specs.composition.SeenParts.{seen_modifier}
+use Rattle.object_works.specs.composition.SeenScenes.{seen_scene}
 use Rattle.dsl_tree.specs.Views.{part_tree}
-use Rattle.expr_nodes.specs.Scope.{It}
-use Rattle.expr_nodes.specs.SeenNames.{seen_scope}
-use Rattle.program_texts.specs.SeenTexts.{types_in}
-use Rattle.scene_expansion.specs.SeenWorks.{seen_call}
+use Rattle.object_works.specs.expr_nodes.Scope.{It}
+use Rattle.object_works.specs.expr_nodes.SeenNames.{seen_scope}
+use Rattle.object_works.specs.program_texts.SeenTexts.{types_in}
+use Rattle.object_works.specs.scene_expansion.SeenWorks.{seen_call}
 use Rattle.work_modifiers.proofs.ModifierLaws.{invocation_put}
 use Rattle.work_modifiers.proofs.parts.push_invocation.Goals as goal
 

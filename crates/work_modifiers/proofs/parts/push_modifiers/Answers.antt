@@ -1,10 +1,10 @@
 use Rattle.std.proofs.Common.{◌≡◌, ◌++◌, OnOk, map, subst, sym}
-use Rattle.composition.specs.SeenParts.{seen_modifier}
-use Rattle.composition.specs.SeenScenes.{seen_scene}
-use Rattle.expansion_laws.specs.WorkNodes.{node_of}
-use Rattle.program_texts.specs.SeenTexts.{types_in}
-use Rattle.scene_expansion.specs.SeenWorks.{seen_work}
-use Rattle.scene_expansion.specs.Walks.{modifier_at}
+use Rattle.object_works.specs.composition.SeenParts.{seen_modifier}
+use Rattle.object_works.specs.composition.SeenScenes.{seen_scene}
+use Rattle.scene_places.specs.expansion_laws.WorkNodes.{node_of}
+use Rattle.object_works.specs.program_texts.SeenTexts.{types_in}
+use Rattle.object_works.specs.scene_expansion.SeenWorks.{seen_work}
+use Rattle.object_works.specs.scene_expansion.Walks.{modifier_at}
 use Rattle.work_modifiers.proofs.parts.push_modifiers.Goals as goal
 
 pub returns-in-Invoke : goal.returns-in-Invoke

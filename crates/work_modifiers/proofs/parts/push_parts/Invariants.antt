@@ -1,9 +1,9 @@
 use Rattle.std.proofs.Common.{◌≡◌, ◌++◌, drop, map}
-use Rattle.composition.specs.SeenParts.{seen_modifier}
-use Rattle.composition.specs.SeenScenes.{seen_scene}
+use Rattle.object_works.specs.composition.SeenParts.{seen_modifier}
+use Rattle.object_works.specs.composition.SeenScenes.{seen_scene}
 use Rattle.dsl_tree.specs.Views.{part_tree}
-use Rattle.expr_nodes.specs.SeenNames.{seen_scope}
-use Rattle.scene_expansion.specs.SeenWorks.{seen_call}
+use Rattle.object_works.specs.expr_nodes.SeenNames.{seen_scope}
+use Rattle.object_works.specs.scene_expansion.SeenWorks.{seen_call}
 use Rattle.scene_places.specs.Placed.{place_in}
 use Rattle.work_modifiers.specs.Modifiers.{actor_home, parts_there}
 use Rattle.work_modifiers.proofs.parts.push_parts.Given as goal

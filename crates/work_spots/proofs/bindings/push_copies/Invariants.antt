@@ -1,5 +1,5 @@
 use Rattle.std.proofs.Common.{◌≡◌, ◌++◌, drop, map}
-use Rattle.composition.specs.SeenParts.{seen_binding}
+use Rattle.object_works.specs.composition.SeenParts.{seen_binding}
 use Rattle.work_spots.proofs.bindings.push_copies.Given as goal
 
 abbrev pub invariant-loop-binding : goal.invariant-loop-binding

@@ -1,6 +1,6 @@
 use Rattle.std.proofs.Common.{◌∙◌, sym, ap}
 use Rattle.std.specs.Prelude.{option_and_then, slice_get}
-use Rattle.path_index.proofs.Firsts.{find_is, item_is}
+use Rattle.keep_rules.proofs.of_path_index.Firsts.{find_is, item_is}
 use Rattle.composition.specs.SeenHomes.{leads}
 use Rattle.composition.proofs.scene.Scene.first_binding.Goals as goal
 

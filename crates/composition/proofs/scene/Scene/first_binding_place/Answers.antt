@@ -1,6 +1,6 @@
 use Rattle.std.proofs.Common.{◌∙◌, sym, ap, take, get_or}
 use Rattle.std.proofs.lemmas.List.{take_more}
-use Rattle.path_index.specs.Places.{first_place}
+use Rattle.keep_rules.specs.path_index.Places.{first_place}
 use Rattle.composition.specs.SeenHomes.{leads, least_place}
 use Rattle.composition.proofs.HomeSteps.{first_root, first_longer, more_steps}
 use Rattle.composition.proofs.scene.Scene.first_binding_place.Goals as goal

@@ -1,5 +1,5 @@
 use Rattle.std.proofs.Common.{◌≡◌, take}
-use Rattle.path_index.specs.Places.{first_place}
+use Rattle.keep_rules.specs.path_index.Places.{first_place}
 use Rattle.composition.specs.SeenHomes.{leads}
 use Rattle.composition.proofs.scene.Scene.first_binding_place.Given as goal
 

@@ -1,6 +1,6 @@
 use Rattle.std.proofs.Common.{◌≡◌, ℕ, [], ◌++◌, drop, map, slice_index_or}
 use Rattle.std.specs.Prelude.{filter_map}
-use Rattle.type_heads.specs.Table.{numbers_from}
+use Rattle.type_model.specs.type_heads.Table.{numbers_from}
 use Rattle.cond_inherit.specs.SubtypeConditions.{condition_under, conditions_on, seen_condition}
 use Rattle.cond_inherit.proofs.subtypes.Subtypes.build.Given as goal
 

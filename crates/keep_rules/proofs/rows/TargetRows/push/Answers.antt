@@ -1,7 +1,7 @@
 use Rattle.std.proofs.Common.{◌∙◌, ◌++◌, ◌∷◌, [], sym, ap, cond, Some}
 use Rattle.indexmap.specs.IndexMap.{get_by}
-use Rattle.osc_base.specs.Paths.{same_path}
-use Rattle.osc_base.proofs.PathEquality.{path_eq}
+use Rattle.path_index.specs.osc_base.Paths.{same_path}
+use Rattle.path_index.proofs.of_osc_base.PathEquality.{path_eq}
 use Rattle.path_index.proofs.Keys.{found_by}
 use Rattle.keep_rules.specs.TargetRows.{row_at}
 use Rattle.keep_rules.proofs.RowLaws.{row_of, row_put, pushed}

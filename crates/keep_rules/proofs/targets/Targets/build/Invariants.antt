@@ -1,5 +1,5 @@
 use Rattle.std.proofs.Common.{◌≡◌, [], Some, take}
-use Rattle.osc_base.specs.declared.path.Path.{Path}
+use Rattle.path_index.specs.osc_base.declared.path.Path.{Path}
 use Rattle.keep_rules.specs.Overriding.{with_target}
 use Rattle.keep_rules.specs.TargetRows.{row_at}
 use Rattle.keep_rules.proofs.OwnPlaces.{owns_from}

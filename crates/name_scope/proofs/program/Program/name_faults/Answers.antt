@@ -1,7 +1,7 @@
 use Rattle.std.proofs.Common.{◌≡◌, ◌∙◌, sym, ap, subst}
-use Rattle.osc_base.specs.FaultRows.{IsFault, IsFirst, first_fault}
+use Rattle.dsl_tree.specs.osc_base.FaultRows.{IsFault, IsFirst, first_fault}
 use Rattle.name_scope.specs.Headings.{heading_rows}
-use Rattle.osc_base.proofs.FaultRows.{is_first}
+use Rattle.dsl_tree.proofs.of_osc_base.FaultRows.{is_first}
 use Rattle.name_scope.proofs.program.Program.name_faults.Goals as goal
 
 pub returns-clause-least : goal.returns-clause-least

@@ -1,6 +1,6 @@
 use Rattle.std.proofs.lemmas.Result.{IfOk-weaker}
-use Rattle.type_heads.specs.DeclaredTypes.{program_of}
-use Rattle.type_heads.specs.Gathered.{all_of}
+use Rattle.type_members.specs.type_heads.DeclaredTypes.{program_of}
+use Rattle.type_members.specs.type_heads.Gathered.{all_of}
 use Rattle.program_members.proofs.ProgramLists.{are_members}
 use Rattle.program_members.proofs.members.ProgramMembers.of.Goals as goal
 

@@ -1,5 +1,5 @@
 use Rattle.std.proofs.Common.{◌≡◌, ◌∙◌, ℕ, ◌<◌, ◌-◌, ◌++◌, Some, ap, arith, cond, nat_eq, option_map, sym}
-use Rattle.cond_inherit.specs.SubtypeConditions.{seen_condition}
+use Rattle.program_calls.specs.cond_inherit.SubtypeConditions.{seen_condition}
 use Rattle.program_texts.specs.Asked.{once_more, seen_kept, steps_done, IsGathered}
 use Rattle.program_texts.specs.SeenConditions.{conditions_after}
 use Rattle.program_texts.specs.SeenTexts.{types_in}

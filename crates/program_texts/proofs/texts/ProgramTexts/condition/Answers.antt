@@ -1,6 +1,6 @@
 use Rattle.std.proofs.Common.{◌∙◌, ap}
 use Rattle.type_heads.specs.Told.{Told}
-use Rattle.cond_inherit.specs.SubtypeConditions.{condition_at}
+use Rattle.program_calls.specs.cond_inherit.SubtypeConditions.{condition_at}
 use Rattle.program_texts.specs.SeenTexts.{types_in}
 use Rattle.program_texts.proofs.TypeRows.{condition_is}
 use Rattle.program_texts.proofs.texts.ProgramTexts.condition.Goals as goal

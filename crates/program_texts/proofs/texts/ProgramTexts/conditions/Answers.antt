@@ -1,5 +1,5 @@
 use Rattle.std.proofs.Common.{◌∙◌, [], ap}
-use Rattle.cond_inherit.specs.Conditions.{conditions_within, once_after}
+use Rattle.program_calls.specs.cond_inherit.Conditions.{conditions_within, once_after}
 use Rattle.program_texts.specs.SeenTexts.{types_in}
 use Rattle.program_texts.proofs.AskedOnce.{gathered_all}
 use Rattle.program_texts.proofs.texts.ProgramTexts.conditions.Goals as goal

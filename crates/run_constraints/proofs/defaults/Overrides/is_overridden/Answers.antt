@@ -1,7 +1,7 @@
 use Rattle.std.proofs.Common.{◌∙◌, ap}
 use Rattle.std.specs.List.{list_any}
-use Rattle.composition.specs.Items.{is_asked_number}
-use Rattle.composition.specs.There.{is_asked}
+use Rattle.scene_conditions.specs.composition.Items.{is_asked_number}
+use Rattle.scene_conditions.specs.composition.There.{is_asked}
 use Rattle.run_values.specs.SeenNumbers.{scene_in, run_in}
 use Rattle.run_constraints.proofs.Overridden.{any_flagged}
 use Rattle.run_constraints.proofs.defaults.Overrides.is_overridden.Goals as goal

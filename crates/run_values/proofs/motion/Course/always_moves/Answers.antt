@@ -1,5 +1,5 @@
 use Rattle.std.proofs.Common.{◌∙◌, sym, arith}
-use Rattle.composition.specs.Movement.{moves}
+use Rattle.field_flatten.specs.composition.Movement.{moves}
 use Rattle.run_values.specs.SeenCourses.{seen_course}
 use Rattle.run_values.proofs.Courses.{from_start, from_passing, from_last}
 use Rattle.run_values.proofs.motion.Course.always_moves.Goals as goal

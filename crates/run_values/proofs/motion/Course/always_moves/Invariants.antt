@@ -1,6 +1,6 @@
 use Rattle.std.proofs.Common.{◌≡◌, ◌+◌}
 use Rattle.std.specs.List.{list_all, range_with_len}
-use Rattle.composition.specs.Movement.{moves}
+use Rattle.field_flatten.specs.composition.Movement.{moves}
 use Rattle.run_values.specs.SeenCourses.{seen_course}
 use Rattle.run_values.proofs.Courses.{from_tick}
 use Rattle.run_values.proofs.motion.Course.always_moves.Given as goal

@@ -1,6 +1,6 @@
 use Rattle.std.proofs.Common.{◌∙◌, ap, ◌+◌}
 use Rattle.std.specs.List.{list_all, range_with_len}
-use Rattle.composition.specs.Movement.{Course, moves}
+use Rattle.field_flatten.specs.composition.Movement.{Course, moves}
 use Rattle.run_values.proofs.numbers.Numbers.always_moves.Goals as goal
 
 pub returns : goal.returns

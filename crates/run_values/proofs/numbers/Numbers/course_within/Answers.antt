@@ -1,7 +1,7 @@
 use Rattle.std.proofs.Common.{◌∙◌, ap, w64}
 use Rattle.std.proofs.lemmas.Int.{to_z-of_z}
-use Rattle.composition.specs.declared.setting.Setting.{Setting}
-use Rattle.composition.specs.Items.{field_number}
+use Rattle.field_flatten.specs.composition.declared.setting.Setting.{Setting}
+use Rattle.field_flatten.specs.composition.Items.{field_number}
 use Rattle.run_values.specs.SeenNumbers.{scene_in, run_in}
 use Rattle.run_values.proofs.Courses.{course_same}
 use Rattle.run_values.proofs.numbers.Numbers.course_within.Goals as goal

@@ -1,7 +1,7 @@
 use Rattle.std.proofs.Common.{◌∙◌, sym, ap, not}
 use Rattle.std.specs.List.{list_all}
-use Rattle.composition.specs.Items.{motion_holds}
-use Rattle.composition.specs.Slots.{ticks_of}
+use Rattle.field_flatten.specs.composition.Items.{motion_holds}
+use Rattle.field_flatten.specs.composition.Slots.{ticks_of}
 use Rattle.run_values.specs.SeenNumbers.{scene_in, run_in}
 use Rattle.run_values.proofs.Rows.{find_next}
 use Rattle.run_values.proofs.numbers.Numbers.first_unmoving.Goals as goal

@@ -1,9 +1,9 @@
 use Rattle.std.proofs.Common.{◌≡◌, length, not}
 use Rattle.std.specs.Prelude.{find}
 use Rattle.std.specs.List.{list_all}
-use Rattle.composition.specs.Items.{motion_holds}
-use Rattle.composition.specs.Scenes.{vehicles}
-use Rattle.composition.specs.Slots.{ticks_of}
+use Rattle.field_flatten.specs.composition.Items.{motion_holds}
+use Rattle.field_flatten.specs.composition.Scenes.{vehicles}
+use Rattle.field_flatten.specs.composition.Slots.{ticks_of}
 use Rattle.run_values.specs.SeenNumbers.{scene_in, run_in}
 use Rattle.run_values.proofs.numbers.Numbers.first_unmoving.Given as goal
 

@@ -1,8 +1,8 @@
 use Rattle.std.proofs.Common.{◌∙◌, sym}
-use Rattle.composition.specs.Items.{course_of}
-use Rattle.composition.specs.Movement.{moves}
-use Rattle.composition.specs.Slots.{ticks_of}
-use Rattle.composition.specs.There.{is_there}
+use Rattle.field_flatten.specs.composition.Items.{course_of}
+use Rattle.field_flatten.specs.composition.Movement.{moves}
+use Rattle.field_flatten.specs.composition.Slots.{ticks_of}
+use Rattle.field_flatten.specs.composition.There.{is_there}
 use Rattle.run_values.specs.SeenNumbers.{scene_in, run_in}
 use Rattle.run_values.proofs.Courses.{answers, all_there, all_absent}
 use Rattle.run_values.proofs.numbers.Numbers.moves.Goals as goal

@@ -1,6 +1,6 @@
 use Rattle.std.proofs.Common.{◌∙◌, sym, ap, refl}
-use Rattle.composition.specs.SeenScenes.{seen_scene}
-use Rattle.composition.specs.SeenSources.{seen_source}
+use Rattle.flat_shapes.specs.composition.SeenScenes.{seen_scene}
+use Rattle.flat_shapes.specs.composition.SeenSources.{seen_source}
 use Rattle.scene_slots.specs.SeenSlots.{layout_of}
 use Rattle.scene_slots.proofs.QuerySteps as Steps
 use Rattle.scene_slots.proofs.reads.SceneSlotsSlots.find.Goals as goal

@@ -1,5 +1,5 @@
 use Rattle.std.proofs.Common.{◌∙◌, ◌^◌}
-use Rattle.composition.specs.SeenScenes.{seen_scene}
+use Rattle.flat_shapes.specs.composition.SeenScenes.{seen_scene}
 use Rattle.scene_slots.proofs.QuerySteps as Steps
 use Rattle.scene_slots.proofs.slots.SceneSlots.value.Goals as goal
 

@@ -1,7 +1,7 @@
 use Rattle.std.proofs.Common.{◌∙◌, ◌^◌, ◌+◌, ◌*◌, ap, ap₂, arith}
 use Rattle.std.specs.Prelude.{option_map}
-use Rattle.composition.specs.Scenes.{root_do}
-use Rattle.composition.specs.SeenScenes.{seen_scene}
+use Rattle.flat_shapes.specs.composition.Scenes.{root_do}
+use Rattle.flat_shapes.specs.composition.SeenScenes.{seen_scene}
 use Rattle.scene_slots.specs.Places.{phase_place}
 use Rattle.scene_slots.proofs.QuerySteps as Steps
 use Rattle.scene_slots.proofs.slots.SceneSlots.whole_end.Goals as goal

@@ -1,6 +1,6 @@
 use Rattle.std.proofs.Common.{[], drop}
-use Rattle.osc_base.specs.FaultRows.{first_from}
-use Rattle.type_heads.specs.HeadingFaults.{bracket_rows}
+use Rattle.type_members.specs.osc_base.FaultRows.{first_from}
+use Rattle.type_members.specs.type_heads.HeadingFaults.{bracket_rows}
 use Rattle.type_faults.proofs.BracketSteps.{Left}
 use Rattle.type_faults.proofs.heading_faults.brackets.with_brackets.Given as goal
 

@@ -1,8 +1,8 @@
 use Rattle.std.proofs.Common.{◌≡◌, drop, map}
-use Rattle.osc_base.specs.FaultRows.{first_from}
-use Rattle.type_heads.specs.Bodied.{seen_body}
-use Rattle.type_heads.specs.Table.{all_types, numbers_from}
-use Rattle.type_heads.specs.HeadingFaults.{cycle_row}
+use Rattle.type_members.specs.osc_base.FaultRows.{first_from}
+use Rattle.type_members.specs.type_heads.Bodied.{seen_body}
+use Rattle.type_members.specs.type_heads.Table.{all_types, numbers_from}
+use Rattle.type_members.specs.type_heads.HeadingFaults.{cycle_row}
 use Rattle.type_faults.proofs.heading_faults.cycles.with_cycles.Given as goal
 
 abbrev pub invariant-loop-number : goal.invariant-loop-number

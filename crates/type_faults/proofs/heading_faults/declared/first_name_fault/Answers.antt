@@ -1,9 +1,9 @@
 use Rattle.std.proofs.Common.{◌≡◌, None}
-use Rattle.osc_base.specs.FaultRows.{first_fault, first_from}
-use Rattle.type_heads.specs.DeclaredTypes.{all_declared}
-use Rattle.type_heads.specs.Gathered.{all_of, heads_of}
+use Rattle.type_members.specs.osc_base.FaultRows.{first_fault, first_from}
+use Rattle.type_members.specs.type_heads.DeclaredTypes.{all_declared}
+use Rattle.type_members.specs.type_heads.Gathered.{all_of, heads_of}
 use Rattle.type_faults.specs.NameFaults.{rows_of_names}
-use Rattle.type_heads.specs.HeadingFaults.{basic_names, declaration_rows, enum_rows_from, name_declared, twice_rows}
+use Rattle.type_members.specs.type_heads.HeadingFaults.{basic_names, declaration_rows, enum_rows_from, name_declared, twice_rows}
 use Rattle.type_faults.proofs.NameFaultRows.{joined}
 use Rattle.type_faults.proofs.RowSteps.{if_ok}
 use Rattle.type_faults.proofs.heading_faults.declared.first_name_fault.Goals as goal

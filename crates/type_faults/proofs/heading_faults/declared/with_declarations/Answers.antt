@@ -1,7 +1,7 @@
 use Rattle.std.proofs.Common.{◌∙◌, ◌+◌, ap, drop, flat_map}
-use Rattle.osc_base.specs.FaultRows.{first_from}
-use Rattle.dsl_tree.specs.Views.{declaration_tree}
-use Rattle.type_heads.specs.HeadingFaults.{declaration_rows}
+use Rattle.type_members.specs.osc_base.FaultRows.{first_from}
+use Rattle.type_members.specs.dsl_tree.Views.{declaration_tree}
+use Rattle.type_members.specs.type_heads.HeadingFaults.{declaration_rows}
 use Rattle.type_faults.specs.Trees.{trees}
 use Rattle.type_faults.proofs.RowSteps.{done, left_is}
 use Rattle.type_faults.proofs.heading_faults.declared.with_declarations.Goals as goal

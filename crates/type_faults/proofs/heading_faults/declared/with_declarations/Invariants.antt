@@ -1,6 +1,6 @@
 use Rattle.std.proofs.Common.{◌≡◌, drop, flat_map}
-use Rattle.osc_base.specs.FaultRows.{first_from}
-use Rattle.type_heads.specs.HeadingFaults.{declaration_rows}
+use Rattle.type_members.specs.osc_base.FaultRows.{first_from}
+use Rattle.type_members.specs.type_heads.HeadingFaults.{declaration_rows}
 use Rattle.type_faults.specs.Trees.{trees}
 use Rattle.type_faults.proofs.heading_faults.declared.with_declarations.Given as goal
 

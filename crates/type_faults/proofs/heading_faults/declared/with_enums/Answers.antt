@@ -1,8 +1,8 @@
 use Rattle.std.proofs.Common.{◌≡◌, ◌∙◌, ◌+◌, ◌<◌, sym, ap, subst, drop, length, get_or}
-use Rattle.osc_base.specs.FaultRows.{first_from}
-use Rattle.type_heads.specs.Gathered.{all_of, heads_of}
-use Rattle.type_heads.specs.DeclaredTypes.{all_declared}
-use Rattle.type_heads.specs.HeadingFaults.{enum_rows_from}
+use Rattle.type_members.specs.osc_base.FaultRows.{first_from}
+use Rattle.type_members.specs.type_heads.Gathered.{all_of, heads_of}
+use Rattle.type_members.specs.type_heads.DeclaredTypes.{all_declared}
+use Rattle.type_members.specs.type_heads.HeadingFaults.{enum_rows_from}
 use Rattle.type_faults.proofs.RowSteps.{left_is}
 use Rattle.type_faults.proofs.ItemSteps.{next_type}
 use Rattle.type_faults.proofs.heading_faults.declared.with_enums.Goals as goal

@@ -1,9 +1,9 @@
 use Rattle.std.proofs.Common.{◌≡◌, drop, map}
-use Rattle.osc_base.specs.FaultRows.{first_from}
-use Rattle.type_heads.specs.Placing.{seen_type}
-use Rattle.type_heads.specs.Gathered.{all_of, heads_of}
-use Rattle.type_heads.specs.DeclaredTypes.{all_declared}
-use Rattle.type_heads.specs.HeadingFaults.{enum_rows_from}
+use Rattle.type_members.specs.osc_base.FaultRows.{first_from}
+use Rattle.type_members.specs.type_heads.Placing.{seen_type}
+use Rattle.type_members.specs.type_heads.Gathered.{all_of, heads_of}
+use Rattle.type_members.specs.type_heads.DeclaredTypes.{all_declared}
+use Rattle.type_members.specs.type_heads.HeadingFaults.{enum_rows_from}
 use Rattle.type_faults.proofs.heading_faults.declared.with_enums.Given as goal
 
 abbrev pub invariant-loop-own : goal.invariant-loop-own

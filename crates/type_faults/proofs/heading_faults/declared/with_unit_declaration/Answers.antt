@@ -1,11 +1,11 @@
 use Rattle.std.proofs.Common.{◌∙◌, ap, List, [], ◌∷◌, Option, None, false}
 use Rattle.std.specs.Option.{option_map_or}
-use Rattle.osc_base.specs.declared.fault.FaultCode.{FaultCode}
-use Rattle.osc_base.specs.FaultRows.{FaultRow, first_from, row}
-use Rattle.units_si.specs.declared.units.Exponents.{Exponents}
-use Rattle.type_heads.specs.Table.{form, named}
-use Rattle.type_heads.specs.Units.{exponents_of}
-use Rattle.type_heads.specs.HeadingFaults.{bracket_rows, differ, is_physical, kind_row, unknown_row}
+use Rattle.type_members.specs.osc_base.declared.fault.FaultCode.{FaultCode}
+use Rattle.type_members.specs.osc_base.FaultRows.{FaultRow, first_from, row}
+use Rattle.type_members.specs.units_si.declared.units.Exponents.{Exponents}
+use Rattle.type_members.specs.type_heads.Table.{form, named}
+use Rattle.type_members.specs.type_heads.Units.{exponents_of}
+use Rattle.type_members.specs.type_heads.HeadingFaults.{bracket_rows, differ, is_physical, kind_row, unknown_row}
 use Rattle.type_faults.proofs.RowSteps.{two}
 use Rattle.type_faults.proofs.heading_faults.declared.with_unit_declaration.Goals as goal
 

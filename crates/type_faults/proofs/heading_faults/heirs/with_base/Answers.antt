@@ -1,5 +1,5 @@
 use Rattle.type_faults.proofs.RowSteps.{two}
-use Rattle.type_heads.specs.HeadingFaults.{name_rows}
+use Rattle.type_members.specs.type_heads.HeadingFaults.{name_rows}
 use Rattle.type_faults.proofs.heading_faults.heirs.with_base.Goals as goal
 
 pub returns : goal.returns

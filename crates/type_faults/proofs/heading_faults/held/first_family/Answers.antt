@@ -1,6 +1,6 @@
 use Rattle.std.proofs.Common.{◌≡◌, ◌∙◌, ◌++◌, [], ◌∷◌, ap, length}
-use Rattle.type_heads.specs.Cycles.{fresh}
-use Rattle.type_heads.specs.Table.{bases, line_within}
+use Rattle.type_members.specs.type_heads.Cycles.{fresh}
+use Rattle.type_members.specs.type_heads.Table.{bases, line_within}
 use Rattle.type_faults.specs.Reaching.{AddsFresh, HasNumbers}
 use Rattle.type_faults.proofs.RowSteps.{if_ok}
 use Rattle.type_faults.proofs.Rounds.{first_met}

@@ -1,7 +1,7 @@
 use Rattle.std.proofs.Common.{◌∙◌, ◌+◌, ◌++◌, ap, drop, map}
-use Rattle.dsl_tree.specs.Views.{member_tree}
-use Rattle.type_heads.specs.Bodied.{seen_written}
-use Rattle.type_heads.specs.HeadingFaults.{field_types}
+use Rattle.type_members.specs.dsl_tree.Views.{member_tree}
+use Rattle.type_members.specs.type_heads.Bodied.{seen_written}
+use Rattle.type_members.specs.type_heads.HeadingFaults.{field_types}
 use Rattle.type_faults.specs.Holding.{fields_of}
 use Rattle.type_faults.proofs.HeldSteps.{more_put}
 use Rattle.type_faults.proofs.RowSteps.{left_is}

@@ -1,5 +1,5 @@
 use Rattle.std.proofs.Common.{◌≡◌, ◌++◌, drop, map}
-use Rattle.type_heads.specs.Bodied.{seen_written}
+use Rattle.type_members.specs.type_heads.Bodied.{seen_written}
 use Rattle.type_faults.specs.Holding.{fields_of}
 use Rattle.type_faults.proofs.heading_faults.held.push_fields.Given as goal
 

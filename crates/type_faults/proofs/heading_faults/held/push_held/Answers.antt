@@ -1,8 +1,8 @@
 use Rattle.std.proofs.Common.{◌≡◌, ◌∙◌, ◌++◌, ℕ, true, cond, List, [], ap, flat_map, map, sym}
-use Rattle.type_heads.specs.Bodied.{seen_body}
-use Rattle.type_heads.specs.Table.{form, has_members}
-use Rattle.type_heads.specs.Members.{body}
-use Rattle.type_heads.specs.HeadingFaults.{family}
+use Rattle.type_members.specs.type_heads.Bodied.{seen_body}
+use Rattle.type_members.specs.type_heads.Table.{form, has_members}
+use Rattle.type_members.specs.type_heads.Members.{body}
+use Rattle.type_members.specs.type_heads.HeadingFaults.{family}
 use Rattle.type_faults.specs.Holding.{fields_of}
 use Rattle.type_faults.proofs.HeldSteps.{family_is}
 use Rattle.type_faults.proofs.heading_faults.held.push_held.Goals as goal

@@ -1,5 +1,5 @@
 use Rattle.std.proofs.Common.{◌≡◌, ◌++◌, flat_map}
-use Rattle.osc_base.specs.FaultRows.{first_from}
+use Rattle.type_members.specs.osc_base.FaultRows.{first_from}
 use Rattle.type_faults.specs.ItemSets.{ContinuesItems, items_in, rows_of_items}
 use Rattle.type_faults.specs.Trees.{trees}
 use Rattle.type_faults.proofs.RowSteps.{if_ok}

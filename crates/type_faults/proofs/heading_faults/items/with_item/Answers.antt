@@ -1,5 +1,5 @@
 use Rattle.std.proofs.Common.{◌∙◌, ap, ◌||◌}
-use Rattle.type_heads.specs.HeadingFaults.{shares_item}
+use Rattle.type_members.specs.type_heads.HeadingFaults.{shares_item}
 use Rattle.type_faults.specs.ItemSets.{has_item}
 use Rattle.type_faults.proofs.ItemSteps.{one_item}
 use Rattle.type_faults.proofs.heading_faults.items.with_item.Goals as goal

@@ -1,7 +1,7 @@
 use Rattle.std.proofs.Common.{◌≡◌, drop, map}
 use Rattle.std.specs.List.{list_all}
-use Rattle.type_heads.specs.Bodied.{seen_body}
-use Rattle.type_heads.specs.Table.{all_types, numbers_from}
+use Rattle.type_members.specs.type_heads.Bodied.{seen_body}
+use Rattle.type_members.specs.type_heads.Table.{all_types, numbers_from}
 use Rattle.type_faults.specs.HeldRanks.{type_fits}
 use Rattle.type_faults.proofs.heading_faults.levels.all_fit.Given as goal
 

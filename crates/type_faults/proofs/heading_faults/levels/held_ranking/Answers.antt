@@ -1,6 +1,6 @@
 use Rattle.std.proofs.Common.{◌≡◌, ◌∙◌, IfOk, ap, map, subst, sym, true}
-use Rattle.type_heads.specs.Bodied.{seen_body}
-use Rattle.type_heads.specs.HeadingFaults.{held_types}
+use Rattle.type_members.specs.type_heads.Bodied.{seen_body}
+use Rattle.type_members.specs.type_heads.HeadingFaults.{held_types}
 use Rattle.type_faults.specs.HeldRanks.{types_fit}
 use Rattle.type_faults.specs.Ranking.{IsShown}
 use Rattle.type_faults.proofs.HeldFall.{none_held}

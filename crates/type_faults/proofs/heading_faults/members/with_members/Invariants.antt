@@ -1,7 +1,7 @@
 use Rattle.std.proofs.Common.{◌≡◌, drop, flat_map, map}
-use Rattle.osc_base.specs.FaultRows.{first_from}
-use Rattle.dsl_tree.specs.Views.{member_tree}
-use Rattle.type_heads.specs.HeadingFaults.{member_rows}
+use Rattle.type_members.specs.osc_base.FaultRows.{first_from}
+use Rattle.type_members.specs.dsl_tree.Views.{member_tree}
+use Rattle.type_members.specs.type_heads.HeadingFaults.{member_rows}
 use Rattle.type_faults.proofs.heading_faults.members.with_members.Given as goal
 
 abbrev pub invariant-loop-member : goal.invariant-loop-member

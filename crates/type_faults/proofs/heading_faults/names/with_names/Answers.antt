@@ -1,5 +1,5 @@
 use Rattle.std.proofs.Common.{ap, ◌+◌, drop}
-use Rattle.dsl_tree.specs.Views.{declaration_tree}
+use Rattle.type_members.specs.dsl_tree.Views.{declaration_tree}
 use Rattle.type_faults.specs.Trees.{trees}
 use Rattle.type_faults.proofs.RowSteps.{left_is}
 use Rattle.type_faults.proofs.NameSteps.{next_name}

@@ -1,6 +1,6 @@
 use Rattle.std.proofs.Common.{drop, filter_map}
-use Rattle.osc_base.specs.FaultRows.{first_from}
-use Rattle.type_heads.specs.HeadingFaults.{basic_names, name_declared, twice_rows}
+use Rattle.type_members.specs.osc_base.FaultRows.{first_from}
+use Rattle.type_members.specs.type_heads.HeadingFaults.{basic_names, name_declared, twice_rows}
 use Rattle.type_faults.specs.Trees.{trees}
 use Rattle.type_faults.proofs.NameSteps.{NamesLeft}
 use Rattle.type_faults.proofs.heading_faults.names.with_names.Given as goal

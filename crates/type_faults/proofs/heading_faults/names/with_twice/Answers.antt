@@ -1,4 +1,4 @@
-use Rattle.dsl_tree.specs.Views.{declaration_tree}
+use Rattle.type_members.specs.dsl_tree.Views.{declaration_tree}
 use Rattle.type_faults.specs.SeenNames.{seen_name}
 use Rattle.type_faults.proofs.NameSteps.{named, unnamed}
 use Rattle.type_faults.proofs.heading_faults.names.with_twice.Goals as goal

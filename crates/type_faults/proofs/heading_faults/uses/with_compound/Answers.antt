@@ -1,9 +1,9 @@
 use Rattle.std.proofs.Common.{◌∙◌, ap, [], ◌++◌, flat_map, map}
 use Rattle.std.specs.Option.{option_map_or}
-use Rattle.osc_base.specs.FaultRows.{first_from}
-use Rattle.dsl_tree.specs.declared.parts.Ident.{Ident}
-use Rattle.dsl_tree.specs.Views.{compound_tree, member_tree}
-use Rattle.type_heads.specs.HeadingFaults.{heir_rows, member_rows, owner_rows}
+use Rattle.type_members.specs.osc_base.FaultRows.{first_from}
+use Rattle.type_members.specs.dsl_tree.declared.parts.Ident.{Ident}
+use Rattle.type_members.specs.dsl_tree.Views.{compound_tree, member_tree}
+use Rattle.type_members.specs.type_heads.HeadingFaults.{heir_rows, member_rows, owner_rows}
 use Rattle.type_faults.proofs.RowSteps.{two}
 use Rattle.type_faults.proofs.heading_faults.uses.with_compound.Goals as goal
 

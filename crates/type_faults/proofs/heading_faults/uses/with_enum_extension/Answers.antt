@@ -1,6 +1,6 @@
 use Rattle.std.proofs.Common.{[], ◌∷◌}
-use Rattle.type_heads.specs.Table.{form, is_enum}
-use Rattle.type_heads.specs.HeadingFaults.{meant_row, name_rows}
+use Rattle.type_members.specs.type_heads.Table.{form, is_enum}
+use Rattle.type_members.specs.type_heads.HeadingFaults.{meant_row, name_rows}
 use Rattle.type_faults.proofs.RowSteps.{two}
 use Rattle.type_faults.proofs.heading_faults.uses.with_enum_extension.Goals as goal
 

@@ -1,7 +1,7 @@
 use Rattle.std.proofs.Common.{◌∷◌, flat_map, map}
-use Rattle.dsl_tree.specs.Views.{member_tree}
-use Rattle.type_heads.specs.Table.{form, has_members}
-use Rattle.type_heads.specs.HeadingFaults.{meant_row, member_rows, name_rows}
+use Rattle.type_members.specs.dsl_tree.Views.{member_tree}
+use Rattle.type_members.specs.type_heads.Table.{form, has_members}
+use Rattle.type_members.specs.type_heads.HeadingFaults.{meant_row, member_rows, name_rows}
 use Rattle.type_faults.proofs.RowSteps.{two}
 use Rattle.type_faults.proofs.heading_faults.uses.with_extension.Goals as goal
 

@@ -1,6 +1,6 @@
 use Rattle.std.proofs.Common.{◌∙◌, ap, map}
-use Rattle.osc_base.specs.FaultRows.{first_from}
-use Rattle.type_heads.specs.Bodied.{seen_body}
+use Rattle.type_members.specs.osc_base.FaultRows.{first_from}
+use Rattle.type_members.specs.type_heads.Bodied.{seen_body}
 use Rattle.type_members.specs.Listed.{lists_of}
 use Rattle.type_faults.specs.ListedRows.{types_with}
 use Rattle.type_faults.proofs.ConditionSteps.{no_condition, some_condition}

@@ -1,9 +1,9 @@
 use Rattle.std.proofs.Common.{◌∙◌, ◌++◌, List, [], ap, false, map, slice_index_or}
-use Rattle.osc_base.specs.FaultRows.{FaultRow, first_from}
-use Rattle.type_heads.specs.Bodied.{seen_body}
-use Rattle.type_heads.specs.MemberFaults.{condition_rows, do_rows, names_among, names_given, repeated_rows}
-use Rattle.type_heads.specs.Table.{form}
-use Rattle.type_heads.specs.Types.{Member}
+use Rattle.type_members.specs.osc_base.FaultRows.{FaultRow, first_from}
+use Rattle.type_members.specs.type_heads.Bodied.{seen_body}
+use Rattle.type_members.specs.type_heads.MemberFaults.{condition_rows, do_rows, names_among, names_given, repeated_rows}
+use Rattle.type_members.specs.type_heads.Table.{form}
+use Rattle.type_members.specs.type_heads.Types.{Member}
 use Rattle.type_members.specs.Listed.{lists_of, seen_row}
 use Rattle.type_members.specs.Shared.{fronts_in, members_at}
 use Rattle.type_faults.specs.ListedRows.{types_with}

@@ -1,12 +1,12 @@
 use Rattle.std.proofs.Common.{◌∙◌, [], ◌∷◌, ap, sym, length, map, subst}
 use Rattle.std.specs.Prelude.{option_and_then, option_map}
-use Rattle.osc_base.specs.declared.fault.FaultCode.{FaultCode}
-use Rattle.osc_base.specs.FaultRows.{first_from, row}
-use Rattle.type_heads.specs.Bodied.{seen_body}
-use Rattle.type_heads.specs.Cycles.{returns as leads}
-use Rattle.type_heads.specs.Members.{field}
-use Rattle.type_heads.specs.MemberFaults.{depends_on}
-use Rattle.type_heads.specs.Table.{base}
+use Rattle.type_members.specs.osc_base.declared.fault.FaultCode.{FaultCode}
+use Rattle.type_members.specs.osc_base.FaultRows.{first_from, row}
+use Rattle.type_members.specs.type_heads.Bodied.{seen_body}
+use Rattle.type_members.specs.type_heads.Cycles.{returns as leads}
+use Rattle.type_members.specs.type_heads.Members.{field}
+use Rattle.type_members.specs.type_heads.MemberFaults.{depends_on}
+use Rattle.type_members.specs.type_heads.Table.{base}
 use Rattle.type_members.specs.Listed.{lists_of}
 use Rattle.type_faults.specs.ConditionRows.{found_rows}
 use Rattle.type_faults.specs.ListedRows.{found_field, types_with}

@@ -1,9 +1,9 @@
 use Rattle.std.proofs.Common.{◌≡◌, ◌∙◌, ap, map, sym, true}
 use Rattle.std.specs.Prelude.{slice_index_or}
-use Rattle.osc_base.specs.FaultRows.{first_from}
-use Rattle.type_heads.specs.Bodied.{seen_body}
-use Rattle.type_heads.specs.MemberFaults.{condition_rows, type_rows}
-use Rattle.type_heads.specs.Table.{form}
+use Rattle.type_members.specs.osc_base.FaultRows.{first_from}
+use Rattle.type_members.specs.type_heads.Bodied.{seen_body}
+use Rattle.type_members.specs.type_heads.MemberFaults.{condition_rows, type_rows}
+use Rattle.type_members.specs.type_heads.Table.{form}
 use Rattle.type_members.specs.Listed.{lists_of, seen_row}
 use Rattle.type_members.specs.Shared.{fronts_in}
 use Rattle.type_faults.specs.ListedRows.{types_with}

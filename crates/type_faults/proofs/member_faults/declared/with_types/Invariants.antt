@@ -1,8 +1,8 @@
 use Rattle.std.proofs.Common.{◌≡◌, drop, flat_map, map}
-use Rattle.osc_base.specs.FaultRows.{first_from}
-use Rattle.type_heads.specs.Bodied.{seen_body}
-use Rattle.type_heads.specs.MemberFaults.{type_rows}
-use Rattle.type_heads.specs.Table.{all_types, numbers_from}
+use Rattle.type_members.specs.osc_base.FaultRows.{first_from}
+use Rattle.type_members.specs.type_heads.Bodied.{seen_body}
+use Rattle.type_members.specs.type_heads.MemberFaults.{type_rows}
+use Rattle.type_members.specs.type_heads.Table.{all_types, numbers_from}
 use Rattle.type_members.specs.Listed.{lists_of}
 use Rattle.type_faults.specs.ListedRows.{types_with}
 use Rattle.type_faults.proofs.member_faults.declared.with_types.Given as goal

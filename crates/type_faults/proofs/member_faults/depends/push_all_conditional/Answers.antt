@@ -1,7 +1,7 @@
 use Rattle.std.proofs.Common.{◌∙◌, ◌+◌, ◌++◌, [], ◌∷◌, ap, cond, drop, map}
 use Rattle.std.specs.Prelude.{filter}
-use Rattle.type_heads.specs.Bodied.{seen_body}
-use Rattle.type_heads.specs.Members.{is_conditional}
+use Rattle.type_members.specs.type_heads.Bodied.{seen_body}
+use Rattle.type_members.specs.type_heads.Members.{is_conditional}
 use Rattle.type_faults.proofs.ConditionSteps.{filter_next}
 use Rattle.type_faults.proofs.HeldSteps.{more_put}
 use Rattle.type_faults.proofs.RowSteps.{left_is}

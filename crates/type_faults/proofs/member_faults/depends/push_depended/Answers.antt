@@ -1,8 +1,8 @@
 use Rattle.std.proofs.Common.{◌∙◌, ◌++◌, ap, append_assoc, length, map}
 use Rattle.std.specs.Prelude.{filter}
-use Rattle.type_heads.specs.Bodied.{seen_body}
-use Rattle.type_heads.specs.Members.{is_conditional}
-use Rattle.type_heads.specs.Table.{line_within}
+use Rattle.type_members.specs.type_heads.Bodied.{seen_body}
+use Rattle.type_members.specs.type_heads.Members.{is_conditional}
+use Rattle.type_members.specs.type_heads.Table.{line_within}
 use Rattle.type_members.specs.Listed.{lists_of}
 use Rattle.type_faults.specs.ListedRows.{field_under}
 use Rattle.type_faults.proofs.ConditionSteps.{depends_is}

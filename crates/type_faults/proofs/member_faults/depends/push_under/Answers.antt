@@ -1,8 +1,8 @@
 use Rattle.std.proofs.Common.{◌∙◌, ◌++◌, [], ap, bytes_eq}
 use Rattle.std.specs.Prelude.{find, option_and_then, slice_index_or}
-use Rattle.type_heads.specs.Table.{base}
-use Rattle.type_heads.specs.Types.{Field}
-use Rattle.type_heads.specs.Members.{fields_among}
+use Rattle.type_members.specs.type_heads.Table.{base}
+use Rattle.type_members.specs.type_heads.Types.{Field}
+use Rattle.type_members.specs.type_heads.Members.{fields_among}
 use Rattle.type_members.specs.Listed.{lists_of}
 use Rattle.type_faults.proofs.ConditionSteps.{under_is}
 use Rattle.type_faults.proofs.member_faults.depends.push_under.Goals as goal

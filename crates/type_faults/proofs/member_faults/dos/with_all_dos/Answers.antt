@@ -1,8 +1,8 @@
 use Rattle.std.proofs.Common.{◌∙◌, ◌++◌, [], ap, append-nil, false, map, sym, take}
 use Rattle.std.specs.Prelude.{slice_index_or}
-use Rattle.osc_base.specs.FaultRows.{first_from}
-use Rattle.type_heads.specs.Seen.{seen_form}
-use Rattle.type_heads.specs.MemberFaults.{do_rows}
+use Rattle.type_members.specs.osc_base.FaultRows.{first_from}
+use Rattle.type_members.specs.type_heads.Seen.{seen_form}
+use Rattle.type_members.specs.type_heads.MemberFaults.{do_rows}
 use Rattle.type_members.specs.Listed.{seen_row}
 use Rattle.type_members.specs.Shared.{fronts_in, members_in_parts, under_inside}
 use Rattle.type_members.proofs.Moves.{inside_none}

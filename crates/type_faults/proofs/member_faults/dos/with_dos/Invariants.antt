@@ -1,8 +1,8 @@
 use Rattle.std.proofs.Common.{◌≡◌, ◌++◌, List, drop, map}
-use Rattle.osc_base.specs.FaultRows.{first_from}
-use Rattle.type_heads.specs.Seen.{seen_form}
-use Rattle.type_heads.specs.Types.{Do}
-use Rattle.type_heads.specs.MemberFaults.{do_rows}
+use Rattle.type_members.specs.osc_base.FaultRows.{first_from}
+use Rattle.type_members.specs.type_heads.Seen.{seen_form}
+use Rattle.type_members.specs.type_heads.Types.{Do}
+use Rattle.type_members.specs.type_heads.MemberFaults.{do_rows}
 use Rattle.type_members.specs.Listed.{seen_listed}
 use Rattle.type_members.specs.Shared.{under_inside}
 use Rattle.type_faults.specs.RowFacts.{dos_among}

@@ -1,11 +1,11 @@
 use Rattle.std.proofs.Common.{◌∙◌, ap, sym, ℕ, List, Some, None, cond, bytes_eq}
 use Rattle.std.specs.Prelude.{find, option_map}
 use Rattle.std.specs.List.{list_any}
-use Rattle.dsl_tree.specs.declared.parts.Ident.{Ident}
-use Rattle.dsl_tree.specs.declared.compounds.Member.{Member}
-use Rattle.dsl_tree.specs.Views.{field_tree, member_tree}
-use Rattle.type_heads.specs.Types.{Field}
-use Rattle.type_heads.specs.Members.{fields_declared}
+use Rattle.type_members.specs.dsl_tree.declared.parts.Ident.{Ident}
+use Rattle.type_members.specs.dsl_tree.declared.compounds.Member.{Member}
+use Rattle.type_members.specs.dsl_tree.Views.{field_tree, member_tree}
+use Rattle.type_members.specs.type_heads.Types.{Field}
+use Rattle.type_members.specs.type_heads.Members.{fields_declared}
 use Rattle.type_members.specs.Listed.{seen_listed}
 use Rattle.type_members.specs.Shared.{under_inside}
 use Rattle.type_faults.specs.ListedRows.{FoundField, found_field}

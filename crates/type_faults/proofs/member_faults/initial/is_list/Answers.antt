@@ -1,6 +1,6 @@
 use Rattle.std.proofs.Common.{◌∙◌, sym, ap, Some, length, nat_le}
-use Rattle.dsl_tree.specs.Views.{expr_tree}
-use Rattle.type_heads.specs.MemberFaults.{is_list_of}
+use Rattle.type_members.specs.dsl_tree.Views.{expr_tree}
+use Rattle.type_members.specs.type_heads.MemberFaults.{is_list_of}
 use Rattle.type_faults.proofs.ListForms.{at_most, no_list, one_list}
 use Rattle.type_faults.proofs.member_faults.initial.is_list.Goals as goal
 

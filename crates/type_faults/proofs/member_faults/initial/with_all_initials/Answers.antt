@@ -1,9 +1,9 @@
 use Rattle.std.proofs.Common.{◌∙◌, [], ap, map, sym, take}
 use Rattle.std.specs.Prelude.{slice_index_or}
 use Rattle.std.proofs.lemmas.List.Concat.{flat_map-append}
-use Rattle.osc_base.specs.FaultRows.{first_from}
-use Rattle.type_heads.specs.Types.{Member}
-use Rattle.type_heads.specs.MemberFaults.{initial_rows}
+use Rattle.type_members.specs.osc_base.FaultRows.{first_from}
+use Rattle.type_members.specs.type_heads.Types.{Member}
+use Rattle.type_members.specs.type_heads.MemberFaults.{initial_rows}
 use Rattle.type_members.specs.Listed.{seen_row}
 use Rattle.type_members.specs.Shared.{fronts_in, members_in_parts}
 use Rattle.type_faults.specs.RowFacts.{initials_among}

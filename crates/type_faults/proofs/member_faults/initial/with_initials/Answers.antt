@@ -1,8 +1,8 @@
 use Rattle.std.proofs.Common.{◌∙◌, ◌+◌, ap, drop, flat_map, map}
-use Rattle.osc_base.specs.FaultRows.{first_from}
-use Rattle.dsl_tree.specs.Views.{member_tree}
-use Rattle.type_heads.specs.Types.{Member}
-use Rattle.type_heads.specs.MemberFaults.{initial_rows}
+use Rattle.type_members.specs.osc_base.FaultRows.{first_from}
+use Rattle.type_members.specs.dsl_tree.Views.{member_tree}
+use Rattle.type_members.specs.type_heads.Types.{Member}
+use Rattle.type_members.specs.type_heads.MemberFaults.{initial_rows}
 use Rattle.type_members.specs.Listed.{seen_listed}
 use Rattle.type_faults.proofs.RowSteps.{done, left_is}
 use Rattle.type_faults.proofs.member_faults.initial.with_initials.Goals as goal

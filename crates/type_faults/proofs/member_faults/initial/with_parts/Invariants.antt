@@ -1,5 +1,5 @@
 use Rattle.std.proofs.Common.{◌≡◌, drop, map}
-use Rattle.osc_base.specs.FaultRows.{first_from}
+use Rattle.type_members.specs.osc_base.FaultRows.{first_from}
 use Rattle.type_members.specs.Listed.{seen_row}
 use Rattle.type_members.specs.Shared.{members_in_parts}
 use Rattle.type_faults.specs.RowFacts.{initials_among}

@@ -1,8 +1,8 @@
 use Rattle.std.proofs.Common.{◌≡◌, ◌∙◌, ◌+◌, ◌++◌, ◌<◌, ◌≤◌, ap, append-nil, drop, flat_map, get_or, length, map, option_to_list, subst, sym, OnOk}
 use Rattle.std.proofs.lemmas.List.{drop_all}
-use Rattle.dsl_tree.specs.Views.{comp_tree, phase_tree}
-use Rattle.dsl_tree.proofs.SeenPhases.{seen_invoke, seen_wait}
-use Rattle.type_heads.specs.MemberFaults.{labels_in}
+use Rattle.type_members.specs.dsl_tree.Views.{comp_tree, phase_tree}
+use Rattle.type_members.proofs.of_dsl_tree.SeenPhases.{seen_invoke, seen_wait}
+use Rattle.type_members.specs.type_heads.MemberFaults.{labels_in}
 use Rattle.type_faults.specs.NamePlaces.{lent_names}
 use Rattle.type_faults.proofs.PartSteps.{rest_left}
 use Rattle.type_faults.proofs.RepeatedNames.{labels_of_comp, phase_of_comp}

@@ -1,6 +1,6 @@
 use Rattle.std.proofs.Common.{◌≡◌, ◌++◌, drop, flat_map, map}
-use Rattle.dsl_tree.specs.Views.{comp_tree, phase_tree}
-use Rattle.type_heads.specs.MemberFaults.{labels_in}
+use Rattle.type_members.specs.dsl_tree.Views.{comp_tree, phase_tree}
+use Rattle.type_members.specs.type_heads.MemberFaults.{labels_in}
 use Rattle.type_faults.specs.NamePlaces.{lent_names}
 use Rattle.type_faults.proofs.member_faults.labels.+labels.Given as goal
 

@@ -1,6 +1,6 @@
 use Rattle.std.proofs.Common.{◌∙◌, ◌+◌, ◌++◌, ap, drop, map}
-use Rattle.dsl_tree.specs.Views.{member_tree}
-use Rattle.type_heads.specs.MemberFaults.{member_names, names_among}
+use Rattle.type_members.specs.dsl_tree.Views.{member_tree}
+use Rattle.type_members.specs.type_heads.MemberFaults.{member_names, names_among}
 use Rattle.type_members.specs.Listed.{seen_listed}
 use Rattle.type_faults.specs.NamePlaces.{lent_names}
 use Rattle.type_faults.proofs.PartSteps.{rest_left}

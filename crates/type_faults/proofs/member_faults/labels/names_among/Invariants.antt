@@ -1,5 +1,5 @@
 use Rattle.std.proofs.Common.{◌≡◌, ◌++◌, drop, map}
-use Rattle.type_heads.specs.MemberFaults.{names_among}
+use Rattle.type_members.specs.type_heads.MemberFaults.{names_among}
 use Rattle.type_members.specs.Listed.{seen_listed}
 use Rattle.type_faults.specs.NamePlaces.{lent_names}
 use Rattle.type_faults.proofs.member_faults.labels.names_among.Given as goal

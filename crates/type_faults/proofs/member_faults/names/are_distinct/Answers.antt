@@ -1,7 +1,7 @@
 use Rattle.std.proofs.Common.{◌∙◌, [], ap, bytes_eq, map}
 use Rattle.std.specs.Prelude.{is_none, None}
 use Rattle.std.specs.List.{list_any}
-use Rattle.type_heads.specs.MemberFaults.{names_among}
+use Rattle.type_members.specs.type_heads.MemberFaults.{names_among}
 use Rattle.type_members.specs.Listed.{seen_listed}
 use Rattle.type_faults.proofs.Quiet.{told_none}
 use Rattle.type_faults.proofs.RepeatedNames.{all_names}

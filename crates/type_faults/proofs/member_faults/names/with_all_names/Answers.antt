@@ -1,10 +1,10 @@
 use Rattle.std.proofs.Common.{◌≡◌, ◌++◌, List, [], map, sym, subst, take}
 use Rattle.std.specs.Prelude.{slice_index_or}
 use Rattle.std.proofs.lemmas.List.Concat.{flat_map-append}
-use Rattle.osc_base.specs.FaultRows.{first_from}
-use Rattle.type_heads.specs.Seen.{seen_form}
-use Rattle.type_heads.specs.Types.{Member}
-use Rattle.type_heads.specs.MemberFaults.{member_names, names_among, names_given, repeated_rows}
+use Rattle.type_members.specs.osc_base.FaultRows.{first_from}
+use Rattle.type_members.specs.type_heads.Seen.{seen_form}
+use Rattle.type_members.specs.type_heads.Types.{Member}
+use Rattle.type_members.specs.type_heads.MemberFaults.{member_names, names_among, names_given, repeated_rows}
 use Rattle.type_members.specs.Listed.{seen_listed, seen_row}
 use Rattle.type_members.specs.Shared.{fronts_in, members_in_parts}
 use Rattle.type_faults.specs.NameRows.{ContinuesNames}

@@ -1,6 +1,6 @@
 use Rattle.std.proofs.Common.{◌∙◌, ap, map, refl, subst, sym, take_all}
-use Rattle.type_heads.specs.Types.{Member}
-use Rattle.type_heads.specs.MemberFaults.{member_names, names_among}
+use Rattle.type_members.specs.type_heads.Types.{Member}
+use Rattle.type_members.specs.type_heads.MemberFaults.{member_names, names_among}
 use Rattle.type_members.specs.Listed.{seen_row}
 use Rattle.type_members.specs.Shared.{members_in_parts}
 use Rattle.type_members.proofs.SeenInside.{flat_in_part}

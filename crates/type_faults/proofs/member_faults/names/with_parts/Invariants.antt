@@ -1,5 +1,5 @@
 use Rattle.std.proofs.Common.{map, take}
-use Rattle.type_heads.specs.MemberFaults.{names_among}
+use Rattle.type_members.specs.type_heads.MemberFaults.{names_among}
 use Rattle.type_members.specs.Listed.{seen_row}
 use Rattle.type_members.specs.Shared.{members_in_parts}
 use Rattle.type_faults.specs.NameRows.{ContinuesNames}

@@ -1,6 +1,6 @@
 use Rattle.std.proofs.Common.{length, map, subst}
-use Rattle.type_heads.specs.Bodied.{seen_body}
-use Rattle.type_heads.specs.MemberFaults.{depends_on}
+use Rattle.type_members.specs.type_heads.Bodied.{seen_body}
+use Rattle.type_members.specs.type_heads.MemberFaults.{depends_on}
 use Rattle.type_members.specs.Listed.{lists_of}
 use Rattle.type_faults.specs.ListedRows.{near_depended, types_with}
 use Rattle.type_faults.specs.Ranking.{HasLevels, IsShown}

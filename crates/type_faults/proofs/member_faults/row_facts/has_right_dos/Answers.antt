@@ -1,9 +1,9 @@
 use Rattle.std.proofs.Common.{◌∙◌, [], ap, append-nil, map, sym}
 use Rattle.std.specs.Prelude.{is_none}
-use Rattle.osc_base.specs.FaultRows.{first_fault}
-use Rattle.dsl_tree.specs.declared.compounds.CompoundKind.{CompoundKind}
-use Rattle.type_heads.specs.Form.{Form}
-use Rattle.type_heads.specs.MemberFaults.{do_rows}
+use Rattle.type_members.specs.osc_base.FaultRows.{first_fault}
+use Rattle.type_members.specs.dsl_tree.declared.compounds.CompoundKind.{CompoundKind}
+use Rattle.type_members.specs.type_heads.Form.{Form}
+use Rattle.type_members.specs.type_heads.MemberFaults.{do_rows}
 use Rattle.type_members.specs.Listed.{seen_listed}
 use Rattle.type_members.specs.Shared.{under_inside}
 use Rattle.type_members.proofs.Moves.{inside_none}

@@ -1,5 +1,5 @@
 use Rattle.std.proofs.Common.{◌≡◌, ◌++◌, List, drop}
-use Rattle.dsl_tree.specs.declared.enums.EnumItem.{EnumItem}
+use Rattle.name_scope.specs.dsl_tree.declared.enums.EnumItem.{EnumItem}
 use Rattle.type_heads.specs.Numbering.{with_items}
 use Rattle.type_heads.proofs.numbering.Numbering.push_all.Given as goal
 

@@ -1,6 +1,6 @@
 use Rattle.std.proofs.Common.{◌≡◌, ◌++◌, List, drop}
 use Rattle.std.specs.Prelude.{flat_map}
-use Rattle.dsl_tree.specs.declared.enums.EnumItem.{EnumItem}
+use Rattle.name_scope.specs.dsl_tree.declared.enums.EnumItem.{EnumItem}
 use Rattle.type_heads.specs.Numbering.{with_items, items_placed}
 use Rattle.type_heads.proofs.numbering.Numbering.push_extensions.Given as goal
 

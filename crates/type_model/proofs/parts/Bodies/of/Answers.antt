@@ -1,6 +1,6 @@
 use Rattle.std.proofs.Common.{map, subst}
-use Rattle.type_heads.specs.Bodied.{seen_body}
-use Rattle.type_members.specs.Listed.{AreSubtypes}
+use Rattle.string_texts.specs.type_heads.Bodied.{seen_body}
+use Rattle.type_tables.specs.type_members.Listed.{AreSubtypes}
 use Rattle.type_model.proofs.parts.Bodies.of.Goals as goal
 
 pub returns : goal.returns

@@ -1,6 +1,6 @@
 use Rattle.std.proofs.Common.{◌∙◌, ap, map}
-use Rattle.type_members.specs.Listed.{seen_row}
-use Rattle.type_members.specs.Shared.{fronts_in}
+use Rattle.type_tables.specs.type_members.Listed.{seen_row}
+use Rattle.type_tables.specs.type_members.Shared.{fronts_in}
 use Rattle.type_model.specs.RowRefs.{ref_of}
 use Rattle.type_model.proofs.RowsTold.{rows_told}
 use Rattle.type_model.proofs.refs.MemberRefs.of.Goals as goal

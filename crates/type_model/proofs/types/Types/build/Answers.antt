@@ -1,5 +1,5 @@
 use Rattle.std.proofs.lemmas.Result.{IfErr-weaker, IfOk-weaker}
-use Rattle.type_heads.specs.DeclaredTypes.{program_of}
+use Rattle.string_texts.specs.type_heads.DeclaredTypes.{program_of}
 use Rattle.type_model.proofs.types.Types.build.Goals as goal
 
 pub with_heads-requires-clause-program : goal.with_heads-requires-clause-program

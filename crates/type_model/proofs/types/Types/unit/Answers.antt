@@ -1,8 +1,8 @@
 use Rattle.std.proofs.Common.{◌≡◌, ◌∙◌, Some, rules, ap, option_map, bytes_eq}
 use Rattle.std.specs.Prelude.{find}
-use Rattle.type_heads.specs.Table.{TableUnit}
-use Rattle.type_heads.specs.Told.{Told}
-use Rattle.type_heads.specs.Shown.{shown_unit, unit_parts}
+use Rattle.string_texts.specs.type_heads.Table.{TableUnit}
+use Rattle.string_texts.specs.type_heads.Told.{Told}
+use Rattle.string_texts.specs.type_heads.Shown.{shown_unit, unit_parts}
 use Rattle.type_model.proofs.SoundUnits.{unit_found}
 use Rattle.type_model.proofs.types.Types.unit.Goals as goal
 

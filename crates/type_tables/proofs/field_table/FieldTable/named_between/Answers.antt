@@ -1,5 +1,5 @@
 use Rattle.std.proofs.Common.{List, subst, sym}
-use Rattle.type_heads.specs.Table.{TableField}
+use Rattle.type_members.specs.type_heads.Table.{TableField}
 use Rattle.type_tables.specs.Places.{Places}
 use Rattle.type_tables.proofs.field_table.FieldTable.named_between.Goals as goal
 

@@ -1,6 +1,6 @@
 use Rattle.std.proofs.Common.{◌∙◌, sym, ap, string_bytes, Some, bytes_eq, cond}
 use Rattle.std.proofs.lemmas.Map.Text.{hash_map_updates_text}
-use Rattle.name_scope.proofs.Tables.{present, placed}
+use Rattle.type_members.proofs.of_name_scope.Tables.{present, placed}
 use Rattle.type_tables.specs.Places.{place_in}
 use Rattle.type_tables.proofs.Firsts.{known, unknown}
 use Rattle.type_tables.proofs.first_places.FirstPlaces.note.Goals as goal

@@ -1,5 +1,5 @@
 use Rattle.std.proofs.Common.{◌+◌, ◌∙◌, ap, bytes_eq, subst, take_all}
-use Rattle.name_scope.specs.Declaring.{first_place}
+use Rattle.type_members.specs.name_scope.Declaring.{first_place}
 use Rattle.type_tables.specs.Places.{AreDistinct, place_in}
 use Rattle.type_tables.proofs.Firsts.{distinct_more, noted}
 use Rattle.type_tables.proofs.first_places.FirstPlaces.of_many.Goals as goal

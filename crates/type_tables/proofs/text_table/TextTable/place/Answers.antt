@@ -1,5 +1,5 @@
 use Rattle.std.proofs.Common.{◌∙◌, sym, ap, bytes_eq, ℕ, List, subst}
-use Rattle.name_scope.specs.Declaring.{first_place}
+use Rattle.type_members.specs.name_scope.Declaring.{first_place}
 use Rattle.type_tables.specs.Places.{Places}
 use Rattle.type_tables.proofs.Firsts.{text_place}
 use Rattle.type_tables.proofs.text_table.TextTable.place.Goals as goal

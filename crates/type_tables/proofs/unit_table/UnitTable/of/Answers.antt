@@ -1,5 +1,5 @@
 use Rattle.std.proofs.Common.{List, subst}
-use Rattle.type_heads.specs.Table.{TableUnit}
+use Rattle.type_members.specs.type_heads.Table.{TableUnit}
 use Rattle.type_tables.specs.Places.{Places}
 use Rattle.type_tables.proofs.unit_table.UnitTable.of.Goals as goal
 

@@ -1,5 +1,5 @@
 use Rattle.std.proofs.Common.{◌∙◌, sym}
-use Rattle.name_scope.proofs.Tables.{placed, present}
+use Rattle.type_members.proofs.of_name_scope.Tables.{placed, present}
 use Rattle.type_faults.specs.NamePlaces.{number_in}
 use Rattle.type_faults.proofs.member_faults.name_places.FirstMembers.note.Goals as goal
 

@@ -1,7 +1,7 @@
 use Rattle.std.proofs.Common.{◌∙◌, ◌+◌, None, Some, ap, cond, take, take_all}
 use Rattle.std.specs.Option.{option_or}
-use Rattle.name_scope.specs.Declaring.{first_place}
-use Rattle.name_scope.proofs.Tables.{place_next}
+use Rattle.type_members.specs.name_scope.Declaring.{first_place}
+use Rattle.type_members.proofs.of_name_scope.Tables.{place_next}
 use Rattle.type_members.specs.declared.listed.ListedMember.{ListedMember}
 use Rattle.type_members.specs.Listed.{seen_listed}
 use Rattle.type_faults.specs.NamePlaces.{declares_name, has_text, lent_names}

@@ -1,5 +1,5 @@
 use Rattle.std.proofs.Common.{◌≡◌, ℕ, List, take}
-use Rattle.name_scope.specs.Declaring.{first_place}
+use Rattle.type_members.specs.name_scope.Declaring.{first_place}
 use Rattle.type_members.specs.declared.listed.ListedMember.{ListedMember}
 use Rattle.type_members.specs.Listed.{seen_listed}
 use Rattle.type_faults.specs.NamePlaces.{declares_name, number_in}

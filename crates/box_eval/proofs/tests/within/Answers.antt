@@ -1,5 +1,0 @@
-use Rattle.box_eval.proofs.Rows.{row_within}
-use Rattle.box_eval.proofs.tests.within.Goals as goal
-
-pub returns : goal.returns
-returns c = rw (c.in_ok-new.ensures, c.in_ok-new-2.ensures) row_within

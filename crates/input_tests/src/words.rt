@@ -1,0 +1,101 @@
+use command_words::{Request, Setting, Source, read_words};
+use std::io;
+
+/// The words of a line, which has one space between any two.
+fn words_of(rt: &HostRuntime, line: &str) -> io::Result<Vec<String>> {
+    let alloc = rt.alloc();
+    let mut words = Vec::new(alloc);
+    for word in line.split(' ') {
+        words.push(String::from_str(alloc, word)?)?;
+    }
+    Ok(words)
+}
+
+/// What the words ask for; of a text of help its last line.
+fn shown(rt: &HostRuntime, line: &str) -> io::Result<String> {
+    let alloc = rt.alloc();
+    let words = words_of(rt, line)?;
+    let shown = match read_words(alloc, words.as_slice())? {
+        Request::Help(text) => {
+            let last = text.lines().last().unwrap_or("");
+            format!(in alloc; "help: {last}")?
+        }
+        Request::Topics => String::from_str(alloc, "all topics")?,
+        Request::Explain(topic) => format!(in alloc; "{topic:?}")?,
+        Request::Generate(asked) => {
+            let (seed, cuts) = (asked.seed, asked.cuts);
+            let scene = scene_shown(rt, asked.source, asked.setting)?;
+            format!(in alloc; "{scene} {seed} {cuts}")?
+        }
+        Request::Check(asked) => {
+            let scene = scene_shown(rt, asked.source, asked.setting)?;
+            format!(in alloc; "check {scene} {}", asked.run)?
+        }
+        Request::Verify(asked) => {
+            let scene = scene_shown(rt, asked.source, asked.setting)?;
+            format!(in alloc; "verify {scene} {}", asked.record)?
+        }
+        Request::Flat(asked) => {
+            let scene = scene_shown(rt, asked.source, asked.setting)?;
+            format!(in alloc; "flat {scene}")?
+        }
+        Request::Make(asked) => format!(in alloc; "make {}", asked.count)?,
+        Request::Refused => String::from_str(alloc, "refused")?,
+    };
+    Ok(shown)
+}
+
+fn scene_shown(rt: &HostRuntime, source: Source<'_>, setting: Setting) -> io::Result<String> {
+    let shown = format!(in rt.alloc();
+        "{} {} {} {} {}",
+        source.file, source.scenario, setting.ticks, setting.lanes, setting.road
+    )?;
+    Ok(shown)
+}
+
+#[test]
+fn reads_words(rt: HostRuntime) -> io::Result<()> {
+    let rows = [
+        ("generate f s", "f s 100 3 1000 0 200000"),
+        (
+            "generate --ticks 005 f --lanes=+8 s",
+            "f s 5 8 1000 0 200000",
+        ),
+        (
+            "generate f s --road 1 --cuts 1 --seed 18446744073709551615",
+            "f s 100 3 1 18446744073709551615 1",
+        ),
+        ("generate -- --ticks s", "--ticks s 100 3 1000 0 200000"),
+        ("generate f s --seed -0", "refused"),
+        ("generate f s --ticks 0", "refused"),
+        ("generate f s --road 10001", "refused"),
+        ("generate f s --lanes 2 --lanes 2", "refused"),
+        ("generate f s -V", "refused"),
+        ("generate f", "refused"),
+        ("check f s r", "check f s 100 3 1000 r"),
+        (
+            "check --ticks=9 f s --lanes 8 r --road 10",
+            "check f s 9 8 10 r",
+        ),
+        ("check f s", "refused"),
+        ("check f s r --seed 1", "refused"),
+        ("verify f s r --lanes 8", "verify f s 100 8 1000 r"),
+        ("flat --ticks 7 f s", "flat f s 7 3 1000"),
+        ("make 16", "make 16"),
+        ("explain", "all topics"),
+        ("explain --help", "all topics"),
+        ("explain 201", "Fault(Syntax)"),
+        ("explain 7", "Status(Sink)"),
+        ("explain 3", "refused"),
+        ("explain 200", "refused"),
+        ("explain 0201", "refused"),
+        ("explain 201 202", "refused"),
+        ("", "refused"),
+        ("take 1", "refused"),
+        ("--version", "help: osc 0.1.0"),
+    ];
+    for (line, want) in rows {
+        assert_eq!(rt; shown(&rt, line)?.as_str(), want, "at {line}");
+    }
+    Ok(())
+}

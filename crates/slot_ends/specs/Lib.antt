@@ -1,0 +1,3 @@
+-- Crates below, for the crates above.
+pub use Rattle.scene_slots.specs.field_flatten as field_flatten
+pub use Rattle.scene_slots.specs as scene_slots
