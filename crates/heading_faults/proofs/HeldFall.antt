@@ -154,21 +154,21 @@ module _ (heads : List TypeHead) (bodies : List TypeBody) (ranks : List ℕ) (fi
       all_reached (low x) (subtypes heads bodies) (λ y h. subtypes_low x y h) (suc (length heads)) [] (fresh [] (x ∷ bases heads x)) refl
       (all_fresh (low x) [] (x ∷ bases heads x) (both (low x x) (list_all (low x) (bases heads x)) itself (line_low x (length heads) (base heads x) (base_low x x itself))))
 
+  abbrev own : ℕ → List ℕ
+  own y = fields_of heads ((body bodies y).own ++ (body bodies y).more)
+
+  falling : (x : ℕ) → list_all (λ u. nat_lt (rank ranks u) (rank ranks x)) (flat_map own (family heads bodies x)) ≡ true
+  falling x =
+      all_mapped (low x) (λ u. nat_lt (rank ranks u) (rank ranks x)) own
+      (λ y h. all_weaker (λ u. nat_lt (rank ranks u) (rank ranks y)) (λ u. nat_lt (rank ranks u) (rank ranks x))
+      (λ u k. fall_more (rank ranks u) (rank ranks y) (rank ranks x) k h) (own y) (fields_are y))
+      (family heads bodies x) (family_low x)
+
   held_low : (x : ℕ) → list_all (λ u. nat_lt (rank ranks u) (rank ranks x)) (held_types heads bodies x) ≡ true
   held_low x = by (has_members (form heads x))
     where
-      own : ℕ → List ℕ
-      own y = fields_of heads ((body bodies y).own ++ (body bodies y).more)
-
-      falling : list_all (λ u. nat_lt (rank ranks u) (rank ranks x)) (flat_map own (family heads bodies x)) ≡ true
-      falling =
-          all_mapped (low x) (λ u. nat_lt (rank ranks u) (rank ranks x)) own
-          (λ y h. all_weaker (λ u. nat_lt (rank ranks u) (rank ranks y)) (λ u. nat_lt (rank ranks u) (rank ranks x))
-          (λ u k. fall_more (rank ranks u) (rank ranks y) (rank ranks x) k h) (own y) (fields_are y))
-          (family heads bodies x) (family_low x)
-
       by : (b : Bool) → list_all (λ u. nat_lt (rank ranks u) (rank ranks x)) (cond b (flat_map own (family heads bodies x)) []) ≡ true
-      by true = falling
+      by true = falling x
       by false = refl
 
   never_held : (t : ℕ) → returns (length heads) (held_types heads bodies) t ≡ false

@@ -131,15 +131,18 @@ some_list : {A : Type 0} (o : Option A) (x : A) → o ≡ Some x → In x (optio
 some_list None x e = cc
 some_list (Some y) x e = let same : y ≡ x = cc in inl (sym same)
 
+-- the types of the fields that a type itself declares
+abbrev own_types : List TypeHead → List TypeBody → ℕ → List ℕ
+own_types heads bodies u = flat_map (λ (w : Written). field_types heads w w.member) ((body bodies u).own ++ (body bodies u).more)
+
 pub field_held : (ts : Types) → AreBased ts.table.heads → AreMembersOf ts → (t : ℕ) → t < length ts.table.heads → has_members (form ts.table.heads t) ≡ true → (f : Field) → In f (fields ts t) → (of : ℕ) → field_type ts f ≡ Some of → In of (held_types ts.table.heads ts.bodies t)
 field_held ts based are t below has f i of typed =
     let heads = ts.table.heads in
     let g = flat_map_in (λ (m : Member). fields_declared m m.written.member) (members ts t) f i in
     let m = subst (λ l. In g.0 l) (are t below) g.1 in
     let w = members_written heads ts.bodies t g.0 m in
-    let own : ℕ → List ℕ = λ u. flat_map (λ (w : Written). field_types heads w w.member) ((body ts.bodies u).own ++ (body ts.bodies u).more) in
-    subst (λ b. In of (cond b (flat_map own (family heads ts.bodies t)) [])) (sym has)
-    (in_flat_map own (family heads ts.bodies t) g.0.holder of (members_family heads ts.bodies based t below g.0 m)
+    subst (λ b. In of (cond b (flat_map (own_types heads ts.bodies) (family heads ts.bodies t)) [])) (sym has)
+    (in_flat_map (own_types heads ts.bodies) (family heads ts.bodies t) g.0.holder of (members_family heads ts.bodies based t below g.0 m)
     (in_flat_map (λ (w : Written). field_types heads w w.member) ((body ts.bodies g.0.holder).own ++ (body ts.bodies g.0.holder).more) g.0.written of (written g.0 w) (by g.0 g.0.written.member g.2)))
   where
     written : (m : Member) → IsWrittenIn ts.table.heads ts.bodies m.holder m.written → In m.written ((body ts.bodies m.holder).own ++ (body ts.bodies m.holder).more)
@@ -166,12 +169,9 @@ held_below ts x y i = held (has_members (form ts.table.heads x)) i
     by w (MemberTree.Rule r) j = absurd j
     by w (MemberTree.Do place phase) j = absurd j
 
-    own : ℕ → List ℕ
-    own u = flat_map (λ (w : Written). field_types ts.table.heads w w.member) ((body ts.bodies u).own ++ (body ts.bodies u).more)
-
-    held : (b : Bool) → In y (cond b (flat_map own (family ts.table.heads ts.bodies x)) []) → y < length ts.table.heads
+    held : (b : Bool) → In y (cond b (flat_map (own_types ts.table.heads ts.bodies) (family ts.table.heads ts.bodies x)) []) → y < length ts.table.heads
     held true j =
-        let g = flat_map_in own (family ts.table.heads ts.bodies x) y j in
+        let g = flat_map_in (own_types ts.table.heads ts.bodies) (family ts.table.heads ts.bodies x) y j in
         let w = flat_map_in (λ (w : Written). field_types ts.table.heads w w.member) ((body ts.bodies g.0).own ++ (body ts.bodies g.0).more) y g.2 in
         by w.0 w.0.member w.2
     held false j = absurd j
