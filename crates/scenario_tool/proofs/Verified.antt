@@ -1,5 +1,5 @@
 -- A source about which `verify` says `yes` has no instance, and so no run of it is found.
-use Rattle.std.proofs.Common.{refl, sym, codes}
+use Rattle.std.proofs.Common.{refl, sym, ℕ, codes}
 use Rattle.composition.specs.declared.run.Run.{Run}
 use Rattle.composition.specs.Claims.{IsInstance}
 use Rattle.composition.specs.Scenes.{Scene}
