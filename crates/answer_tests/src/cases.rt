@@ -37,11 +37,15 @@ impl Wanted {
             }
             Wanted::Whole(text) => got == text,
             Wanted::Ends(front, back, lists) => {
-                let begins = got.bytes().filter(|byte| *byte == b'[').count();
-                got.starts_with(front) && got.ends_with(back) && begins == lists
+                got.starts_with(front) && got.ends_with(back) && count_of(got, b'[') == lists
             }
         })
     }
+}
+
+/// How often a byte stands in a text.
+pub(crate) fn count_of(text: &str, byte: u8) -> usize {
+    text.as_bytes().iter().filter(|it| **it == byte).count()
 }
 
 /// The answer to a line of words over `main.osc` and `written`.
@@ -62,31 +66,34 @@ pub(crate) fn answer_to(
     answer(alloc, words.as_slice(), &files, SOUND)
 }
 
+/// The answer to a command about the case, such as `flat`, or `check` of what is written.
+fn said(alloc: Global, command: &str, case: &Case, written: &str) -> Result<String, AllocError> {
+    let file = if written.is_empty() { "" } else { "written" };
+    let line = format!(in alloc; "{command} main.osc top {file} {}", case.setting)?;
+    answer_to(alloc, line.as_str(), case.source, written)
+}
+
 /// What the checker of runs or of records says of the answer of `generate`.
 fn verdict(alloc: Global, case: &Case, got: &str) -> Result<String, AllocError> {
-    let (checker, written) = match got.strip_prefix("0 ") {
-        Some(run) => ("check", run),
-        None => ("verify", got.strip_prefix("1 ").unwrap_or("")),
-    };
-    let line = format!(in alloc; "{checker} main.osc top written {}", case.setting)?;
-    answer_to(alloc, line.as_str(), case.source, written)
+    match got.strip_prefix("0 ") {
+        Some(run) => said(alloc, "check", case, run),
+        None => said(alloc, "verify", case, got.strip_prefix("1 ").unwrap_or("")),
+    }
 }
 
 /// Sees that `generate` gives each answer, that what it wrote is accepted, and that `flat` has a listing.
 pub(crate) fn cases_hold(rt: &(impl Abort + AllocGlobal), cases: &[Case]) -> Result<(), Fail> {
     let alloc = rt.alloc();
     for case in cases {
-        let line = format!(in alloc; "generate main.osc top {}", case.setting)?;
-        let got = answer_to(alloc, line.as_str(), case.source, "")?;
+        let got = said(alloc, "generate", case, "")?;
         assert!(rt;
             case.wanted.is_met(alloc, got.as_str())?,
             "{}",
             got.as_str()
         );
-        let said = verdict(alloc, case, got.as_str())?;
-        assert_eq!(rt; said.as_str(), "0 yes\n", "{}", case.source);
-        let line = format!(in alloc; "flat main.osc top {}", case.setting)?;
-        let listing = answer_to(alloc, line.as_str(), case.source, "")?;
+        let checked = verdict(alloc, case, got.as_str())?;
+        assert_eq!(rt; checked.as_str(), "0 yes\n", "{}", case.source);
+        let listing = said(alloc, "flat", case, "")?;
         assert!(rt; listing.as_str().starts_with("0 slots "), "{}", case.source);
     }
     Ok(())

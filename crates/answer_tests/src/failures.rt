@@ -1,7 +1,7 @@
 //! Shelves that fail, and sources and runs that go deep.
 
 use crate::call::{Outside, SOUND, answer};
-use crate::cases::answer_to;
+use crate::cases::{answer_to, count_of};
 use std::alloc::{AllocError, Global};
 use std::test::Fail;
 
@@ -74,8 +74,7 @@ fn a_path_of_1001_steps(rt: HostRuntime) -> Result<(), Fail> {
     let front =
         "0 {\"choices\":[],\"end\":0,\"form\":1,\"phases\":[],\"traces\":[],\"values\":[[\"x.n.n";
     assert!(rt; got.starts_with(front), "{got}");
-    let steps = got.bytes().filter(|byte| *byte == b'.').count();
-    assert_eq!(rt; steps, 1000);
+    assert_eq!(rt; count_of(got, b'.'), 1000);
     Ok(())
 }
 

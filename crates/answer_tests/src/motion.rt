@@ -1,6 +1,7 @@
 //! Vehicles: each modifier with each of its arguments, and the vehicles that inherit.
 
-use crate::cases::{Case, Wanted, answer_to, cases_hold};
+use crate::cases::{Case, Wanted, answer_to, cases_hold, count_of};
+use std::alloc::{AllocError, Global};
 use std::test::Fail;
 
 const OWN: [Case; 2] = [
@@ -202,7 +203,7 @@ scenario top:
         ),
         "{got}"
     );
-    assert_eq!(rt; got.bytes().filter(|byte| *byte == b'[').count(), 9);
+    assert_eq!(rt; count_of(got, b'['), 9);
     Ok(())
 }
 
@@ -232,10 +233,8 @@ scenario top:
                 position([5m..30m], ahead_of: ego, at: end)
 ";
 
-/// The road ends where the other vehicle comes to at the last tick, so it starts 20 m behind.
-#[test]
-fn a_cut_in(rt: HostRuntime) -> Result<(), Fail> {
-    let alloc = rt.alloc();
+/// How the answer begins: with the phases, and all samples of the ego vehicle but its last.
+fn front_of_the_cut_in(alloc: Global) -> Result<String, AllocError> {
     let mut front = String::from_str(
         alloc,
         "0 {\"choices\":[],\"end\":60,\"form\":1,\"phases\":[[\"do\",0,60],[\"do[0]\",0,30],[\"do[0][0]\",0,30],[\"do[0][1]\",0,30],[\"do[1]\",30,60],[\"do[1][0]\",30,60],[\"do[1][1]\",30,60]],\"traces\":[[\"ego\",[",
@@ -243,18 +242,32 @@ fn a_cut_in(rt: HostRuntime) -> Result<(), Fail> {
     for tick in 0..60u32 {
         write!(front, "[1,{},20000],", 100_000_000 + 2_000_000 * tick)?;
     }
-    let mut behind = String::from_str(alloc, "[\"npc\",[")?;
+    Ok(front)
+}
+
+/// The samples of the other vehicle while it is on the left.
+fn left_of_the_ego(alloc: Global) -> Result<String, AllocError> {
+    let mut samples = String::from_str(alloc, "[\"npc\",[")?;
     for tick in 0..31u32 {
-        write!(behind, "[2,{},25000],", 80_000_000 + 2_500_000 * tick)?;
+        write!(samples, "[2,{},25000],", 80_000_000 + 2_500_000 * tick)?;
     }
+    Ok(samples)
+}
+
+/// The road ends where the other vehicle comes to at the last tick, so it starts 20 m behind.
+#[test]
+fn a_cut_in(rt: HostRuntime) -> Result<(), Fail> {
+    let alloc = rt.alloc();
     let words = "generate main.osc top --ticks 60 --road 230";
     let got = answer_to(alloc, words, CUT_IN, "")?;
+    let front = front_of_the_cut_in(alloc)?;
     assert!(rt;
         got.as_str().starts_with(front.as_str()),
         "{}",
         got.as_str()
     );
-    assert!(rt; got.as_str().contains(behind.as_str()), "{}", got.as_str());
+    let samples = left_of_the_ego(alloc)?;
+    assert!(rt; got.as_str().contains(samples.as_str()), "{}", got.as_str());
     assert!(rt; got.as_str().contains(",230000000,"), "{}", got.as_str());
     let run = got.as_str().strip_prefix("0 ").unwrap_or("");
     let words = "check main.osc top written --ticks 60 --road 230";

@@ -1,6 +1,6 @@
 //! Searches that make all their cuts.
 
-use crate::cases::answer_to;
+use crate::cases::{answer_to, count_of};
 use std::alloc::{AllocError, Global};
 use std::test::Fail;
 
@@ -40,14 +40,7 @@ fn an_undecided_search(rt: HostRuntime) -> Result<(), Fail> {
     let line = "generate main.osc top --cuts 1000";
     let got = answer_to(alloc, line, CIRCLE, "")?;
     assert_eq!(rt; got.as_str().strip_prefix("2 "), Some(record.as_str()));
-    assert_eq!(rt;
-        record
-            .as_str()
-            .bytes()
-            .filter(|byte| *byte == b'\n')
-            .count(),
-        2006
-    );
+    assert_eq!(rt; count_of(record.as_str(), b'\n'), 2006);
     let said = answer_to(
         alloc,
         "verify main.osc top written",
