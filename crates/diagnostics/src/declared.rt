@@ -8,6 +8,10 @@ use strsim::osa_distance;
 
 /// Names that are known without a declaration.
 const KNOWN: [&str; 6] = ["int", "uint", "float", "bool", "string", "duration"];
+/// The longest name, in bytes, that is near another one, since a look at two names takes as long as their lengths multiplied.
+const LONGEST: usize = 64;
+/// How many declared names are looked at.
+const LOOKS: usize = 10_000;
 
 /// A space of names: no two names of one space are equal.
 #[derive(Clone, Copy)]
@@ -194,7 +198,7 @@ fn first_of<'a>(names: &[Declared<'a>], later: Declared<'a>) -> Option<Declared<
     None
 }
 
-/// Of the names that are a few edits away from a word, the first of the nearest.
+/// Of the names that are a few edits away from a word, the first of the nearest. Long names aren't looked at.
 #[derive(Clone, Copy)]
 pub struct Nearest<'w, 'a> {
     word: &'w str,
@@ -215,7 +219,10 @@ impl<'w, 'a> Nearest<'w, 'a> {
 
     /// Takes the name if it is nearer than the one that is found, and differs from the word.
     pub fn look_at(&mut self, alloc: Global, name: &'a str) -> Result<(), AllocError> {
-        if name.len().abs_diff(self.word.len()) > self.word.len() || name == self.word {
+        if self.word.len().max(name.len()) > LONGEST || name == self.word {
+            return Ok(());
+        }
+        if name.len().abs_diff(self.word.len()) > self.word.len() {
             return Ok(());
         }
         let edits = osa_distance(alloc, self.word, name)?;
@@ -232,14 +239,14 @@ impl<'w, 'a> Nearest<'w, 'a> {
     }
 }
 
-/// The name nearest to a word, of the declared ones and of those that need no declaration.
+/// The name nearest to a word, of the first declared ones and of those that need no declaration.
 pub fn nearest_name<'a>(
     alloc: Global,
     names: &[Declared<'a>],
     word: &str,
 ) -> Result<Option<&'a str>, AllocError> {
     let mut nearest = Nearest::new(word);
-    for declared in names {
+    for declared in names.iter().take(LOOKS) {
         nearest.look_at(alloc, declared.name.text.as_str())?;
     }
     for known in &KNOWN {

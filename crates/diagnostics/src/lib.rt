@@ -9,10 +9,12 @@ mod declared;
 mod excerpt;
 mod expected;
 mod message;
+mod noted_shelf;
 mod noted_sink;
 mod refusal;
 mod told;
 mod words;
 
+pub use noted_shelf::NotedShelf;
 pub use noted_sink::NotedSink;
 pub use refusal::{refusal_message, status_message};

@@ -10,7 +10,7 @@ use command_words::{Request, Source, read_words};
 use fault_texts::{Status, fault_text, status_text};
 use name_scope::{Program, library_text};
 use osc_base::{FaultCode, Row};
-use outside_io::{ReadStop, Shelf, read_all};
+use outside_io::{MemoryShelf, ReadStop, Shelf, read_all};
 use program_load::{LoadStop, load};
 use std::alloc::{AllocError, Global};
 
@@ -21,14 +21,14 @@ const LAST_ANSWER: u8 = 2;
 
 /// The message for a call that ended with the status `number`, after it wrote `note` to standard output.
 ///
-/// It is empty if nothing was refused. The source of a fault is read again from the shelf; if that fails, the message has no
-/// excerpt.
-pub fn refusal_message<H: Shelf>(
+/// It is empty if nothing was refused. `kept` has the files that the call read; if the source of a fault isn't among them, the
+/// message has no excerpt.
+pub fn refusal_message(
     alloc: Global,
     words: &[String],
     number: u8,
     note: &[u8],
-    shelf: &mut H,
+    kept: &mut MemoryShelf,
 ) -> Result<String, AllocError> {
     if number == Status::Sink.number() {
         return status_message(alloc, Status::Sink);
@@ -40,20 +40,20 @@ pub fn refusal_message<H: Shelf>(
         return Ok(String::new(alloc));
     }
     match str::from_utf8(note) {
-        Ok(line) => line_message(alloc, words, line, shelf),
+        Ok(line) => line_message(alloc, words, line, kept),
         Err(_) => Ok(String::new(alloc)),
     }
 }
 
 /// The message for the line with which a call refused.
-fn line_message<H: Shelf>(
+fn line_message(
     alloc: Global,
     words: &[String],
     line: &str,
-    shelf: &mut H,
+    kept: &mut MemoryShelf,
 ) -> Result<String, AllocError> {
     match told_by(line) {
-        Told::Fault(spot) => fault_message(alloc, words, spot, shelf),
+        Told::Fault(spot) => fault_message(alloc, words, spot, kept),
         Told::Missing(name) => file_message(alloc, "there is no file ", name),
         Told::Long(name) => file_message(
             alloc,
@@ -76,13 +76,13 @@ pub fn status_message(alloc: Global, status: Status) -> Result<String, AllocErro
 }
 
 /// The message for a fault of a source.
-fn fault_message<H: Shelf>(
+fn fault_message(
     alloc: Global,
     words: &[String],
     spot: Spot<'_>,
-    shelf: &mut H,
+    kept: &mut MemoryShelf,
 ) -> Result<String, AllocError> {
-    let source = source_of(alloc, spot.file, shelf)?;
+    let source = source_of(alloc, spot.file, kept)?;
     let source = bytes_of(&source);
     let label = label_of(alloc, spot, source)?;
     let gutter = gutter_of(spot.line);
@@ -90,14 +90,14 @@ fn fault_message<H: Shelf>(
     put_head(&mut text, spot.code)?;
     put_site(alloc, &mut text, gutter, &spot, source, label.as_str())?;
     match spot.code {
-        FaultCode::Twice => put_earlier(alloc, &mut text, words, &spot, shelf)?,
+        FaultCode::Twice => put_earlier(alloc, &mut text, words, &spot, kept)?,
         FaultCode::Unknown => {
             let word = source.and_then(|s| word_at(s, spot.line, spot.column));
-            put_nearest(alloc, &mut text, words, gutter, word, shelf)?;
+            put_nearest(alloc, &mut text, words, gutter, word, kept)?;
         }
         FaultCode::NoScenario => {
             let word = source_in(alloc, words)?.map(|asked| asked.scenario);
-            put_nearest(alloc, &mut text, words, gutter, word, shelf)?;
+            put_nearest(alloc, &mut text, words, gutter, word, kept)?;
         }
         _ => {}
     }
@@ -113,14 +113,14 @@ fn bytes_of(source: &Option<Row<u8>>) -> Option<&[u8]> {
 }
 
 /// Puts the place of the first declaration of a name that is declared again at the spot.
-fn put_earlier<H: Shelf>(
+fn put_earlier(
     alloc: Global,
     text: &mut String,
     words: &[String],
     spot: &Spot<'_>,
-    shelf: &mut H,
+    kept: &mut MemoryShelf,
 ) -> Result<(), AllocError> {
-    let Some(program) = program_of(alloc, words, shelf)? else {
+    let Some(program) = program_of(alloc, words, kept)? else {
         return Ok(());
     };
     let names = declared_names(alloc, &program)?;
@@ -128,7 +128,7 @@ fn put_earlier<H: Shelf>(
         return Ok(());
     };
     let gutter = gutter_of(spot.line).max(gutter_of(first.line));
-    let source = source_of(alloc, first.file, shelf)?;
+    let source = source_of(alloc, first.file, kept)?;
     let source = bytes_of(&source);
     put_site(
         alloc,
@@ -141,18 +141,18 @@ fn put_earlier<H: Shelf>(
 }
 
 /// Puts the declared name that is nearest to a word, if one is near.
-fn put_nearest<H: Shelf>(
+fn put_nearest(
     alloc: Global,
     text: &mut String,
     words: &[String],
     gutter: usize,
     word: Option<&str>,
-    shelf: &mut H,
+    kept: &mut MemoryShelf,
 ) -> Result<(), AllocError> {
     let Some(word) = word else {
         return Ok(());
     };
-    let Some(program) = program_of(alloc, words, shelf)? else {
+    let Some(program) = program_of(alloc, words, kept)? else {
         return Ok(());
     };
     let names = declared_names(alloc, &program)?;
@@ -165,16 +165,16 @@ fn put_nearest<H: Shelf>(
     }
 }
 
-/// The program that the words name, if it can be loaded again.
-fn program_of<H: Shelf>(
+/// The program that the words name, if all its files are kept.
+fn program_of(
     alloc: Global,
     words: &[String],
-    shelf: &mut H,
+    kept: &mut MemoryShelf,
 ) -> Result<Option<Program>, AllocError> {
     let Some(source) = source_in(alloc, words)? else {
         return Ok(None);
     };
-    match load(alloc, shelf, source.file) {
+    match load(alloc, kept, source.file) {
         Ok(program) => Ok(Some(program)),
         Err(LoadStop::Memory) => Err(AllocError),
         Err(_) => Ok(None),
@@ -209,18 +209,18 @@ fn source_in(alloc: Global, words: &[String]) -> Result<Option<Source<'_>>, Allo
     }
 }
 
-/// The bytes of the file of this name, if they can be read again.
-fn source_of<H: Shelf>(
+/// The bytes of the file of this name, if they are kept.
+fn source_of(
     alloc: Global,
     name: &str,
-    shelf: &mut H,
+    kept: &mut MemoryShelf,
 ) -> Result<Option<Row<u8>>, AllocError> {
-    match shelf.fetch(name) {
+    match kept.fetch(name) {
         Ok(true) => {}
         Ok(false) if name == "osc" => return library(alloc),
         _ => return Ok(None),
     }
-    match read_all(alloc, shelf, SOURCE_LIMIT) {
+    match read_all(alloc, kept, SOURCE_LIMIT) {
         Ok(source) => Ok(Some(source)),
         Err(ReadStop::Memory) => Err(AllocError),
         Err(_) => Ok(None),

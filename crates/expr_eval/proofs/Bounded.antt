@@ -15,20 +15,20 @@ use Rattle.dsl_tree.specs.declared.expr.Operator.{Operator}
 use Rattle.dsl_tree.specs.declared.expr.RelationSign.{RelationSign}
 use Rattle.dsl_tree.specs.ExprTree as Trees
 use Rattle.dsl_tree.specs.ExprTree.{ExprTree, ExprRow}
-use Rattle.expr_nodes.specs.units_si.declared.units.Exponents.{Exponents}
-use Rattle.expr_nodes.specs.units_si.ExponentTests.{is_exponent, are_exponents}
-use Rattle.expr_nodes.specs.type_heads.Form.{Form}
-use Rattle.expr_nodes.specs.type_heads.Table.{Table, TableField, TableUnit, form, unit, owner, field_of, is_behaviour, has_members, enum_number, enums_with}
-use Rattle.expr_nodes.specs.type_heads.Units.{digits_number}
-use Rattle.expr_nodes.specs.declared.compare.Compare.{Compare}
-use Rattle.expr_nodes.specs.Kinds.{ValueKind, Made, kind_of, plain}
-use Rattle.expr_nodes.specs.Typed.{Typed, Constant, Read, Whole, Listed, Span, Minus, Not, Sum, Times, And, Or, Implies, Relation, Within, TypedRow, End, Item, items_of, info, begun_at, place_of, kind}
-use Rattle.expr_nodes.specs.Scope.{It, Label, Scope}
-use Rattle.expr_nodes.specs.Sizes.{size, multiplied, divided, is_wide, info_at, unit_size, field_size}
-use Rattle.expr_nodes.specs.Parts.{on_one, on_two, unless, any_holds, is_scalar, both_numbers}
-use Rattle.expr_nodes.specs.Names.{held_at, single, list_field, elements_from, per_of, Meaning, typed_meaning, name_rows, name_typed, meaning, meaning_by_field, meaning_by_label, meaning_by_duration, member_meant, member_at, label_named, it_at, actor_typed, enum_named, enum_name_typed, is_duration, after_point, member_of_whole, member_of_object, member_of_phase, member_made, duration_if, dot_typed, field_meant}
-use Rattle.expr_nodes.specs.Operators.{constant_at, number_rows, not_rows, logic_rows, truth_at, minus_rows, sum_rows, sum_of, exponents_in, product_rows, product_exponents, product_of, product_typed, quotient_rows, quotient_exponents, quotient_typed, has_quotient, reciprocal_exponents, reciprocal_of, is_constant, constant_value, is_zero, factor_typed, comparison_rows, comparison_typed, within_rows, within_typed, compare_of, relation_typed, part_rows, span_rows, item_typed, row_kind, list_typed, index_of, element, group_typed, physical_typed, count_in}
-use Rattle.expr_nodes.specs.Typing.{typed, typed_row}
+use Rattle.expr_typing.specs.units_si.declared.units.Exponents.{Exponents}
+use Rattle.expr_typing.specs.units_si.ExponentTests.{is_exponent, are_exponents}
+use Rattle.expr_typing.specs.type_heads.Form.{Form}
+use Rattle.expr_typing.specs.type_heads.Table.{Table, TableField, TableUnit, form, unit, owner, field_of, is_behaviour, has_members, enum_number, enums_with}
+use Rattle.expr_typing.specs.type_heads.Units.{digits_number}
+use Rattle.expr_typing.specs.expr_nodes.declared.compare.Compare.{Compare}
+use Rattle.expr_typing.specs.expr_nodes.Kinds.{ValueKind, Made, kind_of, plain}
+use Rattle.expr_typing.specs.expr_nodes.Typed.{Typed, Constant, Read, Whole, Listed, Span, Minus, Not, Sum, Times, And, Or, Implies, Relation, Within, TypedRow, End, Item, items_of, info, begun_at, place_of, kind}
+use Rattle.expr_typing.specs.expr_nodes.Scope.{It, Label, Scope}
+use Rattle.expr_typing.specs.expr_nodes.Sizes.{size, multiplied, divided, is_wide, info_at, unit_size, field_size}
+use Rattle.expr_typing.specs.expr_nodes.Parts.{on_one, on_two, unless, any_holds, is_scalar, both_numbers}
+use Rattle.expr_typing.specs.expr_nodes.Names.{held_at, single, list_field, elements_from, per_of, Meaning, typed_meaning, name_rows, name_typed, meaning, meaning_by_field, meaning_by_label, meaning_by_duration, member_meant, member_at, label_named, it_at, actor_typed, enum_named, enum_name_typed, is_duration, after_point, member_of_whole, member_of_object, member_of_phase, member_made, duration_if, dot_typed, field_meant}
+use Rattle.expr_typing.specs.expr_nodes.Operators.{constant_at, number_rows, not_rows, logic_rows, truth_at, minus_rows, sum_rows, sum_of, exponents_in, product_rows, product_exponents, product_of, product_typed, quotient_rows, quotient_exponents, quotient_typed, has_quotient, reciprocal_exponents, reciprocal_of, is_constant, constant_value, is_zero, factor_typed, comparison_rows, comparison_typed, within_rows, within_typed, compare_of, relation_typed, part_rows, span_rows, item_typed, row_kind, list_typed, index_of, element, group_typed, physical_typed, count_in}
+use Rattle.expr_typing.specs.expr_nodes.Typing.{typed, typed_row}
 use Rattle.expr_eval.specs.Resolved.{is_plain}
 use Rattle.expr_eval.specs.Bounded.{IsBounded, is_bounded_kind, is_bounded}
 use Rattle.expr_eval.proofs.Sizes.{left_of, right_of, both}

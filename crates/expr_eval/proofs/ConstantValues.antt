@@ -9,15 +9,15 @@ use Rattle.osc_base.specs.Fraction.{value}
 use Rattle.osc_base.specs.LowestTerms.{lowest}
 use Rattle.osc_base.proofs.Integers.{abs_above}
 use Rattle.dsl_tree.specs.ExprTree.{ExprTree}
-use Rattle.expr_nodes.specs.type_heads.Table.{Table}
-use Rattle.expr_nodes.specs.declared.node.Typed.{Typed}
-use Rattle.expr_nodes.specs.Typed.{scale, reach}
-use Rattle.expr_nodes.specs.Value.{worth}
-use Rattle.expr_nodes.specs.Operators.{constant_value}
-use Rattle.expr_nodes.specs.Scope.{Scope}
-use Rattle.expr_nodes.specs.Typing.{typed}
-use Rattle.expr_nodes.specs.Sound.{is_sound}
-use Rattle.expr_nodes.specs.Seen.{seen, seen_part}
+use Rattle.expr_typing.specs.type_heads.Table.{Table}
+use Rattle.expr_typing.specs.expr_nodes.declared.node.Typed.{Typed}
+use Rattle.expr_typing.specs.expr_nodes.Typed.{scale, reach}
+use Rattle.expr_typing.specs.expr_nodes.Value.{worth}
+use Rattle.expr_typing.specs.expr_nodes.Operators.{constant_value}
+use Rattle.expr_typing.specs.expr_nodes.Scope.{Scope}
+use Rattle.expr_typing.specs.expr_nodes.Typing.{typed}
+use Rattle.expr_typing.specs.expr_nodes.Sound.{is_sound}
+use Rattle.expr_typing.specs.expr_nodes.Seen.{seen, seen_part}
 use Rattle.expr_value.proofs.Worths.{counted_worth}
 use Rattle.expr_eval.specs.DivisorValues.{sound_part}
 use Rattle.expr_eval.proofs.SoundNodes.{asked}

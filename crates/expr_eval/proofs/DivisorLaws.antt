@@ -9,16 +9,16 @@ use Rattle.osc_base.specs.declared.fault.Fault.{Fault}
 use Rattle.osc_base.specs.declared.fault.FaultCode.{FaultCode}
 use Rattle.osc_base.specs.FaultRows.{FaultRow, row, first_fault}
 use Rattle.osc_base.specs.Number.{Number}
-use Rattle.expr_nodes.specs.units_si.ExponentTests.{are_exponents}
-use Rattle.expr_nodes.specs.declared.node.Typed.{Typed as Node}
-use Rattle.expr_nodes.specs.Typed.{Typed}
-use Rattle.expr_nodes.specs.Sizes.{size, multiplied, divided, is_wide}
-use Rattle.expr_nodes.specs.Parts.{of_one, of_two, is_whole, both_numbers}
-use Rattle.expr_nodes.specs.Operators.{is_constant, constant_value, is_zero, can_divide, signed_like, has_quotient, reciprocal_exponents, reciprocal_of, product_exponents, product_of, quotient_exponents, quotient_rows}
-use Rattle.expr_nodes.specs.Parts.{any_holds, is_scalar, on_two}
-use Rattle.expr_nodes.specs.Seen.{seen_part}
-use Rattle.expr_nodes.proofs.Results.{if_ok_more}
-use Rattle.expr_nodes.proofs.Settled.{settled}
+use Rattle.expr_typing.specs.units_si.ExponentTests.{are_exponents}
+use Rattle.expr_typing.specs.expr_nodes.declared.node.Typed.{Typed as Node}
+use Rattle.expr_typing.specs.expr_nodes.Typed.{Typed}
+use Rattle.expr_typing.specs.expr_nodes.Sizes.{size, multiplied, divided, is_wide}
+use Rattle.expr_typing.specs.expr_nodes.Parts.{of_one, of_two, is_whole, both_numbers}
+use Rattle.expr_typing.specs.expr_nodes.Operators.{is_constant, constant_value, is_zero, can_divide, signed_like, has_quotient, reciprocal_exponents, reciprocal_of, product_exponents, product_of, quotient_exponents, quotient_rows}
+use Rattle.expr_typing.specs.expr_nodes.Parts.{any_holds, is_scalar, on_two}
+use Rattle.expr_typing.specs.expr_nodes.Seen.{seen_part}
+use Rattle.expr_typing.proofs.Results.{if_ok_more}
+use Rattle.expr_typing.proofs.Settled.{settled}
 use Rattle.expr_eval.specs.DivisorValues.{reciprocal_by, divisor_value, is_zero_value, is_wide_by}
 use Rattle.expr_eval.proofs.SoundQuotients.{reciprocal_narrow, Divides, quotient_says}
 

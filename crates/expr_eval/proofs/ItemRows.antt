@@ -5,13 +5,13 @@ use Rattle.std.proofs.lemmas.List.{append-nil}
 use Rattle.osc_base.specs.declared.fault.Fault.{Fault}
 use Rattle.osc_base.specs.FaultRows.{FaultRow, first_of, first_fault}
 use Rattle.dsl_tree.specs.ExprTree.{ExprTree, row_of}
-use Rattle.expr_nodes.specs.type_heads.Table.{Table}
-use Rattle.expr_nodes.specs.Scope.{Scope}
-use Rattle.expr_nodes.specs.Typed as Nodes
-use Rattle.expr_nodes.specs.Typed.{Typed}
-use Rattle.expr_nodes.specs.Operators.{part_rows}
-use Rattle.expr_nodes.specs.Typing.{typed, typed_row, expr_rows, items_rows}
-use Rattle.expr_nodes.proofs.Firsts.{first_assoc, first_append}
+use Rattle.expr_typing.specs.type_heads.Table.{Table}
+use Rattle.expr_typing.specs.expr_nodes.Scope.{Scope}
+use Rattle.expr_typing.specs.expr_nodes.Typed as Nodes
+use Rattle.expr_typing.specs.expr_nodes.Typed.{Typed}
+use Rattle.expr_typing.specs.expr_nodes.Operators.{part_rows}
+use Rattle.expr_typing.specs.expr_nodes.Typing.{typed, typed_row, expr_rows, items_rows}
+use Rattle.expr_typing.proofs.Firsts.{first_assoc, first_append}
 use Rattle.expr_eval.specs.ItemChecks.{more_items, item_before, one_value, typed_items}
 
 as_row : (o : Option Typed) (r : Option (List Typed)) → option_and_then (λ x. option_map (λ others. Nodes.Item x others) (option_map Nodes.row_of r)) o ≡ option_map Nodes.row_of (item_before o r)

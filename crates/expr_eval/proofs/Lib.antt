@@ -14,3 +14,5 @@ pub mod ConstantValues
 pub mod Resolved
 pub mod Bounded
 pub mod PathSteps
+-- Crates below, for the crates above.
+pub use Rattle.expr_typing.proofs as of_expr_typing

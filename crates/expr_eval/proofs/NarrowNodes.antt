@@ -1,16 +1,16 @@
 -- The sizes of the program's own nodes are within the limit, so their constants are.
 use Rattle.std.proofs.Common.{◌≡◌, ◌∙◌, refl, ap, subst, ℕ, ◌≤◌, ◌^◌, List, [], ◌∷◌, map, true, false, not, arith}
 use Rattle.std.proofs.lemmas.Bool.Decides.{nat_tests}
-use Rattle.expr_nodes.specs.declared.node.Info.{Info}
-use Rattle.expr_nodes.specs.declared.node.Join.{Join}
-use Rattle.expr_nodes.specs.declared.node.Earlier.{Earlier}
-use Rattle.expr_nodes.specs.declared.node.Typed.{Typed}
-use Rattle.expr_nodes.specs.declared.node.Typed.TheOpen.{Typed-F, Earlier-F}
-use Rattle.expr_nodes.specs.declared.node.Typed.TheFolds.{fold-roll-Typed, fold-roll-Earlier, ind-Typed, map-Typed, map-Earlier}
-use Rattle.expr_nodes.specs.declared.node.Typed.TheViews.{roll-Typed, roll-Earlier}
-use Rattle.expr_nodes.specs.Typed as Nodes
-use Rattle.expr_nodes.specs.Sizes.{size, is_wide}
-use Rattle.expr_nodes.specs.Seen.{Reached, typed_step, earlier_step, seen, reached, seen_info, joined, grouped}
+use Rattle.expr_typing.specs.expr_nodes.declared.node.Info.{Info}
+use Rattle.expr_typing.specs.expr_nodes.declared.node.Join.{Join}
+use Rattle.expr_typing.specs.expr_nodes.declared.node.Earlier.{Earlier}
+use Rattle.expr_typing.specs.expr_nodes.declared.node.Typed.{Typed}
+use Rattle.expr_typing.specs.expr_nodes.declared.node.Typed.TheOpen.{Typed-F, Earlier-F}
+use Rattle.expr_typing.specs.expr_nodes.declared.node.Typed.TheFolds.{fold-roll-Typed, fold-roll-Earlier, ind-Typed, map-Typed, map-Earlier}
+use Rattle.expr_typing.specs.expr_nodes.declared.node.Typed.TheViews.{roll-Typed, roll-Earlier}
+use Rattle.expr_typing.specs.expr_nodes.Typed as Nodes
+use Rattle.expr_typing.specs.expr_nodes.Sizes.{size, is_wide}
+use Rattle.expr_typing.specs.expr_nodes.Seen.{Reached, typed_step, earlier_step, seen, reached, seen_info, joined, grouped}
 use Rattle.expr_eval.specs.Narrow.{is_narrow, are_narrow}
 use Rattle.expr_eval.proofs.Sizes.{both, is_not}
 

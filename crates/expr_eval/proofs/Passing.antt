@@ -4,10 +4,10 @@ use Rattle.osc_base.specs.declared.fault.Place.{Place}
 use Rattle.dsl_tree.specs.declared.parts.Ident.{Ident}
 use Rattle.dsl_tree.specs.ExprTree.{ExprTree, row_of}
 use Rattle.dsl_tree.specs.Views.{SuffixTree, Named, At, with_suffixes, named_row, indexed_row}
-use Rattle.expr_nodes.specs.type_heads.Table.{Table}
-use Rattle.expr_nodes.specs.Scope.{Scope}
-use Rattle.expr_nodes.specs.Checks.{IsChecked}
-use Rattle.expr_nodes.specs.declared.parts.Checked.{Checked}
+use Rattle.expr_typing.specs.type_heads.Table.{Table}
+use Rattle.expr_typing.specs.expr_nodes.Scope.{Scope}
+use Rattle.expr_typing.specs.expr_nodes.Checks.{IsChecked}
+use Rattle.expr_typing.specs.expr_nodes.declared.parts.Checked.{Checked}
 use Rattle.expr_eval.specs.declared.items.Items.{Items}
 use Rattle.expr_eval.specs.declared.pairs.Pair.{Pair}
 use Rattle.expr_eval.specs.NodePairs.{pair_node}

@@ -8,11 +8,11 @@ use Rattle.dsl_tree.specs.declared.rules.PathHead.{PathHead}
 use Rattle.dsl_tree.specs.declared.rules.PathNode.{PathNode}
 use Rattle.dsl_tree.specs.ExprTree.{ExprTree}
 use Rattle.dsl_tree.specs.Views.{SuffixTree, Named, At, with_suffixes, suffix_tree, head_tree, path_row, path_tree}
-use Rattle.expr_nodes.specs.type_heads.Table.{Table}
-use Rattle.expr_nodes.specs.Scope.{Scope}
-use Rattle.expr_nodes.specs.Checks.{IsChecked}
-use Rattle.expr_nodes.specs.Typing.{first, is_path}
-use Rattle.expr_nodes.specs.declared.parts.Checked.{Checked}
+use Rattle.expr_typing.specs.type_heads.Table.{Table}
+use Rattle.expr_typing.specs.expr_nodes.Scope.{Scope}
+use Rattle.expr_typing.specs.expr_nodes.Checks.{IsChecked}
+use Rattle.expr_typing.specs.expr_nodes.Typing.{first, is_path}
+use Rattle.expr_typing.specs.expr_nodes.declared.parts.Checked.{Checked}
 
 suffixed_more : (a : ExprTree) (xs : List SuffixTree) (x : SuffixTree) → with_suffixes a (xs ++ x ∷ []) ≡ with_suffixes (with_suffixes a xs) (x ∷ [])
 suffixed_more a [] x = refl

@@ -13,20 +13,20 @@ use Rattle.dsl_tree.specs.declared.expr.Operator.{Operator}
 use Rattle.dsl_tree.specs.declared.expr.RelationSign.{RelationSign}
 use Rattle.dsl_tree.specs.ExprTree as Trees
 use Rattle.dsl_tree.specs.ExprTree.{ExprTree, ExprRow}
-use Rattle.expr_nodes.specs.units_si.declared.units.Exponents.{Exponents}
+use Rattle.expr_typing.specs.units_si.declared.units.Exponents.{Exponents}
 use Rattle.osc_base.specs.LowestTerms.{lowest}
-use Rattle.expr_nodes.specs.type_heads.Units.{digits_number}
-use Rattle.expr_nodes.specs.type_heads.Form.{Form}
-use Rattle.expr_nodes.specs.type_heads.Table.{Table, TableField, TableUnit, form, unit, owner, field_of, is_behaviour, has_members, enum_number, enums_with, all_types}
-use Rattle.expr_nodes.specs.declared.compare.Compare.{Compare}
-use Rattle.expr_nodes.specs.Kinds.{ValueKind, Made, kind_of, plain}
-use Rattle.expr_nodes.specs.Typed.{Typed, Constant, Read, Whole, Listed, Span, Minus, Not, Sum, Times, And, Or, Implies, Relation, Within, TypedRow, End, Item, items_of, info, begun_at, place_of, kind}
-use Rattle.expr_nodes.specs.Scope.{It, Label, Scope}
-use Rattle.expr_nodes.specs.Sizes.{info_at, unit_size, field_size}
-use Rattle.expr_nodes.specs.Parts.{of_one, on_one, on_two, unless, any_holds}
-use Rattle.expr_nodes.specs.Names.{held_at, single, list_field, elements_from, per_of, typed_meaning, is_nothing, is_several, name_rows, name_typed, meaning, meaning_by_field, meaning_by_label, meaning_by_duration, member_meant, member_at, label_named, it_at, it_rows, it_typed, actor_rows, actor_typed, enum_named, enum_name_rows, enum_name_typed, is_duration, after_point, member_of_whole, member_of_object, member_made, duration_if, dot_rows, dot_typed, field_meant}
-use Rattle.expr_nodes.specs.Operators.{not_rows, logic_rows, truth_at, minus_rows, sum_rows, sum_of, product_rows, product_typed, product_of, quotient_rows, reciprocal_of, factor_rows, factor_typed, comparison_rows, comparison_typed, within_rows, within_typed, compare_of, relation_rows, relation_typed, part_rows, span_rows, item_typed, row_kind, list_typed, index_of, element, index_rows, index_typed, group_typed, number_rows, physical_rows, physical_typed, count_in, constant_at}
-use Rattle.expr_nodes.specs.Typing.{typed, typed_row, expr_rows, items_rows}
+use Rattle.expr_typing.specs.type_heads.Units.{digits_number}
+use Rattle.expr_typing.specs.type_heads.Form.{Form}
+use Rattle.expr_typing.specs.type_heads.Table.{Table, TableField, TableUnit, form, unit, owner, field_of, is_behaviour, has_members, enum_number, enums_with, all_types}
+use Rattle.expr_typing.specs.expr_nodes.declared.compare.Compare.{Compare}
+use Rattle.expr_typing.specs.expr_nodes.Kinds.{ValueKind, Made, kind_of, plain}
+use Rattle.expr_typing.specs.expr_nodes.Typed.{Typed, Constant, Read, Whole, Listed, Span, Minus, Not, Sum, Times, And, Or, Implies, Relation, Within, TypedRow, End, Item, items_of, info, begun_at, place_of, kind}
+use Rattle.expr_typing.specs.expr_nodes.Scope.{It, Label, Scope}
+use Rattle.expr_typing.specs.expr_nodes.Sizes.{info_at, unit_size, field_size}
+use Rattle.expr_typing.specs.expr_nodes.Parts.{of_one, on_one, on_two, unless, any_holds}
+use Rattle.expr_typing.specs.expr_nodes.Names.{held_at, single, list_field, elements_from, per_of, typed_meaning, is_nothing, is_several, name_rows, name_typed, meaning, meaning_by_field, meaning_by_label, meaning_by_duration, member_meant, member_at, label_named, it_at, it_rows, it_typed, actor_rows, actor_typed, enum_named, enum_name_rows, enum_name_typed, is_duration, after_point, member_of_whole, member_of_object, member_made, duration_if, dot_rows, dot_typed, field_meant}
+use Rattle.expr_typing.specs.expr_nodes.Operators.{not_rows, logic_rows, truth_at, minus_rows, sum_rows, sum_of, product_rows, product_typed, product_of, quotient_rows, reciprocal_of, factor_rows, factor_typed, comparison_rows, comparison_typed, within_rows, within_typed, compare_of, relation_rows, relation_typed, part_rows, span_rows, item_typed, row_kind, list_typed, index_of, element, index_rows, index_typed, group_typed, number_rows, physical_rows, physical_typed, count_in, constant_at}
+use Rattle.expr_typing.specs.expr_nodes.Typing.{typed, typed_row, expr_rows, items_rows}
 use Rattle.expr_eval.specs.Resolved.{is_told, is_told_kind, is_told_it, is_plain, is_told_typed, IsResolved}
 
 -- a typed form is there, and is told

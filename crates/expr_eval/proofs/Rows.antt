@@ -9,10 +9,10 @@ use Rattle.dsl_tree.specs.declared.expr.Operator.{Operator}
 use Rattle.dsl_tree.proofs.Seen.{seen_further}
 use Rattle.dsl_tree.specs.ExprTree.{ExprTree}
 use Rattle.dsl_tree.specs.Views.{FurtherTree, SuffixTree, Named, At, grouped, with_suffixes, named_row, indexed_row, expr_tree, suffix_tree, further_tree}
-use Rattle.expr_nodes.specs.type_heads.Table.{Table}
-use Rattle.expr_nodes.specs.Scope.{Scope}
-use Rattle.expr_nodes.specs.Checks.{IsChecked}
-use Rattle.expr_nodes.specs.declared.parts.Checked.{Checked}
+use Rattle.expr_typing.specs.type_heads.Table.{Table}
+use Rattle.expr_typing.specs.expr_nodes.Scope.{Scope}
+use Rattle.expr_typing.specs.expr_nodes.Checks.{IsChecked}
+use Rattle.expr_typing.specs.expr_nodes.declared.parts.Checked.{Checked}
 
 grouped_more : (node : Place → Operator → ExprTree → ExprTree → ExprTree) (a : ExprTree) (xs : List FurtherTree) (x : FurtherTree)
     → grouped node a (xs ++ x ∷ []) ≡ node x.place x.operator (grouped node a xs) x.part

@@ -4,12 +4,12 @@ use Rattle.std.specs.Prelude.{◌||◌, ℤ}
 use Rattle.std.proofs.lemmas.Bool.Decides.{nat_tests}
 use Rattle.std.proofs.lemmas.Int.{ints}
 use Rattle.osc_base.specs.Comparisons.{same_number}
-use Rattle.expr_nodes.specs.units_si.declared.units.Exponents.{Exponents}
-use Rattle.expr_nodes.specs.units_si.ExponentTests.{same_exponents}
-use Rattle.expr_nodes.specs.Kinds.{ValueKind, is_number, same_units}
-use Rattle.expr_nodes.specs.Typed.{Info}
-use Rattle.expr_nodes.specs.Sizes.{Size, is_wide}
-use Rattle.expr_nodes.specs.Sound.{same_size, has_size}
+use Rattle.expr_typing.specs.units_si.declared.units.Exponents.{Exponents}
+use Rattle.expr_typing.specs.units_si.ExponentTests.{same_exponents}
+use Rattle.expr_typing.specs.expr_nodes.Kinds.{ValueKind, is_number, same_units}
+use Rattle.expr_typing.specs.expr_nodes.Typed.{Info}
+use Rattle.expr_typing.specs.expr_nodes.Sizes.{Size, is_wide}
+use Rattle.expr_typing.specs.expr_nodes.Sound.{same_size, has_size}
 
 pub left_of : (a b : Bool) → (a && b) ≡ true → a ≡ true
 left_of true b h = refl

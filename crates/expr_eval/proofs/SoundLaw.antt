@@ -5,16 +5,16 @@ use Rattle.osc_base.specs.declared.fault.Place.{Place}
 use Rattle.dsl_tree.specs.declared.expr.Operator.{Operator}
 use Rattle.dsl_tree.specs.ExprTree as Trees
 use Rattle.dsl_tree.specs.ExprTree.{ExprTree, ExprRow}
-use Rattle.expr_nodes.specs.type_heads.Table.{Table}
-use Rattle.expr_nodes.specs.type_heads.Table as Tables
-use Rattle.expr_nodes.specs.Scope.{Scope}
-use Rattle.expr_nodes.specs.Typed.{Typed, Constant, Read, Whole, Listed, Span, Minus, Not, Sum, Times, And, Or, Implies, Relation, Within, TypedRow, End, Item, items_of, begun_at, place_of}
-use Rattle.expr_nodes.specs.Parts.{is_scalar}
-use Rattle.expr_nodes.specs.Sizes.{info_at, unit_size}
-use Rattle.expr_nodes.specs.Names.{enum_named}
-use Rattle.expr_nodes.specs.Operators.{item_typed, row_kind, list_typed, index_of, element, factor_typed}
-use Rattle.expr_nodes.specs.Sound.{is_sound, are_sound}
-use Rattle.expr_nodes.specs.Typing.{typed, typed_row}
+use Rattle.expr_typing.specs.type_heads.Table.{Table}
+use Rattle.expr_typing.specs.type_heads.Table as Tables
+use Rattle.expr_typing.specs.expr_nodes.Scope.{Scope}
+use Rattle.expr_typing.specs.expr_nodes.Typed.{Typed, Constant, Read, Whole, Listed, Span, Minus, Not, Sum, Times, And, Or, Implies, Relation, Within, TypedRow, End, Item, items_of, begun_at, place_of}
+use Rattle.expr_typing.specs.expr_nodes.Parts.{is_scalar}
+use Rattle.expr_typing.specs.expr_nodes.Sizes.{info_at, unit_size}
+use Rattle.expr_typing.specs.expr_nodes.Names.{enum_named}
+use Rattle.expr_typing.specs.expr_nodes.Operators.{item_typed, row_kind, list_typed, index_of, element, factor_typed}
+use Rattle.expr_typing.specs.expr_nodes.Sound.{is_sound, are_sound}
+use Rattle.expr_typing.specs.expr_nodes.Typing.{typed, typed_row}
 use Rattle.expr_eval.specs.Narrow.{is_narrow, are_narrow}
 use Rattle.expr_eval.proofs.Sizes.{left_of, right_of, both}
 use Rattle.expr_eval.proofs.SoundNodes.{Good, is_asked, asked, only, not_good, and_good, or_good, implies_good, minus_good, sum_good, product_good, relation_good, span_good, group_good, begun_sound}

@@ -16,20 +16,20 @@ use Rattle.osc_base.proofs.Multiples.{lowest_terms}
 use Rattle.dsl_tree.specs.declared.compounds.CompoundKind.{CompoundKind}
 use Rattle.dsl_tree.specs.declared.parts.Digits.{Digits}
 use Rattle.dsl_tree.specs.declared.parts.Ident.{Ident}
-use Rattle.expr_nodes.specs.units_si.declared.units.Exponents.{Exponents}
-use Rattle.expr_nodes.specs.name_scope.Declaring.{first_place}
-use Rattle.expr_nodes.specs.type_heads.Form.{Form}
-use Rattle.expr_nodes.specs.type_heads.Table.{Table, TableField, TableUnit, form, field_of, enum_number, enums_with, is_behaviour, unit}
-use Rattle.expr_nodes.specs.Kinds.{ValueKind, Made, is_truth, plain}
-use Rattle.expr_nodes.specs.Typed.{Typed, Constant, Read, Whole, Listed, Span, Minus, Not, Sum, Times, And, Or, Implies, Relation, Within}
-use Rattle.expr_nodes.specs.Sizes.{info_at, constant_size, unit_size, is_wide}
-use Rattle.expr_nodes.specs.Parts.{is_scalar, any_holds, unless}
-use Rattle.expr_nodes.specs.Scope.{It, Label, Scope}
-use Rattle.expr_nodes.specs.Operators.{constant_at, number_rows, number_typed, truth_typed, text_typed, physical_typed, count_in}
-use Rattle.expr_nodes.specs.Names.{elements_from, held_at, Meaning, typed_meaning, member_at, member_meant, meaning_by_duration, meaning_by_label, meaning_by_field, meaning, label_named, name_rows, name_typed, it_at, dot_typed, field_meant, after_point, member_of_object, member_made, member_of_whole, duration_if, is_duration}
-use Rattle.expr_nodes.specs.SeenNames.{single_in, list_in}
-use Rattle.expr_nodes.specs.Sound.{is_sound, are_sound, is_lowest}
-use Rattle.expr_nodes.proofs.Divisors.{gcd_above_second, share_above, gcd_step, gcd_end}
+use Rattle.expr_typing.specs.units_si.declared.units.Exponents.{Exponents}
+use Rattle.expr_typing.specs.name_scope.Declaring.{first_place}
+use Rattle.expr_typing.specs.type_heads.Form.{Form}
+use Rattle.expr_typing.specs.type_heads.Table.{Table, TableField, TableUnit, form, field_of, enum_number, enums_with, is_behaviour, unit}
+use Rattle.expr_typing.specs.expr_nodes.Kinds.{ValueKind, Made, is_truth, plain}
+use Rattle.expr_typing.specs.expr_nodes.Typed.{Typed, Constant, Read, Whole, Listed, Span, Minus, Not, Sum, Times, And, Or, Implies, Relation, Within}
+use Rattle.expr_typing.specs.expr_nodes.Sizes.{info_at, constant_size, unit_size, is_wide}
+use Rattle.expr_typing.specs.expr_nodes.Parts.{is_scalar, any_holds, unless}
+use Rattle.expr_typing.specs.expr_nodes.Scope.{It, Label, Scope}
+use Rattle.expr_typing.specs.expr_nodes.Operators.{constant_at, number_rows, number_typed, truth_typed, text_typed, physical_typed, count_in}
+use Rattle.expr_typing.specs.expr_nodes.Names.{elements_from, held_at, Meaning, typed_meaning, member_at, member_meant, meaning_by_duration, meaning_by_label, meaning_by_field, meaning, label_named, name_rows, name_typed, it_at, dot_typed, field_meant, after_point, member_of_object, member_made, member_of_whole, duration_if, is_duration}
+use Rattle.expr_typing.specs.expr_nodes.SeenNames.{single_in, list_in}
+use Rattle.expr_typing.specs.expr_nodes.Sound.{is_sound, are_sound, is_lowest}
+use Rattle.expr_typing.proofs.of_expr_nodes.Divisors.{gcd_above_second, share_above, gcd_step, gcd_end}
 use Rattle.expr_eval.proofs.Sizes.{both, nat_self, own_size}
 use Rattle.expr_eval.proofs.SoundNodes.{Good, is_asked, only}
 

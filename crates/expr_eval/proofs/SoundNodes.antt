@@ -7,14 +7,14 @@ use Rattle.osc_base.specs.declared.fault.Place.{Place}
 use Rattle.osc_base.specs.FaultRows.{FaultRow}
 use Rattle.dsl_tree.specs.declared.expr.Operator.{Operator}
 use Rattle.dsl_tree.specs.declared.expr.RelationSign.{RelationSign}
-use Rattle.expr_nodes.specs.declared.compare.Compare.{Compare}
-use Rattle.expr_nodes.specs.declared.compare.Compare.TheVariants.{Below as is_below}
-use Rattle.expr_nodes.specs.Kinds.{ValueKind, is_number, is_truth, same_units}
-use Rattle.expr_nodes.specs.Typed.{Typed, Info, Constant, Read, Whole, Listed, Span, Minus, Not, Sum, Times, And, Or, Implies, Relation, Within, info, kind, begun_at, place_of}
-use Rattle.expr_nodes.specs.Sizes.{Size, size, joined, multiplied, is_wide, info_at, unit_size, field_size, duration_size, constant_size}
-use Rattle.expr_nodes.specs.Parts.{any_holds, unless, on_one, on_two, is_scalar, parts_of, both_numbers}
-use Rattle.expr_nodes.specs.Operators.{not_rows, not_typed, logic_rows, and_typed, or_typed, implies_typed, truth_at, minus_rows, minus_typed, sum_rows, sum_typed, sum_of, added, product_rows, product_typed, product_of, product_exponents, comparison_rows, comparison_typed, within_rows, within_typed, relation_typed, fit_for, fits_in, is_range_or_list, span_rows, span_typed, group_typed}
-use Rattle.expr_nodes.specs.Sound.{is_sound, are_sound, has_size, same_size, can_join, is_truth_info, are_truths, is_constant_of, is_per}
+use Rattle.expr_typing.specs.expr_nodes.declared.compare.Compare.{Compare}
+use Rattle.expr_typing.specs.expr_nodes.declared.compare.Compare.TheVariants.{Below as is_below}
+use Rattle.expr_typing.specs.expr_nodes.Kinds.{ValueKind, is_number, is_truth, same_units}
+use Rattle.expr_typing.specs.expr_nodes.Typed.{Typed, Info, Constant, Read, Whole, Listed, Span, Minus, Not, Sum, Times, And, Or, Implies, Relation, Within, info, kind, begun_at, place_of}
+use Rattle.expr_typing.specs.expr_nodes.Sizes.{Size, size, joined, multiplied, is_wide, info_at, unit_size, field_size, duration_size, constant_size}
+use Rattle.expr_typing.specs.expr_nodes.Parts.{any_holds, unless, on_one, on_two, is_scalar, parts_of, both_numbers}
+use Rattle.expr_typing.specs.expr_nodes.Operators.{not_rows, not_typed, logic_rows, and_typed, or_typed, implies_typed, truth_at, minus_rows, minus_typed, sum_rows, sum_typed, sum_of, added, product_rows, product_typed, product_of, product_exponents, comparison_rows, comparison_typed, within_rows, within_typed, relation_typed, fit_for, fits_in, is_range_or_list, span_rows, span_typed, group_typed}
+use Rattle.expr_typing.specs.expr_nodes.Sound.{is_sound, are_sound, has_size, same_size, can_join, is_truth_info, are_truths, is_constant_of, is_per}
 use Rattle.expr_eval.specs.Narrow.{is_narrow, is_list_field}
 use Rattle.expr_eval.proofs.Sizes.{left_of, right_of, both, no_left, no_right, not_not, is_not, units_self, own_size}
 

@@ -9,14 +9,14 @@ use Rattle.osc_base.specs.declared.fault.Place.{Place}
 use Rattle.osc_base.specs.Number.{Number}
 use Rattle.osc_base.specs.LowestTerms.{gcd, lowest}
 use Rattle.osc_base.proofs.Multiples.{lowest_terms}
-use Rattle.expr_nodes.specs.Kinds.{ValueKind, is_number}
-use Rattle.expr_nodes.specs.Typed.{Typed, kind, place_of}
-use Rattle.expr_nodes.specs.Value.{worth}
-use Rattle.expr_nodes.specs.Sizes.{Size, size, info_at, constant_size, multiplied, divided, is_wide}
-use Rattle.expr_nodes.specs.Parts.{is_scalar, both_numbers}
-use Rattle.expr_nodes.specs.Operators.{quotient_rows, quotient_typed, has_quotient, is_constant, constant_value, is_zero, signed_like, reciprocal, reciprocal_exponents, reciprocal_of, product_of, product_exponents}
-use Rattle.expr_nodes.specs.Sound.{is_sound, is_lowest}
-use Rattle.expr_nodes.proofs.Divisors.{gcd_above}
+use Rattle.expr_typing.specs.expr_nodes.Kinds.{ValueKind, is_number}
+use Rattle.expr_typing.specs.expr_nodes.Typed.{Typed, kind, place_of}
+use Rattle.expr_typing.specs.expr_nodes.Value.{worth}
+use Rattle.expr_typing.specs.expr_nodes.Sizes.{Size, size, info_at, constant_size, multiplied, divided, is_wide}
+use Rattle.expr_typing.specs.expr_nodes.Parts.{is_scalar, both_numbers}
+use Rattle.expr_typing.specs.expr_nodes.Operators.{quotient_rows, quotient_typed, has_quotient, is_constant, constant_value, is_zero, signed_like, reciprocal, reciprocal_exponents, reciprocal_of, product_of, product_exponents}
+use Rattle.expr_typing.specs.expr_nodes.Sound.{is_sound, is_lowest}
+use Rattle.expr_typing.proofs.of_expr_nodes.Divisors.{gcd_above}
 use Rattle.expr_eval.specs.Narrow.{is_narrow}
 use Rattle.expr_eval.proofs.Sizes.{left_of, right_of, both, own_size, nat_self}
 use Rattle.expr_eval.proofs.SoundNodes.{Good, is_asked, asked, only, two_made, sound_narrow}

@@ -3,16 +3,16 @@ use Rattle.std.proofs.Common.{◌≡◌, ◌∙◌, sym, ap, true, false, Option
 use Rattle.std.specs.Prelude.{is_some}
 use Rattle.osc_base.specs.FaultRows.{first_fault}
 use Rattle.dsl_tree.specs.ExprTree.{ExprTree}
-use Rattle.expr_nodes.specs.type_heads.Table.{Table}
-use Rattle.expr_nodes.specs.declared.node.Typed.{Typed}
-use Rattle.expr_nodes.specs.declared.parts.Checked.{Checked}
-use Rattle.expr_nodes.specs.Typed as Nodes
-use Rattle.expr_nodes.specs.Scope.{Scope}
-use Rattle.expr_nodes.specs.Parts.{any_holds}
-use Rattle.expr_nodes.specs.Typing.{typed, expr_rows}
-use Rattle.expr_nodes.specs.Seen.{seen, seen_part}
-use Rattle.expr_nodes.specs.Checks.{IsChecked}
-use Rattle.expr_nodes.proofs.Settled.{no_holds}
+use Rattle.expr_typing.specs.type_heads.Table.{Table}
+use Rattle.expr_typing.specs.expr_nodes.declared.node.Typed.{Typed}
+use Rattle.expr_typing.specs.expr_nodes.declared.parts.Checked.{Checked}
+use Rattle.expr_typing.specs.expr_nodes.Typed as Nodes
+use Rattle.expr_typing.specs.expr_nodes.Scope.{Scope}
+use Rattle.expr_typing.specs.expr_nodes.Parts.{any_holds}
+use Rattle.expr_typing.specs.expr_nodes.Typing.{typed, expr_rows}
+use Rattle.expr_typing.specs.expr_nodes.Seen.{seen, seen_part}
+use Rattle.expr_typing.specs.expr_nodes.Checks.{IsChecked}
+use Rattle.expr_typing.proofs.Settled.{no_holds}
 use Rattle.expr_eval.specs.Resolved.{IsResolved, IsTypedOrRefused}
 use Rattle.expr_eval.specs.TypeAnswers.{IsTyped}
 use Rattle.expr_eval.proofs.SoundNodes.{asked}

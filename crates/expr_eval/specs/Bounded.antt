@@ -2,15 +2,15 @@
 use Rattle.std.specs.Prelude.{◌≡◌, ℕ, ◌&&◌, Bool, true, List, Some}
 use Rattle.std.specs.List.{list_all}
 use Rattle.dsl_tree.specs.ExprTree.{ExprTree}
-use Rattle.expr_nodes.specs.units_si.declared.units.Exponents.{Exponents}
-use Rattle.expr_nodes.specs.units_si.ExponentTests.{are_exponents}
-use Rattle.expr_nodes.specs.type_heads.Form.{Form}
-use Rattle.expr_nodes.specs.type_heads.Table.{Table, TableUnit, form, unit}
-use Rattle.expr_nodes.specs.Kinds.{ValueKind}
-use Rattle.expr_nodes.specs.Typed.{Typed, Listed, kind, items_of}
-use Rattle.expr_nodes.specs.Scope.{Scope}
-use Rattle.expr_nodes.specs.Operators.{exponents_in, quotient_exponents, has_quotient}
-use Rattle.expr_nodes.specs.Typing.{typed}
+use Rattle.expr_typing.specs.units_si.declared.units.Exponents.{Exponents}
+use Rattle.expr_typing.specs.units_si.ExponentTests.{are_exponents}
+use Rattle.expr_typing.specs.type_heads.Form.{Form}
+use Rattle.expr_typing.specs.type_heads.Table.{Table, TableUnit, form, unit}
+use Rattle.expr_typing.specs.expr_nodes.Kinds.{ValueKind}
+use Rattle.expr_typing.specs.expr_nodes.Typed.{Typed, Listed, kind, items_of}
+use Rattle.expr_typing.specs.expr_nodes.Scope.{Scope}
+use Rattle.expr_typing.specs.expr_nodes.Operators.{exponents_in, quotient_exponents, has_quotient}
+use Rattle.expr_typing.specs.expr_nodes.Typing.{typed}
 use Rattle.expr_eval.specs.Resolved.{is_plain}
 
 -- the exponents of each physical type and unit are within their limits

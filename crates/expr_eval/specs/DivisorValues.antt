@@ -2,11 +2,11 @@
 use Rattle.std.specs.Prelude.{◌&&◌, Bool, true, false, not, cond, Option, Some, None, option_map}
 use Rattle.osc_base.specs.Number.{Number}
 use Rattle.osc_base.specs.Fraction.{value}
-use Rattle.expr_nodes.specs.Kinds.{ValueKind}
-use Rattle.expr_nodes.specs.Typed.{Typed, place_of}
-use Rattle.expr_nodes.specs.Sizes.{size, divided, is_wide}
-use Rattle.expr_nodes.specs.Operators.{constant_at, is_constant, constant_value, is_zero, reciprocal, reciprocal_exponents}
-use Rattle.expr_nodes.specs.Sound.{is_sound}
+use Rattle.expr_typing.specs.expr_nodes.Kinds.{ValueKind}
+use Rattle.expr_typing.specs.expr_nodes.Typed.{Typed, place_of}
+use Rattle.expr_typing.specs.expr_nodes.Sizes.{size, divided, is_wide}
+use Rattle.expr_typing.specs.expr_nodes.Operators.{constant_at, is_constant, constant_value, is_zero, reciprocal, reciprocal_exponents}
+use Rattle.expr_typing.specs.expr_nodes.Sound.{is_sound}
 use Rattle.expr_eval.specs.declared.divisor.Divisor.{Divisor}
 
 -- the number that a divisor stands for

@@ -2,13 +2,13 @@
 use Rattle.std.specs.Prelude.{◌≡◌, List, [], ◌∷◌, ◌++◌, Option, Some, None, map, option_map}
 use Rattle.osc_base.specs.FaultRows.{first_fault}
 use Rattle.dsl_tree.specs.ExprTree.{ExprTree, row_of}
-use Rattle.expr_nodes.specs.type_heads.Table.{Table}
-use Rattle.expr_nodes.specs.Scope.{Scope}
-use Rattle.expr_nodes.specs.Typed.{Typed}
-use Rattle.expr_nodes.specs.Parts.{unless}
-use Rattle.expr_nodes.specs.Operators.{part_rows}
-use Rattle.expr_nodes.specs.Typing.{typed, items_rows}
-use Rattle.expr_nodes.specs.Seen.{seen}
+use Rattle.expr_typing.specs.type_heads.Table.{Table}
+use Rattle.expr_typing.specs.expr_nodes.Scope.{Scope}
+use Rattle.expr_typing.specs.expr_nodes.Typed.{Typed}
+use Rattle.expr_typing.specs.expr_nodes.Parts.{unless}
+use Rattle.expr_typing.specs.expr_nodes.Operators.{part_rows}
+use Rattle.expr_typing.specs.expr_nodes.Typing.{typed, items_rows}
+use Rattle.expr_typing.specs.expr_nodes.Seen.{seen}
 use Rattle.expr_eval.specs.declared.items.Items.{Items}
 
 -- items with one more at the end, if all are there

@@ -7,4 +7,4 @@ pub mod DivisorValues
 pub mod Resolved
 pub mod Bounded
 -- Crates below, for the crates above.
-pub use Rattle.expr_nodes.specs as expr_nodes
+pub use Rattle.expr_typing.specs.expr_nodes as expr_nodes

@@ -1,7 +1,7 @@
 -- Typed expressions whose constants don't pass the limit.
 use Rattle.std.specs.Prelude.{Bool, true, false, not, ◌&&◌}
-use Rattle.expr_nodes.specs.Typed.{Typed, Constant, Read, Whole, Listed, Span, Minus, Not, Sum, Times, And, Or, Implies, Relation, Within, TypedRow, End, Item}
-use Rattle.expr_nodes.specs.Sizes.{is_wide}
+use Rattle.expr_typing.specs.expr_nodes.Typed.{Typed, Constant, Read, Whole, Listed, Span, Minus, Not, Sum, Times, And, Or, Implies, Relation, Within, TypedRow, End, Item}
+use Rattle.expr_typing.specs.expr_nodes.Sizes.{is_wide}
 
 -- each constant is within the limit
 abbrev mutual

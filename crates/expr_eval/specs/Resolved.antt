@@ -2,13 +2,13 @@
 use Rattle.std.specs.Prelude.{◌≡◌, ℕ, Bool, true, false, List, Option, Some, is_some}
 use Rattle.std.specs.List.{list_all}
 use Rattle.dsl_tree.specs.ExprTree.{ExprTree}
-use Rattle.expr_nodes.specs.type_heads.Table.{Table, TableUnit, form, unit}
-use Rattle.expr_nodes.specs.Kinds.{Made, ValueKind, kind_of}
-use Rattle.expr_nodes.specs.Typed.{Typed, Whole, Listed, items_of}
-use Rattle.expr_nodes.specs.Scope.{It, Label, Scope}
-use Rattle.expr_nodes.specs.Parts.{any_holds}
-use Rattle.expr_nodes.specs.Typing.{typed, expr_rows}
-use Rattle.expr_nodes.specs.Sound.{is_sound}
+use Rattle.expr_typing.specs.type_heads.Table.{Table, TableUnit, form, unit}
+use Rattle.expr_typing.specs.expr_nodes.Kinds.{Made, ValueKind, kind_of}
+use Rattle.expr_typing.specs.expr_nodes.Typed.{Typed, Whole, Listed, items_of}
+use Rattle.expr_typing.specs.expr_nodes.Scope.{It, Label, Scope}
+use Rattle.expr_typing.specs.expr_nodes.Parts.{any_holds}
+use Rattle.expr_typing.specs.expr_nodes.Typing.{typed, expr_rows}
+use Rattle.expr_typing.specs.expr_nodes.Sound.{is_sound}
 use Rattle.expr_eval.specs.Narrow.{is_narrow}
 
 -- it is told what a phase makes

@@ -6,12 +6,12 @@ use Rattle.osc_base.specs.declared.stop.Stop.{Stop}
 use Rattle.osc_base.specs.FaultRows.{first_fault}
 use Rattle.osc_base.specs.Stops.{OnStop}
 use Rattle.dsl_tree.specs.ExprTree.{ExprTree}
-use Rattle.expr_nodes.specs.type_heads.Table.{Table}
-use Rattle.expr_nodes.specs.declared.node.Typed.{Typed}
-use Rattle.expr_nodes.specs.Scope.{Scope}
-use Rattle.expr_nodes.specs.Typing.{typed, expr_rows}
-use Rattle.expr_nodes.specs.Sound.{is_sound}
-use Rattle.expr_nodes.specs.Seen.{seen}
+use Rattle.expr_typing.specs.type_heads.Table.{Table}
+use Rattle.expr_typing.specs.expr_nodes.declared.node.Typed.{Typed}
+use Rattle.expr_typing.specs.expr_nodes.Scope.{Scope}
+use Rattle.expr_typing.specs.expr_nodes.Typing.{typed, expr_rows}
+use Rattle.expr_typing.specs.expr_nodes.Sound.{is_sound}
+use Rattle.expr_typing.specs.expr_nodes.Seen.{seen}
 
 -- the typed form, which is sound, of an expression without a fault; else the first fault, or out of memory
 abbrev pub IsTyped : Table → Scope → ExprTree → Result Typed (Stop Fault) → Type 0

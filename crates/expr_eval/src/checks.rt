@@ -4,9 +4,9 @@ ghost use Rattle.std.specs.Prelude.{◌≡◌, ◌∷◌, [], map, IfOk};
 ghost use Rattle.dsl_tree.specs.ExprTree.{ExprTree};
 ghost use Rattle.dsl_tree.specs.Views as Views;
 ghost use Rattle.dsl_tree.specs.Views.{expr_tree, further_tree, suffix_tree};
-ghost use Rattle.expr_nodes.specs.Checks.{IsChecked};
+ghost use Rattle.expr_typing.specs.expr_nodes.Checks.{IsChecked};
 ghost use Rattle.expr_eval.specs.Known.{IsWalked};
-ghost use Rattle.expr_nodes.specs.SeenNames.{seen_scope};
+ghost use Rattle.expr_typing.specs.expr_nodes.SeenNames.{seen_scope};
 ghost use Rattle.expr_eval.specs.ItemChecks.{AreChecked};
 ghost use Rattle.expr_eval.specs.NodePairs.{row_node, pair_node};
 
@@ -14,10 +14,9 @@ use crate::items::{Items, listed, no_items, with_item};
 use crate::leaves;
 use crate::pairs::{Level, Pair, paired};
 use dsl_tree::{Expr, Further, Suffix};
-use expr_nodes::Scope;
-use expr_nodes::parts::Checked;
-use expr_nodes::steps::{grouped, indexed, negated, opposed, pointed};
-use expr_nodes::type_model::Types;
+use expr_typing::expr_nodes::{Checked, Scope};
+use expr_typing::steps::{grouped, indexed, negated, opposed, pointed};
+use expr_typing::type_model::Types;
 use osc_base::Place;
 use std::alloc::{AllocError, Global};
 

@@ -2,18 +2,18 @@
 
 ghost use Rattle.std.specs.Prelude.{◌≡◌, ◌∷◌, ◌++◌, [], List, map, option_map, IfOk};
 ghost use Rattle.dsl_tree.specs.ExprTree.{ExprTree, row_of as tree_row};
-ghost use Rattle.expr_nodes.specs.type_heads.Table.{Table};
-ghost use Rattle.expr_nodes.specs.Scope.{Scope};
-ghost use Rattle.expr_nodes.specs.Typed.{row_of};
-ghost use Rattle.expr_nodes.specs.Operators.{list_typed};
-ghost use Rattle.expr_nodes.specs.Checks.{IsChecked};
-ghost use Rattle.expr_nodes.specs.Seen.{seen, seen_part};
+ghost use Rattle.expr_typing.specs.type_heads.Table.{Table};
+ghost use Rattle.expr_typing.specs.expr_nodes.Scope.{Scope};
+ghost use Rattle.expr_typing.specs.expr_nodes.Typed.{row_of};
+ghost use Rattle.expr_typing.specs.expr_nodes.Operators.{list_typed};
+ghost use Rattle.expr_typing.specs.expr_nodes.Checks.{IsChecked};
+ghost use Rattle.expr_typing.specs.expr_nodes.Seen.{seen, seen_part};
 ghost use Rattle.expr_eval.specs.ItemChecks.{more_items, one_value as value_of, AreChecked};
 
-use expr_nodes::Typed;
-use expr_nodes::lists::list;
-use expr_nodes::parts::{Checked, least};
-use expr_nodes::spans::part_fault;
+use expr_typing::expr_nodes::{Checked, Typed};
+use expr_typing::lists::list;
+use expr_typing::parts::least;
+use expr_typing::spans::part_fault;
 use osc_base::{Boxed, Fault, Place, Row};
 use std::alloc::{AllocError, Global};
 

@@ -2,16 +2,16 @@
 
 ghost use Rattle.std.specs.Prelude.{◌≡◌, None, Some, IfOk};
 ghost use Rattle.dsl_tree.specs.ExprTree.{ExprTree};
-ghost use Rattle.expr_nodes.specs.type_heads.Table.{Table};
-ghost use Rattle.expr_nodes.specs.Scope.{Scope as Names};
-ghost use Rattle.expr_nodes.specs.Checks.{IsChecked};
-ghost use Rattle.expr_nodes.specs.Seen.{seen, seen_part};
-ghost use Rattle.expr_nodes.specs.SeenNames.{seen_scope};
+ghost use Rattle.expr_typing.specs.type_heads.Table.{Table};
+ghost use Rattle.expr_typing.specs.expr_nodes.Scope.{Scope as Names};
+ghost use Rattle.expr_typing.specs.expr_nodes.Checks.{IsChecked};
+ghost use Rattle.expr_typing.specs.expr_nodes.Seen.{seen, seen_part};
+ghost use Rattle.expr_typing.specs.expr_nodes.SeenNames.{seen_scope};
 
 use dsl_tree::{Digits, Ident};
-use expr_nodes::parts::Checked;
-use expr_nodes::type_model::Types;
-use expr_nodes::{Scope, Typed, literals, meanings, others, physical};
+use expr_typing::expr_nodes::{Checked, Scope, Typed};
+use expr_typing::type_model::Types;
+use expr_typing::{literals, meanings, others, physical};
 use osc_base::{Boxed, Place};
 use std::alloc::{AllocError, Global};
 

@@ -12,12 +12,12 @@ mod quotients;
 mod typing;
 
 pub use checks::checked;
-pub use expr_nodes::parts::Checked;
+pub use expr_typing::expr_nodes::Checked;
 pub use expr_value::{Reading, value};
 pub use laws::{exponents_are_bounded, typed_or_refused};
 pub use paths::{path_checked, path_place};
 pub use typing::{TypeStop, type_of};
 
 // Crates below, for the crates above.
-pub use expr_nodes;
-pub use expr_nodes::type_model;
+pub use expr_typing;
+pub use expr_typing::{expr_nodes, type_model};

@@ -2,17 +2,17 @@
 
 ghost use Rattle.std.specs.Prelude.{◌≡◌, true, IfOk};
 ghost use Rattle.dsl_tree.specs.ExprTree.{ExprTree};
-ghost use Rattle.expr_nodes.specs.type_heads.Table.{Table};
-ghost use Rattle.expr_nodes.specs.Scope.{Scope};
-ghost use Rattle.expr_nodes.specs.Checks.{IsChecked};
-ghost use Rattle.expr_nodes.specs.Seen.{seen_part};
+ghost use Rattle.expr_typing.specs.type_heads.Table.{Table};
+ghost use Rattle.expr_typing.specs.expr_nodes.Scope.{Scope};
+ghost use Rattle.expr_typing.specs.expr_nodes.Checks.{IsChecked};
+ghost use Rattle.expr_typing.specs.expr_nodes.Seen.{seen_part};
 ghost use Rattle.expr_eval.specs.DivisorValues.{sound_part};
 ghost use Rattle.expr_eval.specs.NodePairs.{row_node, pair_node};
 
 use crate::quotients::factored;
 use dsl_tree::{Operator, RelationSign};
-use expr_nodes::parts::Checked;
-use expr_nodes::steps::{conjoined, disjoined, implied, range_called, related, spanned, summed};
+use expr_typing::expr_nodes::Checked;
+use expr_typing::steps::{conjoined, disjoined, implied, range_called, related, spanned, summed};
 use osc_base::Place;
 use std::alloc::{AllocError, Global};
 

@@ -4,18 +4,17 @@ ghost use Rattle.std.specs.Prelude.{◌≡◌, ◌∷◌, [], map, IfOk};
 ghost use Rattle.dsl_tree.specs.ExprTree.{ExprTree};
 ghost use Rattle.dsl_tree.specs.Views as Views;
 ghost use Rattle.dsl_tree.specs.Views.{head_tree, path_tree, suffix_tree};
-ghost use Rattle.expr_nodes.specs.Checks.{IsChecked};
-ghost use Rattle.expr_nodes.specs.SeenNames.{seen_scope};
-ghost use Rattle.expr_nodes.specs.Typing.{first as first_in};
+ghost use Rattle.expr_typing.specs.expr_nodes.Checks.{IsChecked};
+ghost use Rattle.expr_typing.specs.expr_nodes.SeenNames.{seen_scope};
+ghost use Rattle.expr_typing.specs.expr_nodes.Typing.{first as first_in};
 
 use crate::checks::checked;
 use dsl_tree::{PathHead, PathNode, Suffix};
-use expr_nodes::Scope;
-use expr_nodes::meanings::name;
-use expr_nodes::others::{actor, it};
-use expr_nodes::parts::Checked;
-use expr_nodes::steps::{indexed, pointed};
-use expr_nodes::type_model::Types;
+use expr_typing::expr_nodes::{Checked, Scope};
+use expr_typing::meanings::name;
+use expr_typing::others::{actor, it};
+use expr_typing::steps::{indexed, pointed};
+use expr_typing::type_model::Types;
 use osc_base::Place;
 use std::alloc::{AllocError, Global};
 

@@ -3,19 +3,18 @@
 ghost use Rattle.std.specs.Prelude.{◌≡◌, true, Some, None, is_some};
 ghost use Rattle.dsl_tree.specs.ExprTree.{ExprTree};
 ghost use Rattle.dsl_tree.specs.Views.{expr_tree};
-ghost use Rattle.expr_nodes.specs.type_heads.Table.{Table};
-ghost use Rattle.expr_nodes.specs.Checks.{IsChecked};
-ghost use Rattle.expr_nodes.specs.Scope.{Scope as Names};
-ghost use Rattle.expr_nodes.specs.Seen.{seen, seen_part};
-ghost use Rattle.expr_nodes.specs.SeenNames.{seen_scope};
+ghost use Rattle.expr_typing.specs.type_heads.Table.{Table};
+ghost use Rattle.expr_typing.specs.expr_nodes.Checks.{IsChecked};
+ghost use Rattle.expr_typing.specs.expr_nodes.Scope.{Scope as Names};
+ghost use Rattle.expr_typing.specs.expr_nodes.Seen.{seen, seen_part};
+ghost use Rattle.expr_typing.specs.expr_nodes.SeenNames.{seen_scope};
 ghost use Rattle.expr_eval.specs.Resolved.{IsResolved};
 ghost use Rattle.expr_eval.specs.TypeAnswers.{IsTyped};
 
 use crate::checks::checked;
 use dsl_tree::Expr;
-use expr_nodes::parts::Checked;
-use expr_nodes::type_model::Types;
-use expr_nodes::{Scope, Typed};
+use expr_typing::expr_nodes::{Checked, Scope, Typed};
+use expr_typing::type_model::Types;
 use osc_base::{Boxed, Fault, Stop};
 use std::alloc::Global;
 

@@ -1,16 +1,3 @@
 pub mod Divisors
-pub mod Elements
-pub mod Exponents
-pub mod Firsts
-pub mod Forms
-pub mod Indexes
-pub mod LiteralUnits
-pub mod NameMeanings
-pub mod Pairs
-pub mod Results
+pub mod LabelPlaces
 pub mod SeenNodes
-pub mod Settled
-pub mod SlotValues
-pub mod StepFaults
-pub mod NoReads
-mod LabelPlaces

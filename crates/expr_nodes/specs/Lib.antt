@@ -16,7 +16,7 @@ pub mod SeenNames
 pub mod Checks
 pub mod NoReads
 -- Crates below, for the crates above.
+pub use Rattle.type_model.specs.dsl_tree as dsl_tree
 pub use Rattle.type_model.specs.name_scope as name_scope
-pub use Rattle.type_model.specs.type_faults as type_faults
 pub use Rattle.type_model.specs.type_heads as type_heads
 pub use Rattle.type_model.specs.units_si as units_si

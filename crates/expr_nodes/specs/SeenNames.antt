@@ -1,4 +1,4 @@
--- What the program's own scopes and meanings stand for in the definitions.
+-- What the program's own scopes stand for in the definitions.
 use Rattle.std.specs.Prelude.{ℕ, ℤ, true, cond, not, List, [], Option, Some, None, option_copied, option_map, option_and_then, map}
 use Rattle.osc_base.specs.declared.fault.Place.{Place}
 use Rattle.osc_base.specs.declared.path.Path.{Path}
@@ -20,10 +20,8 @@ use Rattle.expr_nodes.specs.Operators.{constant_at, is_long}
 use Rattle.expr_nodes.specs.Typed.{Typed, Whole, Read, Listed}
 use Rattle.expr_nodes.specs.Sizes.{info_at, unit_size, field_size}
 use Rattle.expr_nodes.specs.Scope as Scopes
-use Rattle.expr_nodes.specs.Names as Names
 use Rattle.expr_nodes.specs.Names.{per_of, elements_from}
-use Rattle.expr_nodes.specs.Seen.{seen_made, seen_part}
-use Rattle.expr_nodes.specs.declared.names.Meaning.{Meaning}
+use Rattle.expr_nodes.specs.Seen.{seen_made}
 
 -- what `it` stands for
 abbrev pub seen_it : It → Scopes.It
@@ -46,12 +44,6 @@ seen_scope s = record { holder = s.holder; it = option_map seen_it s.it; labels 
 -- a field of one value or object, whose type is of that form
 abbrev pub single_in : Place → Path → ℕ → Form → Option Typed
 single_in place path t f = option_map (λ k. cond (has_members f) (Whole (info_at place k unit_size) path) (Read (info_at place k (field_size (per_of f))) path (per_of f))) (kind_of t f)
-
--- what a name means
-abbrev pub seen_meaning : Meaning → Names.Meaning
-seen_meaning Meaning.Nothing = Names.Nothing
-seen_meaning Meaning.Several = Names.Several
-seen_meaning (Meaning.Something typed) = Names.Something (seen_part typed)
 
 -- a list field whose elements are of that form
 abbrev pub list_in : Place → Path → ℕ → Form → ℕ → Option Typed

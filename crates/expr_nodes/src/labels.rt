@@ -45,7 +45,7 @@ impl LabelTable {
     }
 
     /// The first label of that name.
-    pub(crate) fn named(&self, name: &str) -> Option<&Label>
+    pub fn named(&self, name: &str) -> Option<&Label>
         ensures { option_copied result ≡ find (λ l. bytes_eq l.name name.now) self.now.labels.items }
     {
         match self.names.place(name) {

@@ -34,7 +34,7 @@ fn takes_turn(way: &[Turn], turn: &Turn) -> bool
 }
 
 /// Whether a way leads into each member of a `one_of` in which the other stands.
-pub(crate) fn leads_into(way: &[Turn], other: &[Turn]) -> bool
+pub fn leads_into(way: &[Turn], other: &[Turn]) -> bool
     ensures { result ≡ way_leads_into way.now other.now }
 {
     for turn in other {

@@ -4,7 +4,7 @@ use osc_base::Stop;
 use outside_io::MemoryShelf;
 use program_load::load;
 use std::alloc::{AllocError, Global};
-use type_model::Types;
+use type_build::build_types;
 
 /// Number, line and column of the fault for which a source has no types.
 pub fn told(alloc: Global, source: &str) -> Result<String, AllocError> {
@@ -13,7 +13,7 @@ pub fn told(alloc: Global, source: &str) -> Result<String, AllocError> {
     let Ok(program) = load(alloc, &mut shelf, "main.osc") else {
         return String::from_str(alloc, "no program");
     };
-    match Types::build(alloc, &program) {
+    match build_types(alloc, &program) {
         Ok(_) => String::from_str(alloc, "none"),
         Err(Stop::At(fault)) => format!(in alloc;
             "{} {}:{}",

@@ -1,8 +1,8 @@
 //! Calls of `command` as the program makes them, over a shelf and a sink in memory.
 
-use diagnostics::{NotedSink, refusal_message};
+use diagnostics::{NotedShelf, NotedSink, refusal_message};
 use osc_base::Row;
-use outside_io::{MemoryShelf, MemorySink};
+use outside_io::{MemoryShelf, MemorySink, Shelf};
 use scenario_tool::command;
 use std::alloc::{AllocError, Global};
 
@@ -32,12 +32,24 @@ pub fn call_failing(
     failing: &[u64],
     room: usize,
 ) -> Result<Called, AllocError> {
+    let shelf = MemoryShelf::of(alloc, files, 4096, failing)?;
+    call_over(alloc, words, shelf, room)
+}
+
+/// Calls `command` over this shelf, and a sink with so much room.
+pub fn call_over<H: Shelf + Drop>(
+    alloc: Global,
+    words: &[&str],
+    shelf: H,
+    room: usize,
+) -> Result<Called, AllocError> {
     let words = owned(alloc, words)?;
-    let mut shelf = MemoryShelf::of(alloc, files, 4096, failing)?;
+    let mut shelf = NotedShelf::new(alloc, shelf);
     let sink = MemorySink::new(alloc, room, 4096, Row::new(alloc))?;
     let mut out = NotedSink::new(alloc, sink);
     let status = command(alloc, &words, &mut shelf, &mut out);
-    let message = refusal_message(alloc, words.as_slice(), status, out.note(), &mut shelf)?;
+    let mut kept = shelf.into_kept();
+    let message = refusal_message(alloc, words.as_slice(), status, out.note(), &mut kept)?;
     Ok(Called {
         status,
         written: String::from_utf8_lossy(alloc, out.note())?,

@@ -1,4 +1,5 @@
 use crate::call::{call, message_for};
+use std::alloc::{AllocError, Global};
 use std::test::Fail;
 
 const GENERATE: [&str; 3] = ["generate", "main.osc", "top"];
@@ -163,6 +164,59 @@ fn names_that_are_near(rt: HostRuntime) -> Result<(), Fail> {
     }
     let none = message_for(rt.alloc(), "fault 312 main.osc:4:23\n", &files)?;
     assert!(rt; !none.as_str().contains("a name near"));
+    Ok(())
+}
+
+/// What the message for a call of `generate` is that finds no declaration of a name of so many letters, beside a field whose name
+/// has so many.
+fn message_of_lengths(alloc: Global, asked: usize, declared: usize) -> Result<String, AllocError> {
+    let asked = String::from_utf8_lossy(alloc, vec![in alloc; b'a'; asked]?.as_slice())?;
+    let declared = String::from_utf8_lossy(alloc, vec![in alloc; b'a'; declared]?.as_slice())?;
+    let source = format!(in alloc; "scenario top:\n    {declared}: int\n    keep({asked} == 1)\n")?;
+    Ok(call(alloc, &GENERATE, &[("main.osc", source.as_bytes())])?.message)
+}
+
+/// Long names are near no other, so that their messages take no time.
+#[test]
+fn long_names(rt: HostRuntime) -> Result<(), Fail> {
+    let rows = [
+        (63, 64, true),
+        (64, 63, true),
+        (64, 65, false),
+        (65, 64, false),
+        (40_000, 39_999, false),
+    ];
+    for (asked, declared, is_near) in rows {
+        let message = message_of_lengths(rt.alloc(), asked, declared)?;
+        assert!(rt; message.as_str().starts_with("error[312]: "), "{asked}");
+        assert!(rt;
+            message.as_str().contains("a name near") == is_near,
+            "{asked}"
+        );
+    }
+    Ok(())
+}
+
+/// Of many declared names only the first are looked at.
+#[test]
+fn many_names(rt: HostRuntime) -> Result<(), Fail> {
+    let alloc = rt.alloc();
+    for (count, is_near) in [(9_990, true), (10_000, false)] {
+        let mut source = String::from_str(alloc, "enum kind: [a")?;
+        for number in 1..count {
+            write!(source, ", a{number}")?;
+        }
+        source.push_str("]\nscenario top:\n    speed: int\n    keep(sped > 3)\n")?;
+        let called = call(alloc, &GENERATE, &[("main.osc", source.as_bytes())])?;
+        assert!(rt;
+            called.message.as_str().starts_with("error[312]: "),
+            "{count}"
+        );
+        assert!(rt;
+            called.message.as_str().contains("is `speed`") == is_near,
+            "{count}"
+        );
+    }
     Ok(())
 }
 

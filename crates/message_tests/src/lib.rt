@@ -8,4 +8,8 @@ mod examples;
 #[cfg(test)]
 mod faults;
 #[cfg(test)]
+mod kept;
+#[cfg(test)]
+mod once_shelf;
+#[cfg(test)]
 mod refusals;

@@ -12,6 +12,7 @@ use osc_base::{Fault, Stop};
 use program_uses::type_model::Types;
 use program_uses::uses;
 use std::alloc::Global;
+use type_build::build_types;
 
 /// The types of a program all of whose files were added, or the first fault of its declarations: of headings, else of members,
 /// else of uses.
@@ -21,7 +22,7 @@ pub fn sound_types(alloc: Global, program: &Program) -> Result<Types, Stop<Fault
     ensures sound { IfOk result (λ _. fault_in program.now ≡ None) }
     ensures fault { IfErr result (λ stop. (f : Fault) → stop ≡ Stop.At f → fault_in program.now ≡ Some f) }
 {
-    let types = Types::build(alloc, program)?;
+    let types = build_types(alloc, program)?;
     match uses(alloc, program, &types)? {
         Some(fault) => Err(Stop::At(fault)),
         None => Ok(types),

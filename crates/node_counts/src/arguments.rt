@@ -12,9 +12,9 @@ ghost use Rattle.node_counts.specs.Arguments.{argument_amount, arguments_amount,
 
 use dsl_tree::{Argument, Expr, Ident};
 use osc_base::{Boxed, Place};
-use scene_expansion::expr_nodes::others::it;
-use scene_expansion::expr_nodes::steps::pointed;
 use scene_expansion::expr_nodes::{It, Scope, Typed};
+use scene_expansion::expr_typing::others::it;
+use scene_expansion::expr_typing::steps::pointed;
 use scene_expansion::program_calls::first_place;
 use scene_expansion::type_model::{FieldType, TypeId, Types};
 use std::alloc::{AllocError, Global};

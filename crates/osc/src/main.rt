@@ -1,9 +1,9 @@
 //! The program `osc`: it hands its arguments, the files of the system and standard output to
 //! `command`, and ends with the number that this returns. If the call was refused, a message for
-//! people then goes to standard error.
+//! people then goes to standard error. It is made of what was read and written: no file is read twice.
 #![tactic(auto)]
 
-use diagnostics::{NotedSink, refusal_message, status_message};
+use diagnostics::{NotedShelf, NotedSink, refusal_message, status_message};
 use fault_texts::Status;
 use outside_io::{FileShelf, OutSink};
 use scenario_tool::command;
@@ -22,13 +22,13 @@ fn main(rt: HostRuntime) -> ExitCode {
         }
         Err(_) => return without_words(&rt, Status::Arguments),
     };
-    let mut shelf = FileShelf::new(&rt);
+    let mut shelf = NotedShelf::new(rt.alloc(), FileShelf::new(&rt));
     let mut out = NotedSink::new(rt.alloc(), OutSink::new(&rt));
     let number = command(rt.alloc(), &words, &mut shelf, &mut out);
-    let mut again = FileShelf::new(&rt);
+    let mut kept = shelf.into_kept();
     tell(
         &rt,
-        refusal_message(rt.alloc(), words.as_slice(), number, out.note(), &mut again),
+        refusal_message(rt.alloc(), words.as_slice(), number, out.note(), &mut kept),
     );
     ExitCode::from(number)
 }

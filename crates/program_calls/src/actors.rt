@@ -10,13 +10,12 @@ ghost use Rattle.program_calls.specs.SeenCallees.{actor_tree, called_in, head_tr
 
 use crate::callees::{Callee, actor_of, behaviour_named};
 use crate::owned::owned_behaviour;
-use composition::expr_nodes::meanings::name;
-use composition::expr_nodes::others::actor;
-use composition::expr_nodes::parts::Checked;
-use composition::expr_nodes::steps::pointed;
-use composition::expr_nodes::{Scope, Typed};
+use composition::expr_nodes::{Checked, Scope, Typed};
 use composition::type_model::{TypeId, Types};
 use dsl_tree::{Ident, InvokeHead};
+use expr_typing::meanings::name;
+use expr_typing::others::actor;
+use expr_typing::steps::pointed;
 use osc_base::{Boxed, Place};
 use std::alloc::{AllocError, Global};
 

@@ -33,3 +33,4 @@ pub use scopes::scope_at;
 pub use composition;
 pub use composition::{cond_inherit, expr_nodes, path_index, type_model, type_tables};
 pub use dsl_tree;
+pub use expr_typing;

@@ -8,12 +8,12 @@ use Rattle.osc_base.specs.FaultRows.{row, row_fault, first_of, first_from}
 use Rattle.osc_base.proofs.FaultRows.{first_from_joined}
 use Rattle.dsl_tree.specs.declared.parts.Ident.{Ident}
 use Rattle.dsl_tree.specs.PhaseTree.{ArgumentTree}
-use Rattle.expr_nodes.specs.type_faults.NameRows.{HasTexts}
+use Rattle.fault_sets.specs.NameRows.{HasTexts}
 use Rattle.type_heads.specs.Table.{Table}
 use Rattle.type_heads.specs.Types.{Field}
-use Rattle.expr_nodes.specs.Fits.{duration_fit_rows}
-use Rattle.expr_nodes.specs.Scope.{Scope}
-use Rattle.expr_nodes.specs.Typing.{typed, expr_rows, first as begins}
+use Rattle.composition.specs.expr_nodes.Fits.{duration_fit_rows}
+use Rattle.composition.specs.expr_nodes.Scope.{Scope}
+use Rattle.composition.specs.expr_nodes.Typing.{typed, expr_rows, first as begins}
 use Rattle.composition.specs.Calls.{Assigned}
 use Rattle.composition.specs.Uses.{among, argument_place, assigned_rows, name_assigned}
 use Rattle.program_uses.specs.ArgumentRows.{Continues, arguments_in, assigned_in, field_value_rows}

@@ -3,8 +3,8 @@ use Rattle.std.proofs.Common.{◌≡◌, refl, ℕ}
 use Rattle.type_heads.specs.Form.{Form}
 use Rattle.type_heads.specs.Shown.{bare}
 use Rattle.type_heads.specs.Table.{is_object}
-use Rattle.expr_nodes.specs.Kinds.{kind_of}
-use Rattle.expr_nodes.specs.Names.{per_of}
+use Rattle.composition.specs.expr_nodes.Kinds.{kind_of}
+use Rattle.composition.specs.expr_nodes.Names.{per_of}
 
 pub kind_bare : (t : ℕ) (f : Form) → kind_of t (bare f) ≡ kind_of t f
 kind_bare t (Form.Enum members) = refl

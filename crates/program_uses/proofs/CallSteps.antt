@@ -9,13 +9,13 @@ use Rattle.dsl_tree.specs.declared.parts.Ident.{Ident}
 use Rattle.dsl_tree.specs.declared.phases.InvokeHead.{InvokeHead}
 use Rattle.dsl_tree.specs.ExprTree.{ExprTree}
 use Rattle.type_heads.specs.Table.{Table}
-use Rattle.expr_nodes.specs.Checks.{IsChecked}
-use Rattle.expr_nodes.specs.Parts.{of_one}
-use Rattle.expr_nodes.specs.Scope.{Scope}
-use Rattle.expr_nodes.specs.Seen.{seen_part}
-use Rattle.expr_nodes.specs.Typed.{Typed}
-use Rattle.expr_nodes.specs.Typing.{expr_rows, first, typed}
-use Rattle.expr_nodes.specs.declared.parts.Checked.{Checked}
+use Rattle.composition.specs.expr_nodes.Checks.{IsChecked}
+use Rattle.composition.specs.expr_nodes.Parts.{of_one}
+use Rattle.composition.specs.expr_nodes.Scope.{Scope}
+use Rattle.composition.specs.expr_nodes.Seen.{seen_part}
+use Rattle.composition.specs.expr_nodes.Typed.{Typed}
+use Rattle.composition.specs.expr_nodes.Typing.{expr_rows, first, typed}
+use Rattle.composition.specs.expr_nodes.declared.parts.Checked.{Checked}
 use Rattle.composition.specs.Calls.{Callee, actor_type, owned_behaviour, without_labels}
 use Rattle.composition.specs.Uses.{begins_with_label, callee_rows}
 use Rattle.program_calls.specs.SeenCallees.{actor_tree, head_tree, with_names}

@@ -3,8 +3,8 @@ use Rattle.std.proofs.Common.{◌≡◌, ◌∙◌, refl, sym, ap, List, [], ◌
 use Rattle.std.proofs.lemmas.Grind.{flat_map-append}
 use Rattle.dsl_tree.specs.PhaseTree.{ArgumentTree}
 use Rattle.type_heads.specs.Table.{Table}
-use Rattle.expr_nodes.specs.Scope.{Scope}
-use Rattle.expr_nodes.specs.Typing.{expr_rows}
+use Rattle.composition.specs.expr_nodes.Scope.{Scope}
+use Rattle.composition.specs.expr_nodes.Typing.{expr_rows}
 use Rattle.composition.specs.Uses.{compared_exprs}
 use Rattle.program_uses.specs.ModifierRows.{compared_rows}
 

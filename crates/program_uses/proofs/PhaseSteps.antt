@@ -13,9 +13,9 @@ use Rattle.dsl_tree.proofs.SeenPhases.{seen_comp, seen_invoke, seen_wait}
 use Rattle.type_heads.specs.Members.{fields}
 use Rattle.type_heads.specs.Table.{Table}
 use Rattle.type_heads.specs.Types.{Field, Types}
-use Rattle.expr_nodes.specs.Fits.{duration_fit_rows}
-use Rattle.expr_nodes.specs.Scope.{Scope}
-use Rattle.expr_nodes.specs.Typing.{typed, expr_rows, first}
+use Rattle.composition.specs.expr_nodes.Fits.{duration_fit_rows}
+use Rattle.composition.specs.expr_nodes.Scope.{Scope}
+use Rattle.composition.specs.expr_nodes.Typing.{typed, expr_rows, first}
 use Rattle.composition.specs.Calls.{Turn, callee, invoked, scope_at}
 use Rattle.composition.specs.Uses.{call_rows, callee_rows, composition_rows, it_made, part_rows, phase_rows}
 use Rattle.program_calls.specs.SeenCallees.{called_in}

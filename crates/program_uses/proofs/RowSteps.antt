@@ -5,15 +5,15 @@ use Rattle.osc_base.specs.declared.fault.Place.{Place}
 use Rattle.osc_base.specs.declared.fault.Fault.{Fault}
 use Rattle.osc_base.specs.FaultRows.{FaultRow, row_fault, first_of, first_from, first_fault}
 use Rattle.osc_base.proofs.FaultRows.{first_from_joined}
-use Rattle.expr_nodes.proofs.Firsts.{first_assoc}
+use Rattle.expr_eval.proofs.of_expr_typing.Firsts.{first_assoc}
 use Rattle.dsl_tree.specs.ExprTree.{ExprTree}
 use Rattle.type_heads.specs.Table.{Table}
-use Rattle.expr_nodes.specs.Scope.{Scope}
-use Rattle.expr_nodes.specs.Checks.{IsChecked}
-use Rattle.expr_nodes.specs.Typed.{Typed}
-use Rattle.expr_nodes.specs.Typing.{expr_rows, typed, first as begins}
-use Rattle.expr_nodes.specs.Seen.{seen_part}
-use Rattle.expr_nodes.specs.declared.parts.Checked.{Checked}
+use Rattle.composition.specs.expr_nodes.Scope.{Scope}
+use Rattle.composition.specs.expr_nodes.Checks.{IsChecked}
+use Rattle.composition.specs.expr_nodes.Typed.{Typed}
+use Rattle.composition.specs.expr_nodes.Typing.{expr_rows, typed, first as begins}
+use Rattle.composition.specs.expr_nodes.Seen.{seen_part}
+use Rattle.composition.specs.expr_nodes.declared.parts.Checked.{Checked}
 
 none_last : (a : Option Fault) → first_of a None ≡ a
 none_last None = refl

@@ -7,13 +7,13 @@ use Rattle.osc_base.specs.FaultRows.{row, row_fault, first_of, first_from}
 use Rattle.dsl_tree.specs.declared.rules.PathNode.{PathNode}
 use Rattle.dsl_tree.specs.Views.{path_tree}
 use Rattle.type_heads.specs.Table.{Table}
-use Rattle.expr_nodes.specs.Checks.{IsChecked}
-use Rattle.expr_nodes.specs.Fits.{is_read}
-use Rattle.expr_nodes.specs.Parts.{of_one}
-use Rattle.expr_nodes.specs.Scope.{Scope}
-use Rattle.expr_nodes.specs.Seen.{seen_part}
-use Rattle.expr_nodes.specs.Typing.{expr_rows, first, typed}
-use Rattle.expr_nodes.specs.declared.parts.Checked.{Checked}
+use Rattle.composition.specs.expr_nodes.Checks.{IsChecked}
+use Rattle.composition.specs.expr_nodes.Fits.{is_read}
+use Rattle.composition.specs.expr_nodes.Parts.{of_one}
+use Rattle.composition.specs.expr_nodes.Scope.{Scope}
+use Rattle.composition.specs.expr_nodes.Seen.{seen_part}
+use Rattle.composition.specs.expr_nodes.Typing.{expr_rows, first, typed}
+use Rattle.composition.specs.expr_nodes.declared.parts.Checked.{Checked}
 use Rattle.program_uses.specs.RuleRows.{remove_rows}
 use Rattle.expr_eval.proofs.PathSteps.{path_is_path}
 

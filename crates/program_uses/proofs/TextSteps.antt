@@ -16,7 +16,7 @@ use Rattle.type_heads.specs.Cycles.{returns}
 use Rattle.type_heads.specs.Members.{body, the_do}
 use Rattle.type_heads.specs.Table.{Table, form, is_scenario}
 use Rattle.type_heads.specs.Types.{Do, Types}
-use Rattle.expr_nodes.specs.Scope.{Scope}
+use Rattle.composition.specs.expr_nodes.Scope.{Scope}
 use Rattle.composition.specs.Calls.{PhaseHere, phases_in, scope_at}
 use Rattle.composition.specs.Uses.{invocation_row, invocations, member_use_rows, rule_rows, text_rows}
 use Rattle.program_calls.specs.SeenLabels.{LabelHere, do_labels, labels_here}

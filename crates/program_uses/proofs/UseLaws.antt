@@ -5,8 +5,8 @@ use Rattle.dsl_tree.specs.FileTree.{FieldTree}
 use Rattle.dsl_tree.specs.PhaseTree.{ArgumentTree, PartTree, PhaseTree, Comp, Invoke, Wait}
 use Rattle.type_heads.specs.Members.{fields}
 use Rattle.type_heads.specs.Types.{Types}
-use Rattle.expr_nodes.specs.Scope.{Scope}
-use Rattle.expr_nodes.specs.Typing.{expr_rows}
+use Rattle.composition.specs.expr_nodes.Scope.{Scope}
+use Rattle.composition.specs.expr_nodes.Typing.{expr_rows}
 use Rattle.composition.specs.Calls.{Assigned, Callee, Turn, assigned, called, scope_at}
 use Rattle.composition.specs.Uses.{arguments_rows, assigned_rows, callee_rows, field_use_rows, name_assigned, part_rows, phase_rows}
 use Rattle.program_calls.specs.SeenCallees.{called_in}

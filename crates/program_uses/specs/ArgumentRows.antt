@@ -7,13 +7,13 @@ use Rattle.dsl_tree.specs.declared.parts.Ident.{Ident}
 use Rattle.dsl_tree.specs.ExprTree.{ExprTree}
 use Rattle.dsl_tree.specs.FileTree.{FieldTree}
 use Rattle.dsl_tree.specs.PhaseTree.{ArgumentTree}
-use Rattle.expr_nodes.specs.type_faults.NameRows.{HasTexts}
+use Rattle.fault_sets.specs.NameRows.{HasTexts}
 use Rattle.type_heads.specs.Table.{Table, named}
 use Rattle.type_heads.specs.Types.{Field}
-use Rattle.expr_nodes.specs.Fits.{argument_fit_rows}
-use Rattle.expr_nodes.specs.Names.{is_duration}
-use Rattle.expr_nodes.specs.Scope.{Scope}
-use Rattle.expr_nodes.specs.Typing.{typed, expr_rows, first}
+use Rattle.composition.specs.expr_nodes.Fits.{argument_fit_rows}
+use Rattle.composition.specs.expr_nodes.Names.{is_duration}
+use Rattle.composition.specs.expr_nodes.Scope.{Scope}
+use Rattle.composition.specs.expr_nodes.Typing.{typed, expr_rows, first}
 use Rattle.composition.specs.Calls.{Assigned}
 use Rattle.composition.specs.Uses.{assigned_rows, given_rows, name_assigned, with_kind}
 use Rattle.program_uses.specs.declared.arguments.Assigned.{Assigned as OwnAssigned}

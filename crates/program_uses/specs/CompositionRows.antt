@@ -8,12 +8,12 @@ use Rattle.dsl_tree.specs.declared.parts.Ident.{Ident}
 use Rattle.dsl_tree.specs.declared.phases.CompKind.{CompKind}
 use Rattle.dsl_tree.specs.ExprTree.{ExprTree}
 use Rattle.dsl_tree.specs.PhaseTree.{ArgumentTree}
-use Rattle.expr_nodes.specs.type_faults.NameRows.{HasTexts}
+use Rattle.fault_sets.specs.NameRows.{HasTexts}
 use Rattle.type_heads.specs.Table.{Table}
-use Rattle.expr_nodes.specs.Fits.{duration_fit_rows}
-use Rattle.expr_nodes.specs.Names.{is_duration}
-use Rattle.expr_nodes.specs.Scope.{Scope}
-use Rattle.expr_nodes.specs.Typing.{typed, expr_rows, first}
+use Rattle.composition.specs.expr_nodes.Fits.{duration_fit_rows}
+use Rattle.composition.specs.expr_nodes.Names.{is_duration}
+use Rattle.composition.specs.expr_nodes.Scope.{Scope}
+use Rattle.composition.specs.expr_nodes.Typing.{typed, expr_rows, first}
 use Rattle.composition.specs.Uses.{is_overlap, named_rows, takes_overlap}
 
 -- the words after `overlap:`

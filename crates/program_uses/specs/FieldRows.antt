@@ -6,8 +6,8 @@ use Rattle.dsl_tree.specs.ExprTree.{ExprTree}
 use Rattle.dsl_tree.specs.FileTree.{FieldTree}
 use Rattle.type_heads.specs.Table.{Table, named}
 use Rattle.type_heads.specs.Members.{list_length}
-use Rattle.expr_nodes.specs.Scope.{It, Scope}
-use Rattle.expr_nodes.specs.Typing.{expr_rows}
+use Rattle.composition.specs.expr_nodes.Scope.{It, Scope}
+use Rattle.composition.specs.expr_nodes.Typing.{expr_rows}
 use Rattle.composition.specs.Uses.{rule_rows, values_given, values_rows, with_kind}
 use Rattle.program_uses.specs.TableTypes.{of_table}
 

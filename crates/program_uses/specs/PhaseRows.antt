@@ -3,9 +3,9 @@ use Rattle.std.specs.Prelude.{ℕ, Some, List, [], ◌++◌, flat_map}
 use Rattle.osc_base.specs.FaultRows.{FaultRow}
 use Rattle.dsl_tree.specs.PhaseTree.{PhaseTree, Comp, Invoke, Wait}
 use Rattle.type_heads.specs.Types.{Types}
-use Rattle.expr_nodes.specs.Fits.{duration_fit_rows}
-use Rattle.expr_nodes.specs.Scope.{Scope}
-use Rattle.expr_nodes.specs.Typing.{typed, expr_rows, first}
+use Rattle.composition.specs.expr_nodes.Fits.{duration_fit_rows}
+use Rattle.composition.specs.expr_nodes.Scope.{Scope}
+use Rattle.composition.specs.expr_nodes.Typing.{typed, expr_rows, first}
 use Rattle.composition.specs.Calls.{PhaseHere, callee, invoked}
 use Rattle.composition.specs.Uses.{call_rows, callee_rows, composition_rows, it_made, part_rows, phase_rows}
 

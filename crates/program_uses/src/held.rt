@@ -3,13 +3,13 @@
 ghost use Rattle.std.specs.Prelude.{◌≡◌, ◌<◌, Some};
 ghost use Rattle.type_heads.specs.Shown.{kind_form};
 ghost use Rattle.type_heads.specs.Table.{form, is_object as of_object};
-ghost use Rattle.expr_nodes.specs.Kinds.{kind_of};
-ghost use Rattle.expr_nodes.specs.Names.{per_of as counted_over};
-ghost use Rattle.expr_nodes.specs.Seen.{seen_kind, seen_size};
-ghost use Rattle.expr_nodes.specs.Sizes.{field_size};
+ghost use Rattle.composition.specs.expr_nodes.Kinds.{kind_of};
+ghost use Rattle.composition.specs.expr_nodes.Names.{per_of as counted_over};
+ghost use Rattle.composition.specs.expr_nodes.Seen.{seen_kind, seen_size};
+ghost use Rattle.composition.specs.expr_nodes.Sizes.{field_size};
 
-use expr_nodes::type_model::{TypeId, TypeKind, Types};
-use expr_nodes::{Size, ValueKind};
+use composition::expr_nodes::{Size, ValueKind};
+use composition::type_model::{TypeId, TypeKind, Types};
 use units_si::Exponents;
 
 /// The exponents of a number without a unit.

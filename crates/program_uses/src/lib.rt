@@ -21,6 +21,6 @@ pub use used::first_use_fault;
 
 // Crates below, for the crates above.
 pub use composition;
-pub use expr_nodes::type_model;
+pub use composition::type_model;
 pub use program_fields::type_tables;
 pub use program_members;

@@ -4,9 +4,9 @@ ghost use Rattle.std.specs.Prelude.{◌≡◌, [], false, flat_map, map, not, op
 ghost use Rattle.std.specs.Option.{option_map_or};
 ghost use Rattle.osc_base.specs.FaultRows.{first_from};
 ghost use Rattle.dsl_tree.specs.Views.{argument_tree, expr_tree, modifier_tree};
-ghost use Rattle.expr_nodes.specs.Parts.{of_one};
-ghost use Rattle.expr_nodes.specs.Seen.{seen_kind, seen_part};
-ghost use Rattle.expr_nodes.specs.SeenNames.{seen_scope};
+ghost use Rattle.composition.specs.expr_nodes.Parts.{of_one};
+ghost use Rattle.composition.specs.expr_nodes.Seen.{seen_kind, seen_part};
+ghost use Rattle.composition.specs.expr_nodes.SeenNames.{seen_scope};
 ghost use Rattle.composition.specs.Uses.{compared_kind as kind_compared, form_rows, is_at as of_at, is_drive as drive_in, is_vehicle_object, modifier_rows};
 ghost use Rattle.program_calls.specs.SeenModifiers.{seen_form, seen_value};
 ghost use Rattle.program_uses.specs.ModifierRows.{compared_rows, modifier_name_rows, range_rows, vehicle_rows};
@@ -14,10 +14,10 @@ ghost use Rattle.program_uses.specs.TableTypes.{of_table};
 
 use crate::held::NO_EXPONENTS;
 use crate::rules::with_expr;
+use composition::expr_nodes::{Scope, Typed, ValueKind};
+use composition::type_model::{TypeId, Types};
 use dsl_tree::{Argument, Expr, ModifierNode};
 use expr_eval::checked;
-use expr_nodes::type_model::{TypeId, Types};
-use expr_nodes::{Scope, Typed, ValueKind};
 use name_scope::with_fault;
 use osc_base::{Boxed, Fault, FaultCode, Kind};
 use program_calls::{

@@ -8,7 +8,7 @@ ghost use Rattle.type_heads.specs.DeclaredTypes.{program_of, types_of};
 ghost use Rattle.type_heads.specs.Told.{told};
 
 use crate::used::first_use_fault;
-use expr_nodes::type_model::Types;
+use composition::type_model::Types;
 use name_scope::Program;
 use osc_base::Fault;
 use program_members::ProgramMembers;

@@ -3,7 +3,7 @@
 ghost use Rattle.std.specs.Prelude.{◌≡◌, None, slice_index_or};
 ghost use Rattle.program_uses.specs.SeenTexts.{bare_body};
 
-use expr_nodes::type_model::TypeId;
+use composition::type_model::TypeId;
 use osc_base::Place;
 use program_fields::{ProgramFields, TypeDo};
 use type_heads::{Body, WrittenMember};

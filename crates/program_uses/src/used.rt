@@ -11,7 +11,7 @@ ghost use Rattle.program_uses.specs.SeenTexts.{HasTextsOf, Tells};
 use crate::invocations::with_invocations;
 use crate::program_texts::ProgramTexts;
 use crate::texts::with_texts;
-use expr_nodes::type_model::Types;
+use composition::type_model::Types;
 use osc_base::Fault;
 use program_fields::ProgramFields;
 use program_fields::type_members::MemberLists;

@@ -4,3 +4,4 @@ pub mod Settings
 pub mod FoundSources
 pub mod Completeness
 pub mod Written
+pub mod Verified

@@ -1,5 +1,6 @@
 ghost use Rattle.scenario_tool.specs.Completeness.{DecidedByPoints, SoundInputsHaveOutcomes};
 ghost use Rattle.scenario_tool.specs.Laws.{NeverBoth, OneAnswer, SomeAnswer};
+ghost use Rattle.scenario_tool.specs.Verified.{NeverFoundAndVerified, VerifiedMeansNone};
 ghost use Rattle.scenario_tool.specs.Written.{WrittenRecordsAreOpen, WrittenRefutationsAreAccepted, WrittenRunsAreAccepted};
 
 /// The law that words and files have one right answer, or, for a search, many of which each is an outcome of a search.
@@ -41,4 +42,14 @@ pub fn written_refutations_are_accepted()
 /// The law that `verify` finds each other record that `generate` wrote open, with all the cuts that were asked for.
 pub fn written_records_are_open()
     ensures { WrittenRecordsAreOpen }
+{}
+
+/// The law that a source has no instance if `verify` says `yes`, of whatever record.
+pub fn verified_means_none()
+    ensures { VerifiedMeansNone }
+{}
+
+/// The law that a source never has both a run by `generate` and a `yes` by `verify`.
+pub fn never_found_and_verified()
+    ensures { NeverFoundAndVerified }
 {}

@@ -23,5 +23,5 @@ pub use work::{Call, Work};
 
 // Crates below, for the crates above.
 pub use program_calls;
-pub use program_calls::{composition, expr_nodes, type_model};
+pub use program_calls::{composition, expr_nodes, expr_typing, type_model};
 pub use scene_texts;

@@ -11,14 +11,14 @@ use Rattle.dsl_tree.specs.ExprTree.{ExprTree}
 use Rattle.type_heads.specs.Table.{Table, form}
 use Rattle.type_heads.specs.Form.{Form}
 use Rattle.composition.specs.Givens.{element}
-use Rattle.expr_nodes.specs.Kinds.{ValueKind, kind_of}
-use Rattle.expr_nodes.specs.Names.{elements_from, it_at, per_of}
-use Rattle.expr_nodes.specs.Operators.{index_typed, element as element_in}
-use Rattle.expr_nodes.specs.Parts.{of_one}
-use Rattle.expr_nodes.specs.Scope.{It, Scope}
-use Rattle.expr_nodes.specs.Sizes.{field_size, info_at, unit_size}
-use Rattle.expr_nodes.specs.Typed.{Typed, Read, Listed, begun_at, items_of}
-use Rattle.expr_nodes.specs.Typing.{typed}
+use Rattle.composition.specs.expr_nodes.Kinds.{ValueKind, kind_of}
+use Rattle.composition.specs.expr_nodes.Names.{elements_from, it_at, per_of}
+use Rattle.composition.specs.expr_nodes.Operators.{index_typed, element as element_in}
+use Rattle.composition.specs.expr_nodes.Parts.{of_one}
+use Rattle.composition.specs.expr_nodes.Scope.{It, Scope}
+use Rattle.composition.specs.expr_nodes.Sizes.{field_size, info_at, unit_size}
+use Rattle.composition.specs.expr_nodes.Typed.{Typed, Read, Listed, begun_at, items_of}
+use Rattle.composition.specs.expr_nodes.Typing.{typed}
 use Rattle.text_constraints.specs.Elements.{AreSampled, Sample, SampleFor, element_path, sample_at}
 
 -- element n of those from number a on

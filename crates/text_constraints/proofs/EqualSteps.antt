@@ -9,15 +9,15 @@ use Rattle.dsl_tree.specs.ExprTree.{ExprTree}
 use Rattle.type_heads.specs.Table.{Table}
 use Rattle.composition.specs.Givens.{element, equals}
 use Rattle.composition.specs.Scenes.{Occurrence}
-use Rattle.expr_nodes.specs.declared.compare.Compare.{Compare}
-use Rattle.expr_nodes.specs.declared.parts.Checked.{Checked}
-use Rattle.expr_nodes.specs.Checks.{IsChecked}
-use Rattle.expr_nodes.specs.Names.{it_rows, it_typed}
-use Rattle.expr_nodes.specs.Operators.{comparison_rows, comparison_typed}
-use Rattle.expr_nodes.specs.Parts.{any_holds}
-use Rattle.expr_nodes.specs.Seen.{seen_part}
-use Rattle.expr_nodes.specs.Typed.{Typed, moved}
-use Rattle.expr_nodes.specs.Typing.{first, typed}
+use Rattle.composition.specs.expr_nodes.declared.compare.Compare.{Compare}
+use Rattle.composition.specs.expr_nodes.declared.parts.Checked.{Checked}
+use Rattle.composition.specs.expr_nodes.Checks.{IsChecked}
+use Rattle.composition.specs.expr_nodes.Names.{it_rows, it_typed}
+use Rattle.composition.specs.expr_nodes.Operators.{comparison_rows, comparison_typed}
+use Rattle.composition.specs.expr_nodes.Parts.{any_holds}
+use Rattle.composition.specs.expr_nodes.Seen.{seen_part}
+use Rattle.composition.specs.expr_nodes.Typed.{Typed, moved}
+use Rattle.composition.specs.expr_nodes.Typing.{first, typed}
 use Rattle.text_constraints.specs.Elements.{Sample, SampleFor, element_read}
 use Rattle.text_constraints.specs.Kept.{Holder, constraint, equal_kept}
 use Rattle.text_constraints.specs.OwnTexts.{initial_kept}

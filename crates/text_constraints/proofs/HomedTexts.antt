@@ -3,9 +3,9 @@ use Rattle.std.proofs.Common.{◌≡◌, ◌∙◌, refl, ap, Bool, true, false,
 use Rattle.osc_base.specs.declared.path.Path.{Path}
 use Rattle.dsl_tree.specs.ExprTree.{ExprTree}
 use Rattle.type_heads.specs.Types.{Types}
-use Rattle.expr_nodes.specs.Typed as Nodes
-use Rattle.expr_nodes.specs.Typed.{Typed, moved}
-use Rattle.expr_nodes.specs.Typing.{is_path, typed}
+use Rattle.composition.specs.expr_nodes.Typed as Nodes
+use Rattle.composition.specs.expr_nodes.Typed.{Typed, moved}
+use Rattle.composition.specs.expr_nodes.Typing.{is_path, typed}
 use Rattle.composition.specs.Givens.{from_root, left_target, read_at, target_at, typed_here}
 use Rattle.composition.specs.Homes.{home}
 use Rattle.composition.specs.Scenes.{Binding}

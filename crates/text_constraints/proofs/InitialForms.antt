@@ -6,7 +6,7 @@ use Rattle.dsl_tree.specs.ExprTree.{ExprTree, items_of}
 use Rattle.dsl_tree.specs.Views.{expr_tree}
 use Rattle.type_heads.specs.Table.{Table}
 use Rattle.type_heads.specs.Members.{items_in}
-use Rattle.expr_nodes.specs.Typing.{first}
+use Rattle.composition.specs.expr_nodes.Typing.{first}
 use Rattle.program_texts.specs.Ranges.{listed_items}
 use Rattle.text_constraints.specs.Kept.{Holder}
 use Rattle.text_constraints.specs.OwnTexts.{elements_kept, initial_kept, initials_kept}

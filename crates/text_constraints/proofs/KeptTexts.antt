@@ -13,7 +13,7 @@ use Rattle.dsl_tree.specs.PhaseTree.{RuleTree}
 use Rattle.type_heads.specs.Table.{bases}
 use Rattle.type_heads.specs.Types.{Field, Member, Types}
 use Rattle.type_heads.specs.Members.{field, field_type, fields_declared, heir_condition, members}
-use Rattle.expr_nodes.specs.Typing.{first, is_path, typed}
+use Rattle.composition.specs.expr_nodes.Typing.{first, is_path, typed}
 use Rattle.composition.specs.declared.guard.Guard.{Guard}
 use Rattle.composition.specs.Expanded.{occurrence_of}
 use Rattle.composition.specs.Givens.{FieldHere, Given, element, equals, field_here, given_condition, given_conditions, given_elements, given_field, given_initial, given_initials, given_keep, given_member, given_rule, keep_target, left_target, own_givens, strength_of, target_at, value_tree}

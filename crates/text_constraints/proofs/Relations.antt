@@ -14,8 +14,8 @@ use Rattle.dsl_tree.specs.declared.expr.Expr.TheViews.{roll-Expr}
 use Rattle.dsl_tree.specs.ExprTree.{ExprTree}
 use Rattle.dsl_tree.specs.Views.{SuffixTree, FurtherTree, expr_step, suffix_step, further_step, expr_tree, suffix_tree, further_tree}
 use Rattle.type_heads.specs.Table.{Table}
-use Rattle.expr_nodes.specs.Typed.{Typed}
-use Rattle.expr_nodes.specs.Typing.{is_path, typed}
+use Rattle.composition.specs.expr_nodes.Typed.{Typed}
+use Rattle.composition.specs.expr_nodes.Typing.{is_path, typed}
 use Rattle.program_texts.proofs.ExprKinds.{dot_other, index_other, row_other}
 use Rattle.text_constraints.specs.Sites.{Site, left_home, left_in, path_home, read_home, whole_home}
 

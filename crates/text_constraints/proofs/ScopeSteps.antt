@@ -6,7 +6,7 @@ use Rattle.dsl_tree.specs.declared.parts.Ident.{Ident}
 use Rattle.dsl_tree.specs.FileTree.{FieldTree, MemberTree}
 use Rattle.dsl_tree.specs.PhaseTree.{RuleTree}
 use Rattle.type_heads.specs.Types.{Field, Member, Types}
-use Rattle.expr_nodes.specs.Scope.{Scope}
+use Rattle.composition.specs.expr_nodes.Scope.{Scope}
 use Rattle.composition.specs.declared.guard.Guard.{Guard}
 use Rattle.composition.specs.Calls.{scope_at}
 use Rattle.composition.specs.Givens.{guards_under}

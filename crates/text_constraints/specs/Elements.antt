@@ -5,14 +5,14 @@ use Rattle.osc_base.specs.declared.path.Path.{Path}
 use Rattle.osc_base.specs.Paths.{root, then_index, then_name}
 use Rattle.osc_base.specs.FaultRows.{first_fault}
 use Rattle.type_heads.specs.Table.{Table, form}
-use Rattle.expr_nodes.specs.Kinds.{kind_of}
-use Rattle.expr_nodes.specs.Names.{per_of}
-use Rattle.expr_nodes.specs.Seen.{seen_info}
-use Rattle.expr_nodes.specs.Scope.{Scope}
-use Rattle.expr_nodes.specs.Typing.{expr_rows, typed}
+use Rattle.composition.specs.expr_nodes.Kinds.{kind_of}
+use Rattle.composition.specs.expr_nodes.Names.{per_of}
+use Rattle.composition.specs.expr_nodes.Seen.{seen_info}
+use Rattle.composition.specs.expr_nodes.Scope.{Scope}
+use Rattle.composition.specs.expr_nodes.Typing.{expr_rows, typed}
 use Rattle.composition.specs.Givens.{element}
-use Rattle.expr_nodes.specs.Sizes.{field_size, info_at}
-use Rattle.expr_nodes.specs.Typed.{Info, Typed, Listed, Read, TypedRow, End, Item}
+use Rattle.composition.specs.expr_nodes.Sizes.{field_size, info_at}
+use Rattle.composition.specs.expr_nodes.Typed.{Info, Typed, Listed, Read, TypedRow, End, Item}
 use Rattle.text_constraints.specs.declared.elements.Sample.{Sample as OwnSample}
 
 -- what an element holds of itself, and over what it is counted

@@ -6,8 +6,8 @@ use Rattle.osc_base.specs.declared.mark.Strength.{Strength}
 use Rattle.dsl_tree.specs.ExprTree.{ExprTree}
 use Rattle.dsl_tree.specs.PhaseTree.{RuleTree}
 use Rattle.type_heads.specs.Table.{Table}
-use Rattle.expr_nodes.specs.Typed.{Typed}
-use Rattle.expr_nodes.specs.Typing.{typed}
+use Rattle.composition.specs.expr_nodes.Typed.{Typed}
+use Rattle.composition.specs.expr_nodes.Typing.{typed}
 use Rattle.composition.specs.declared.guard.Guard.{Guard}
 use Rattle.composition.specs.Givens.{equals, strength_of}
 use Rattle.composition.specs.Scenes.{Occurrence}

@@ -12,8 +12,8 @@ use Rattle.dsl_tree.specs.FileTree.{FieldTree, MemberTree}
 use Rattle.type_heads.specs.Table.{Table, bases}
 use Rattle.type_heads.specs.Types.{Types, Member, Field}
 use Rattle.type_heads.specs.Members.{declared_type, field, field_type, fields_declared, heir_condition, list_length}
-use Rattle.expr_nodes.specs.Scope.{It, Scope}
-use Rattle.expr_nodes.specs.Typing.{first}
+use Rattle.composition.specs.expr_nodes.Scope.{It, Scope}
+use Rattle.composition.specs.expr_nodes.Typing.{first}
 use Rattle.composition.specs.declared.guard.Guard.{Guard}
 use Rattle.composition.specs.Calls.{scope_at}
 use Rattle.composition.specs.Givens.{element, guards_under, it_of, value_tree}

@@ -7,10 +7,10 @@ use Rattle.dsl_tree.specs.declared.expr.Expr.{Expr}
 use Rattle.dsl_tree.specs.ExprTree.{ExprTree}
 use Rattle.dsl_tree.specs.Views.{expr_tree}
 use Rattle.type_heads.specs.Table.{Table}
-use Rattle.expr_nodes.specs.Scope.{Scope}
-use Rattle.expr_nodes.specs.SeenNames.{seen_scope}
-use Rattle.expr_nodes.specs.Typed.{Typed, moved}
-use Rattle.expr_nodes.specs.Typing.{typed, is_path}
+use Rattle.composition.specs.expr_nodes.Scope.{Scope}
+use Rattle.composition.specs.expr_nodes.SeenNames.{seen_scope}
+use Rattle.composition.specs.expr_nodes.Typed.{Typed, moved}
+use Rattle.composition.specs.expr_nodes.Typing.{typed, is_path}
 use Rattle.composition.specs.Givens.{Here, read_at}
 use Rattle.composition.specs.Scenes.{Binding}
 use Rattle.composition.specs.SeenScenes.{seen_scene}

@@ -1,14 +1,14 @@
 //! The elements of a list field, each by itself.
 
 ghost use Rattle.std.specs.Prelude.{◌≡◌, None, Some, map, option_and_then, option_copied, option_map, IfOk};
-ghost use Rattle.expr_nodes.specs.Seen.{seen, seen_part};
-ghost use Rattle.expr_nodes.specs.Typed.{row_of};
+ghost use Rattle.composition.specs.expr_nodes.Seen.{seen, seen_part};
+ghost use Rattle.composition.specs.expr_nodes.Typed.{row_of};
 ghost use Rattle.text_constraints.specs.Elements.{element_path, element_read, first_item, first_of as item_first, sample_at, sample_in, sample_read, seen_sample};
 
+use composition::expr_nodes::{Info, It, Scope, Typed};
+use composition::type_model::{FieldType, TypeId, Types};
 use expr_eval::Checked;
-use expr_nodes::others::it;
-use expr_nodes::type_model::{FieldType, TypeId, Types};
-use expr_nodes::{Info, It, Scope, Typed};
+use expr_eval::expr_typing::others::it;
 use osc_base::{Boxed, Path, Place, Row};
 use scene_places::scene_texts::{then_index, then_name};
 use std::alloc::{AllocError, Global};

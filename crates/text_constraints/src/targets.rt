@@ -3,14 +3,14 @@
 ghost use Rattle.std.specs.Prelude.{◌≡◌, option_and_then, option_copied, option_map, IfOk};
 ghost use Rattle.dsl_tree.specs.Views.{expr_tree, path_tree};
 ghost use Rattle.composition.specs.Givens.{read_at as read_in};
-ghost use Rattle.expr_nodes.specs.Seen.{seen, seen_part};
+ghost use Rattle.composition.specs.expr_nodes.Seen.{seen, seen_part};
 ghost use Rattle.text_constraints.specs.Sites.{left_home, left_in, path_home, seen_expr, seen_site, whole_home};
 ghost use Rattle.scene_places.specs.Placed.{place_in};
 
+use composition::expr_nodes::{Scope, Typed};
+use composition::type_model::Types;
 use dsl_tree::{Expr, PathNode};
 use expr_eval::{checked, path_checked};
-use expr_nodes::type_model::Types;
-use expr_nodes::{Scope, Typed};
 use osc_base::{Boxed, Path};
 use program_texts::program_calls::is_path;
 use scene_places::Places;

@@ -124,23 +124,49 @@ fn listings(rt: HostRuntime) -> Result<(), Fail> {
     Ok(())
 }
 
-/// The program for N vehicles loads, and its run has 1 + N + N * N phases and ends at tick 5 * N.
-#[test]
-fn made_programs(rt: HostRuntime) -> Result<(), Fail> {
+/// The answers to `make` of these counts: a run, and behind it this line.
+fn made_runs_are(rt: &(impl Abort + AllocGlobal), rows: &[(&str, &str)]) -> Result<(), Fail> {
     let ample = Outside {
         room: 65536,
         ..SOUND
     };
-    let rows: [(&str, &str); 3] = [
+    for (count, last) in rows {
+        let got = answer(rt.alloc(), &["make", *count], &[], ample)?;
+        let got = got.as_str();
+        assert!(rt; got.starts_with("0 {\"choices\":[]"), "{count}");
+        assert!(rt; got.ends_with(*last), "{count}");
+    }
+    Ok(())
+}
+
+/// The source for N vehicles has no fault, and its run has 1 + N + N * N phases and ends at tick 5 * N.
+#[test]
+fn made_programs(rt: HostRuntime) -> Result<(), Fail> {
+    let rows: [(&str, &str); 12] = [
         ("1", "make 1 phases 3 end 5 check yes\n"),
         ("2", "make 2 phases 7 end 10 check yes\n"),
         ("3", "make 3 phases 13 end 15 check yes\n"),
+        ("4", "make 4 phases 21 end 20 check yes\n"),
+        ("5", "make 5 phases 31 end 25 check yes\n"),
+        ("6", "make 6 phases 43 end 30 check yes\n"),
+        ("7", "make 7 phases 57 end 35 check yes\n"),
+        ("8", "make 8 phases 73 end 40 check yes\n"),
+        ("9", "make 9 phases 91 end 45 check yes\n"),
+        ("10", "make 10 phases 111 end 50 check yes\n"),
+        ("11", "make 11 phases 133 end 55 check yes\n"),
+        ("12", "make 12 phases 157 end 60 check yes\n"),
     ];
-    for (count, last) in rows {
-        let got = answer(rt.alloc(), &["make", count], &[], ample)?;
-        let got = got.as_str();
-        assert!(rt; got.starts_with("0 {\"choices\":[]"), "{count}");
-        assert!(rt; got.ends_with(last), "{count}");
-    }
-    Ok(())
+    made_runs_are(&rt, &rows)
+}
+
+/// The same of the largest, which take most of the time.
+#[test]
+fn large_made_programs(rt: HostRuntime) -> Result<(), Fail> {
+    let rows: [(&str, &str); 4] = [
+        ("13", "make 13 phases 183 end 65 check yes\n"),
+        ("14", "make 14 phases 211 end 70 check yes\n"),
+        ("15", "make 15 phases 241 end 75 check yes\n"),
+        ("16", "make 16 phases 273 end 80 check yes\n"),
+    ];
+    made_runs_are(&rt, &rows)
 }

@@ -55,7 +55,7 @@ impl Model for Types {
 
 impl Types {
     /// The types with these heads and tables.
-    pub(crate) fn of(heads: Heads, members: MemberTables, program: ProgramTables) -> Types
+    pub fn of(heads: Heads, members: MemberTables, program: ProgramTables) -> Types
         requires { AreKept heads program.numbers.items program.units program.texts }
         ensures { result ≡ record { table = record { heads = heads; fields = members.fields; units = program.units; texts = program.texts }; members = members.members; conditions = members.conditions.items } }
     {

@@ -2,6 +2,7 @@ use name_scope::Program;
 use outside_io::MemoryShelf;
 use program_load::load;
 use std::alloc::{AllocError, Global};
+use type_build::build_types;
 use type_model::Types;
 
 /// A program with each kind of type, an extended enum, a conditional subtype and an extended struct.
@@ -38,7 +39,7 @@ pub fn built(alloc: Global, source: &str) -> Result<Option<Types>, AllocError> {
     let Some(program) = loaded(alloc, source)? else {
         return Ok(None);
     };
-    match Types::build(alloc, &program) {
+    match build_types(alloc, &program) {
         Ok(types) => Ok(Some(types)),
         Err(_) => Ok(None),
     }

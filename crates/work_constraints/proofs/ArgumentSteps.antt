@@ -10,11 +10,11 @@ use Rattle.dsl_tree.specs.PhaseTree.{ArgumentTree, PartTree}
 use Rattle.dsl_tree.specs.Views.{argument_tree, part_tree}
 use Rattle.type_heads.specs.Table.{Table}
 use Rattle.type_heads.specs.Types.{Field}
-use Rattle.expr_nodes.specs.Scope.{It}
+use Rattle.scene_expansion.specs.expr_nodes.Scope.{It}
 use Rattle.osc_base.specs.declared.fault.Place.{Place}
 use Rattle.osc_base.specs.declared.path.Path.{Path}
-use Rattle.expr_nodes.specs.Typed.{Typed, moved}
-use Rattle.expr_nodes.specs.Typing.{first, typed}
+use Rattle.scene_expansion.specs.expr_nodes.Typed.{Typed, moved}
+use Rattle.scene_expansion.specs.expr_nodes.Typing.{first, typed}
 use Rattle.text_constraints.specs.composition.Givens.{read_at}
 use Rattle.text_constraints.specs.composition.Scenes.{Occurrence}
 use Rattle.text_constraints.specs.Kept.{Holder}

@@ -11,8 +11,8 @@ use Rattle.type_heads.specs.Types.{Field, Types}
 use Rattle.type_heads.specs.Members.{field, fields}
 use Rattle.scene_expansion.specs.expansion_laws.WorkNodes.{node_of}
 use Rattle.scene_expansion.specs.expansion_laws.Works.{Work}
-use Rattle.expr_nodes.specs.Names.{is_duration}
-use Rattle.expr_nodes.specs.Scope.{It, Scope}
+use Rattle.scene_expansion.specs.expr_nodes.Names.{is_duration}
+use Rattle.scene_expansion.specs.expr_nodes.Scope.{It, Scope}
 use Rattle.text_constraints.specs.composition.Calls.{Assigned, assigned, scope_at}
 use Rattle.text_constraints.specs.composition.Expanded.{occurrence_of}
 use Rattle.text_constraints.specs.composition.Expansion.{Calling, given_argument, here_in, of_arguments, part_rule}

@@ -6,10 +6,10 @@ use Rattle.osc_base.specs.declared.path.Path.{Path}
 use Rattle.dsl_tree.specs.ExprTree.{ExprTree}
 use Rattle.type_heads.specs.Types.{Field, Types}
 use Rattle.osc_base.specs.Paths.{then_duration}
-use Rattle.expr_nodes.specs.Names.{duration_at}
-use Rattle.expr_nodes.specs.Typed as Nodes
-use Rattle.expr_nodes.specs.Typed.{Typed, moved}
-use Rattle.expr_nodes.specs.Typing.{first, typed}
+use Rattle.scene_expansion.specs.expr_nodes.Names.{duration_at}
+use Rattle.scene_expansion.specs.expr_nodes.Typed as Nodes
+use Rattle.scene_expansion.specs.expr_nodes.Typed.{Typed, moved}
+use Rattle.scene_expansion.specs.expr_nodes.Typing.{first, typed}
 use Rattle.text_constraints.specs.composition.Expanded.{occurrence_of}
 use Rattle.text_constraints.specs.composition.Expansion.{Calling, given_duration, parameter}
 use Rattle.text_constraints.specs.composition.Calls.{scope_at}

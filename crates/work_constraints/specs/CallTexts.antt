@@ -10,10 +10,10 @@ use Rattle.dsl_tree.specs.PhaseTree.{ArgumentTree, PartTree}
 use Rattle.type_heads.specs.Table.{Table}
 use Rattle.type_heads.specs.Types.{Field, Types}
 use Rattle.type_heads.specs.Members.{fields}
-use Rattle.expr_nodes.specs.Names.{duration_at, is_duration}
-use Rattle.expr_nodes.specs.Scope.{It, Scope}
-use Rattle.expr_nodes.specs.Typed.{Span, Typed, moved}
-use Rattle.expr_nodes.specs.Typing.{first, typed}
+use Rattle.scene_expansion.specs.expr_nodes.Names.{duration_at, is_duration}
+use Rattle.scene_expansion.specs.expr_nodes.Scope.{It, Scope}
+use Rattle.scene_expansion.specs.expr_nodes.Typed.{Span, Typed, moved}
+use Rattle.scene_expansion.specs.expr_nodes.Typing.{first, typed}
 use Rattle.text_constraints.specs.composition.Calls.{scope_at}
 use Rattle.text_constraints.specs.composition.Expansion.{Calling}
 use Rattle.text_constraints.specs.composition.Givens.{read_at, required}

@@ -3,8 +3,8 @@
 ghost use Rattle.std.specs.Prelude.{◌≡◌, ◌++◌, ◌∷◌, [], None, Some, flat_map, map, option_map, option_to_list, IfOk, OnOk};
 ghost use Rattle.text_constraints.specs.composition.SeenParts.{seen_occurrence};
 ghost use Rattle.dsl_tree.specs.Views.{argument_tree, expr_tree, part_tree};
-ghost use Rattle.expr_nodes.specs.Scope as Scopes;
-ghost use Rattle.expr_nodes.specs.SeenNames.{seen_scope};
+ghost use Rattle.scene_expansion.specs.expr_nodes.Scope as Scopes;
+ghost use Rattle.scene_expansion.specs.expr_nodes.SeenNames.{seen_scope};
 ghost use Rattle.text_constraints.specs.program_fields.SeenFields.{seen_field};
 ghost use Rattle.text_constraints.specs.program_fields.Tables.{fields_in};
 ghost use Rattle.work_constraints.specs.CallTexts.{argument_field, argument_kept, arguments_kept, for_duration, invocation_kept, part_kept, with_it};
@@ -14,8 +14,8 @@ ghost use Rattle.text_constraints.specs.Sites.{seen_site, site_of};
 
 use crate::required::{push_duration, push_parameter};
 use dsl_tree::{Argument, Expr, Ident, InvokeNode, InvokePart};
-use expr_nodes::type_model::{FieldType, TypeId, Types};
-use expr_nodes::{It, Scope};
+use scene_expansion::expr_nodes::type_model::{FieldType, TypeId, Types};
+use scene_expansion::expr_nodes::{It, Scope};
 use std::alloc::{AllocError, Global};
 use text_constraints::composition::Occurrence;
 use text_constraints::program_fields::{FieldsOf, TypeField};

@@ -8,4 +8,4 @@ mod works;
 pub use works::push_occurrences;
 
 // Crates below, for the crates above.
-pub use expr_nodes::type_model;
+pub use scene_expansion::expr_nodes::type_model;

@@ -3,8 +3,8 @@ use Rattle.dsl_tree.specs.ExprTree.{ExprTree, row_of}
 use Rattle.dsl_tree.specs.Views.{expr_tree, further_tree, suffix_tree, grouped, with_suffixes, named_row, indexed_row}
 use Rattle.dsl_tree.proofs.Seen.{seen_implies, seen_or, seen_and, seen_not, seen_relation, seen_sum, seen_product, seen_minus, seen_dot, seen_index, seen_number, seen_physical, seen_chars, seen_truth, seen_enum_name, seen_it, seen_actor, seen_name, seen_group, seen_span, seen_listed, seen_range_call, seen_dot_suffix, seen_index_suffix}
 use Rattle.expr_eval.specs.Known.{IsWalked}
-use Rattle.expr_nodes.specs.Checks.{IsChecked}
-use Rattle.expr_nodes.specs.SeenNames.{seen_scope}
+use Rattle.expr_typing.specs.expr_nodes.Checks.{IsChecked}
+use Rattle.expr_typing.specs.expr_nodes.SeenNames.{seen_scope}
 use Rattle.expr_eval.specs.declared.pairs.Level.{Level}
 use Rattle.expr_eval.specs.declared.pairs.Pair.{Pair}
 use Rattle.expr_eval.specs.ItemChecks.{AreChecked}

@@ -1,7 +1,7 @@
 use Rattle.std.proofs.Common.{◌∙◌, sym, ap}
 use Rattle.std.specs.Prelude.{option_map}
-use Rattle.expr_nodes.specs.Typed.{row_of}
-use Rattle.expr_nodes.specs.Operators.{list_typed}
+use Rattle.expr_typing.specs.expr_nodes.Typed.{row_of}
+use Rattle.expr_typing.specs.expr_nodes.Operators.{list_typed}
 use Rattle.expr_eval.proofs.ItemRows.{row_typed}
 use Rattle.expr_eval.proofs.items.listed.Goals as goal
 

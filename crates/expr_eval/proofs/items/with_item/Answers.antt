@@ -1,6 +1,6 @@
 use Rattle.std.proofs.Common.{◌∙◌, sym, ap, ap₂}
 use Rattle.osc_base.specs.FaultRows.{first_of, first_fault}
-use Rattle.expr_nodes.specs.Operators.{part_rows}
+use Rattle.expr_typing.specs.expr_nodes.Operators.{part_rows}
 use Rattle.expr_eval.specs.ItemChecks.{more_items, one_value}
 use Rattle.expr_eval.proofs.ItemRows.{items_more, faults_more}
 use Rattle.expr_eval.proofs.items.with_item.Goals as goal

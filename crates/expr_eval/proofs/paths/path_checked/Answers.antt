@@ -2,10 +2,10 @@ use Rattle.dsl_tree.specs.Views.{path_tree}
 use Rattle.dsl_tree.specs.ExprTree.{ExprTree}
 use Rattle.dsl_tree.specs.Views.{suffix_tree, with_suffixes}
 use Rattle.std.proofs.Common.{map}
-use Rattle.expr_nodes.specs.Checks.{IsChecked}
-use Rattle.expr_nodes.specs.SeenNames.{seen_scope}
+use Rattle.expr_typing.specs.expr_nodes.Checks.{IsChecked}
+use Rattle.expr_typing.specs.expr_nodes.SeenNames.{seen_scope}
 use Rattle.expr_eval.proofs.PathSteps.{whole_path}
-use Rattle.expr_nodes.proofs.Results.{if_ok_more}
+use Rattle.expr_typing.proofs.Results.{if_ok_more}
 use Rattle.expr_eval.proofs.paths.path_checked.Goals as goal
 
 pub returns : goal.returns

@@ -1,6 +1,6 @@
 use Rattle.std.proofs.Common.{◌∙◌, ap, sym}
 use Rattle.dsl_tree.specs.Views.{head_tree}
-use Rattle.expr_nodes.specs.Typing.{first}
+use Rattle.expr_typing.specs.expr_nodes.Typing.{first}
 use Rattle.expr_eval.proofs.PathSteps.{path_first}
 use Rattle.expr_eval.proofs.paths.path_place.Goals as goal
 

@@ -1,7 +1,7 @@
 use Rattle.std.proofs.Common.{map, subst, sym, take}
 use Rattle.dsl_tree.specs.Views.{suffix_tree, with_suffixes}
-use Rattle.expr_nodes.specs.Checks.{IsChecked}
-use Rattle.expr_nodes.specs.SeenNames.{seen_scope}
+use Rattle.expr_typing.specs.expr_nodes.Checks.{IsChecked}
+use Rattle.expr_typing.specs.expr_nodes.SeenNames.{seen_scope}
 use Rattle.expr_eval.proofs.PathSteps.{path_more}
 use Rattle.expr_eval.proofs.paths.with_suffixes.Goals as goal
 

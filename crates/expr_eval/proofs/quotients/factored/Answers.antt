@@ -1,8 +1,8 @@
 use Rattle.std.proofs.Common.{◌∙◌, ap, ap₂}
-use Rattle.expr_nodes.specs.Operators.{factor_rows, factor_typed}
-use Rattle.expr_nodes.specs.Seen.{seen_part}
-use Rattle.expr_nodes.specs.Typing.{typed, expr_rows}
-use Rattle.expr_nodes.proofs.StepFaults.{two_faults}
+use Rattle.expr_typing.specs.expr_nodes.Operators.{factor_rows, factor_typed}
+use Rattle.expr_typing.specs.expr_nodes.Seen.{seen_part}
+use Rattle.expr_typing.specs.expr_nodes.Typing.{typed, expr_rows}
+use Rattle.expr_typing.proofs.StepFaults.{two_faults}
 use Rattle.expr_eval.proofs.quotients.factored.Goals as goal
 
 pub returns : goal.returns

@@ -1,6 +1,6 @@
-use Rattle.expr_nodes.specs.Operators.{quotient_rows}
-use Rattle.expr_nodes.specs.Seen.{seen_part}
-use Rattle.expr_nodes.proofs.Settled.{refused, settled}
+use Rattle.expr_typing.specs.expr_nodes.Operators.{quotient_rows}
+use Rattle.expr_typing.specs.expr_nodes.Seen.{seen_part}
+use Rattle.expr_typing.proofs.Settled.{refused, settled}
 use Rattle.expr_eval.proofs.quotients.quotient.Goals as goal
 
 pub returns-in-Some-clause-fault : goal.returns-in-Some-clause-fault

@@ -1,4 +1,4 @@
-use Rattle.expr_nodes.specs.Seen.{seen_part}
+use Rattle.expr_typing.specs.expr_nodes.Seen.{seen_part}
 use Rattle.expr_eval.specs.DivisorValues.{seen_divisor}
 use Rattle.expr_eval.proofs.DivisorLaws.{quotient_first}
 use Rattle.expr_eval.proofs.quotients.quotient_fault.Goals as goal

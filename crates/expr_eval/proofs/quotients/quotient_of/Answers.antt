@@ -1,6 +1,6 @@
 use Rattle.std.proofs.Common.{◌∙◌, sym, ap, Some, None}
 use Rattle.osc_base.specs.Fraction.{value}
-use Rattle.expr_nodes.specs.Seen.{seen, seen_part}
+use Rattle.expr_typing.specs.expr_nodes.Seen.{seen, seen_part}
 use Rattle.expr_eval.specs.DivisorValues.{seen_divisor}
 use Rattle.expr_eval.proofs.DivisorLaws.{quotient_settled, quotient_absent}
 use Rattle.expr_eval.proofs.quotients.quotient_of.Goals as goal

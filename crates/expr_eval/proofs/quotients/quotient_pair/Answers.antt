@@ -1,6 +1,6 @@
 use Rattle.std.proofs.Common.{◌∙◌, sym, ap, None}
 use Rattle.osc_base.specs.Fraction.{value}
-use Rattle.expr_nodes.specs.Seen.{seen, seen_part}
+use Rattle.expr_typing.specs.expr_nodes.Seen.{seen, seen_part}
 use Rattle.expr_eval.proofs.DivisorLaws.{quotient_made, quotient_past}
 use Rattle.expr_eval.proofs.NarrowNodes.{size_small}
 use Rattle.expr_eval.proofs.quotients.quotient_pair.Goals as goal

@@ -1,5 +1,5 @@
 use Rattle.std.proofs.Common.{◌∙◌, sym}
-use Rattle.expr_nodes.specs.Seen.{seen_part}
+use Rattle.expr_typing.specs.expr_nodes.Seen.{seen_part}
 use Rattle.expr_eval.proofs.TypedForms.{typed_form}
 use Rattle.expr_eval.proofs.typing.settled.Goals as goal
 

@@ -1,5 +1,5 @@
 use Rattle.dsl_tree.specs.Views.{expr_tree}
-use Rattle.expr_nodes.specs.SeenNames.{seen_scope}
+use Rattle.expr_typing.specs.expr_nodes.SeenNames.{seen_scope}
 use Rattle.expr_eval.proofs.TypedForms.{known_there}
 use Rattle.expr_eval.proofs.typing.type_of.Goals as goal
 

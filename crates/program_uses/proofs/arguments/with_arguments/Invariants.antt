@@ -1,7 +1,7 @@
 use Rattle.std.proofs.Common.{[], drop, map}
 use Rattle.osc_base.specs.FaultRows.{first_from}
 use Rattle.dsl_tree.specs.Views.{argument_tree}
-use Rattle.expr_nodes.specs.SeenNames.{seen_scope}
+use Rattle.composition.specs.expr_nodes.SeenNames.{seen_scope}
 use Rattle.program_uses.specs.ArgumentRows.{arguments_in}
 use Rattle.program_fields.specs.Tables.{fields_in}
 use Rattle.program_uses.proofs.ArgumentSteps.{ArgumentsLeft}

@@ -1,9 +1,9 @@
 use Rattle.std.proofs.Common.{◌≡◌}
 use Rattle.osc_base.specs.FaultRows.{first_from}
 use Rattle.dsl_tree.specs.Views.{argument_tree}
-use Rattle.expr_nodes.specs.Fits.{duration_fit_rows}
-use Rattle.expr_nodes.specs.SeenNames.{seen_scope}
-use Rattle.expr_nodes.specs.Typing.{first, typed}
+use Rattle.composition.specs.expr_nodes.Fits.{duration_fit_rows}
+use Rattle.composition.specs.expr_nodes.SeenNames.{seen_scope}
+use Rattle.composition.specs.expr_nodes.Typing.{first, typed}
 use Rattle.composition.specs.Calls.{Assigned}
 use Rattle.program_uses.specs.ArgumentRows.{Continues}
 use Rattle.program_uses.proofs.ArgumentSteps.{duration}

@@ -2,7 +2,7 @@ use Rattle.std.proofs.Common.{◌≡◌, ◌∙◌, ap, [], cond, is_some}
 use Rattle.osc_base.specs.declared.fault.FaultCode.{FaultCode}
 use Rattle.osc_base.specs.FaultRows.{first_from, first_of, row, row_fault}
 use Rattle.dsl_tree.specs.Views.{argument_tree}
-use Rattle.expr_nodes.specs.SeenNames.{seen_scope}
+use Rattle.composition.specs.expr_nodes.SeenNames.{seen_scope}
 use Rattle.composition.specs.Calls.{Assigned}
 use Rattle.program_uses.specs.ArgumentRows.{Continues, field_value_rows}
 use Rattle.program_fields.specs.SeenFields.{seen_field}

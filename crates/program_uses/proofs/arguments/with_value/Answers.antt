@@ -1,10 +1,10 @@
 use Rattle.std.proofs.Common.{◌∙◌, ap}
 use Rattle.osc_base.specs.FaultRows.{first_from}
 use Rattle.dsl_tree.specs.Views.{expr_tree}
-use Rattle.expr_nodes.specs.Fits.{argument_fit_rows}
-use Rattle.expr_nodes.specs.Seen.{seen_kind, seen_size}
-use Rattle.expr_nodes.specs.SeenNames.{seen_scope}
-use Rattle.expr_nodes.specs.Typing.{first, typed}
+use Rattle.composition.specs.expr_nodes.Fits.{argument_fit_rows}
+use Rattle.composition.specs.expr_nodes.Seen.{seen_kind, seen_size}
+use Rattle.composition.specs.expr_nodes.SeenNames.{seen_scope}
+use Rattle.composition.specs.expr_nodes.Typing.{first, typed}
 use Rattle.program_uses.proofs.FieldSteps.{kinded}
 use Rattle.program_uses.proofs.RowSteps.{fitted_from}
 use Rattle.program_uses.proofs.arguments.with_value.Goals as goal

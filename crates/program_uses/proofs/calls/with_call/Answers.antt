@@ -4,7 +4,7 @@ use Rattle.dsl_tree.specs.Views.{argument_tree}
 use Rattle.type_heads.specs.Members.{fields_among}
 use Rattle.type_heads.specs.Types.{Types}
 use Rattle.program_fields.specs.Tables.{lists_in}
-use Rattle.expr_nodes.specs.SeenNames.{seen_scope}
+use Rattle.composition.specs.expr_nodes.SeenNames.{seen_scope}
 use Rattle.composition.specs.Uses.{call_rows}
 use Rattle.program_uses.specs.ArgumentRows.{arguments_in}
 use Rattle.program_uses.specs.SeenTexts.{Tells}

@@ -1,4 +1,4 @@
-use Rattle.expr_nodes.specs.SeenNames.{seen_scope}
+use Rattle.composition.specs.expr_nodes.SeenNames.{seen_scope}
 use Rattle.program_calls.specs.SeenCallees.{actor_tree}
 use Rattle.program_uses.proofs.CallSteps.{owned}
 use Rattle.program_uses.proofs.calls.with_owned.Goals as goal

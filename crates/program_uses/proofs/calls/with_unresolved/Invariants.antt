@@ -2,8 +2,8 @@ use Rattle.std.proofs.Common.{◌≡◌, drop, flat_map, map}
 use Rattle.osc_base.specs.FaultRows.{first_from}
 use Rattle.dsl_tree.specs.PhaseTree.{ArgumentTree}
 use Rattle.dsl_tree.specs.Views.{argument_tree}
-use Rattle.expr_nodes.specs.SeenNames.{seen_scope}
-use Rattle.expr_nodes.specs.Typing.{expr_rows}
+use Rattle.composition.specs.expr_nodes.SeenNames.{seen_scope}
+use Rattle.composition.specs.expr_nodes.Typing.{expr_rows}
 use Rattle.program_uses.proofs.calls.with_unresolved.Given as goal
 
 abbrev pub invariant-loop-argument : goal.invariant-loop-argument

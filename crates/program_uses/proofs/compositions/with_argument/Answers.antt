@@ -1,5 +1,5 @@
 use Rattle.dsl_tree.specs.Views.{argument_tree, expr_tree}
-use Rattle.expr_nodes.specs.SeenNames.{seen_scope}
+use Rattle.composition.specs.expr_nodes.SeenNames.{seen_scope}
 use Rattle.program_uses.specs.CompositionRows.{ContinuesComposition, ContinuesNamed}
 use Rattle.program_uses.proofs.CompositionSteps.{with_name}
 use Rattle.program_uses.proofs.RowSteps.{if_ok}

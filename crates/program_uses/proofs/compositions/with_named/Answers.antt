@@ -1,7 +1,7 @@
 use Rattle.std.proofs.Common.{◌≡◌}
 use Rattle.osc_base.specs.FaultRows.{first_from}
 use Rattle.dsl_tree.specs.Views.{expr_tree}
-use Rattle.expr_nodes.specs.SeenNames.{seen_scope}
+use Rattle.composition.specs.expr_nodes.SeenNames.{seen_scope}
 use Rattle.program_uses.specs.CompositionRows.{ContinuesNamed, valued_rows}
 use Rattle.program_uses.proofs.CompositionSteps.{named_step}
 use Rattle.program_uses.proofs.RowSteps.{if_ok}

@@ -1,7 +1,7 @@
 use Rattle.dsl_tree.specs.Views.{expr_tree}
-use Rattle.expr_nodes.specs.Fits.{duration_fit_rows}
-use Rattle.expr_nodes.specs.SeenNames.{seen_scope}
-use Rattle.expr_nodes.specs.Typing.{expr_rows, first, typed}
+use Rattle.composition.specs.expr_nodes.Fits.{duration_fit_rows}
+use Rattle.composition.specs.expr_nodes.SeenNames.{seen_scope}
+use Rattle.composition.specs.expr_nodes.Typing.{expr_rows, first, typed}
 use Rattle.program_uses.proofs.RowSteps.{fitted_from, two}
 use Rattle.program_uses.proofs.compositions.with_whole_duration.Goals as goal
 

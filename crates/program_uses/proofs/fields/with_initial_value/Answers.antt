@@ -2,8 +2,8 @@ use Rattle.std.proofs.Common.{◌≡◌, ◌∙◌, [], ap, option_map, sym}
 use Rattle.std.specs.Option.{option_map_or}
 use Rattle.osc_base.specs.FaultRows.{first_from}
 use Rattle.dsl_tree.specs.Views.{expr_tree, field_tree}
-use Rattle.expr_nodes.specs.SeenNames.{seen_scope}
-use Rattle.expr_nodes.specs.Typing.{expr_rows}
+use Rattle.composition.specs.expr_nodes.SeenNames.{seen_scope}
+use Rattle.composition.specs.expr_nodes.Typing.{expr_rows}
 use Rattle.program_uses.specs.FieldRows.{fitted_rows, initial_in}
 use Rattle.program_uses.proofs.RowSteps.{if_ok, two}
 use Rattle.program_uses.proofs.fields.with_initial_value.Goals as goal

@@ -1,10 +1,10 @@
 use Rattle.std.proofs.Common.{map, refl}
 use Rattle.osc_base.specs.FaultRows.{first_from}
 use Rattle.dsl_tree.specs.Views.{expr_tree}
-use Rattle.expr_nodes.specs.Fits.{initial_fit_rows}
-use Rattle.expr_nodes.specs.Seen.{seen_kind, seen_size}
-use Rattle.expr_nodes.specs.SeenNames.{seen_scope}
-use Rattle.expr_nodes.specs.Typing.{first, typed}
+use Rattle.composition.specs.expr_nodes.Fits.{initial_fit_rows}
+use Rattle.composition.specs.expr_nodes.Seen.{seen_kind, seen_size}
+use Rattle.composition.specs.expr_nodes.SeenNames.{seen_scope}
+use Rattle.composition.specs.expr_nodes.Typing.{first, typed}
 use Rattle.composition.specs.Uses.{values_rows}
 use Rattle.program_uses.proofs.RowSteps.{each_more}
 use Rattle.program_uses.proofs.fields.with_values.Goals as goal

@@ -1,8 +1,8 @@
 use Rattle.std.proofs.Common.{◌∙◌, ap}
 use Rattle.type_heads.specs.Table.{form}
-use Rattle.expr_nodes.specs.Kinds.{kind_of}
-use Rattle.expr_nodes.specs.Names.{per_of}
-use Rattle.expr_nodes.specs.Sizes.{field_size}
+use Rattle.composition.specs.expr_nodes.Kinds.{kind_of}
+use Rattle.composition.specs.expr_nodes.Names.{per_of}
+use Rattle.composition.specs.expr_nodes.Sizes.{field_size}
 use Rattle.program_uses.proofs.BareForms.{kind_bare, per_bare}
 use Rattle.program_uses.proofs.held.held_in.Goals as goal
 

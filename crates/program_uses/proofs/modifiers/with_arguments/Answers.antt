@@ -1,7 +1,7 @@
 use Rattle.std.proofs.Common.{flat_map, map, refl}
 use Rattle.osc_base.specs.FaultRows.{first_from}
 use Rattle.dsl_tree.specs.Views.{argument_tree}
-use Rattle.expr_nodes.specs.SeenNames.{seen_scope}
+use Rattle.composition.specs.expr_nodes.SeenNames.{seen_scope}
 use Rattle.program_uses.specs.ModifierRows.{compared_rows}
 use Rattle.program_uses.proofs.RowSteps.{each_more}
 use Rattle.program_uses.proofs.modifiers.with_arguments.Goals as goal

@@ -2,8 +2,8 @@ use Rattle.std.proofs.Common.{◌≡◌, ◌∙◌, [], ap, flat_map, map, optio
 use Rattle.std.specs.Option.{option_map_or}
 use Rattle.osc_base.specs.FaultRows.{first_from}
 use Rattle.dsl_tree.specs.Views.{argument_tree, modifier_tree}
-use Rattle.expr_nodes.specs.SeenNames.{seen_scope}
-use Rattle.expr_nodes.specs.Typing.{expr_rows}
+use Rattle.composition.specs.expr_nodes.SeenNames.{seen_scope}
+use Rattle.composition.specs.expr_nodes.Typing.{expr_rows}
 use Rattle.composition.specs.ModifierLines.{modifier_form}
 use Rattle.composition.specs.Uses.{compared_exprs, form_rows, modifier_rows}
 use Rattle.program_calls.specs.SeenModifiers.{seen_form}

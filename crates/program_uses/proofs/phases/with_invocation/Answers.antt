@@ -3,7 +3,7 @@ use Rattle.osc_base.specs.FaultRows.{first_from}
 use Rattle.dsl_tree.specs.declared.phases.Phase.{Phase}
 use Rattle.dsl_tree.specs.Views.{argument_tree, part_tree, phase_tree}
 use Rattle.type_heads.specs.Types.{Types}
-use Rattle.expr_nodes.specs.SeenNames.{seen_it, seen_scope}
+use Rattle.composition.specs.expr_nodes.SeenNames.{seen_it, seen_scope}
 use Rattle.composition.specs.Calls.{callee}
 use Rattle.composition.specs.Uses.{call_rows, callee_rows, part_rows}
 use Rattle.program_uses.specs.PhaseRows.{phase_in}

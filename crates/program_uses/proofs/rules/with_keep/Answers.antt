@@ -1,9 +1,9 @@
 use Rattle.std.proofs.Common.{◌≡◌}
 use Rattle.osc_base.specs.FaultRows.{first_from}
 use Rattle.dsl_tree.specs.Views.{expr_tree}
-use Rattle.expr_nodes.specs.Fits.{constraint_rows}
-use Rattle.expr_nodes.specs.SeenNames.{seen_scope}
-use Rattle.expr_nodes.specs.Typing.{expr_rows, first, typed}
+use Rattle.composition.specs.expr_nodes.Fits.{constraint_rows}
+use Rattle.composition.specs.expr_nodes.SeenNames.{seen_scope}
+use Rattle.composition.specs.expr_nodes.Typing.{expr_rows, first, typed}
 use Rattle.composition.specs.Uses.{default_rows}
 use Rattle.program_uses.specs.RuleRows.{keep_rows}
 use Rattle.program_uses.proofs.RowSteps.{fitted_from, if_ok, three}

@@ -1,5 +1,5 @@
 use Rattle.dsl_tree.specs.Views.{path_tree}
-use Rattle.expr_nodes.specs.SeenNames.{seen_scope}
+use Rattle.composition.specs.expr_nodes.SeenNames.{seen_scope}
 use Rattle.program_uses.proofs.RuleSteps.{removed}
 use Rattle.program_uses.proofs.rules.with_removal.Goals as goal
 

@@ -1,7 +1,7 @@
 use Rattle.dsl_tree.specs.ExprTree.{ExprTree}
-use Rattle.expr_nodes.specs.Checks.{IsChecked}
-use Rattle.expr_nodes.specs.Scope.{Scope}
-use Rattle.expr_nodes.specs.SeenNames.{seen_scope}
+use Rattle.composition.specs.expr_nodes.Checks.{IsChecked}
+use Rattle.composition.specs.expr_nodes.Scope.{Scope}
+use Rattle.composition.specs.expr_nodes.SeenNames.{seen_scope}
 use Rattle.text_constraints.proofs.EqualSteps.{if_ok}
 use Rattle.text_constraints.proofs.conditions.field_checked.Goals as goal
 

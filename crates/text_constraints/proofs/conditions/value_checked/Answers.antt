@@ -1,8 +1,8 @@
 use Rattle.std.proofs.Common.{subst, sym}
 use Rattle.composition.specs.Givens.{value_tree}
 use Rattle.dsl_tree.specs.ExprTree.{ExprTree}
-use Rattle.expr_nodes.specs.Checks.{IsChecked}
-use Rattle.expr_nodes.specs.Scope.{Scope}
+use Rattle.composition.specs.expr_nodes.Checks.{IsChecked}
+use Rattle.composition.specs.expr_nodes.Scope.{Scope}
 use Rattle.text_constraints.proofs.EqualSteps.{if_ok}
 use Rattle.text_constraints.proofs.conditions.value_checked.Goals as goal
 

@@ -3,8 +3,8 @@ use Rattle.osc_base.specs.declared.mark.Strength.{Strength}
 use Rattle.composition.specs.Givens.{element}
 use Rattle.composition.specs.SeenParts.{seen_occurrence}
 use Rattle.dsl_tree.specs.Views.{expr_tree}
-use Rattle.expr_nodes.specs.Seen.{seen_part}
-use Rattle.expr_nodes.specs.Typing.{first}
+use Rattle.composition.specs.expr_nodes.Seen.{seen_part}
+use Rattle.composition.specs.expr_nodes.Typing.{first}
 use Rattle.text_constraints.specs.Elements.{SampleFor, sample_in, seen_sample}
 use Rattle.text_constraints.specs.Kept.{constraint, seen_owner}
 use Rattle.text_constraints.specs.OwnTexts.{initial_kept}

@@ -2,8 +2,8 @@ use Rattle.std.proofs.Common.{◌++◌, ◌∷◌, [], length, map, refl}
 use Rattle.composition.specs.Givens.{element}
 use Rattle.composition.specs.SeenParts.{seen_occurrence}
 use Rattle.dsl_tree.specs.Views.{expr_tree}
-use Rattle.expr_nodes.specs.Seen.{seen_part}
-use Rattle.expr_nodes.specs.Typing.{first}
+use Rattle.composition.specs.expr_nodes.Seen.{seen_part}
+use Rattle.composition.specs.expr_nodes.Typing.{first}
 use Rattle.text_constraints.specs.Elements.{sample_in}
 use Rattle.text_constraints.specs.Kept.{seen_owner}
 use Rattle.text_constraints.specs.OwnTexts.{elements_kept, initial_kept}

@@ -1,7 +1,7 @@
 use Rattle.std.proofs.Common.{◌≡◌, ◌++◌, drop, length, map}
 use Rattle.composition.specs.SeenParts.{seen_occurrence}
 use Rattle.dsl_tree.specs.Views.{expr_tree}
-use Rattle.expr_nodes.specs.Seen.{seen_part}
+use Rattle.composition.specs.expr_nodes.Seen.{seen_part}
 use Rattle.text_constraints.specs.Elements.{AreSampled, sample_in}
 use Rattle.text_constraints.specs.Kept.{seen_owner}
 use Rattle.text_constraints.specs.OwnTexts.{elements_kept}

@@ -2,7 +2,7 @@ use Rattle.std.proofs.Common.{◌≡◌, ◌∙◌, ◌++◌, ◌∷◌, [], Non
 use Rattle.std.proofs.lemmas.List.{map-append}
 use Rattle.composition.specs.SeenParts.{seen_occurrence}
 use Rattle.dsl_tree.specs.Views.{expr_tree}
-use Rattle.expr_nodes.specs.Scope.{It}
+use Rattle.composition.specs.expr_nodes.Scope.{It}
 use Rattle.type_heads.specs.Members.{items_in}
 use Rattle.text_constraints.specs.Kept.{seen_owner}
 use Rattle.text_constraints.specs.OwnTexts.{elements_kept, initials_kept}

@@ -4,8 +4,8 @@ use Rattle.composition.specs.Givens.{element}
 use Rattle.composition.specs.SeenParts.{seen_occurrence}
 use Rattle.dsl_tree.specs.ExprTree.{ExprTree}
 use Rattle.dsl_tree.specs.Views.{expr_tree}
-use Rattle.expr_nodes.specs.Checks.{IsChecked}
-use Rattle.expr_nodes.specs.Typing.{first}
+use Rattle.composition.specs.expr_nodes.Checks.{IsChecked}
+use Rattle.composition.specs.expr_nodes.Typing.{first}
 use Rattle.type_heads.specs.Table.{Table}
 use Rattle.text_constraints.specs.Elements.{SampleFor, seen_sample}
 use Rattle.text_constraints.specs.Kept.{equal_kept, seen_owner}

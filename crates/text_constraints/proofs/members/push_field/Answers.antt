@@ -3,7 +3,7 @@ use Rattle.composition.specs.SeenParts.{seen_occurrence}
 use Rattle.composition.specs.SeenScenes.{seen_scene}
 use Rattle.composition.specs.Givens.{guards_under}
 use Rattle.dsl_tree.specs.Views.{field_tree}
-use Rattle.expr_nodes.specs.SeenNames.{seen_it, seen_scope}
+use Rattle.composition.specs.expr_nodes.SeenNames.{seen_it, seen_scope}
 use Rattle.program_texts.specs.SeenTexts.{types_in}
 use Rattle.type_members.specs.Listed.{seen_listed}
 use Rattle.type_members.specs.Shared.{under_inside}

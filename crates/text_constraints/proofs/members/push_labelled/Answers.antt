@@ -1,4 +1,4 @@
-use Rattle.expr_nodes.specs.SeenNames.{seen_scope}
+use Rattle.composition.specs.expr_nodes.SeenNames.{seen_scope}
 use Rattle.program_texts.specs.program_calls.SeenLabels.{seen_labels}
 use Rattle.program_texts.specs.SeenTexts.{types_in}
 use Rattle.text_constraints.proofs.LabelSteps.{scope_of_labels}

@@ -3,8 +3,8 @@ use Rattle.osc_base.specs.Paths.{then_name}
 use Rattle.composition.specs.SeenParts.{seen_occurrence}
 use Rattle.composition.specs.SeenScenes.{seen_scene}
 use Rattle.dsl_tree.specs.Views.{field_tree}
-use Rattle.expr_nodes.specs.Scope.{It}
-use Rattle.expr_nodes.specs.SeenNames.{seen_scope}
+use Rattle.composition.specs.expr_nodes.Scope.{It}
+use Rattle.composition.specs.expr_nodes.SeenNames.{seen_scope}
 use Rattle.program_texts.specs.SeenTexts.{types_in}
 use Rattle.type_heads.specs.Members.{list_length}
 use Rattle.text_constraints.specs.OwnTexts.{texts_kept}

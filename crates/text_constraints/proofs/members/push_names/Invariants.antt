@@ -3,7 +3,7 @@ use Rattle.composition.specs.SeenParts.{seen_occurrence}
 use Rattle.composition.specs.SeenScenes.{seen_scene}
 use Rattle.dsl_tree.specs.declared.parts.Ident.{Ident}
 use Rattle.dsl_tree.specs.Views.{field_tree}
-use Rattle.expr_nodes.specs.SeenNames.{seen_scope}
+use Rattle.composition.specs.expr_nodes.SeenNames.{seen_scope}
 use Rattle.program_texts.specs.SeenTexts.{types_in}
 use Rattle.text_constraints.specs.OwnTexts.{it_given, name_kept}
 use Rattle.text_constraints.proofs.members.push_names.Given as goal

@@ -1,10 +1,10 @@
 use Rattle.std.proofs.Common.{◌≡◌, ap, option_map}
 use Rattle.dsl_tree.specs.declared.expr.RelationSign.{RelationSign}
 use Rattle.dsl_tree.specs.ExprTree.{ExprTree}
-use Rattle.expr_nodes.specs.Checks.{IsChecked}
-use Rattle.expr_nodes.specs.Seen.{seen_part}
-use Rattle.expr_nodes.specs.Typed.{moved}
-use Rattle.expr_nodes.specs.Typing.{first}
+use Rattle.composition.specs.expr_nodes.Checks.{IsChecked}
+use Rattle.composition.specs.expr_nodes.Seen.{seen_part}
+use Rattle.composition.specs.expr_nodes.Typed.{moved}
+use Rattle.composition.specs.expr_nodes.Typing.{first}
 use Rattle.std.proofs.Common.{◌∙◌}
 use Rattle.type_heads.specs.Table.{Table}
 use Rattle.text_constraints.specs.Sites.{seen_site, typed_home}

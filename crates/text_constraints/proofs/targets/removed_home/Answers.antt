@@ -1,7 +1,7 @@
 use Rattle.std.proofs.Common.{◌≡◌, ◌∙◌, option_and_then, option_map}
 use Rattle.composition.specs.Givens.{read_at}
 use Rattle.dsl_tree.specs.Views.{path_tree}
-use Rattle.expr_nodes.specs.Seen.{seen_part}
+use Rattle.composition.specs.expr_nodes.Seen.{seen_part}
 use Rattle.text_constraints.specs.Sites.{path_home, seen_site}
 use Rattle.scene_places.specs.Placed.{place_in}
 use Rattle.text_constraints.proofs.EqualSteps.{if_ok}

@@ -2,7 +2,7 @@ use Rattle.std.proofs.Common.{◌∙◌, ◌++◌, ap, map}
 use Rattle.text_constraints.specs.composition.SeenParts.{seen_occurrence}
 use Rattle.dsl_tree.specs.Views.{argument_tree, part_tree}
 use Rattle.text_constraints.specs.program_fields.Tables.{fields_in}
-use Rattle.expr_nodes.specs.SeenNames.{seen_scope}
+use Rattle.scene_expansion.specs.expr_nodes.SeenNames.{seen_scope}
 use Rattle.text_constraints.specs.Kept.{seen_owner}
 use Rattle.text_constraints.specs.Sites.{site_of}
 use Rattle.work_constraints.specs.CallTexts.{arguments_kept}

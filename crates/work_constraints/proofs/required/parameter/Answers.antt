@@ -1,5 +1,5 @@
 use Rattle.std.proofs.Common.{◌∙◌, ap, option_map}
-use Rattle.expr_nodes.specs.Typed.{moved}
+use Rattle.scene_expansion.specs.expr_nodes.Typed.{moved}
 use Rattle.text_constraints.specs.scene_places.Placed.{place_in}
 use Rattle.work_constraints.specs.CallTexts.{one_read}
 use Rattle.work_constraints.proofs.ArgumentSteps.{if_ok}

@@ -1,6 +1,6 @@
 use Rattle.text_constraints.specs.composition.SeenParts.{seen_occurrence}
 use Rattle.dsl_tree.specs.Views.{expr_tree}
-use Rattle.expr_nodes.specs.Seen.{seen, seen_part}
+use Rattle.scene_expansion.specs.expr_nodes.Seen.{seen, seen_part}
 use Rattle.std.proofs.Common.{ap, sym}
 use Rattle.text_constraints.specs.Kept.{seen_owner}
 use Rattle.text_constraints.specs.Sites.{seen_site}

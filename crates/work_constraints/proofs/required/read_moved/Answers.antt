@@ -1,6 +1,6 @@
 use Rattle.std.proofs.Common.{◌∙◌, ap, option_map}
-use Rattle.expr_nodes.specs.Seen.{seen_part}
-use Rattle.expr_nodes.specs.Typed.{moved}
+use Rattle.scene_expansion.specs.expr_nodes.Seen.{seen_part}
+use Rattle.scene_expansion.specs.expr_nodes.Typed.{moved}
 use Rattle.text_constraints.specs.scene_places.Placed.{place_in}
 use Rattle.work_constraints.proofs.ArgumentSteps.{if_ok, none_read, some_read}
 use Rattle.work_constraints.proofs.required.read_moved.Goals as goal

@@ -5,7 +5,7 @@ use Rattle.dsl_tree.specs.Views.{argument_tree, part_tree}
 use Rattle.text_constraints.specs.program_fields.Tables.{fields_in}
 use Rattle.text_constraints.specs.program_texts.SeenTexts.{types_in}
 use Rattle.scene_expansion.specs.SeenWorks.{seen_call}
-use Rattle.expr_nodes.specs.SeenNames.{seen_scope}
+use Rattle.scene_expansion.specs.expr_nodes.SeenNames.{seen_scope}
 use Rattle.text_constraints.specs.Kept.{seen_owner}
 use Rattle.work_constraints.proofs.InvocationTexts.{invoke_of}
 use Rattle.work_constraints.proofs.works.push_invoke.Goals as goal

@@ -4,7 +4,7 @@ use Rattle.text_constraints.specs.composition.SeenScenes.{seen_scene}
 use Rattle.dsl_tree.specs.Views.{expr_tree}
 use Rattle.text_constraints.specs.program_texts.SeenTexts.{types_in}
 use Rattle.scene_expansion.specs.SeenWorks.{seen_call}
-use Rattle.expr_nodes.specs.SeenNames.{seen_scope}
+use Rattle.scene_expansion.specs.expr_nodes.SeenNames.{seen_scope}
 use Rattle.text_constraints.specs.Kept.{seen_owner}
 use Rattle.text_constraints.proofs.ListSteps.{on_ok}
 use Rattle.work_constraints.specs.CallTexts.{call_site, duration_kept}

@@ -1,0 +1,4 @@
+pub mod NameRows
+pub mod Reaching
+pub mod Ranking
+pub mod Passing

@@ -1,0 +1,10 @@
+mod BracketSteps
+mod Chains
+mod HeadNames
+mod ItemSteps
+mod NameFaultRows
+mod NameKeys
+mod NameSteps
+mod HeldSteps
+mod HeadingRows
+mod HeldFall

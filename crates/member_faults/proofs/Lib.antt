@@ -1,0 +1,13 @@
+mod ListForms
+mod NameNotes
+mod RepeatedNames
+mod FoundFields
+mod ConditionSteps
+mod DistinctNames
+mod FewerMembers
+mod KnownRows
+mod MovedMembers
+mod PartNames
+mod PartSteps
+mod Quiet
+mod NearDepended

@@ -1,0 +1,4 @@
+pub mod ListedRows
+pub mod ConditionRows
+pub mod NamePlaces
+pub mod RowFacts

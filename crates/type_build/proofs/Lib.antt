@@ -1,0 +1,3 @@
+mod Quiet
+mod SoundForms
+mod Stops

@@ -1,7 +1,0 @@
-use Rattle.std.proofs.Common.{take, flat_map}
-use Rattle.type_faults.specs.ItemSets.{ContinuesItems, items_in}
-use Rattle.type_faults.specs.Trees.{trees}
-use Rattle.type_faults.proofs.heading_faults.items.with_extensions.Given as goal
-
-abbrev pub invariant-loop-extension : goal.invariant-loop-extension
-invariant-loop-extension l = ContinuesItems l.fn.first l.fn.met l.found l.met (flat_map items_in (trees (take l.extension-index l.extensions)))

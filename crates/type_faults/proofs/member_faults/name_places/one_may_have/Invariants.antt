@@ -1,7 +1,0 @@
-use Rattle.std.proofs.Common.{◌≡◌, drop}
-use Rattle.std.specs.List.{list_any}
-use Rattle.type_faults.specs.NamePlaces.{may_have}
-use Rattle.type_faults.proofs.member_faults.name_places.one_may_have.Given as goal
-
-abbrev pub invariant-loop-part : goal.invariant-loop-part
-invariant-loop-part l = list_any (may_have l.places l.name) l.parts ≡ list_any (may_have l.places l.name) (drop l.part-index l.parts)

@@ -1,9 +1,0 @@
-use Rattle.std.proofs.Common.{map, take}
-use Rattle.type_members.specs.type_heads.MemberFaults.{names_among}
-use Rattle.type_members.specs.Listed.{seen_row}
-use Rattle.type_members.specs.Shared.{members_in_parts}
-use Rattle.type_faults.specs.NameRows.{ContinuesNames}
-use Rattle.type_faults.proofs.member_faults.names.with_parts.Given as goal
-
-abbrev pub invariant-loop-part : goal.invariant-loop-part
-invariant-loop-part l = ContinuesNames l.fn.first l.fn.met l.found l.met (names_among (members_in_parts (map seen_row l.lists.rows.items) (take l.part-index l.parts)))

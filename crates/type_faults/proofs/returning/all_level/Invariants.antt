@@ -1,9 +1,0 @@
-use Rattle.std.proofs.Common.{◌≡◌, drop, length}
-use Rattle.type_faults.specs.Ranking.{level_from}
-use Rattle.type_faults.proofs.returning.all_level.Given as goal
-
-abbrev pub invariant-loop-row : goal.invariant-loop-row
-invariant-loop-row l = record {
-  count : l.number ≡ l.row-index;
-  rest : level_from (length l.next) l.ranks 0 l.next ≡ level_from (length l.next) l.ranks l.number (drop l.row-index l.next);
-}

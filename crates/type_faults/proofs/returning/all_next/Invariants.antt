@@ -1,5 +1,0 @@
-use Rattle.type_faults.specs.Ranking.{AreNext}
-use Rattle.type_faults.proofs.returning.all_next.Given as goal
-
-abbrev pub invariant-loop-number : goal.invariant-loop-number
-invariant-loop-number g l = AreNext l.number (g.S.Steps.next l.steps) l.all.items

@@ -1,6 +1,0 @@
-use Rattle.std.proofs.Common.{◌≡◌, drop}
-use Rattle.type_faults.specs.Ranking.{falls}
-use Rattle.type_faults.proofs.returning.falls.Given as goal
-
-abbrev pub invariant-loop-to : goal.invariant-loop-to
-invariant-loop-to l = falls l.ranks l.of l.next ≡ falls l.ranks l.of (drop l.to-index l.next)
