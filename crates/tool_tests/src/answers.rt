@@ -1,7 +1,5 @@
-use osc_base::Row;
-use outside_io::{MemoryShelf, MemorySink};
-use scenario_tool::{command, one_answer, some_answer};
-use std::alloc::{AllocError, Global};
+use answer_tests::scenario_tool::{one_answer, some_answer};
+use answer_tests::{Outside, SOUND, answer};
 use std::process::Abort;
 use std::test::Fail;
 
@@ -9,41 +7,6 @@ pub(crate) const SOURCE: &str = "scenario top:\n    x: int\n    keep(x in [3..3]
 
 pub(crate) const RUN: &str =
     "{\"choices\":[],\"end\":0,\"form\":1,\"phases\":[],\"traces\":[],\"values\":[[\"x\",3]]}\n";
-
-/// Which calls of the shelf and of the sink fail, how many bytes a call of the sink takes, and its room.
-#[derive(Clone, Copy)]
-pub(crate) struct Outside<'a> {
-    pub shelf_failing: &'a [u64],
-    pub sink_failing: &'a [u64],
-    pub most: usize,
-    pub room: usize,
-}
-
-pub(crate) const SOUND: Outside<'static> = Outside {
-    shelf_failing: &[],
-    sink_failing: &[],
-    most: 4096,
-    room: 4096,
-};
-
-/// The status that `command` returns for the words, and what it writes, as one text.
-pub(crate) fn answer(
-    alloc: Global,
-    words: &[&str],
-    files: &[(&str, &[u8])],
-    outside: Outside<'_>,
-) -> Result<String, AllocError> {
-    let mut owned = Vec::new(alloc);
-    for word in words {
-        owned.push(String::from_str(alloc, word)?)?;
-    }
-    let mut shelf = MemoryShelf::of(alloc, files, 4096, outside.shelf_failing)?;
-    let failing = Row::of(Vec::from_slice(alloc, outside.sink_failing)?);
-    let mut sink = MemorySink::new(alloc, outside.room, outside.most.max(1), failing)?;
-    let status = command(alloc, &owned, &mut shelf, &mut sink);
-    let written = str::from_utf8(sink.written()).unwrap_or("no text");
-    format!(in alloc; "{status} {written}")
-}
 
 const GENERATE: [&str; 3] = ["generate", "main.osc", "top"];
 

@@ -1,5 +1,6 @@
 //! What `command` says of runs.
-use crate::answers::{Outside, RUN, SOUND, SOURCE, answer};
+use crate::answers::{RUN, SOURCE};
+use answer_tests::{Outside, SOUND, answer};
 use std::alloc::{AllocError, AllocGlobal, Global};
 use std::process::Abort;
 use std::test::Fail;

@@ -1,7 +1,7 @@
 //! The examples are decided, and what is written of them is accepted.
 
-use crate::answers::{Outside, answer};
 use crate::scenarios::EXAMPLES;
+use answer_tests::{SOUND, answer};
 use std::process::Abort;
 use std::test::Fail;
 
@@ -38,21 +38,13 @@ pub(crate) struct Example {
     pub source: &'static str,
 }
 
-/// A shelf and a sink that don't fail, with room for a run of some vehicles.
-const ROOMY: Outside<'static> = Outside {
-    shelf_failing: &[],
-    sink_failing: &[],
-    most: 4096,
-    room: 1 << 20,
-};
-
 #[test]
 fn examples_are_decided(rt: HostRuntime) -> Result<(), Fail> {
     let alloc = rt.alloc();
     for example in EXAMPLES.as_slice() {
         let source = example.source.as_bytes();
         let words = ["generate", "main.osc", "top"];
-        let got = answer(alloc, &words, &[("main.osc", source)], ROOMY)?;
+        let got = answer(alloc, &words, &[("main.osc", source)], SOUND)?;
         let written = got.as_str().strip_prefix(example.outcome.head());
         assert!(rt; written.is_some(), "{}: {}", example.name, got.as_str());
         let files = [
@@ -60,7 +52,7 @@ fn examples_are_decided(rt: HostRuntime) -> Result<(), Fail> {
             ("written", written.unwrap_or("").as_bytes()),
         ];
         let words = [example.outcome.checker(), "main.osc", "top", "written"];
-        let said = answer(alloc, &words, &files, ROOMY)?;
+        let said = answer(alloc, &words, &files, SOUND)?;
         assert_eq!(rt; said.as_str(), "0 yes\n", "{}", example.name);
     }
     Ok(())

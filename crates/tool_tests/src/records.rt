@@ -1,5 +1,6 @@
 //! What `command` says of records, of listings and of programs that are made.
-use crate::answers::{Outside, SOUND, answer, answers_are};
+use crate::answers::answers_are;
+use answer_tests::{Outside, SOUND, answer};
 use std::process::Abort;
 use std::test::Fail;
 
@@ -126,12 +127,8 @@ fn listings(rt: HostRuntime) -> Result<(), Fail> {
 
 /// The answers to `make` of these counts: a run, and behind it this line.
 fn made_runs_are(rt: &(impl Abort + AllocGlobal), rows: &[(&str, &str)]) -> Result<(), Fail> {
-    let ample = Outside {
-        room: 65536,
-        ..SOUND
-    };
     for (count, last) in rows {
-        let got = answer(rt.alloc(), &["make", *count], &[], ample)?;
+        let got = answer(rt.alloc(), &["make", *count], &[], SOUND)?;
         let got = got.as_str();
         assert!(rt; got.starts_with("0 {\"choices\":[]"), "{count}");
         assert!(rt; got.ends_with(*last), "{count}");

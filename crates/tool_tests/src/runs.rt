@@ -1,6 +1,6 @@
+use answer_tests::scenario_tool::composition::{Choice, Held, Run, Span, Trace, Value};
+use answer_tests::scenario_tool::run_check::write_run;
 use osc_base::{Path, Row, Sample, Step, Text};
-use scenario_tool::composition::{Choice, Held, Run, Span, Trace, Value};
-use scenario_tool::run_check::write_run;
 use std::alloc::{AllocError, Global};
 use std::test::Fail;
 

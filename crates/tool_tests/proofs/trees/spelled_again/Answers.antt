@@ -1,4 +1,4 @@
-use Rattle.scenario_tool.proofs.of_program_load.SourceReading.{ended}
+use Rattle.answer_tests.proofs.of_program_load.SourceReading.{ended}
 use Rattle.tool_tests.proofs.trees.spelled_again.Goals as goal
 
 pub parse-requires : goal.parse-requires

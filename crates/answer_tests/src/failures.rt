@@ -1,0 +1,101 @@
+//! Shelves that fail, and sources and runs that go deep.
+
+use crate::call::{Outside, SOUND, answer};
+use crate::cases::answer_to;
+use std::alloc::{AllocError, Global};
+use std::test::Fail;
+
+const FIRST: &str = "import \"b.osc\"
+scenario top:
+    x: small
+";
+
+const SECOND: &str = "import \"a.osc\"
+struct small:
+    n: int with:
+        keep(it == 7)
+";
+
+/// Two files import each other. Each has three calls: one that looks for it, and two that read.
+#[test]
+fn a_shelf_that_fails_at_each_call(rt: HostRuntime) -> Result<(), Fail> {
+    let files = [("a.osc", FIRST.as_bytes()), ("b.osc", SECOND.as_bytes())];
+    for call in 0..7 {
+        let fails = Outside {
+            shelf_failing: &[call],
+            ..SOUND
+        };
+        let got = answer(rt.alloc(), &["generate", "a.osc", "top"], &files, fails)?;
+        let want = if call < 3 {
+            "6 shelf a.osc\n"
+        } else if call < 6 {
+            "6 shelf b.osc\n"
+        } else {
+            "0 {\"choices\":[],\"end\":0,\"form\":1,\"phases\":[],\"traces\":[],\"values\":[[\"x.n\",7]]}\n"
+        };
+        assert_eq!(rt; got.as_str(), want, "call {call}");
+    }
+    Ok(())
+}
+
+fn many_imports(alloc: Global) -> Result<String, AllocError> {
+    let mut source = String::new(alloc);
+    for number in 1..65 {
+        write!(source, "import \"f{number}\"\n")?;
+    }
+    Ok(source)
+}
+
+/// The main file and 64 more.
+#[test]
+fn a_file_too_many(rt: HostRuntime) -> Result<(), Fail> {
+    let source = many_imports(rt.alloc())?;
+    let got = answer_to(rt.alloc(), "generate main.osc top", source.as_str(), "")?;
+    assert_eq!(rt; got.as_str(), "3 fault 302 main.osc:64:8\n");
+    Ok(())
+}
+
+/// Structs each of which holds the one before.
+fn held_structs(alloc: Global) -> Result<String, AllocError> {
+    let mut source = String::from_str(alloc, "struct s0:\n    n: int\n")?;
+    for number in 1..1000u32 {
+        write!(source, "struct s{number}:\n    n: s{}\n", number - 1)?;
+    }
+    write!(source, "scenario top:\n    x: s999\n")?;
+    Ok(source)
+}
+
+/// `x` and a thousand times `n`.
+#[test]
+fn a_path_of_1001_steps(rt: HostRuntime) -> Result<(), Fail> {
+    let source = held_structs(rt.alloc())?;
+    let got = answer_to(rt.alloc(), "generate main.osc top", source.as_str(), "")?;
+    let got = got.as_str();
+    let front =
+        "0 {\"choices\":[],\"end\":0,\"form\":1,\"phases\":[],\"traces\":[],\"values\":[[\"x.n.n";
+    assert!(rt; got.starts_with(front), "{got}");
+    let steps = got.bytes().filter(|byte| *byte == b'.').count();
+    assert_eq!(rt; steps, 1000);
+    Ok(())
+}
+
+fn brackets(alloc: Global) -> Result<String, AllocError> {
+    let mut text = String::new(alloc);
+    for _ in 0..128 {
+        write!(text, "[")?;
+    }
+    for _ in 0..128 {
+        write!(text, "]")?;
+    }
+    Ok(text)
+}
+
+#[test]
+fn a_run_of_brackets(rt: HostRuntime) -> Result<(), Fail> {
+    let source = "scenario top:\n    x: int\n    keep(x in [3..3])\n";
+    let text = brackets(rt.alloc())?;
+    let line = "check main.osc top written";
+    let got = answer_to(rt.alloc(), line, source, text.as_str())?;
+    assert_eq!(rt; got.as_str(), "5 text json\n");
+    Ok(())
+}
