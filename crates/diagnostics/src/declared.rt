@@ -246,7 +246,7 @@ pub fn nearest_name<'a>(
     word: &str,
 ) -> Result<Option<&'a str>, AllocError> {
     let mut nearest = Nearest::new(word);
-    for declared in names.iter().take(LOOKS) {
+    for declared in names.get(..LOOKS).unwrap_or(names) {
         nearest.look_at(alloc, declared.name.text.as_str())?;
     }
     for known in &KNOWN {
