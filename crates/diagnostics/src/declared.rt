@@ -10,7 +10,7 @@ use strsim::osa_distance;
 const KNOWN: [&str; 6] = ["int", "uint", "float", "bool", "string", "duration"];
 /// The longest name, in bytes, that is near another one, since a look at two names takes as long as their lengths multiplied.
 const LONGEST: usize = 64;
-/// How many declared names are looked at.
+/// How many names are looked at.
 const LOOKS: usize = 10_000;
 
 /// A space of names: no two names of one space are equal.
@@ -198,13 +198,16 @@ fn first_of<'a>(names: &[Declared<'a>], later: Declared<'a>) -> Option<Declared<
     None
 }
 
-/// Of the names that are a few edits away from a word, the first of the nearest. Long names aren't looked at.
+/// Of the names that are a few edits away from a word, the first of the nearest. Long names aren't looked at, nor more than
+/// 10,000 names.
 #[derive(Clone, Copy)]
 pub struct Nearest<'w, 'a> {
     word: &'w str,
     /// The edits to the name that is found, else one more than may be.
     edits: usize,
     name: Option<&'a str>,
+    /// How many more names are looked at.
+    looks: usize,
 }
 
 impl<'w, 'a> Nearest<'w, 'a> {
@@ -214,6 +217,7 @@ impl<'w, 'a> Nearest<'w, 'a> {
             word,
             edits: word.chars().count().max(3) / 3 + 1,
             name: None,
+            looks: LOOKS,
         }
     }
 
@@ -225,6 +229,10 @@ impl<'w, 'a> Nearest<'w, 'a> {
         if name.len().abs_diff(self.word.len()) > self.word.len() {
             return Ok(());
         }
+        let Some(looks) = self.looks.checked_sub(1) else {
+            return Ok(());
+        };
+        self.looks = looks;
         let edits = osa_distance(alloc, self.word, name)?;
         if edits < self.edits {
             self.edits = edits;
@@ -239,14 +247,14 @@ impl<'w, 'a> Nearest<'w, 'a> {
     }
 }
 
-/// The name nearest to a word, of the first declared ones and of those that need no declaration.
+/// The name nearest to a word, of the declared ones and of those that need no declaration.
 pub fn nearest_name<'a>(
     alloc: Global,
     names: &[Declared<'a>],
     word: &str,
 ) -> Result<Option<&'a str>, AllocError> {
     let mut nearest = Nearest::new(word);
-    for declared in names.get(..LOOKS).unwrap_or(names) {
+    for declared in names {
         nearest.look_at(alloc, declared.name.text.as_str())?;
     }
     for known in &KNOWN {
