@@ -5,9 +5,6 @@ mod call;
 
 pub use call::{Outside, SOUND, answer};
 
-// Crates below, for the crates above.
-pub use scenario_tool;
-
 #[cfg(test)]
 mod cases;
 #[cfg(test)]

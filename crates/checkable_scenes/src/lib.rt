@@ -9,6 +9,3 @@ pub use laws::{
     scenes_are_expanded, scenes_are_grounded, scenes_are_limited, scenes_are_typed,
     scenes_have_reads, scopes_are_resolved, vehicles_are_limited,
 };
-
-// Crates below, for the crates above.
-pub use composition;

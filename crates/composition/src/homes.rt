@@ -10,8 +10,8 @@ ghost use Rattle.keep_rules.specs.path_index.Places.{first_place};
 use crate::part::Binding;
 use crate::scene::Scene;
 use crate::source::Source;
-use keep_rules::path_index::found;
 use osc_base::{Path, Row, Step};
+use path_index::found;
 use std::alloc::{AllocError, Global};
 
 impl Scene {

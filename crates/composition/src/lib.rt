@@ -24,10 +24,3 @@ pub use scene::Scene;
 pub use setting::Setting;
 pub use source::Source;
 pub use spot::{ChoiceSpot, PhaseKind, PhaseSpot, ValueRange, ValueSpot};
-
-// Crates below, for the crates above.
-pub use cond_inherit;
-pub use cond_inherit::{type_model, type_tables};
-pub use expr_nodes;
-pub use keep_rules;
-pub use keep_rules::path_index;

@@ -4,8 +4,8 @@ ghost use Rattle.osc_base.specs.declared.path.Path.{Path};
 
 use crate::part::{Binding, Spot};
 use crate::{Choice, ChoiceSpot, PhaseSpot, Span, Trace, Value, ValueSpot};
-use keep_rules::path_index::HasPath;
 use osc_base::Path;
+use path_index::HasPath;
 
 impl HasPath for Spot {
     ghost path_of = { λ s. s.path };

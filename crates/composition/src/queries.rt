@@ -13,10 +13,10 @@ use crate::scene::Scene;
 use crate::sorts::sorted;
 use crate::source::Source;
 use crate::{ChoiceSpot, Guard, PhaseSpot, Setting, ValueSpot};
-use cond_inherit::type_tables::TextTable;
-use keep_rules::path_index::{PathIndex, found, found_timed};
 use osc_base::{Path, Row, Step, Text};
+use path_index::{PathIndex, found, found_timed};
 use std::alloc::{AllocError, Global};
+use type_tables::TextTable;
 
 impl Scene {
     /// A scene of these parts. The spots stand in the order of expansion, at their homes.

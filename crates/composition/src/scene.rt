@@ -7,9 +7,9 @@ ghost use Rattle.keep_rules.specs.path_index.Places.{Places};
 
 use crate::part::{Binding, ModifierSpot, Occurrence, Spot};
 use crate::{ChoiceSpot, PhaseSpot, Setting, ValueSpot};
-use cond_inherit::type_tables::TextTable;
-use keep_rules::path_index::PathIndex;
 use osc_base::{Path, Row};
+use path_index::PathIndex;
+use type_tables::TextTable;
 
 /// Everything that may be there in a run of a scenario, in the order of expansion. All paths in it are home paths. The
 /// texts are those that a field of type `string` may hold.

@@ -1,6 +1,2 @@
 //! Laws of expansions: their parts one after another, and how many objects, slots and rules a scene has.
 #![tactic(auto)]
-
-// Crates below, for the crates above.
-pub use composition;
-pub use composition::expr_nodes;

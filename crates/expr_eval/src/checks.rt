@@ -16,9 +16,9 @@ use crate::pairs::{Level, Pair, paired};
 use dsl_tree::{Expr, Further, Suffix};
 use expr_nodes::{Checked, Scope};
 use expr_typing::steps::{grouped, indexed, negated, opposed, pointed};
-use expr_typing::type_model::Types;
 use osc_base::Place;
 use std::alloc::{AllocError, Global};
+use type_model::Types;
 
 /// What is known of an expression.
 #[cycle(checks)]

@@ -17,7 +17,3 @@ pub use expr_value::{Reading, value};
 pub use laws::{exponents_are_bounded, typed_or_refused};
 pub use paths::{path_checked, path_place};
 pub use typing::{TypeStop, type_of};
-
-// Crates below, for the crates above.
-pub use expr_typing;
-pub use expr_typing::{expr_nodes, type_model};

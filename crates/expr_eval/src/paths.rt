@@ -14,9 +14,9 @@ use expr_nodes::{Checked, Scope};
 use expr_typing::meanings::name;
 use expr_typing::others::{actor, it};
 use expr_typing::steps::{indexed, pointed};
-use expr_typing::type_model::Types;
 use osc_base::Place;
 use std::alloc::{AllocError, Global};
+use type_model::Types;
 
 /// What a path begins with, as an expression.
 fn head_checked(

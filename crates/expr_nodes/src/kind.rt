@@ -8,7 +8,7 @@ ghost use Rattle.expr_nodes.specs.Kinds as Kinds;
 ghost use Rattle.expr_nodes.specs.Seen.{seen_kind};
 
 use type_model::TypeId;
-use type_model::units_si::Exponents;
+use units_si::Exponents;
 
 /// What a phase makes.
 #[derive(Debug, Clone, Copy, PartialEq, Eq)]

@@ -5,7 +5,7 @@ ghost use Rattle.std.specs.Prelude.{◌≡◌, bytes_eq, find, map, option_copie
 use crate::{Made, Turn};
 use osc_base::{Path, Row, Text};
 use std::alloc::{AllocError, Global};
-use type_model::type_tables::TextTable;
+use type_tables::TextTable;
 
 /// A label of a phase, the phase's path from the object and the turns on its way, outermost first, and what it makes.
 #[derive(Drop)]

@@ -18,7 +18,3 @@ pub use parts::Checked;
 pub use scope::{It, Scope};
 pub use size::Size;
 pub use ways::{Turn, leads_into};
-
-// Crates below, for the crates above.
-pub use type_model;
-pub use type_model::units_si;

@@ -1,6 +1,6 @@
 use dsl_tree::Digits;
-use expr_eval::expr_typing::literals::number;
 use expr_nodes::Typed;
+use expr_typing::literals::number;
 use osc_base::{Boxed, Fault, FaultCode, Place};
 use std::test::Fail;
 

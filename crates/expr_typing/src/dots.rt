@@ -10,11 +10,11 @@ use crate::fields::with_name;
 use crate::meanings::{field_meant, typed_of};
 use crate::names::{Meaning, duration_at, is_behaviour, is_duration};
 use crate::parts::fault_if;
-use expr_nodes::type_model::dsl_tree::Ident;
-use expr_nodes::type_model::{TypeId, Types};
+use dsl_tree::Ident;
 use expr_nodes::{Checked, Made, Typed, ValueKind};
 use osc_base::{Boxed, FaultCode, Path, Place, Text};
 use std::alloc::{AllocError, Global};
+use type_model::{TypeId, Types};
 
 /// The duration of what stands at a path, if it has one.
 fn timed(alloc: Global, place: Place, path: Path, has: bool) -> Result<Meaning, AllocError>

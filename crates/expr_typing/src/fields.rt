@@ -11,11 +11,11 @@ ghost use Rattle.expr_nodes.specs.Names.{per_of as counted_over, single as field
 ghost use Rattle.expr_nodes.specs.Seen.{seen, seen_info, seen_kind};
 ghost use Rattle.expr_nodes.specs.SeenNames.{single_in};
 
-use expr_nodes::type_model::units_si::Exponents;
-use expr_nodes::type_model::{TypeId, TypeKind, Types};
 use expr_nodes::{Info, Size, Typed, ValueKind};
 use osc_base::{Path, Place, Step, Text};
 use std::alloc::{AllocError, Global};
+use type_model::{TypeId, TypeKind, Types};
+use units_si::Exponents;
 
 /// The exponents of a number without a unit.
 pub(crate) const NO_EXPONENTS: Exponents = Exponents {

@@ -9,10 +9,10 @@ ghost use Rattle.expr_nodes.specs.Seen.{seen, seen_info};
 ghost use Rattle.expr_nodes.specs.SeenNames.{list_in};
 
 use crate::fields::{element, kind_value, per_of, single};
-use expr_nodes::type_model::{FieldType, TypeId, TypeKind, Types};
 use expr_nodes::{Info, Size, Typed};
 use osc_base::{Boxed, Path, Place, Row};
 use std::alloc::{AllocError, Global};
+use type_model::{FieldType, TypeId, TypeKind, Types};
 
 /// The elements of a list field. `info` is what each holds of itself.
 fn elements(

@@ -23,7 +23,3 @@ mod truths;
 mod within;
 
 pub use names::has_label;
-
-// Crates below, for the crates above.
-pub use expr_nodes;
-pub use expr_nodes::type_model;

@@ -13,7 +13,7 @@ use crate::fields::NO_EXPONENTS;
 use crate::held::listed;
 use crate::parts::{fault_if, least};
 use crate::spans::begun;
-use expr_nodes::type_model::dsl_tree::Expr;
+use dsl_tree::Expr;
 use expr_nodes::{Checked, Info, Size, Typed, ValueKind};
 use osc_base::{Boxed, Fault, FaultCode, Place, Row};
 use std::alloc::{AllocError, Global};

@@ -10,12 +10,12 @@ ghost use Rattle.expr_nodes.specs.Seen.{seen, seen_kind, seen_part};
 use crate::fields::NO_EXPONENTS;
 use crate::parts::fault_if;
 use crate::truths::truth_at;
+use dsl_tree::Digits;
 use expr_nodes::size::gcd;
-use expr_nodes::type_model::Types;
-use expr_nodes::type_model::dsl_tree::Digits;
 use expr_nodes::{Checked, Info, Size, Typed, ValueKind};
 use osc_base::{Boxed, FaultCode, Fraction, Place};
 use std::alloc::{AllocError, Global};
+use type_model::Types;
 
 /// The most places that a number may have. A token of a source has at most 18 digits.
 const MOST_PLACES: u8 = 18;

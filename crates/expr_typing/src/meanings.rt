@@ -16,11 +16,11 @@ use crate::names::{
     Meaning, duration_at, is_behaviour, is_duration, label_at, label_of, member_meant, path_of,
 };
 use crate::parts::{fault_if, least};
-use expr_nodes::type_model::dsl_tree::Ident;
-use expr_nodes::type_model::{FieldType, Types};
+use dsl_tree::Ident;
 use expr_nodes::{Checked, Scope, Typed, leads_into};
 use osc_base::{Boxed, Fault, FaultCode, Path, Place};
 use std::alloc::{AllocError, Global};
+use type_model::{FieldType, Types};
 
 /// A field at a path.
 pub(crate) fn field_meant(

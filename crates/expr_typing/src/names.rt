@@ -15,12 +15,12 @@ ghost use Rattle.expr_nodes.specs.SeenNames.{seen_label, seen_scope};
 ghost use Rattle.expr_typing.specs.Meanings.{seen_meaning};
 
 use crate::fields::with_name;
-use expr_nodes::type_model::dsl_tree::Ident;
-use expr_nodes::type_model::units_si::Exponents;
-use expr_nodes::type_model::{EnumHit, TypeId, TypeKind, Types};
+use dsl_tree::Ident;
 use expr_nodes::{Info, Label, Scope, Size, Typed, ValueKind};
 use osc_base::{Boxed, Fraction, Path, Place, Row, Text};
 use std::alloc::{AllocError, Global};
+use type_model::{EnumHit, TypeId, TypeKind, Types};
+use units_si::Exponents;
 
 /// The kind of a duration.
 const SECONDS: Exponents = Exponents {

@@ -13,11 +13,11 @@ use crate::fields::object_at;
 use crate::held::held_at;
 use crate::names::{member_at, path_of};
 use crate::parts::{fault_if, least};
-use expr_nodes::type_model::dsl_tree::Ident;
-use expr_nodes::type_model::{TypeId, TypeKind, Types};
+use dsl_tree::Ident;
 use expr_nodes::{Checked, It, Scope, Typed, ValueKind};
 use osc_base::{Boxed, Fault, FaultCode, Place};
 use std::alloc::{AllocError, Global};
+use type_model::{TypeId, TypeKind, Types};
 
 /// What `it` stands for, at its path.
 fn it_at(

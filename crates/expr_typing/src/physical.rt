@@ -12,13 +12,13 @@ ghost use Rattle.expr_nodes.specs.SeenNames.{count_of, physical_of};
 
 use crate::literals::{constant_at, decimal, is_long};
 use crate::parts::fault_if;
+use dsl_tree::Digits;
 use expr_nodes::size::gcd;
-use expr_nodes::type_model::Types;
-use expr_nodes::type_model::dsl_tree::Digits;
-use expr_nodes::type_model::units_si::{Unit, literal};
 use expr_nodes::{Checked, Typed, ValueKind};
 use osc_base::{Boxed, FaultCode, Fraction};
 use std::alloc::{AllocError, Global};
+use type_model::Types;
+use units_si::{Unit, literal};
 
 /// The slot value of a literal.
 fn slot_value(number: &Fraction, unit: &Unit) -> Option<i64>

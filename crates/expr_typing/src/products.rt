@@ -11,10 +11,10 @@ ghost use Rattle.expr_nodes.specs.Seen.{seen, seen_kind, seen_part};
 use crate::fields::NO_EXPONENTS;
 use crate::parts::{are_no_numbers, are_numbers, are_whole, fault_if, least};
 use crate::rows::with_part;
-use expr_nodes::type_model::units_si::Exponents;
 use expr_nodes::{Checked, Info, Join, Typed, ValueKind};
 use osc_base::{Boxed, Fault, FaultCode, Place};
 use std::alloc::{AllocError, Global};
+use units_si::Exponents;
 
 /// The exponents of a number.
 pub fn exponents_of(kind: &ValueKind) -> Exponents

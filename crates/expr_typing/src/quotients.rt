@@ -11,8 +11,8 @@ use crate::fields::NO_EXPONENTS;
 use crate::parts::are_numbers;
 use crate::products::exponents_of;
 use expr_nodes::Typed;
-use expr_nodes::type_model::units_si::Exponents;
 use osc_base::Boxed;
+use units_si::Exponents;
 
 /// A quotient subtracts exponents. `None` when one leaves its limits.
 pub fn quotient_exponents(left: &Typed, right: &Typed) -> Option<Exponents>

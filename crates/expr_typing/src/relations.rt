@@ -10,7 +10,7 @@ ghost use Rattle.expr_nodes.specs.Seen.{seen, seen_part};
 use crate::parts::{are_joined_wide, are_numbers, are_whole, fault_if, have_other_units, least};
 use crate::truths::truth_at;
 use crate::within::within;
-use expr_nodes::type_model::dsl_tree::RelationSign;
+use dsl_tree::RelationSign;
 use expr_nodes::{Checked, Compare, Typed};
 use osc_base::{Boxed, Fault, FaultCode, Place};
 use std::alloc::{AllocError, Global};

@@ -15,11 +15,11 @@ use crate::relations::relation;
 use crate::spans::{group, span};
 use crate::sums::{minus, sum};
 use crate::truths::{implies, logic, not};
-use expr_nodes::type_model::Types;
-use expr_nodes::type_model::dsl_tree::{Expr, Ident, Operator, RelationSign};
+use dsl_tree::{Expr, Ident, Operator, RelationSign};
 use expr_nodes::{Checked, Join};
 use osc_base::{Fault, Place};
 use std::alloc::{AllocError, Global};
+use type_model::Types;
 
 /// What is known of an operator, with the faults of its parts.
 pub fn with_parts(own: Checked, left: Option<Fault>, right: Option<Fault>) -> Checked

@@ -13,7 +13,7 @@ use crate::parts::{
     least,
 };
 use crate::rows::with_part;
-use expr_nodes::type_model::dsl_tree::Operator;
+use dsl_tree::Operator;
 use expr_nodes::{Checked, Info, Join, Typed};
 use osc_base::{Boxed, Fault, FaultCode, Place};
 use std::alloc::{AllocError, Global};

@@ -10,6 +10,3 @@ mod values;
 pub use laws::worths_are_fractions;
 pub use reading::Reading;
 pub use values::{constant, is_held, value};
-
-// Crates below, for the crates above.
-pub use expr_nodes;

@@ -4,9 +4,3 @@
 mod laws;
 
 pub use laws::{flat_forms_are_exact, flat_forms_are_flat, scenes_are_exact};
-
-// Crates below, for the crates above.
-pub use composition;
-pub use composition::expr_nodes;
-pub use modifier_rules;
-pub use osc_base;

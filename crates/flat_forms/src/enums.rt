@@ -7,7 +7,7 @@ ghost use Rattle.scene_rules.specs.composition.Items.{OfTyped, typed_item};
 ghost use Rattle.scene_rules.specs.composition.Ranges.{has_gap as leaves_out};
 
 use box_eval::Pair;
-use scene_rules::composition::ValueRange;
+use composition::ValueRange;
 use slot_ends::number_ends;
 
 /// They are one number.

@@ -7,7 +7,7 @@ ghost use Rattle.slot_ends.specs.field_flatten.Exactness.{IsExpanded, IsLimited,
 
 use crate::rules::rules_of;
 use box_eval::Flat;
-use scene_rules::composition::Scene;
+use composition::Scene;
 use slot_ends::bounds;
 use std::alloc::{AllocError, Global};
 

@@ -10,8 +10,3 @@ mod rules;
 
 pub use form::flatten;
 pub use names::rule_names;
-
-// Crates below, for the crates above.
-pub use scene_rules::composition;
-pub use slot_ends;
-pub use slot_ends::scene_slots;

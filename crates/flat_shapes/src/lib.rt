@@ -7,7 +7,3 @@ mod slots;
 
 pub use shapes::{number, rule};
 pub use slots::{Found, Slots};
-
-// Crates below, for the crates above.
-pub use flat_terms;
-pub use flat_terms::{box_eval, composition};

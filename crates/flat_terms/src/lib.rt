@@ -4,7 +4,3 @@
 pub mod rows;
 pub mod scales;
 pub mod terms;
-
-// Crates below, for the crates above.
-pub use box_eval;
-pub use field_flatten::composition;

@@ -6,7 +6,7 @@ ghost use Rattle.field_flatten.specs.Shapes.{sum_of, product_of};
 ghost use Rattle.flat_terms.specs.Joins.{term_join, no_terms, rule_join, no_rules};
 
 use box_eval::{Rule, Term};
-use field_flatten::osc_base::Boxed;
+use osc_base::Boxed;
 use std::alloc::{AllocError, Global};
 
 /// How the terms of a row are joined.

@@ -9,8 +9,8 @@ ghost use Rattle.field_flatten.specs.osc_base.Fraction.{value};
 
 use crate::rows;
 use box_eval::{Rule, Term};
-use field_flatten::expr_nodes::Compare;
-use field_flatten::osc_base::{Boxed, Fraction};
+use expr_nodes::Compare;
+use osc_base::{Boxed, Fraction};
 use std::alloc::{AllocError, Global};
 
 /// A number of times a term.

@@ -10,7 +10,3 @@ mod wrongs;
 pub use laws::instances_alone_are_right;
 pub use run_check::Wrong;
 pub use whole::check;
-
-// Crates below, for the crates above.
-pub use run_check;
-pub use run_check::composition;

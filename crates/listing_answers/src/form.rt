@@ -4,12 +4,12 @@ ghost use Rattle.flat_forms.specs.field_flatten.Exactness.{IsExpanded};
 ghost use Rattle.listing_answers.specs.Lists.{Lists};
 
 use command_replies::{Reply, done};
-use flat_forms::composition::Scene;
+use composition::Scene;
 use flat_forms::rule_names;
-use flat_forms::scene_slots::slot_names;
-use flat_forms::slot_ends::bounds;
 use flat_listing::listing;
 use name_scope::Program;
+use scene_slots::slot_names;
+use slot_ends::bounds;
 use std::alloc::{AllocError, Global};
 
 /// Lists the flat form of a scene of a program: each slot with its ends, and each rule by its name. No rule is made. Out of

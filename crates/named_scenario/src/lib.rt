@@ -6,6 +6,3 @@ mod named;
 mod sound;
 
 pub use named::{NameStop, NamedScenario, find_scenario};
-
-// Crates below, for the crates above.
-pub use program_uses::{composition, program_members, type_tables};

@@ -12,8 +12,8 @@ use crate::sound::sound_types;
 use dsl_tree::CompoundDecl;
 use name_scope::Program;
 use osc_base::{Fault, Stop};
-use program_uses::type_model::{TypeId, TypeKind, Types};
 use std::alloc::Global;
+use type_model::{TypeId, TypeKind, Types};
 
 /// A scenario of a program whose declarations have no fault, with the program's types.
 #[derive(Drop)]

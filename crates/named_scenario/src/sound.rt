@@ -9,10 +9,10 @@ ghost use Rattle.named_scenario.specs.Naming.{fault_in, types_in};
 
 use name_scope::Program;
 use osc_base::{Fault, Stop};
-use program_uses::type_model::Types;
 use program_uses::uses;
 use std::alloc::Global;
 use type_build::build_types;
+use type_model::Types;
 
 /// The types of a program all of whose files were added, or the first fault of its declarations: of headings, else of members,
 /// else of uses.

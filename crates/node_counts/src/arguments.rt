@@ -12,14 +12,14 @@ ghost use Rattle.node_counts.specs.Arguments.{argument_amount, arguments_amount,
 
 use dsl_tree::{Argument, Expr, Ident};
 use expr_nodes::{It, Scope, Typed};
+use expr_typing::others::it;
+use expr_typing::steps::pointed;
 use osc_base::{Boxed, Place};
-use scene_expansion::expr_typing::others::it;
-use scene_expansion::expr_typing::steps::pointed;
-use scene_expansion::program_calls::first_place;
-use scene_expansion::type_model::{FieldType, TypeId, Types};
+use program_calls::first_place;
+use program_fields::{FieldsOf, TypeField};
+use program_texts::ProgramTexts;
 use std::alloc::{AllocError, Global};
-use work_counts::program_fields::{FieldsOf, TypeField};
-use work_counts::program_texts::ProgramTexts;
+use type_model::{FieldType, TypeId, Types};
 use work_counts::{Tally, value_tally};
 
 /// Whether one value is read.

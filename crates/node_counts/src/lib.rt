@@ -9,7 +9,3 @@ mod with_own;
 mod works;
 
 pub use works::counts;
-
-// Crates below, for the crates above.
-pub use scene_expansion;
-pub use work_counts::program_texts;

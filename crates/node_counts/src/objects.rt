@@ -13,10 +13,10 @@ ghost use Rattle.type_heads.specs.Types.{Types};
 
 use crate::ranges::has_gap;
 use crate::with_own::{ticks_to, with_own};
+use composition::ValueRange;
+use program_texts::ProgramTexts;
 use scene_expansion::Counts;
-use scene_expansion::composition::ValueRange;
-use scene_expansion::type_model::TypeId;
-use work_counts::program_texts::ProgramTexts;
+use type_model::TypeId;
 use work_counts::{Tally, object_tally};
 
 /// An object of a type with so many steps left. A vehicle has three slots and a rule at each tick.

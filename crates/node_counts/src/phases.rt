@@ -15,12 +15,12 @@ ghost use Rattle.node_counts.specs.Parts.{composition_slots as slots_of, modifie
 use crate::arguments::{arguments_tally, duration_tally};
 use crate::with_own::{ticks_to, with_own};
 use dsl_tree::{CompKind, CompNode, InvokeNode, InvokePart, ModifierNode, WaitNode};
+use program_calls::modifier_form;
+use program_texts::ProgramTexts;
 use scene_expansion::Counts;
-use scene_expansion::program_calls::modifier_form;
-use scene_expansion::scene_texts::arguments_tokens;
-use scene_expansion::type_model::TypeId;
+use scene_texts::arguments_tokens;
 use std::alloc::{AllocError, Global};
-use work_counts::program_texts::ProgramTexts;
+use type_model::TypeId;
 use work_counts::{Tally, rule_tally, value_tally};
 
 /// The slots of a composition: a `one_of` has a further one.

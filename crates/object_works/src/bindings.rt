@@ -21,18 +21,18 @@ ghost use Rattle.program_texts.specs.SeenTexts.{types_in};
 ghost use Rattle.object_works.specs.Arguments.{actor_bound, arguments_bound, assigned_field, binding_at, bindings_to};
 ghost use Rattle.object_works.specs.Arguments as arguments_of;
 
+use composition::Binding;
 use dsl_tree::{Argument, Ident, InvokeNode};
 use expr_eval::checked;
-use expr_eval::type_model::{FieldType, TypeId};
 use expr_nodes::{It, LabelTable, Scope, Typed};
 use osc_base::{Boxed, Path, Row};
+use program_calls::{Callee, actor_checked, callee_of, scope_at};
+use program_fields::{FieldsOf, TypeField};
 use program_texts::ProgramTexts;
-use program_texts::program_fields::{FieldsOf, TypeField};
 use scene_expansion::Call;
-use scene_expansion::composition::Binding;
-use scene_expansion::program_calls::{Callee, actor_checked, callee_of, scope_at};
-use scene_expansion::scene_texts::{Bound, Moves, then_name};
+use scene_texts::{Bound, Moves, then_name};
 use std::alloc::{AllocError, Global};
+use type_model::{FieldType, TypeId};
 
 /// The scope of the arguments of a call, in which `it` is the object that the call makes. The labels are those of the
 /// `do` in which the call stands.

@@ -16,17 +16,17 @@ ghost use Rattle.object_works.specs.Phases.{choice_of, invocation_works, phase_h
 use crate::bindings::bindings_made;
 use crate::copies::{copy_bindings, copy_guards, copy_way};
 use crate::within::Within;
+use composition::Guard;
 use dsl_tree::{InvokeNode, Phase};
-use expr_eval::type_model::TypeId;
 use expr_nodes::Turn;
 use osc_base::{Path, Row};
+use program_calls::{PlacedPhase, invoked, phases_in};
+use program_fields::TypeDo;
 use program_texts::ProgramTexts;
-use program_texts::program_fields::TypeDo;
-use scene_expansion::composition::Guard;
-use scene_expansion::program_calls::{PlacedPhase, invoked, phases_in};
-use scene_expansion::scene_texts::from_object;
 use scene_expansion::{Call, Work};
+use scene_texts::from_object;
 use std::alloc::{AllocError, Global};
+use type_model::TypeId;
 
 /// Puts the choices of a way at the end.
 fn push_choices(

@@ -2,9 +2,9 @@
 
 ghost use Rattle.std.specs.Prelude.{◌≡◌, IfOk};
 
+use composition::{Binding, Guard, ValueRange};
 use expr_nodes::Turn;
 use osc_base::Row;
-use scene_expansion::composition::{Binding, Guard, ValueRange};
 use std::alloc::{AllocError, Global};
 
 /// An equal condition.

@@ -15,15 +15,15 @@ ghost use Rattle.object_works.specs.Held.{held_objects, held_values, held_works}
 
 use crate::copies::{copy_guard, copy_guards, copy_range};
 use crate::within::Within;
+use composition::{Guard, ValueRange};
 use dsl_tree::FieldDecl;
-use expr_eval::type_model::TypeId;
 use osc_base::{Path, Row};
-use program_texts::program_fields::TypeField;
+use program_fields::TypeField;
 use program_texts::{ProgramTexts, list_length, range_of};
 use scene_expansion::Work;
-use scene_expansion::composition::{Guard, ValueRange};
-use scene_expansion::scene_texts::{then_index, then_name};
+use scene_texts::{then_index, then_name};
 use std::alloc::{AllocError, Global};
+use type_model::TypeId;
 
 impl Within<'_> {
     /// Whether a parameter is another name of its argument.

@@ -2,10 +2,10 @@
 
 ghost use Rattle.path_index.specs.Places.{Places};
 
-use expr_eval::type_model::TypeId;
+use composition::{Binding, Guard};
 use osc_base::Path;
 use path_index::PathIndex;
-use scene_expansion::composition::{Binding, Guard};
+use type_model::TypeId;
 
 /// An object of a type at a path, its conditions and the bindings of its parameters, and how many objects may stand in one
 /// another in it. `bound` has the place of each parameter among the bindings.

@@ -6,9 +6,9 @@ ghost use Rattle.composition.specs.type_heads.Table.{form, is_actor as of_actor,
 ghost use Rattle.composition.specs.Calls.{behaviour_named as behaviour_of, callee as called};
 ghost use Rattle.program_calls.specs.SeenCallees.{seen_callee};
 
-use composition::type_model::{TypeId, TypeKind, Types};
 use dsl_tree::{Ident, InvokeHead};
 use osc_base::Place;
+use type_model::{TypeId, TypeKind, Types};
 
 /// What is written before the brackets of an invocation: a behaviour's name alone, the path to an actor and the name of
 /// one of its behaviours, or the word `actor` alone, which names nothing.

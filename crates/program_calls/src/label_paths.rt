@@ -8,10 +8,10 @@ ghost use Rattle.composition.specs.Uses.{begins_with_label as begins_so};
 ghost use Rattle.program_calls.specs.SeenCallees.{head_tree};
 
 use crate::name_exprs::head_name;
-use composition::type_model::Types;
 use dsl_tree::{Expr, InvokeHead};
 use expr_nodes::Scope;
 use expr_typing::has_label;
+use type_model::Types;
 
 /// Whether a name is that of a label, and of no field.
 fn is_label(types: &Types, scope: &Scope<'_>, name: &str) -> bool

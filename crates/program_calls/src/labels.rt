@@ -11,11 +11,11 @@ ghost use Rattle.program_calls.specs.SeenLabels.{labelled as label_with, labels_
 use crate::actors::called;
 use crate::callees::callee_of;
 use crate::phases::{PlacedPhase, copy_way, phases_in};
-use composition::type_model::{TypeId, Types};
 use dsl_tree::{Ident, InvokeNode, Phase};
 use expr_nodes::{Label, LabelTable, Made};
 use osc_base::Text;
 use std::alloc::{AllocError, Global};
+use type_model::{TypeId, Types};
 
 /// The action or scenario that an invocation in the text of a type invokes.
 pub fn invoked(

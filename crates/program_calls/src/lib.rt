@@ -28,9 +28,3 @@ pub use name_exprs::{head_name, is_path, name_of};
 pub use owned::owned_behaviour;
 pub use phases::{PhasePlace, PlacedPhase, phases_in};
 pub use scopes::scope_at;
-
-// Crates below, for the crates above.
-pub use composition;
-pub use composition::{cond_inherit, expr_nodes, path_index, type_model, type_tables};
-pub use dsl_tree;
-pub use expr_typing;

@@ -8,12 +8,12 @@ ghost use Rattle.node_counts.specs.program_texts.SeenTexts.{types_with};
 ghost use Rattle.type_heads.specs.Told.{told};
 
 use crate::layout::ProgramLayout;
+use composition::Setting;
 use name_scope::Program;
 use named_scenario::NamedScenario;
-use named_scenario::composition::Setting;
-use named_scenario::program_members::ProgramMembers;
+use program_members::ProgramMembers;
 use std::alloc::{AllocError, Global};
-use work_constraints::type_model::{TypeId, Types};
+use type_model::{TypeId, Types};
 
 /// Whether a scenario that was found in a program has more objects, slots, rules or copied tokens than a scene can have, in
 /// runs as long as the setting says. It makes no part of the scene.
@@ -44,6 +44,6 @@ fn is_large_among(
     ensures { IfOk result (λ past. past ≡ too_large (types_with members.now types.now.table) of setting) }
 {
     let layout = ProgramLayout::of(alloc, types, members)?;
-    let past = node_counts::scene_expansion::is_too_large(alloc, &layout, of, setting)?;
+    let past = scene_expansion::is_too_large(alloc, &layout, of, setting)?;
     Ok(past)
 }

@@ -4,18 +4,18 @@ ghost use Rattle.std.specs.Prelude.{◌≡◌, IfOk};
 ghost use Rattle.node_counts.specs.program_texts.SeenTexts.{types_in, types_with};
 ghost use Rattle.type_heads.specs.Told.{told};
 
-use named_scenario::composition::{Binding, ModifierSpot, Occurrence, Scene, Spot};
-use named_scenario::program_members::ProgramMembers;
-use named_scenario::type_tables::TextTable;
+use composition::{Binding, ModifierSpot, Occurrence, Scene, Spot};
 use node_counts::counts;
-use node_counts::program_texts::ProgramTexts;
-use node_counts::scene_expansion::{Counts, Layout, Work, WorkLayout};
+use object_works::{parts, root, root_parts};
 use osc_base::{Place, Row};
+use program_members::ProgramMembers;
+use program_texts::ProgramTexts;
+use scene_expansion::{Counts, Layout, Work, WorkLayout};
 use std::alloc::{AllocError, Global};
+use type_model::{TypeId, Types};
+use type_tables::TextTable;
 use work_constraints::push_occurrences;
-use work_constraints::type_model::{TypeId, Types};
 use work_modifiers::push_modifiers;
-use work_spots::object_works::{parts, root, root_parts};
 use work_spots::{push_bindings, spot, texts};
 
 /// The works of the scenarios of a program, read from its texts.

@@ -8,6 +8,3 @@ mod scenes;
 pub use large::is_too_large;
 pub use layout::ProgramLayout;
 pub use scenes::scene_of;
-
-// Crates below, for the crates above.
-pub use named_scenario;

@@ -8,12 +8,12 @@ ghost use Rattle.node_counts.specs.program_texts.SeenTexts.{types_with};
 ghost use Rattle.type_heads.specs.Told.{told};
 
 use crate::layout::ProgramLayout;
+use composition::{Scene, Setting};
 use name_scope::Program;
 use named_scenario::NamedScenario;
-use named_scenario::composition::{Scene, Setting};
-use named_scenario::program_members::ProgramMembers;
+use program_members::ProgramMembers;
 use std::alloc::{AllocError, Global};
-use work_constraints::type_model::{TypeId, Types};
+use type_model::{TypeId, Types};
 
 /// The scene of a scenario that was found in a program, in a setting. `None` exactly if it has more objects, slots, rules or
 /// copied tokens than a scene can have. This is found before anything of that size is made.
@@ -44,6 +44,6 @@ fn scene_among(
     ensures { IfOk result (IsSceneFound (types_with members.now types.now.table) of setting) }
 {
     let layout = ProgramLayout::of(alloc, types, members)?;
-    let found = node_counts::scene_expansion::scene_of(alloc, &layout, of, setting)?;
+    let found = scene_expansion::scene_of(alloc, &layout, of, setting)?;
     Ok(found)
 }

@@ -11,12 +11,12 @@ ghost use Rattle.program_texts.specs.SeenTexts.{types_in};
 
 use crate::asked::AskedConditions;
 use crate::texts::ProgramTexts;
+use composition::Guard;
+use cond_inherit::Condition;
 use osc_base::{Path, Row, Text};
-use program_calls::composition::Guard;
-use program_calls::cond_inherit::Condition;
-use program_calls::type_model::{TypeId, Types};
 use scene_texts::then_name;
 use std::alloc::{AllocError, Global};
+use type_model::{TypeId, Types};
 
 impl<'a> ProgramTexts<'a> {
     /// The condition of a type, if it is a conditional subtype.

@@ -7,11 +7,11 @@ ghost use Rattle.type_heads.specs.Table.{form};
 ghost use Rattle.program_calls.specs.composition.Ranges.{range_of as range_in};
 ghost use Rattle.program_texts.specs.Ranges.{listed_items, range_by, seen_exprs};
 
+use composition::ValueRange;
 use dsl_tree::{Expr, FieldDecl};
 use osc_base::Row;
-use program_calls::composition::ValueRange;
-use program_calls::type_model::{TypeId, TypeKind, Types};
 use std::alloc::{AllocError, Global};
+use type_model::{TypeId, TypeKind, Types};
 
 /// The greatest magnitude of what a field holds.
 const GREATEST_VALUE: i64 = 1_000_000_000;

@@ -12,10 +12,3 @@ mod texts;
 pub use field_parts::{list_items, list_length, range_of};
 pub use labels::TypeLabels;
 pub use texts::ProgramTexts;
-
-// Crates below, for the crates above.
-pub use program_calls;
-pub use program_calls::type_model;
-pub use program_fields;
-pub use program_fields::type_tables;
-pub use scene_texts;

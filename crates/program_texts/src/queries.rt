@@ -20,14 +20,14 @@ ghost use Rattle.program_texts.specs.SeenTexts.{types_in, types_with};
 use crate::labels::{TypeLabels, own_labels};
 use crate::texts::ProgramTexts;
 use dsl_tree::{FieldDecl, HeirCondition};
+use expr_nodes::LabelTable;
 use osc_base::{Place, Row};
-use program_calls::expr_nodes::LabelTable;
-use program_calls::type_model::{TypeId, TypeKind, Types};
 use program_calls::{do_labels, no_labels};
-use program_fields::type_members::{MemberLists, heir_condition};
 use program_fields::{FieldsOf, ProgramFields, TypeDo, TypeField};
 use program_members::ProgramMembers;
 use std::alloc::{AllocError, Global};
+use type_members::{MemberLists, heir_condition};
+use type_model::{TypeId, TypeKind, Types};
 
 /// The place of what no file declares.
 const NOWHERE: Place = Place {

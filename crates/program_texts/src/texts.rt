@@ -7,10 +7,10 @@ ghost use Rattle.program_fields.specs.Tables.{lists_in};
 ghost use Rattle.program_texts.specs.OwnLabels.{labels_from};
 ghost use Rattle.program_texts.specs.SeenFields.{types_of_parts};
 
-use program_calls::expr_nodes::LabelTable;
-use program_calls::type_model::Types;
+use expr_nodes::LabelTable;
 use program_fields::ProgramFields;
 use type_heads::Body;
+use type_model::Types;
 
 /// The types of a program with their texts: the fields and the body of each, and the labels of each `do` that stands
 /// in the text of its own type.

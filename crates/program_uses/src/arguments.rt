@@ -17,7 +17,6 @@ ghost use Rattle.program_uses.specs.TableTypes.{of_table};
 
 use crate::held::{held_in, holds_object};
 use crate::rules::with_expr;
-use composition::type_model::{TypeId, Types};
 use dsl_tree::{Argument, Expr, FieldDecl, Ident};
 use expr_eval::checked;
 use expr_nodes::{Scope, Typed};
@@ -27,6 +26,7 @@ use osc_base::{Boxed, Fault, FaultCode, Place};
 use program_calls::{begins_with_label, first_place, is_path};
 use program_fields::{FieldsOf, TypeField};
 use std::alloc::{AllocError, Global};
+use type_model::{TypeId, Types};
 use value_fits::{with_argument, with_duration};
 
 /// Where an argument goes: to no field, as there are more of them than fields; to the duration; to nothing that the

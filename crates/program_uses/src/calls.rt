@@ -23,7 +23,6 @@ use crate::arguments::with_arguments;
 use crate::modifiers::with_modifier;
 use crate::program_texts::ProgramTexts;
 use crate::rules::{with_expr, with_known, with_rule};
-use composition::type_model::{FieldType, TypeId, Types};
 use dsl_tree::{Argument, Ident, InvokeHead, InvokePart};
 use expr_nodes::{It, Scope, Typed};
 use name_scope::with_fault;
@@ -33,6 +32,7 @@ use program_calls::{
     head_place, owned_behaviour, resolved_actor,
 };
 use std::alloc::{AllocError, Global};
+use type_model::{FieldType, TypeId, Types};
 
 /// Whether a part is something else than an object of an actor.
 fn is_no_actor(types: &Types, typed: &Option<Boxed<Typed>>) -> bool

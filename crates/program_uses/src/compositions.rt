@@ -10,7 +10,6 @@ ghost use Rattle.composition.specs.Uses.{among, composition_rows, is_overlap as 
 ghost use Rattle.program_uses.specs.CompositionRows.{ContinuesComposition, ContinuesNamed, other_rows, overlap_words, valued_rows};
 
 use crate::rules::{with_expr, with_known};
-use composition::type_model::Types;
 use dsl_tree::{Argument, CompKind, Expr, Ident};
 use expr_eval::checked;
 use expr_nodes::Scope;
@@ -19,6 +18,7 @@ use name_scope::with_fault;
 use osc_base::{Fault, FaultCode};
 use program_calls::{first_place, name_of};
 use std::alloc::{AllocError, Global};
+use type_model::Types;
 use value_fits::with_duration;
 
 /// Whether it is one of the four words after `overlap:`.

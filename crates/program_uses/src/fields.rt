@@ -16,13 +16,13 @@ ghost use Rattle.program_uses.specs.FieldRows.{field_in, field_it, fitted_rows, 
 use crate::expr_parts::list_items;
 use crate::held::{Held, held_in};
 use crate::rules::{with_expr, with_rules};
-use composition::type_model::{FieldType, Types};
 use dsl_tree::{Expr, FieldDecl};
 use expr_eval::checked;
 use expr_nodes::{It, Scope};
 use osc_base::Fault;
 use program_calls::first_place;
 use std::alloc::{AllocError, Global};
+use type_model::{FieldType, Types};
 use value_fits::with_initial;
 
 /// Faults of a value that is given to a field.

@@ -8,8 +8,8 @@ ghost use Rattle.expr_nodes.specs.Names.{per_of as counted_over};
 ghost use Rattle.expr_nodes.specs.Seen.{seen_kind, seen_size};
 ghost use Rattle.expr_nodes.specs.Sizes.{field_size};
 
-use composition::type_model::{TypeId, TypeKind, Types};
 use expr_nodes::{Size, ValueKind};
+use type_model::{TypeId, TypeKind, Types};
 use units_si::Exponents;
 
 /// The exponents of a number without a unit.

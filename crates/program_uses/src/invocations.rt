@@ -15,7 +15,6 @@ ghost use Rattle.program_fields.specs.SeenFields.{seen_do};
 ghost use Rattle.program_uses.specs.SeenTexts.{Tells};
 
 use crate::program_texts::ProgramTexts;
-use composition::type_model::{TypeId, TypeKind, Types};
 use dsl_tree::Phase;
 use fault_sets::{Ranking, Steps};
 use name_scope::with_fault;
@@ -23,6 +22,7 @@ use osc_base::{Fault, FaultCode, Row};
 use program_calls::{PlacedPhase, invoked, phases_in};
 use program_fields::TypeDo;
 use std::alloc::{AllocError, Global};
+use type_model::{TypeId, TypeKind, Types};
 
 /// The actions and scenarios that the `do` of each type invokes.
 #[derive(Drop)]

@@ -18,9 +18,3 @@ mod used;
 
 pub use program::uses;
 pub use used::first_use_fault;
-
-// Crates below, for the crates above.
-pub use composition;
-pub use composition::type_model;
-pub use program_fields::type_tables;
-pub use program_members;

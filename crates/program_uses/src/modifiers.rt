@@ -14,7 +14,6 @@ ghost use Rattle.program_uses.specs.TableTypes.{of_table};
 
 use crate::held::NO_EXPONENTS;
 use crate::rules::with_expr;
-use composition::type_model::{TypeId, Types};
 use dsl_tree::{Argument, Expr, ModifierNode};
 use expr_eval::checked;
 use expr_nodes::{Scope, Typed, ValueKind};
@@ -24,6 +23,7 @@ use program_calls::{
     ModifierForm, first_place, is_drive, is_modifier, is_path, is_vehicle, modifier_form,
 };
 use std::alloc::{AllocError, Global};
+use type_model::{TypeId, Types};
 use units_si::Exponents;
 use value_fits::with_compared;
 

@@ -16,12 +16,12 @@ ghost use Rattle.program_uses.specs.SeenTexts.{Tells};
 use crate::calls::{it_made, with_call, with_callee, with_parts};
 use crate::compositions::{with_composition, with_whole_duration};
 use crate::program_texts::ProgramTexts;
-use composition::type_model::{TypeId, Types};
 use dsl_tree::{InvokeNode, Phase};
 use expr_nodes::{LabelTable, Scope};
 use osc_base::Fault;
 use program_calls::{PlacedPhase, invoked, phases_in, scope_at};
 use std::alloc::{AllocError, Global};
+use type_model::{TypeId, Types};
 
 /// Faults of an invocation. The scope is that of its arguments.
 fn with_invocation<'a>(

@@ -8,11 +8,11 @@ ghost use Rattle.type_heads.specs.DeclaredTypes.{program_of, types_of};
 ghost use Rattle.type_heads.specs.Told.{told};
 
 use crate::used::first_use_fault;
-use composition::type_model::Types;
 use name_scope::Program;
 use osc_base::Fault;
 use program_members::ProgramMembers;
 use std::alloc::{AllocError, Global};
+use type_model::Types;
 
 /// The first fault of uses of all declarations, used or not, by file, token and code. `None` exactly when there is none.
 ///

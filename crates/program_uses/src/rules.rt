@@ -17,15 +17,15 @@ ghost use Rattle.composition.specs.Uses.{default_rows, has_no_target as lacks_ta
 ghost use Rattle.program_uses.specs.RuleRows.{keep_rows, remove_rows};
 
 use crate::expr_parts::relation_left;
-use composition::type_model::Types;
 use dsl_tree::{Expr, KeepKind, PathNode, RuleDecl};
-use expr_eval::expr_typing::parts::least;
 use expr_eval::{Checked, checked, path_checked, path_place};
 use expr_nodes::{Scope, Typed};
+use expr_typing::parts::least;
 use name_scope::with_fault;
 use osc_base::{Boxed, Fault, FaultCode};
 use program_calls::{first_place, is_path};
 use std::alloc::{AllocError, Global};
+use type_model::Types;
 use value_fits::with_constraint;
 
 /// Faults of an expression that is known.

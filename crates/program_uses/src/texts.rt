@@ -17,13 +17,13 @@ use crate::fields::with_field;
 use crate::phases::with_phases;
 use crate::program_texts::ProgramTexts;
 use crate::rules::with_rule;
-use composition::type_model::{TypeId, Types};
 use dsl_tree::Member;
 use expr_nodes::{LabelTable, Scope};
 use osc_base::Fault;
 use program_calls::{do_labels, no_labels, scope_at};
 use std::alloc::{AllocError, Global};
 use type_heads::WrittenMember;
+use type_model::{TypeId, Types};
 
 /// Faults of a member in the text of a type. The scope is that of the text.
 fn with_member<'a>(

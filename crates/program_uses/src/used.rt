@@ -11,12 +11,12 @@ ghost use Rattle.program_uses.specs.SeenTexts.{HasTextsOf, Tells};
 use crate::invocations::with_invocations;
 use crate::program_texts::ProgramTexts;
 use crate::texts::with_texts;
-use composition::type_model::Types;
 use osc_base::Fault;
 use program_fields::ProgramFields;
-use program_fields::type_members::MemberLists;
 use std::alloc::{AllocError, Global};
 use type_heads::Body;
+use type_members::MemberLists;
+use type_model::Types;
 
 /// The fields, the `do` and the body of each type.
 fn texts_of<'a>(

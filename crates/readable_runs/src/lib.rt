@@ -4,8 +4,3 @@
 mod laws;
 
 pub use laws::reached_runs_can_be_read;
-
-// Crates below, for the crates above.
-pub use run_tests::run_check;
-pub use search_answers;
-pub use source_scenes;

@@ -6,6 +6,3 @@ mod wrong;
 
 pub use run_text::write_run;
 pub use wrong::Wrong;
-
-// Crates below, for the crates above.
-pub use composition;

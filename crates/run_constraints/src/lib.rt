@@ -10,7 +10,3 @@ mod truth;
 pub use constraints::first_hard;
 pub use defaults::first_default;
 pub use modifiers::first_modifier;
-
-// Crates below, for the crates above.
-pub use run_values;
-pub use run_values::{run_clauses, run_entries};

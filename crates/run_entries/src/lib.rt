@@ -5,6 +5,3 @@ mod entries;
 mod run_index;
 
 pub use entries::Entries;
-
-// Crates below, for the crates above.
-pub use composition;

@@ -6,6 +6,3 @@ mod laws;
 mod texts;
 
 pub use laws::written_runs_are_read_back;
-
-// Crates below, for the crates above.
-pub use run_check;

@@ -9,6 +9,3 @@ mod stop;
 
 pub use read::read_run;
 pub use stop::RunStop;
-
-// Crates below, for the crates above.
-pub use composition;

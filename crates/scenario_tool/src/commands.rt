@@ -12,9 +12,9 @@ use command_replies::Reply;
 use command_words::{CheckWords, FlatWords, GenerateWords, VerifyWords};
 use listing_answers::flat;
 use outside_io::Shelf;
-use readable_runs::search_answers::generate;
 use record_answers::verify;
 use run_answers::check;
+use search_answers::generate;
 use std::alloc::{AllocError, Global};
 
 /// The reply to what `generate` is asked for.

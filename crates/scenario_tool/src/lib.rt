@@ -15,7 +15,3 @@ pub use laws::{
     written_refutations_are_accepted, written_runs_are_accepted,
 };
 pub use top::command;
-
-// Crates below, for the crates above.
-pub use composition;
-pub use readable_runs::run_check;

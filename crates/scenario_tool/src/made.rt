@@ -20,9 +20,9 @@ use composition::{Run, Scene};
 use made_programs::{MadeLoad, made_line, made_program};
 use name_scope::Program;
 use osc_base::Text;
-use readable_runs::run_check::write_run;
-use readable_runs::search_answers::{RunOrReply, run_or_reply};
-use readable_runs::source_scenes::{FoundScene, scene_in};
+use run_check::write_run;
+use search_answers::{RunOrReply, run_or_reply};
+use source_scenes::{FoundScene, scene_in};
 use std::alloc::{AllocError, Global};
 
 /// The name of the main file that is made.

@@ -11,10 +11,10 @@ use crate::settings::scene_setting;
 use command_replies::Reply;
 use command_words::{Setting as SettingWords, Source};
 use composition::Scene;
-use made_programs::program_load::load;
 use name_scope::Program;
 use outside_io::Shelf;
-use readable_runs::source_scenes::{FoundScene, reply_to_stop, scene_in};
+use program_load::load;
+use source_scenes::{FoundScene, reply_to_stop, scene_in};
 use std::alloc::{AllocError, Global};
 
 /// What is found for a source.

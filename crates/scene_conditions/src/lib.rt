@@ -9,7 +9,3 @@ mod there;
 pub use condition::Condition;
 pub use conditions::Conditions;
 pub use there::{modifier_presence, presence};
-
-// Crates below, for the crates above.
-pub use composition;
-pub use composition::{expr_nodes, keep_rules};

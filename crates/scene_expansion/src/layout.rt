@@ -14,11 +14,11 @@ ghost use Rattle.scene_expansion.specs.Walks.{modifier_at};
 
 use crate::counts::Counts;
 use crate::work::Work;
+use composition::{Binding, ModifierSpot, Occurrence, Scene, Spot};
 use osc_base::{Place, Row};
-use program_calls::composition::{Binding, ModifierSpot, Occurrence, Scene, Spot};
-use program_calls::type_model::TypeId;
-use program_calls::type_tables::TextTable;
 use std::alloc::{AllocError, Global};
+use type_model::TypeId;
+use type_tables::TextTable;
 
 /// The works of a program, and how much each comes to.
 pub trait WorkLayout<'p> {

@@ -20,8 +20,3 @@ pub use layout::{Layout, WorkLayout};
 pub use named::{ExpandStop, expand, scene_of};
 pub use walk::MOST_WORKS;
 pub use work::{Call, Work};
-
-// Crates below, for the crates above.
-pub use program_calls;
-pub use program_calls::{composition, expr_nodes, expr_typing, type_model};
-pub use scene_texts;

@@ -6,6 +6,3 @@ mod places;
 
 pub use expressions::{moved, moved_part};
 pub use places::Places;
-
-// Crates below, for the crates above.
-pub use scene_texts;

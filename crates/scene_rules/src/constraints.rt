@@ -12,12 +12,12 @@ ghost use Rattle.scene_slots.specs.SeenSlots.{layout_of, scene_of};
 
 use crate::conditions::{condition_row, under};
 use box_eval::Rule;
+use composition::Occurrence;
 use expr_nodes::Typed;
-use scene_conditions::composition::Occurrence;
+use flat_shapes::rule;
+use flat_terms::rows;
 use scene_conditions::presence;
 use scene_slots::SceneSlots;
-use scene_slots::flat_shapes::rule;
-use scene_slots::flat_terms::rows;
 use std::alloc::{AllocError, Global};
 
 /// The rule of an expression; always true if there is none.

@@ -8,9 +8,9 @@ ghost use Rattle.scene_slots.specs.SeenSlots.{layout_of, scene_of};
 
 use crate::conditions::{guard_row, under};
 use box_eval::{Rule, Term};
+use flat_terms::rows;
 use osc_base::Path;
 use scene_slots::SceneSlots;
-use scene_slots::flat_terms::rows;
 use std::alloc::{AllocError, Global};
 
 /// The slot has that number.

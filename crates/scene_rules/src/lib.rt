@@ -16,6 +16,3 @@ pub use enums::enum_rule;
 pub use modifiers::modifier_rules;
 pub use motion::motion_rules;
 pub use phases::arranged_rule;
-
-// Crates below, for the crates above.
-pub use scene_conditions::composition;

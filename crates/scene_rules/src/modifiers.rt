@@ -24,14 +24,14 @@ use crate::quantity::Quantity;
 use crate::relations::{POSITION_SCALE, Relation, beside, in_range, relation_of};
 use crate::spans::equal;
 use box_eval::{Rule, Term};
+use composition::ModifierSpot;
 use expr_nodes::Typed;
+use flat_shapes::number;
+use flat_terms::rows;
+use flat_terms::scales::common_scale;
 use osc_base::{Moment, Path, Row, SampleSlots};
-use scene_conditions::composition::ModifierSpot;
 use scene_conditions::{Condition, modifier_presence};
 use scene_slots::SceneSlots;
-use scene_slots::flat_shapes::number;
-use scene_slots::flat_terms::rows;
-use scene_slots::flat_terms::scales::common_scale;
 use std::alloc::{AllocError, Global};
 
 /// The scale of an end of a range, 1 if there is none.

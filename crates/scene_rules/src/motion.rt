@@ -15,9 +15,9 @@ use crate::conditions::{each_under, guard_row, under, with_row};
 use crate::modifiers::slots_at;
 use crate::spans::at_most;
 use box_eval::{Rule, Term};
+use flat_terms::{rows, terms};
 use osc_base::{Boxed, Path, Row, SampleSlots, Step, Text};
 use scene_slots::SceneSlots;
-use scene_slots::flat_terms::{rows, terms};
 use std::alloc::{AllocError, Global};
 
 /// The slots of a vehicle's greatest speed and of its greatest acceleration.

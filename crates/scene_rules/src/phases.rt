@@ -14,10 +14,10 @@ ghost use Rattle.scene_slots.specs.SeenSlots.{layout_of, scene_of};
 use crate::conditions::{each_under, guard_row, under, with_row};
 use crate::spans::{Side, at_most, equal, first_start, last_end, same_ticks, shared_tick};
 use box_eval::{Rule, Term};
+use composition::{PhaseKind, PhaseSpot};
+use flat_terms::{rows, terms};
 use osc_base::{Path, Step};
-use scene_conditions::composition::{PhaseKind, PhaseSpot};
 use scene_slots::SceneSlots;
-use scene_slots::flat_terms::{rows, terms};
 use std::alloc::{AllocError, Global};
 
 /// The first phase starts at a tick, each next when the one before ends, and the last ends at another tick.

@@ -10,9 +10,9 @@ ghost use Rattle.scene_rules.specs.Relations.{quantity_term as term_of, relation
 
 use crate::quantity::Quantity;
 use box_eval::{Rule, Term};
+use flat_terms::scales::common_scale;
+use flat_terms::terms;
 use osc_base::{Boxed, Kind, SampleSlots};
-use scene_slots::flat_terms::scales::common_scale;
-use scene_slots::flat_terms::terms;
 use std::alloc::{AllocError, Global};
 
 /// So many units of a speed's slot make a metre a second.

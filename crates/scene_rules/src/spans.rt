@@ -9,9 +9,9 @@ ghost use Rattle.scene_slots.specs.SeenSlots.{layout_of};
 
 use crate::conditions::with_row;
 use box_eval::{Rule, Term};
+use flat_terms::rows;
 use osc_base::Path;
 use scene_slots::SceneSlots;
-use scene_slots::flat_terms::rows;
 use std::alloc::{AllocError, Global};
 
 /// Where a phase starts, or where it ends.

@@ -1,5 +1,5 @@
 use box_eval::Record;
-use flat_forms::composition::Run;
+use composition::Run;
 
 /// What a search for a run of a scene finds.
 #[derive(Drop)]

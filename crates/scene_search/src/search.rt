@@ -8,11 +8,11 @@ ghost use Rattle.scene_search.specs.Findings.{IsFinding};
 ghost use Rattle.scene_search.specs.Outcomes.{IsOutcome};
 
 use crate::finding::Finding;
+use bound_trail::Trail;
 use box_eval::Flat;
-use flat_forms::composition::Scene;
+use composition::Scene;
 use flat_forms::flatten;
 use scene_runs::run_of;
-use seeded_search::bound_trail::Trail;
 use seeded_search::{Desk, Outcome, search};
 use std::alloc::{AllocError, Global};
 use wake_ring::WakeRing;

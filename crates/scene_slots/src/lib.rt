@@ -11,8 +11,3 @@ mod track;
 pub use names::slot_names;
 pub use slots::SceneSlots;
 pub use track::Track;
-
-// Crates below, for the crates above.
-pub use flat_shapes;
-pub use flat_shapes::{box_eval, composition, flat_terms};
-pub use osc_base;

@@ -14,7 +14,7 @@ ghost use Rattle.scene_slots.specs.Tracks.{IsTrack, track_slot, track_by};
 use crate::counts::slot_counts;
 use crate::slots::SceneSlots;
 use crate::track::Track;
-use flat_shapes::composition::Scene;
+use composition::Scene;
 use osc_base::{Path, Row, Step, Text};
 use path_index::{HasPath, PathIndex};
 use std::alloc::{AllocError, Global};

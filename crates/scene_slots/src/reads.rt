@@ -3,7 +3,7 @@
 ghost use Rattle.scene_slots.specs.SeenSlots.{layout_of};
 
 use crate::slots::SceneSlots;
-use flat_shapes::composition::Source;
+use composition::Source;
 use flat_shapes::{Found, Slots};
 use osc_base::Path;
 

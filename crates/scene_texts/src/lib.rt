@@ -13,6 +13,3 @@ pub use paths::{
     from_object, joined, same_path, then_do, then_duration, then_index, then_member, then_name,
 };
 pub use token_counts::{arguments_tokens, path_tokens, tokens, value_tokens};
-
-// Crates below, for the crates above.
-pub use expansion_laws::{composition, expr_nodes};

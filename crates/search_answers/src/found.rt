@@ -1,5 +1,5 @@
 use command_replies::Reply;
-use instance_check::composition::Run;
+use composition::Run;
 
 /// What a search for a run of a scene ends with.
 #[derive(Drop)]

@@ -8,8 +8,8 @@ ghost use Rattle.search_answers.specs.Searches.{IsSearched};
 
 use crate::found::RunOrReply;
 use command_replies::{Reply, done, refutation, undecided};
-use instance_check::composition::Scene;
-use instance_check::run_check::write_run;
+use composition::Scene;
+use run_check::write_run;
 use scene_search::{Finding, find_run};
 use std::alloc::{AllocError, Global};
 

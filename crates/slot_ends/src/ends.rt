@@ -10,9 +10,9 @@ ghost use Rattle.scene_slots.specs.composition.SeenScenes.{seen_scene};
 ghost use Rattle.scene_slots.specs.box_eval.Box.{pair};
 ghost use Rattle.scene_slots.specs.field_flatten.Ends.{ends_of as ends_in, range_ends as range_by, tick_ends as ticks_by, no_ends, bounds as all_ends};
 
-use scene_slots::box_eval::{Bounds, Pair};
-use scene_slots::composition::{ChoiceSpot, Scene, Setting, ValueRange, ValueSpot};
-use scene_slots::osc_base::{Row, SlotName, Text};
+use box_eval::{Bounds, Pair};
+use composition::{ChoiceSpot, Scene, Setting, ValueRange, ValueSpot};
+use osc_base::{Row, SlotName, Text};
 use scene_slots::slot_names;
 use std::alloc::{AllocError, Global};
 

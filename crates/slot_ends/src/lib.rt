@@ -4,6 +4,3 @@
 mod ends;
 
 pub use ends::{bounds, ends_of, number_ends};
-
-// Crates below, for the crates above.
-pub use scene_slots;

@@ -1,5 +1,5 @@
 use command_replies::Reply;
-use loaded_programs::composition::Scene;
+use composition::Scene;
 
 /// What is found for the word of a scenario.
 #[derive(Drop)]

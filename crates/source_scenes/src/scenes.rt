@@ -10,10 +10,10 @@ ghost use Rattle.type_heads.specs.Told.{told};
 
 use crate::found::FoundScene;
 use crate::refusals::{fault_in, name_place, no_scenario};
-use loaded_programs::composition::Setting;
+use composition::Setting;
 use name_scope::Program;
+use named_scenario::{NameStop, NamedScenario, find_scenario};
 use osc_base::{Fault, FaultCode};
-use program_scenes::named_scenario::{NameStop, NamedScenario, find_scenario};
 use program_scenes::scene_of;
 use std::alloc::{AllocError, Global};
 

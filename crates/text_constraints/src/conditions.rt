@@ -18,17 +18,17 @@ ghost use Rattle.text_constraints.specs.Sites.{seen_site};
 use crate::rules::{Owner, equal};
 use crate::targets::TextSite;
 use composition::Occurrence;
-use composition::type_model::{TypeId, Types};
 use dsl_tree::{ConditionValue, HeirCondition, Ident};
 use expr_eval::Checked;
-use expr_eval::expr_typing::literals;
-use expr_eval::expr_typing::others::{enum_name, it};
-use expr_eval::expr_typing::steps::pointed;
 use expr_nodes::Scope;
+use expr_typing::literals;
+use expr_typing::others::{enum_name, it};
+use expr_typing::steps::pointed;
 use osc_base::{Boxed, Place, Row, Strength};
+use program_fields::TypeField;
 use program_texts::ProgramTexts;
-use program_texts::program_fields::TypeField;
 use std::alloc::{AllocError, Global};
+use type_model::{TypeId, Types};
 
 /// `true` or `false`.
 fn truth(alloc: Global, types: &Types, place: Place, value: bool) -> Result<Checked, AllocError>

@@ -19,15 +19,15 @@ use crate::elements::{Sample, element, sample_list, sampled};
 use crate::rules::{Owner, constraint, equal};
 use crate::targets::TextSite;
 use composition::Occurrence;
-use composition::type_model::{TypeId, Types};
 use dsl_tree::Expr;
 use expr_eval::checked;
-use expr_eval::expr_typing::others::it;
 use expr_nodes::Typed;
+use expr_typing::others::it;
 use osc_base::{Boxed, Place, Strength};
+use program_calls::first_place;
 use program_texts::list_items;
-use program_texts::program_calls::first_place;
 use std::alloc::{AllocError, Global};
+use type_model::{TypeId, Types};
 
 /// The default that `it` has an initial value.
 fn initial(

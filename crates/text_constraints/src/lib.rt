@@ -13,9 +13,3 @@ pub use conditions::field_checked;
 pub use members::{Standing, push_own};
 pub use rules::{Owner, constraint, push_rule, typed_home};
 pub use targets::{TextSite, read_at, read_of};
-
-// Crates below, for the crates above.
-pub use composition;
-pub use program_texts;
-pub use program_texts::program_fields;
-pub use scene_places;

@@ -21,16 +21,16 @@ use crate::conditions::push_conditions;
 use crate::initials::push_initial;
 use crate::rules::{Owner, push_rule, push_rules};
 use crate::targets::TextSite;
-use composition::type_model::{FieldType, ListedMember, TypeId};
 use composition::{Guard, Occurrence, Scene};
 use dsl_tree::{Expr, FieldDecl, Ident, Member, RuleDecl};
 use expr_nodes::{It, Scope};
 use osc_base::{Path, Place};
-use program_texts::program_calls::scope_at;
+use program_calls::scope_at;
 use program_texts::{ProgramTexts, TypeLabels, list_length};
 use scene_places::Places;
-use scene_places::scene_texts::then_name;
+use scene_texts::then_name;
 use std::alloc::{AllocError, Global};
+use type_model::{FieldType, ListedMember, TypeId};
 
 /// An object of a type, and the scene in which it stands.
 #[derive(Clone, Copy)]

@@ -15,15 +15,15 @@ ghost use Rattle.text_constraints.specs.Sites.{seen_site, typed_home as home_typ
 
 use crate::copies::copy_guards;
 use crate::targets::{TextSite, default_home, read_home, relation_home, removed_home};
-use composition::type_model::Types;
 use composition::{Guard, Occurrence};
 use dsl_tree::{Expr, KeepKind, PathNode, RelationSign, RuleDecl};
-use expr_eval::expr_typing::steps::related;
 use expr_eval::{Checked, checked};
 use expr_nodes::Typed;
+use expr_typing::steps::related;
 use osc_base::{Mark, Path, Place, Strength};
 use scene_places::moved_part;
 use std::alloc::{AllocError, Global};
+use type_model::Types;
 
 /// Whose constraints a text gives: an object or a phase, and the conditions under which they are there.
 #[derive(Clone, Copy)]

@@ -1,6 +1,6 @@
-use answer_tests::scenario_tool::composition::{Choice, Held, Run, Span, Trace, Value};
-use answer_tests::scenario_tool::run_check::write_run;
+use composition::{Choice, Held, Run, Span, Trace, Value};
 use osc_base::{Path, Row, Sample, Step, Text};
+use run_check::write_run;
 use std::alloc::{AllocError, Global};
 use std::test::Fail;
 

@@ -9,10 +9,10 @@ ghost use Rattle.expr_nodes.specs.Fits.{argument_fit_rows, constraint_rows, dura
 ghost use Rattle.expr_nodes.specs.Seen.{seen, seen_kind, seen_part, seen_size};
 
 use crate::fits::{Target, with_fit};
-use expr_nodes::units_si::Exponents;
 use expr_nodes::{Size, Typed, ValueKind};
 use name_scope::with_fault;
 use osc_base::{Boxed, Fault, FaultCode, Place};
+use units_si::Exponents;
 
 /// The kind of a duration.
 const SECONDS: ValueKind = ValueKind::Number(Exponents {

@@ -13,14 +13,14 @@ ghost use Rattle.text_constraints.specs.Kept.{seen_owner};
 ghost use Rattle.text_constraints.specs.Sites.{seen_site, site_of};
 
 use crate::required::{push_duration, push_parameter};
+use composition::Occurrence;
 use dsl_tree::{Argument, Expr, Ident, InvokeNode, InvokePart};
-use expr_nodes::type_model::{FieldType, TypeId, Types};
 use expr_nodes::{It, Scope};
+use program_fields::{FieldsOf, TypeField};
+use scene_places::Places;
 use std::alloc::{AllocError, Global};
-use text_constraints::composition::Occurrence;
-use text_constraints::program_fields::{FieldsOf, TypeField};
-use text_constraints::scene_places::Places;
 use text_constraints::{Owner, TextSite, push_rule};
+use type_model::{FieldType, TypeId, Types};
 
 /// Whether an argument is for the duration.
 fn is_for_duration(name: &Option<Ident>) -> bool

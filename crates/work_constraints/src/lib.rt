@@ -6,6 +6,3 @@ mod required;
 mod works;
 
 pub use works::push_occurrences;
-
-// Crates below, for the crates above.
-pub use expr_nodes::type_model;

@@ -19,16 +19,16 @@ ghost use Rattle.text_constraints.specs.Kept.{seen_owner};
 
 use crate::arguments::push_invocation;
 use crate::required::push_duration;
+use composition::{Occurrence, Scene};
 use dsl_tree::{CompNode, Expr, InvokeNode};
-use expr_nodes::type_model::TypeId;
 use expr_nodes::{LabelTable, Scope};
-use scene_expansion::program_calls::{argument_named, scope_at};
+use program_calls::{argument_named, scope_at};
+use program_texts::ProgramTexts;
 use scene_expansion::{Call, Work};
+use scene_places::Places;
 use std::alloc::{AllocError, Global};
-use text_constraints::composition::{Occurrence, Scene};
-use text_constraints::program_texts::ProgramTexts;
-use text_constraints::scene_places::Places;
 use text_constraints::{Owner, Standing, TextSite, push_own};
+use type_model::TypeId;
 
 /// The scope of the texts of a phase, in which `it` is nothing. The labels are those of the `do` in which it stands.
 fn call_scope<'c>(labels: &'c LabelTable, call: &'c Call) -> Scope<'c>

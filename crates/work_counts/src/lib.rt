@@ -8,7 +8,3 @@ mod texts;
 pub use members::object_tally;
 pub use tally::Tally;
 pub use texts::{rule_tally, value_tally};
-
-// Crates below, for the crates above.
-pub use program_texts;
-pub use program_texts::program_fields;

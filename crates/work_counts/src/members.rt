@@ -16,7 +16,7 @@ use crate::Tally;
 use crate::texts::{base_tally, initial_tally, rule_tally, rules_tally};
 use dsl_tree::{Expr, FieldDecl, Member};
 use program_texts::ProgramTexts;
-use program_texts::type_model::{ListedMember, TypeId};
+use type_model::{ListedMember, TypeId};
 
 /// The conditions of the types on a line, the nearest first.
 fn line_tally(texts: &ProgramTexts<'_>, of: TypeId, first: Option<TypeId>) -> Tally

@@ -9,9 +9,9 @@ ghost use Rattle.work_counts.specs.TextAmounts.{base_amount, heir_amount, initia
 
 use crate::Tally;
 use dsl_tree::{Expr, HeirCondition, RuleDecl};
-use program_texts::scene_texts::{add, path_tokens, tokens, value_tokens};
-use program_texts::type_model::TypeId;
 use program_texts::{ProgramTexts, list_items};
+use scene_texts::{add, path_tokens, tokens, value_tokens};
+use type_model::TypeId;
 
 /// A rule.
 pub fn rule_tally(rule: &RuleDecl) -> Tally

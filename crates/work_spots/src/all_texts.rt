@@ -3,10 +3,10 @@
 ghost use Rattle.std.specs.Prelude.{◌≡◌, IfOk};
 ghost use Rattle.object_works.specs.program_texts.SeenTexts.{types_in};
 
-use object_works::program_texts::ProgramTexts;
-use object_works::type_tables::TextTable;
 use osc_base::Text;
+use program_texts::ProgramTexts;
 use std::alloc::{AllocError, Global};
+use type_tables::TextTable;
 
 /// Equal texts.
 fn copies(alloc: Global, texts: &[Text]) -> Result<Vec<Text>, AllocError>

@@ -6,10 +6,10 @@ ghost use Rattle.object_works.specs.expansion_laws.WorkNodes.{node_of};
 ghost use Rattle.object_works.specs.scene_expansion.SeenWorks.{seen_work};
 ghost use Rattle.object_works.specs.type_heads.Types.{Types};
 
-use object_works::composition::Binding;
+use composition::Binding;
 use object_works::copy_binding;
-use object_works::scene_expansion::Work;
 use osc_base::Row;
+use scene_expansion::Work;
 use std::alloc::{AllocError, Global};
 
 /// Puts copies of bindings at the end.

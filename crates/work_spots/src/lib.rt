@@ -11,6 +11,3 @@ pub use all_texts::texts;
 pub use bindings::push_bindings;
 pub use kinds::composition_kind;
 pub use spots::spot;
-
-// Crates below, for the crates above.
-pub use object_works;
