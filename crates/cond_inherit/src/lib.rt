@@ -8,7 +8,3 @@ mod subtypes;
 pub use condition::{Condition, holds};
 pub use laws::tell_conditions;
 pub use subtypes::Subtypes;
-
-// Crates below, for the crates above.
-pub use type_model;
-pub use type_model::type_tables;

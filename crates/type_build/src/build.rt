@@ -19,10 +19,10 @@ ghost use Rattle.type_model.specs.Built.{AreBodies};
 ghost use Rattle.type_build.specs.Sound.{AreOfProgram, AreTold, AreTypes, HeadingsAreSound, IsFirstFault};
 
 use crate::refusing::{refuse_headings, refuse_members};
+use name_scope::Program;
+use osc_base::{Fault, Stop};
 use std::alloc::{AllocError, Global};
-use type_model::name_scope::Program;
-use type_model::osc_base::{Fault, Stop};
-use type_model::type_heads::{Declarations, Heads};
+use type_heads::{Declarations, Heads};
 use type_model::{Bodies, MemberLists, MemberTables, ProgramTables, Types};
 
 /// Why no types were built: the first fault of headings, else of members; or out of memory.

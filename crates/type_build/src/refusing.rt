@@ -16,9 +16,9 @@ ghost use Rattle.type_build.specs.Sound.{HeadingsAreSound, IsHeadingFault, Membe
 use crate::BuildStop;
 use heading_faults::first_heading_fault;
 use member_faults::first_member_fault;
+use osc_base::{Fault, Stop};
 use std::alloc::Global;
-use type_model::osc_base::{Fault, Stop};
-use type_model::type_heads::{Body, Declarations, Heads};
+use type_heads::{Body, Declarations, Heads};
 use type_model::{Bodies, MemberLists};
 
 /// Stops at a fault, if there is one.
