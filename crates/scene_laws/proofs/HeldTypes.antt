@@ -136,12 +136,12 @@ abbrev own_types : List TypeHead → List TypeBody → ℕ → List ℕ
 own_types heads bodies u = flat_map (λ (w : Written). field_types heads w w.member) ((body bodies u).own ++ (body bodies u).more)
 
 pub field_held : (ts : Types) → AreBased ts.table.heads → AreMembersOf ts → (t : ℕ) → t < length ts.table.heads → has_members (form ts.table.heads t) ≡ true → (f : Field) → In f (fields ts t) → (of : ℕ) → field_type ts f ≡ Some of → In of (held_types ts.table.heads ts.bodies t)
-field_held ts based are t below has f i of typed =
+field_held ts based are t below full f i of typed =
     let heads = ts.table.heads in
     let g = flat_map_in (λ (m : Member). fields_declared m m.written.member) (members ts t) f i in
     let m = subst (λ l. In g.0 l) (are t below) g.1 in
     let w = members_written heads ts.bodies t g.0 m in
-    subst (λ b. In of (cond b (flat_map (own_types heads ts.bodies) (family heads ts.bodies t)) [])) (sym has)
+    subst (λ b. In of (cond b (flat_map (own_types heads ts.bodies) (family heads ts.bodies t)) [])) (sym full)
     (in_flat_map (own_types heads ts.bodies) (family heads ts.bodies t) g.0.holder of (members_family heads ts.bodies based t below g.0 m)
     (in_flat_map (λ (w : Written). field_types heads w w.member) ((body ts.bodies g.0.holder).own ++ (body ts.bodies g.0.holder).more) g.0.written of (written g.0 w) (by g.0 g.0.written.member g.2)))
   where

@@ -66,7 +66,7 @@ object_members f h = by (is_object f) h
     by true e = refl
     by false e = absurd (true≢false (sym e))
 
-kind_members : (f : Form) → is_object f ≡ true ⊎ is_behaviour f ≡ true → has_members f ≡ true
+kind_members : (f : Form) → ((is_object f ≡ true) ⊎ (is_behaviour f ≡ true)) → has_members f ≡ true
 kind_members f (inl h) = object_members f h
 kind_members f (inr h) = by (is_object f) h
   where
