@@ -15,19 +15,11 @@ const CIRCLE: &str = "scenario top:
 /// Each cut takes one value from an end of a slot, in four steps that repeat.
 fn record_of_a_thousand_cuts(alloc: Global) -> Result<String, AllocError> {
     let mut text = String::from_str(alloc, "osc-undecided 1\nslots 2\nrules 2\nroom 1000\n")?;
-    for round in 0..250i64 {
+    for round in 0..250u32 {
         let high = 999_999_999 - 2 * round;
-        write!(
-            text,
-            "high 0 {high}\nclose 0\nlow 1 {}\nclose 0\n",
-            -high - 1
-        )?;
-        write!(
-            text,
-            "low 0 {}\nclose 1\nhigh 1 {}\nclose 1\n",
-            -high,
-            high - 1
-        )?;
+        let (more, less) = (high + 1, high - 1);
+        write!(text, "high 0 {high}\nclose 0\nlow 1 -{more}\nclose 0\n")?;
+        write!(text, "low 0 -{high}\nclose 1\nhigh 1 {less}\nclose 1\n")?;
     }
     write!(text, "open\nend\n")?;
     Ok(text)
