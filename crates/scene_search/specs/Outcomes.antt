@@ -1,5 +1,5 @@
 -- What the search of a flat form answers, whatever it leaves in the trail and the ring. This is no part of the meaning.
-use Rattle.std.specs.Prelude.{ℕ, ◌≤◌, List, ℤ}
+use Rattle.std.specs.Prelude.{ℕ, ◌≡◌, ◌≤◌, List, ℤ}
 use Rattle.box_eval.specs.declared.bounds.Pair.{Pair}
 use Rattle.box_eval.specs.declared.flat.Flat.{Flat}
 use Rattle.box_eval.specs.declared.record.Record.{Record}

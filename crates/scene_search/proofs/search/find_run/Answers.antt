@@ -17,7 +17,7 @@ returns-in-Refuted c =
     scene_refutation (seen_scene c.args.scene.now) c.in_ok-flat.flat c.args.seed c.args.cuts c.in-Refuted.record c.requires.expanded c.in_ok-flat.ensures.form
     (subst (IsOutcome c.args.seed c.args.cuts c.in_ok-flat.flat) c.in-Refuted.is c.in_ok-point.ensures)
 
-pub returns-in-Undecided : goal.returns-in-Undecided
-returns-in-Undecided c =
+pub returns : goal.returns
+returns c =
     spent_record (seen_scene c.args.scene.now) c.in_ok-flat.flat c.args.seed c.args.cuts c.in-Undecided.record c.in_ok-flat.ensures.form
     (subst (IsOutcome c.args.seed c.args.cuts c.in_ok-flat.flat) c.in-Undecided.is c.in_ok-point.ensures)
