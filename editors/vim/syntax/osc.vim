@@ -21,7 +21,7 @@ syntax match oscLibrary /\<\%(length\|time\|speed\|acceleration\|vehicle\)\>/
 syntax match oscModifier /\<\%(lane\|position\|speed\)\>\ze\s*(/
 syntax match oscAction /\.\s*\zs\%(drive\)\>\ze\s*(/
 syntax match oscArgument /\<\%(ahead_of\|behind\|faster_than\|left_of\|right_of\|same_as\|slower_than\|at\|duration\|overlap\)\>\ze:/
-syntax match oscMoment /\<\%(at\|overlap\):\s*\zs\%(all\|any\|end\|equal\|start\)\>/
+syntax match oscMoment /\%(\<\%(at\|overlap\):\s*\)\@<=\%(all\|any\|end\|equal\|start\)\>/
 syntax match oscOperatorMark /!\|\*\|+\|-\|\/\|<\|=\|>\|!=\|\.\.\|<=\|==\|=>\|>=/
 syntax match oscNumber /\<[0-9]\+\%(\.[0-9]\+\)\?\>/
 syntax match oscPhysical /\<[0-9]\+\%(\.[0-9]\+\)\?\h\w*\>/ contains=oscUnit
