@@ -25,4 +25,4 @@ pub use subtypes::Subtypes;
 
 // Crates below, for the crates above.
 pub use type_heads;
-pub use type_heads::{dsl_tree, name_scope, osc_base, units_si};
+pub use type_heads::{Body, WrittenMember, dsl_tree, name_scope, osc_base, units_si};

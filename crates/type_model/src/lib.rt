@@ -15,3 +15,4 @@ pub use types::Types;
 // Crates below, for the crates above.
 pub use string_texts::{dsl_tree, name_scope, osc_base, type_heads, units_si};
 pub use type_tables;
+pub use type_tables::TextTable;
