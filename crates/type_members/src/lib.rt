@@ -26,5 +26,5 @@ pub use subtypes::Subtypes;
 // Items of the crates below, for the crates above.
 pub use type_heads::{
     Body, ConditionEntry, EnumEntry, FieldEntry, FieldType, Form, Heads, Row, Text, TypeId,
-    UnitEntry,
+    UnitEntry, WrittenMember,
 };
