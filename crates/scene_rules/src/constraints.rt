@@ -7,15 +7,15 @@ ghost use Rattle.scene_conditions.specs.composition.Invariants.{is_occurrence};
 ghost use Rattle.scene_conditions.specs.composition.SeenParts.{seen_occurrence};
 ghost use Rattle.scene_conditions.specs.composition.There.{presence as presence_in};
 ghost use Rattle.scene_slots.specs.field_flatten.Rules.{typed_rule as rule_of, hard_rule as hard, default_rule as default_of, presence_of_number as number_rule, presence_rules};
-ghost use Rattle.scene_rules.specs.Rooms.{has_rule, are_values};
+ghost use Rattle.rule_parts.specs.Rooms.{has_rule, are_values};
 ghost use Rattle.scene_slots.specs.SeenSlots.{layout_of, scene_of};
 
-use crate::conditions::{condition_row, under};
 use box_eval::Rule;
 use composition::Occurrence;
 use expr_nodes::Typed;
 use flat_shapes::rule;
 use flat_terms::rows;
+use rule_parts::{condition_row, under};
 use scene_conditions::presence;
 use scene_slots::SceneSlots;
 use std::alloc::{AllocError, Global};

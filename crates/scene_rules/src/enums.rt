@@ -6,10 +6,10 @@ ghost use Rattle.box_eval.specs.FlatRules as Flat;
 ghost use Rattle.scene_slots.specs.field_flatten.Rules.{enum_rule as enum_of, member_rule as member_of};
 ghost use Rattle.scene_slots.specs.SeenSlots.{layout_of, scene_of};
 
-use crate::conditions::{guard_row, under};
 use box_eval::{Rule, Term};
 use flat_terms::rows;
 use osc_base::Path;
+use rule_parts::{guard_row, under};
 use scene_slots::SceneSlots;
 use std::alloc::{AllocError, Global};
 

@@ -11,12 +11,12 @@ ghost use Rattle.scene_slots.specs.field_flatten.Shapes.{phase_start, phase_end}
 ghost use Rattle.scene_rules.specs.Sides.{is_only_do};
 ghost use Rattle.scene_slots.specs.SeenSlots.{layout_of, scene_of};
 
-use crate::conditions::{each_under, guard_row, under, with_row};
-use crate::spans::{Side, at_most, equal, first_start, last_end, same_ticks, shared_tick};
+use crate::spans::{Side, first_start, last_end, same_ticks, shared_tick};
 use box_eval::{Rule, Term};
 use composition::{PhaseKind, PhaseSpot};
 use flat_terms::{rows, terms};
 use osc_base::{Path, Step};
+use rule_parts::{at_most, each_under, equal, guard_row, under, with_row};
 use scene_slots::SceneSlots;
 use std::alloc::{AllocError, Global};
 

@@ -7,10 +7,10 @@ ghost use Rattle.scene_slots.specs.field_flatten.Rules.{least_rules as rules_of_
 ghost use Rattle.scene_rules.specs.Sides.{side_term, side_terms};
 ghost use Rattle.scene_slots.specs.SeenSlots.{layout_of};
 
-use crate::conditions::with_row;
-use box_eval::{Rule, Term};
+use box_eval::Rule;
 use flat_terms::rows;
 use osc_base::Path;
+use rule_parts::{at_most, equal, with_row};
 use scene_slots::SceneSlots;
 use std::alloc::{AllocError, Global};
 
@@ -29,20 +29,6 @@ pub(crate) fn slot_of(slots: &SceneSlots<'_>, side: Side, phase: &Path) -> u32
         Side::Start => slots.start(phase),
         Side::End => slots.end(phase),
     }
-}
-
-/// Two slots are equal.
-pub(crate) fn equal(a: u32, b: u32) -> Rule
-    ensures { flat_rule result ≡ Flat.Equal (Flat.Slot a) (Flat.Slot b) }
-{
-    Rule::Equal(Term::Slot(a), Term::Slot(b))
-}
-
-/// A slot is at most another.
-pub(crate) fn at_most(a: u32, b: u32) -> Rule
-    ensures { flat_rule result ≡ Flat.AtMost (Flat.Slot a) (Flat.Slot b) }
-{
-    Rule::AtMost(Term::Slot(a), Term::Slot(b))
 }
 
 /// The slots of that tick of phases.
