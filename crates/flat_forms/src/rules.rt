@@ -17,11 +17,10 @@ use crate::constraints::push_constraints;
 use crate::enums::gapped;
 use box_eval::Rule;
 use osc_base::{Path, Row};
-use scene_rules::{
-    ModifierSpot, PhaseSpot, SceneSlots, arranged_rule, enum_rule, modifier_rules, motion_rules,
-};
+use scene_rules::{ModifierSpot, PhaseSpot, SceneSlots, arranged_rule, enum_rule};
 use slot_ends::{Scene, ValueSpot};
 use std::alloc::{AllocError, Global};
+use vehicle_rules::{modifier_rules, motion_rules};
 
 /// Puts the rule of a value at the end, if it is of an enum with numbers left out.
 fn push_enum(

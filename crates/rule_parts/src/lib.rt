@@ -1,0 +1,10 @@
+//! What the rules of a scene's items are made of: conditions, rows of rules, and comparisons of two slots.
+#![tactic(auto)]
+
+mod comparisons;
+mod conditions;
+
+pub use comparisons::{at_most, equal};
+pub use conditions::{condition_row, each_under, guard_row, under, with_row};
+pub use scene_conditions::{Condition, modifier_presence, ModifierSpot, Occurrence, PhaseKind, presence};
+pub use scene_slots::{common_scale, number, PhaseSpot, rows, rule, Run, SceneSlots, terms};
