@@ -9,8 +9,8 @@ ghost use Rattle.scene_slots.specs.SeenSlots.{layout_of};
 use box_eval::{Rule, Term};
 use osc_base::Path;
 use scene_conditions::{Condition, Guard};
-use scene_slots::{rows, SceneSlots};
 use scene_slots::terms::{either, not};
+use scene_slots::{SceneSlots, rows};
 use std::alloc::{AllocError, Global};
 
 /// The member of a `one_of` is chosen.

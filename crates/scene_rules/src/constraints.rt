@@ -12,7 +12,7 @@ ghost use Rattle.rule_parts.specs.scene_slots.SeenSlots.{layout_of, scene_of};
 
 use box_eval::Rule;
 use expr_nodes::Typed;
-use rule_parts::{condition_row, Occurrence, presence, rows, rule, SceneSlots, under};
+use rule_parts::{Occurrence, SceneSlots, condition_row, presence, rows, rule, under};
 use std::alloc::{AllocError, Global};
 
 /// The rule of an expression; always true if there is none.

@@ -8,7 +8,7 @@ ghost use Rattle.rule_parts.specs.scene_slots.SeenSlots.{layout_of, scene_of};
 
 use box_eval::{Rule, Term};
 use osc_base::Path;
-use rule_parts::{guard_row, rows, SceneSlots, under};
+use rule_parts::{SceneSlots, guard_row, rows, under};
 use std::alloc::{AllocError, Global};
 
 /// The slot has that number.

@@ -14,7 +14,10 @@ ghost use Rattle.rule_parts.specs.scene_slots.SeenSlots.{layout_of, scene_of};
 use crate::spans::{Side, first_start, last_end, same_ticks, shared_tick};
 use box_eval::{Rule, Term};
 use osc_base::{Path, Step};
-use rule_parts::{at_most, each_under, equal, guard_row, PhaseKind, PhaseSpot, rows, SceneSlots, terms, under, with_row};
+use rule_parts::{
+    PhaseKind, PhaseSpot, SceneSlots, at_most, each_under, equal, guard_row, rows, terms, under,
+    with_row,
+};
 use std::alloc::{AllocError, Global};
 
 /// The first phase starts at a tick, each next when the one before ends, and the last ends at another tick.

@@ -9,7 +9,7 @@ ghost use Rattle.rule_parts.specs.scene_slots.SeenSlots.{layout_of};
 
 use box_eval::Rule;
 use osc_base::Path;
-use rule_parts::{at_most, equal, rows, SceneSlots, with_row};
+use rule_parts::{SceneSlots, at_most, equal, rows, with_row};
 use std::alloc::{AllocError, Global};
 
 /// Where a phase starts, or where it ends.

@@ -24,7 +24,10 @@ use crate::relations::{POSITION_SCALE, Relation, beside, in_range, relation_of};
 use box_eval::{Rule, Term};
 use expr_nodes::Typed;
 use osc_base::{Moment, Path, Row, SampleSlots};
-use rule_parts::{common_scale, Condition, condition_row, equal, modifier_presence, ModifierSpot, number, rows, SceneSlots, under, with_row};
+use rule_parts::{
+    Condition, ModifierSpot, SceneSlots, common_scale, condition_row, equal, modifier_presence,
+    number, rows, under, with_row,
+};
 use std::alloc::{AllocError, Global};
 
 /// The scale of an end of a range, 1 if there is none.

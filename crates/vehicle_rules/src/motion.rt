@@ -14,7 +14,7 @@ ghost use Rattle.rule_parts.specs.scene_slots.SeenSlots.{layout_of, scene_of};
 use crate::modifiers::slots_at;
 use box_eval::{Rule, Term};
 use osc_base::{Boxed, Path, Row, SampleSlots, Step, Text};
-use rule_parts::{at_most, each_under, guard_row, rows, SceneSlots, terms, under, with_row};
+use rule_parts::{SceneSlots, at_most, each_under, guard_row, rows, terms, under, with_row};
 use std::alloc::{AllocError, Global};
 
 /// The slots of a vehicle's greatest speed and of its greatest acceleration.

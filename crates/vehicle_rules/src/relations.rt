@@ -10,8 +10,8 @@ ghost use Rattle.vehicle_rules.specs.Relations.{quantity_term as term_of, relati
 
 use crate::quantity::Quantity;
 use box_eval::{Rule, Term};
-use rule_parts::{common_scale, terms};
 use osc_base::{Boxed, Kind, SampleSlots};
+use rule_parts::{common_scale, terms};
 use std::alloc::{AllocError, Global};
 
 /// So many units of a speed's slot make a metre a second.
