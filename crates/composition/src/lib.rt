@@ -6,6 +6,7 @@ mod asked;
 mod clause;
 mod guard;
 mod homes;
+mod lists;
 mod part;
 mod paths;
 mod queries;
