@@ -6,7 +6,7 @@ ghost use Rattle.composition.specs.SeenScenes.{seen_scene};
 
 use crate::part::{ModifierSpot, Occurrence};
 use crate::scene::Scene;
-use osc_base::Row;
+use expr_nodes::Row;
 
 impl Scene {
     /// The scene with these constraints and modifiers in place of its own.

@@ -1,4 +1,4 @@
-use osc_base::Path;
+use expr_nodes::Path;
 
 /// A condition under which a part of a scene is there.
 #[derive(Debug, PartialEq, Eq, Drop)]

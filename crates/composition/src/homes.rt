@@ -10,8 +10,9 @@ ghost use Rattle.keep_rules.specs.path_index.Places.{first_place};
 use crate::part::Binding;
 use crate::scene::Scene;
 use crate::source::Source;
-use osc_base::{Path, Row, Step};
-use path_index::found;
+use expr_nodes::{Path, Row};
+use keep_rules::path_index::found;
+use keep_rules::path_index::osc_base::Step;
 use std::alloc::{AllocError, Global};
 
 impl Scene {

@@ -1,7 +1,7 @@
 //! What a scene tells.
 
 ghost use Rattle.std.specs.Prelude.{◌≡◌, find, map, option_copied, IfOk, None, Some};
-ghost use Rattle.osc_base.specs.Paths.{same_path};
+ghost use Rattle.expr_nodes.specs.osc_base.Paths.{same_path};
 ghost use Rattle.composition.specs.Numbers.{text_number};
 ghost use Rattle.composition.specs.SeenParts.{scene_of, seen_occurrence, seen_modifier, seen_spot};
 ghost use Rattle.composition.specs.SeenScenes.{seen_scene};
@@ -13,10 +13,10 @@ use crate::scene::Scene;
 use crate::sorts::sorted;
 use crate::source::Source;
 use crate::{ChoiceSpot, Guard, PhaseSpot, Setting, ValueSpot};
-use osc_base::{Path, Row, Step, Text};
-use path_index::{PathIndex, found, found_timed};
+use expr_nodes::{Path, Row, Text, TextTable};
+use keep_rules::path_index::osc_base::Step;
+use keep_rules::path_index::{PathIndex, found, found_timed};
 use std::alloc::{AllocError, Global};
-use type_tables::TextTable;
 
 impl Scene {
     /// A scene of these parts. The spots stand in the order of expansion, at their homes.

@@ -1,4 +1,5 @@
-use osc_base::{Path, Row, Sample, Text};
+use expr_nodes::{Path, Row, Text};
+use keep_rules::path_index::osc_base::Sample;
 
 /// What a field holds: a whole number, or a text for a field of type `string`.
 ///

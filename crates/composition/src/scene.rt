@@ -2,14 +2,13 @@
 
 ghost use Rattle.std.specs.Prelude.{◌≡◌, filter_map};
 ghost use Rattle.composition.specs.SeenParts.{choice_at, value_at, phase_at, vehicle_at};
-ghost use Rattle.osc_base.specs.Paths.{then_duration};
+ghost use Rattle.expr_nodes.specs.osc_base.Paths.{then_duration};
 ghost use Rattle.keep_rules.specs.path_index.Places.{Places};
 
 use crate::part::{Binding, ModifierSpot, Occurrence, Spot};
 use crate::{ChoiceSpot, PhaseSpot, Setting, ValueSpot};
-use osc_base::{Path, Row};
-use path_index::PathIndex;
-use type_tables::TextTable;
+use expr_nodes::{Path, Row, TextTable};
+use keep_rules::path_index::PathIndex;
 
 /// Everything that may be there in a run of a scenario, in the order of expansion. All paths in it are home paths. The
 /// texts are those that a field of type `string` may hold.

@@ -1,4 +1,4 @@
-use osc_base::{Path, Row};
+use expr_nodes::{Path, Row};
 
 /// A `one_of`, and how many members it has.
 #[derive(Debug, PartialEq, Eq, Drop)]

@@ -13,6 +13,7 @@ mod typing;
 
 pub use checks::checked;
 pub use expr_nodes::Checked;
+pub use expr_typing::parts::least;
 pub use expr_value::{Reading, value};
 pub use laws::{exponents_are_bounded, typed_or_refused};
 pub use paths::{path_checked, path_place};

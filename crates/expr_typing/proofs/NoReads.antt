@@ -2,7 +2,7 @@
 use Rattle.std.proofs.Common.{◌≡◌, ◌∙◌, refl, sym, ap, ℕ, List, [], ◌∷◌, ◌++◌, Bool, true, false, ◌&&◌, length, map, nat_eq, suc, arith}
 use Rattle.std.proofs.lemmas.Bool.Decides.{nat_tests}
 use Rattle.std.specs.List.{list_all}
-use Rattle.osc_base.specs.declared.path.Path.{Path}
+use Rattle.dsl_tree.specs.osc_base.declared.path.Path.{Path}
 use Rattle.expr_nodes.specs.declared.node.Info.{Info}
 use Rattle.expr_nodes.specs.declared.node.Join.{Join}
 use Rattle.expr_nodes.specs.declared.node.Earlier.{Earlier}

@@ -2,7 +2,7 @@
 
 ghost use Rattle.std.specs.Prelude.{◌≡◌, Some, false, is_none, map, option_copied, option_map, option_and_then, slice_get, IfOk};
 ghost use Rattle.std.specs.Option.{option_map_or};
-ghost use Rattle.osc_base.specs.FaultRows.{first_fault};
+ghost use Rattle.dsl_tree.specs.osc_base.FaultRows.{first_fault};
 ghost use Rattle.dsl_tree.specs.Views.{expr_tree};
 ghost use Rattle.expr_nodes.specs.Typed.{row_of, place_of, begun_at};
 ghost use Rattle.expr_nodes.specs.Parts.{of_one};
@@ -14,8 +14,8 @@ use crate::held::listed;
 use crate::parts::{fault_if, least};
 use crate::spans::begun;
 use dsl_tree::Expr;
-use expr_nodes::{Checked, Info, Size, Typed, ValueKind};
-use osc_base::{Boxed, Fault, FaultCode, Place, Row};
+use dsl_tree::osc_base::FaultCode;
+use expr_nodes::{Boxed, Checked, Fault, Info, Place, Row, Size, Typed, ValueKind};
 use std::alloc::{AllocError, Global};
 
 /// The kind of a list is that of its first item.

@@ -1,7 +1,7 @@
 //! The faults and the typed form of products.
 
 ghost use Rattle.std.specs.Prelude.{◌≡◌, ◌&&◌, false, true, not, cond, Some, None, IfOk};
-ghost use Rattle.osc_base.specs.FaultRows.{first_fault};
+ghost use Rattle.dsl_tree.specs.osc_base.FaultRows.{first_fault};
 ghost use Rattle.expr_nodes.specs.units_si.ExponentTests.{are_exponents};
 ghost use Rattle.expr_nodes.specs.Sizes.{size, multiplied, is_wide};
 ghost use Rattle.expr_nodes.specs.Parts.{on_two, of_two, both_numbers};
@@ -11,10 +11,9 @@ ghost use Rattle.expr_nodes.specs.Seen.{seen, seen_kind, seen_part};
 use crate::fields::NO_EXPONENTS;
 use crate::parts::{are_no_numbers, are_numbers, are_whole, fault_if, least};
 use crate::rows::with_part;
-use expr_nodes::{Checked, Info, Join, Typed, ValueKind};
-use osc_base::{Boxed, Fault, FaultCode, Place};
+use dsl_tree::osc_base::FaultCode;
+use expr_nodes::{Boxed, Checked, Exponents, Fault, Info, Join, Place, Typed, ValueKind};
 use std::alloc::{AllocError, Global};
-use units_si::Exponents;
 
 /// The exponents of a number.
 pub fn exponents_of(kind: &ValueKind) -> Exponents

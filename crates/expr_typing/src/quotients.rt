@@ -10,9 +10,7 @@ use crate::constants::is_constant;
 use crate::fields::NO_EXPONENTS;
 use crate::parts::are_numbers;
 use crate::products::exponents_of;
-use expr_nodes::Typed;
-use osc_base::Boxed;
-use units_si::Exponents;
+use expr_nodes::{Boxed, Exponents, Typed};
 
 /// A quotient subtracts exponents. `None` when one leaves its limits.
 pub fn quotient_exponents(left: &Typed, right: &Typed) -> Option<Exponents>

@@ -1,7 +1,7 @@
 //! The faults and the typed form of comparisons.
 
 ghost use Rattle.std.specs.Prelude.{◌≡◌, not, IfOk};
-ghost use Rattle.osc_base.specs.FaultRows.{first_fault};
+ghost use Rattle.dsl_tree.specs.osc_base.FaultRows.{first_fault};
 ghost use Rattle.expr_nodes.specs.Typed.{Relation, place_of};
 ghost use Rattle.expr_nodes.specs.Parts.{on_two, of_two};
 ghost use Rattle.expr_nodes.specs.Operators.{truth_at as truth_info, fit_for, comparison_rows, comparison_typed, compare_of as sign_compare, relation_rows, relation_typed};
@@ -11,8 +11,8 @@ use crate::parts::{are_joined_wide, are_numbers, are_whole, fault_if, have_other
 use crate::truths::truth_at;
 use crate::within::within;
 use dsl_tree::RelationSign;
-use expr_nodes::{Checked, Compare, Typed};
-use osc_base::{Boxed, Fault, FaultCode, Place};
+use dsl_tree::osc_base::FaultCode;
+use expr_nodes::{Boxed, Checked, Compare, Fault, Place, Typed};
 use std::alloc::{AllocError, Global};
 
 /// The comparison of a sign other than `in`.

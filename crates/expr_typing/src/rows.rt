@@ -5,8 +5,7 @@ ghost use Rattle.expr_nodes.specs.declared.node.Join.{Join};
 ghost use Rattle.expr_nodes.specs.Typed as Nodes;
 ghost use Rattle.expr_nodes.specs.Seen.{seen, seen_info, joined, grouped, reached as reached_at};
 
-use expr_nodes::{Earlier, Info, Join, Typed};
-use osc_base::{Boxed, Row};
+use expr_nodes::{Boxed, Earlier, Info, Join, Row, Typed};
 use std::alloc::{AllocError, Global};
 
 /// What is before the last part of a row, with that part.

@@ -1,7 +1,7 @@
 //! The faults and the typed form of ranges and brackets.
 
 ghost use Rattle.std.specs.Prelude.{◌≡◌, IfOk};
-ghost use Rattle.osc_base.specs.FaultRows.{first_fault};
+ghost use Rattle.dsl_tree.specs.osc_base.FaultRows.{first_fault};
 ghost use Rattle.expr_nodes.specs.Typed.{Span, begun_at, kind};
 ghost use Rattle.expr_nodes.specs.Sizes.{info_at, unit_size};
 ghost use Rattle.expr_nodes.specs.Parts.{on_two};
@@ -9,8 +9,8 @@ ghost use Rattle.expr_nodes.specs.Operators.{part_rows, span_rows, span_typed, g
 ghost use Rattle.expr_nodes.specs.Seen.{seen, seen_info, seen_part};
 
 use crate::parts::{fault_if, least};
-use expr_nodes::{Checked, Info, Size, Typed};
-use osc_base::{Boxed, Fault, FaultCode, Place};
+use dsl_tree::osc_base::FaultCode;
+use expr_nodes::{Boxed, Checked, Fault, Info, Place, Size, Typed};
 use std::alloc::{AllocError, Global};
 
 /// The fault of a part of a range or list: it is one value.

@@ -1,7 +1,7 @@
 //! The nodes of an expression, of parts that are known.
 
 ghost use Rattle.std.specs.Prelude.{◌≡◌, IfOk};
-ghost use Rattle.osc_base.specs.FaultRows.{first_of};
+ghost use Rattle.dsl_tree.specs.osc_base.FaultRows.{first_of};
 ghost use Rattle.dsl_tree.specs.ExprTree.{ExprTree};
 ghost use Rattle.dsl_tree.specs.Views.{expr_tree};
 ghost use Rattle.expr_nodes.specs.type_heads.Table.{Table};
@@ -16,10 +16,8 @@ use crate::spans::{group, span};
 use crate::sums::{minus, sum};
 use crate::truths::{implies, logic, not};
 use dsl_tree::{Expr, Ident, Operator, RelationSign};
-use expr_nodes::{Checked, Join};
-use osc_base::{Fault, Place};
+use expr_nodes::{Checked, Fault, Join, Place, Types};
 use std::alloc::{AllocError, Global};
-use type_model::Types;
 
 /// What is known of an operator, with the faults of its parts.
 pub fn with_parts(own: Checked, left: Option<Fault>, right: Option<Fault>) -> Checked

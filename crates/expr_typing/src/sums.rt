@@ -1,7 +1,7 @@
 //! The faults and the typed form of sums and differences.
 
 ghost use Rattle.std.specs.Prelude.{◌≡◌, false, Some, IfOk};
-ghost use Rattle.osc_base.specs.FaultRows.{first_fault};
+ghost use Rattle.dsl_tree.specs.osc_base.FaultRows.{first_fault};
 ghost use Rattle.expr_nodes.specs.Typed.{Minus, info as info_of};
 ghost use Rattle.expr_nodes.specs.Sizes.{size, joined, is_wide};
 ghost use Rattle.expr_nodes.specs.Parts.{on_one, on_two, of_two};
@@ -14,8 +14,8 @@ use crate::parts::{
 };
 use crate::rows::with_part;
 use dsl_tree::Operator;
-use expr_nodes::{Checked, Info, Join, Typed};
-use osc_base::{Boxed, Fault, FaultCode, Place};
+use dsl_tree::osc_base::FaultCode;
+use expr_nodes::{Boxed, Checked, Fault, Info, Join, Place, Typed};
 use std::alloc::{AllocError, Global};
 
 fn minus_fault(place: Place, part: &Option<Boxed<Typed>>) -> Option<Fault>

@@ -1,7 +1,7 @@
 //! The faults and the typed form of operators on truth values.
 
 ghost use Rattle.std.specs.Prelude.{◌≡◌, IfOk};
-ghost use Rattle.osc_base.specs.FaultRows.{first_fault};
+ghost use Rattle.dsl_tree.specs.osc_base.FaultRows.{first_fault};
 ghost use Rattle.expr_nodes.specs.Typed.{Not, Implies, place_of};
 ghost use Rattle.expr_nodes.specs.Parts.{on_one, on_two};
 ghost use Rattle.expr_nodes.specs.Operators.{truth_at as truth_info, not_rows, not_typed, logic_rows, implies_typed};
@@ -9,8 +9,8 @@ ghost use Rattle.expr_nodes.specs.Seen.{seen, seen_info, seen_part, joined, logi
 
 use crate::parts::{are_no_truths, are_whole, fault_if, is_no_truth, is_whole};
 use crate::rows::with_part;
-use expr_nodes::{Checked, Info, Join, Size, Typed, ValueKind};
-use osc_base::{Boxed, Fault, FaultCode, Place};
+use dsl_tree::osc_base::FaultCode;
+use expr_nodes::{Boxed, Checked, Fault, Info, Join, Place, Size, Typed, ValueKind};
 use std::alloc::{AllocError, Global};
 
 /// What a truth value that begins at the place holds of itself.

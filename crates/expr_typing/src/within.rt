@@ -2,7 +2,7 @@
 
 ghost use Rattle.std.specs.Prelude.{◌≡◌, ◌&&◌, ◌||◌, not, map, IfOk};
 ghost use Rattle.std.specs.List.{list_any};
-ghost use Rattle.osc_base.specs.FaultRows.{first_fault};
+ghost use Rattle.dsl_tree.specs.osc_base.FaultRows.{first_fault};
 ghost use Rattle.expr_nodes.specs.Kinds.{are_alike, same_units};
 ghost use Rattle.expr_nodes.specs.Sizes.{size, joined, is_wide};
 ghost use Rattle.expr_nodes.specs.Typed.{Within, kind, place_of};
@@ -12,8 +12,8 @@ ghost use Rattle.expr_nodes.specs.Seen.{seen, seen_part};
 
 use crate::parts::{are_numbers, differ_in_units, fault_if, is_joined_wide, is_whole, least};
 use crate::truths::truth_at;
-use expr_nodes::{Checked, Typed};
-use osc_base::{Boxed, Fault, FaultCode, Place};
+use dsl_tree::osc_base::FaultCode;
+use expr_nodes::{Boxed, Checked, Fault, Place, Typed};
 use std::alloc::{AllocError, Global};
 
 /// One of the items can't be compared with the value.

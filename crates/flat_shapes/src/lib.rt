@@ -5,5 +5,9 @@ mod reads;
 mod shapes;
 mod slots;
 
+pub use flat_terms::{
+    Choice, ChoiceSpot, Guard, Held, PhaseSpot, Run, Scene, Setting, Source, Span, Trace, Value,
+    ValueRange, ValueSpot,
+};
 pub use shapes::{number, rule};
 pub use slots::{Found, Slots};

@@ -8,5 +8,6 @@ mod whole;
 mod wrongs;
 
 pub use laws::instances_alone_are_right;
-pub use run_check::Wrong;
+pub use run_check::{Clause, Run, Wrong, write_run};
+pub use run_clauses::Scene;
 pub use whole::check;

@@ -14,7 +14,3 @@ mod views;
 pub use fields::{TypeDo, TypeField};
 pub use tables::ProgramFields;
 pub use views::FieldsOf;
-
-// Crates below, for the crates above.
-pub use type_members;
-pub use type_tables;

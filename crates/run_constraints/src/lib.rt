@@ -10,3 +10,4 @@ mod truth;
 pub use constraints::first_hard;
 pub use defaults::first_default;
 pub use modifiers::first_modifier;
+pub use run_values::Numbers;

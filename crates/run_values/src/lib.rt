@@ -4,5 +4,8 @@
 mod motion;
 mod numbers;
 
+pub use expr_value::value;
+pub use field_flatten::Held;
 pub use motion::sample_at;
 pub use numbers::Numbers;
+pub use run_clauses::Entries;

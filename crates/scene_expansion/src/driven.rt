@@ -8,9 +8,9 @@ ghost use Rattle.program_calls.specs.composition.SeenScenes.{seen_scene};
 ghost use Rattle.program_calls.specs.path_index.Places.{place_at};
 ghost use Rattle.scene_expansion.specs.Vehicles.{vehicle_path};
 
-use composition::{ModifierSpot, Scene};
 use osc_base::Path;
 use path_index::{HasPath, PathIndex};
+use program_calls::{ModifierSpot, Scene};
 use std::alloc::{AllocError, Global};
 
 /// A vehicle of a scene.

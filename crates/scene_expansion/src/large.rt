@@ -6,9 +6,9 @@ ghost use Rattle.program_calls.specs.composition.SceneFaults as faults;
 use crate::layout::WorkLayout;
 use crate::limits::pass_limits;
 use crate::whole::all_before;
-use composition::Setting;
+use expr_nodes::TypeId;
+use program_calls::Setting;
 use std::alloc::{AllocError, Global};
-use type_model::TypeId;
 
 /// Whether a scenario has more objects, slots, rules or copied tokens than a scene can have. It makes no spot, constraint
 /// or modifier.

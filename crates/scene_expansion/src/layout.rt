@@ -14,11 +14,10 @@ ghost use Rattle.scene_expansion.specs.Walks.{modifier_at};
 
 use crate::counts::Counts;
 use crate::work::Work;
-use composition::{Binding, ModifierSpot, Occurrence, Scene, Spot};
+use expr_nodes::{TextTable, TypeId};
 use osc_base::{Place, Row};
+use program_calls::{Binding, ModifierSpot, Occurrence, Scene, Spot};
 use std::alloc::{AllocError, Global};
-use type_model::TypeId;
-use type_tables::TextTable;
 
 /// The works of a program, and how much each comes to.
 pub trait WorkLayout<'p> {

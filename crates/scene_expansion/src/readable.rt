@@ -11,9 +11,9 @@ ghost use Rattle.scene_expansion.specs.Readable.{has};
 
 use crate::driven::Driven;
 use crate::reads::{has_all, has_path};
-use composition::{ModifierSpot, Occurrence, Scene};
 use expr_nodes::Typed;
 use osc_base::{Mark, Path, Row, Strength};
+use program_calls::{ModifierSpot, Occurrence, Scene};
 use std::alloc::{AllocError, Global};
 
 /// Whether the scene has all that an expression reads, if there is one.

@@ -8,9 +8,9 @@ ghost use Rattle.program_calls.specs.composition.Expanded.{is_readable as readab
 ghost use Rattle.program_calls.specs.composition.SeenScenes.{seen_scene};
 ghost use Rattle.scene_expansion.specs.Readable.{has, has_part, has_reads, has_row};
 
-use composition::{Scene, Source};
 use expr_nodes::{Earlier, Typed};
 use osc_base::Path;
+use program_calls::{Scene, Source};
 
 /// Whether a path leads to a value or a duration of the scene.
 fn is_readable(scene: &Scene, path: &Path) -> bool

@@ -16,10 +16,10 @@ use crate::layout::{Layout, WorkLayout};
 use crate::readable::{readable_modifiers, readable_occurrences};
 use crate::walk::{laid_after, laid_before};
 use crate::work::Work;
-use composition::{ModifierSpot, Scene, Setting};
+use expr_nodes::TypeId;
 use osc_base::Row;
+use program_calls::{ModifierSpot, Scene, Setting};
 use std::alloc::{AllocError, Global};
-use type_model::TypeId;
 
 /// All works of a scenario, each before the works in it. `None` if there are too many for a scene.
 pub(crate) fn all_before<'p, L: WorkLayout<'p>>(

@@ -6,6 +6,8 @@ mod enums;
 mod phases;
 mod spans;
 
+pub use composition::{ModifierSpot, Occurrence, PhaseSpot, Run};
 pub use constraints::{default_rule, hard_rule};
 pub use enums::enum_rule;
 pub use phases::arranged_rule;
+pub use scene_slots::SceneSlots;
