@@ -1,8 +1,6 @@
 pub mod SeenWorks
 pub mod Walks
 pub mod AllCounts
-pub mod Readable
-pub mod Vehicles
 -- Crates below, for the crates above.
 pub use Rattle.program_calls.specs.composition as composition
 pub use Rattle.scene_texts.specs.expansion_laws as expansion_laws

@@ -2,14 +2,11 @@
 #![tactic(auto)]
 
 mod counts;
-mod driven;
 mod laid;
 mod large;
 mod layout;
 mod limits;
 mod named;
-mod readable;
-mod reads;
 mod walk;
 mod whole;
 mod work;

@@ -1,9 +1,9 @@
 use Rattle.std.proofs.Common.{◌∙◌, ap, refl, map}
 use Rattle.std.specs.List.{list_all}
 use Rattle.expr_nodes.specs.Seen.{seen, reached}
-use Rattle.scene_expansion.specs.Readable.{has_reads, has_part}
-use Rattle.scene_expansion.proofs.ReadRows.{row_last, row_parts, row_first}
-use Rattle.scene_expansion.proofs.reads.+reads.Goals as goal
+use Rattle.scene_reads.specs.Readable.{has_reads, has_part}
+use Rattle.scene_reads.proofs.ReadRows.{row_last, row_parts, row_first}
+use Rattle.scene_reads.proofs.reads.+reads.Goals as goal
 
 pub has_all-returns-then-has_parts : goal.has_all-returns-then-has_parts
 has_all-returns-then-has_parts t c =

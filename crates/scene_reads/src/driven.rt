@@ -3,14 +3,14 @@
 ghost use Rattle.std.specs.Prelude.{◌≡◌, ◌&&◌, is_some, map, option_to_list, IfOk};
 ghost use Rattle.std.specs.List.{list_all};
 ghost use Rattle.osc_base.specs.declared.path.Path.{Path};
-ghost use Rattle.program_calls.specs.composition.Expanded.{is_driven as driven};
-ghost use Rattle.program_calls.specs.composition.SeenScenes.{seen_scene};
-ghost use Rattle.program_calls.specs.path_index.Places.{place_at};
-ghost use Rattle.scene_expansion.specs.Vehicles.{vehicle_path};
+ghost use Rattle.composition.specs.Expanded.{is_driven as driven};
+ghost use Rattle.composition.specs.SeenScenes.{seen_scene};
+ghost use Rattle.path_index.specs.Places.{place_at};
+ghost use Rattle.scene_reads.specs.Vehicles.{vehicle_path};
 
+use composition::{ModifierSpot, Scene};
 use osc_base::Path;
 use path_index::{HasPath, PathIndex};
-use program_calls::{ModifierSpot, Scene};
 use std::alloc::{AllocError, Global};
 
 /// A vehicle of a scene.

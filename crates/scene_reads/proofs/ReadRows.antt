@@ -3,7 +3,7 @@ use Rattle.std.proofs.Common.{◌≡◌, ◌∙◌, refl, sym, ap, List, [], ◌
 use Rattle.std.specs.List.{list_all}
 use Rattle.std.proofs.lemmas.List.Folds.{list_all-append}
 use Rattle.osc_base.specs.declared.path.Path.{Path}
-use Rattle.program_calls.specs.composition.declared.scene.Scene.{Scene}
+use Rattle.composition.specs.declared.scene.Scene.{Scene}
 use Rattle.expr_nodes.specs.declared.node.Info.{Info}
 use Rattle.expr_nodes.specs.declared.node.Join.{Join}
 use Rattle.expr_nodes.specs.declared.node.Earlier.{Earlier}
@@ -13,7 +13,7 @@ use Rattle.expr_nodes.specs.Typed as Nodes
 use Rattle.expr_nodes.specs.Typed.{reads}
 use Rattle.expr_nodes.specs.Seen.{Reached, seen, seen_info, reached, joined, grouped}
 use Rattle.expr_nodes.proofs.SeenNodes.{seen_joined}
-use Rattle.scene_expansion.specs.Readable.{has, has_reads, has_part}
+use Rattle.scene_reads.specs.Readable.{has, has_reads, has_part}
 
 -- paths after others
 pub has_both : (scene : Scene) (xs ys : List Path) → list_all (has scene) (xs ++ ys) ≡ (list_all (has scene) xs && list_all (has scene) ys)

@@ -3,17 +3,17 @@
 ghost use Rattle.std.specs.Prelude.{◌≡◌, filter, map, option_to_list, IfOk};
 ghost use Rattle.std.specs.List.{list_all};
 ghost use Rattle.expr_nodes.specs.Seen.{seen_part};
-ghost use Rattle.program_calls.specs.composition.Expanded.{can_apply as applies, can_be_asked as asked};
-ghost use Rattle.program_calls.specs.composition.SeenParts.{seen_modifier, seen_occurrence};
-ghost use Rattle.program_calls.specs.composition.SeenScenes.{seen_scene};
-ghost use Rattle.program_calls.specs.composition.There.{read_by, removed};
-ghost use Rattle.scene_expansion.specs.Readable.{has};
+ghost use Rattle.composition.specs.Expanded.{can_apply as applies, can_be_asked as asked};
+ghost use Rattle.composition.specs.SeenParts.{seen_modifier, seen_occurrence};
+ghost use Rattle.composition.specs.SeenScenes.{seen_scene};
+ghost use Rattle.composition.specs.There.{read_by, removed};
+ghost use Rattle.scene_reads.specs.Readable.{has};
 
 use crate::driven::Driven;
 use crate::reads::{has_all, has_path};
+use composition::{ModifierSpot, Occurrence, Scene};
 use expr_nodes::Typed;
 use osc_base::{Mark, Path, Row, Strength};
-use program_calls::{ModifierSpot, Occurrence, Scene};
 use std::alloc::{AllocError, Global};
 
 /// Whether the scene has all that an expression reads, if there is one.
@@ -64,7 +64,7 @@ fn can_apply(driven: &Driven<'_>, modifier: &ModifierSpot) -> bool
 }
 
 /// The constraints that can be there.
-pub(crate) fn readable_occurrences(scene: &Scene, occurrences: Vec<Occurrence>) -> Row<Occurrence>
+pub fn readable_occurrences(scene: &Scene, occurrences: Vec<Occurrence>) -> Row<Occurrence>
     ensures { map seen_occurrence result ≡ filter (asked (seen_scene scene.now)) (map seen_occurrence occurrences.items) }
 {
     let mut kept = occurrences;
@@ -73,7 +73,7 @@ pub(crate) fn readable_occurrences(scene: &Scene, occurrences: Vec<Occurrence>) 
 }
 
 /// The modifiers that can be there.
-pub(crate) fn readable_modifiers(
+pub fn readable_modifiers(
     alloc: Global,
     scene: &Scene,
     modifiers: Vec<ModifierSpot>,

@@ -4,9 +4,9 @@ use Rattle.std.specs.List.{list_any}
 use Rattle.osc_base.specs.declared.path.Path.{Path}
 use Rattle.osc_base.specs.Paths.{same_path}
 use Rattle.osc_base.proofs.PathEquality.{path_flip}
-use Rattle.program_calls.specs.path_index.Places.{first_place}
-use Rattle.scene_expansion.specs.Vehicles.{vehicle_path}
-use Rattle.scene_expansion.specs.declared.driven.Vehicle.{Vehicle}
+use Rattle.path_index.specs.Places.{first_place}
+use Rattle.scene_reads.specs.Vehicles.{vehicle_path}
+use Rattle.scene_reads.specs.declared.driven.Vehicle.{Vehicle}
 
 first_driven : (path : Path) (n : ℕ) (vs : List Vehicle) → is_some (first_place (λ (v : Vehicle). same_path (vehicle_path v) path) n vs) ≡ list_any (same_path path) (map vehicle_path vs)
 first_driven path n [] = refl

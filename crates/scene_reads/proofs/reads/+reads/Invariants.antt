@@ -2,8 +2,8 @@ use Rattle.std.proofs.Common.{◌≡◌, map, drop}
 use Rattle.std.specs.List.{list_all}
 use Rattle.expr_nodes.specs.Typed.{row_of}
 use Rattle.expr_nodes.specs.Seen.{seen, reached}
-use Rattle.scene_expansion.specs.Readable.{has_row, has_part}
-use Rattle.scene_expansion.proofs.reads.+reads.Given as goal
+use Rattle.scene_reads.specs.Readable.{has_row, has_part}
+use Rattle.scene_reads.proofs.reads.+reads.Given as goal
 
 abbrev pub invariant-has_items-items : goal.invariant-has_items-items
 invariant-has_items-items l = has_row l.scene (row_of (map seen l.items)) ≡ has_row l.scene (row_of (map seen (drop l.item-index l.items)))

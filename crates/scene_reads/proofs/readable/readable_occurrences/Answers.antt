@@ -1,10 +1,10 @@
 use Rattle.std.proofs.Common.{◌∙◌, ap, map, rules}
 use Rattle.std.proofs.lemmas.Fn.{filter_same}
-use Rattle.program_calls.specs.composition.Expanded.{can_be_asked}
-use Rattle.program_calls.specs.composition.SeenParts.{seen_occurrence}
-use Rattle.program_calls.specs.composition.SeenScenes.{seen_scene}
-use Rattle.scene_expansion.proofs.WholeScenes.{filter_seen}
-use Rattle.scene_expansion.proofs.readable.readable_occurrences.Goals as goal
+use Rattle.composition.specs.Expanded.{can_be_asked}
+use Rattle.composition.specs.SeenParts.{seen_occurrence}
+use Rattle.composition.specs.SeenScenes.{seen_scene}
+use Rattle.scene_reads.proofs.KeptItems.{filter_seen}
+use Rattle.scene_reads.proofs.readable.readable_occurrences.Goals as goal
 
 pub returns : goal.returns
 returns c =

@@ -1,10 +1,10 @@
 use Rattle.std.proofs.Common.{◌∙◌, ap, map, rules}
 use Rattle.std.proofs.lemmas.Fn.{filter_same}
-use Rattle.program_calls.specs.composition.Expanded.{can_apply}
-use Rattle.program_calls.specs.composition.SeenParts.{seen_modifier}
-use Rattle.program_calls.specs.composition.SeenScenes.{seen_scene}
-use Rattle.scene_expansion.proofs.WholeScenes.{filter_seen}
-use Rattle.scene_expansion.proofs.readable.applied.Goals as goal
+use Rattle.composition.specs.Expanded.{can_apply}
+use Rattle.composition.specs.SeenParts.{seen_modifier}
+use Rattle.composition.specs.SeenScenes.{seen_scene}
+use Rattle.scene_reads.proofs.KeptItems.{filter_seen}
+use Rattle.scene_reads.proofs.readable.applied.Goals as goal
 
 pub returns : goal.returns
 returns c =

@@ -4,13 +4,13 @@ ghost use Rattle.std.specs.Prelude.{◌≡◌, map};
 ghost use Rattle.std.specs.List.{list_all};
 ghost use Rattle.expr_nodes.specs.Seen.{seen, reached};
 ghost use Rattle.expr_nodes.specs.Typed.{row_of};
-ghost use Rattle.program_calls.specs.composition.Expanded.{is_readable as readable};
-ghost use Rattle.program_calls.specs.composition.SeenScenes.{seen_scene};
-ghost use Rattle.scene_expansion.specs.Readable.{has, has_part, has_reads, has_row};
+ghost use Rattle.composition.specs.Expanded.{is_readable as readable};
+ghost use Rattle.composition.specs.SeenScenes.{seen_scene};
+ghost use Rattle.scene_reads.specs.Readable.{has, has_part, has_reads, has_row};
 
+use composition::{Scene, Source};
 use expr_nodes::{Earlier, Typed};
 use osc_base::Path;
-use program_calls::{Scene, Source};
 
 /// Whether a path leads to a value or a duration of the scene.
 fn is_readable(scene: &Scene, path: &Path) -> bool

@@ -4,9 +4,9 @@ use Rattle.std.specs.List.{list_all}
 use Rattle.osc_base.specs.declared.path.Path.{Path}
 use Rattle.expr_nodes.specs.Typed.{Typed, TypedRow, reads, reads_of}
 use Rattle.expr_nodes.specs.Seen.{Reached}
-use Rattle.program_calls.specs.composition.declared.scene.Scene.{Scene}
-use Rattle.program_calls.specs.composition.SeenScenes.{seen_scene}
-use Rattle.program_calls.specs.composition.Expanded.{is_readable}
+use Rattle.composition.specs.declared.scene.Scene.{Scene}
+use Rattle.composition.specs.SeenScenes.{seen_scene}
+use Rattle.composition.specs.Expanded.{is_readable}
 
 -- the program's own scene has what a path leads to
 unfoldable pub has : Scene → Path → Bool
