@@ -18,7 +18,7 @@ use crate::targets::{TextSite, default_home, read_home, relation_home, removed_h
 use dsl_tree::{Expr, KeepKind, PathNode, RelationSign, RuleDecl};
 use expr_eval::{Checked, checked};
 use expr_nodes::{Typed, Types};
-use expr_typing::steps::related;
+use expr_operators::steps::related;
 use osc_base::{Mark, Path, Place, Strength};
 use program_texts::{Guard, Occurrence};
 use scene_places::moved_part;
