@@ -22,7 +22,7 @@ pub use cond_inherit::Condition;
 pub use expr_nodes::Compare;
 pub use expr_nodes::size::gcd;
 pub use guard::Guard;
-pub use keep_rules::path_index::HasPath;
+pub use keep_rules::path_index::{HasPath, PathIndex};
 pub use part::{Binding, Content, ModifierSpot, Occurrence, Spot};
 pub use run::{Choice, Held, Run, Span, Trace, Value};
 pub use scene::Scene;

@@ -15,7 +15,8 @@ use crate::leaves;
 use crate::pairs::{Level, Pair, paired};
 use dsl_tree::{Expr, Further, Suffix};
 use expr_nodes::{Checked, Scope, Types};
-use expr_typing::steps::{grouped, indexed, negated, opposed, pointed};
+use expr_operators::steps::{grouped, negated, opposed};
+use expr_typing::steps::{indexed, pointed};
 use osc_base::Place;
 use std::alloc::{AllocError, Global};
 

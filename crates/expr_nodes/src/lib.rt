@@ -18,7 +18,7 @@ pub use parts::Checked;
 pub use scope::{It, Scope};
 pub use size::Size;
 pub use type_model::{
-    Boxed, EnumHit, Exponents, Fault, FieldType, Fraction, Path, Place, Row, Text, TextTable,
-    TypeId, TypeKind, Types, Unit, literal,
+    Boxed, EnumHit, Exponents, Fault, FaultCode, FieldType, Fraction, Path, Place, Row, Text,
+    TextTable, TypeId, TypeKind, Types, Unit, literal,
 };
 pub use ways::{Turn, leads_into};

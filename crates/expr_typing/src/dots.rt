@@ -9,11 +9,11 @@ ghost use Rattle.expr_typing.specs.Meanings.{seen_meaning};
 use crate::fields::with_name;
 use crate::meanings::{field_meant, typed_of};
 use crate::names::{Meaning, duration_at, is_behaviour, is_duration};
-use crate::parts::fault_if;
 use dsl_tree::Ident;
 use dsl_tree::osc_base::FaultCode;
 use expr_nodes::{Boxed, Checked, Made, Path, Place, Text, TypeId, Typed, Types, ValueKind};
 use std::alloc::{AllocError, Global};
+use typed_parts::fault_if;
 
 /// The duration of what stands at a path, if it has one.
 fn timed(alloc: Global, place: Place, path: Path, has: bool) -> Result<Meaning, AllocError>

@@ -12,22 +12,9 @@ ghost use Rattle.expr_nodes.specs.Seen.{seen, seen_info, seen_kind};
 ghost use Rattle.expr_nodes.specs.SeenNames.{single_in};
 
 use dsl_tree::osc_base::Step;
-use expr_nodes::{
-    Exponents, Info, Path, Place, Size, Text, TypeId, TypeKind, Typed, Types, ValueKind,
-};
+use expr_nodes::{Info, Path, Place, Size, Text, TypeId, TypeKind, Typed, Types, ValueKind};
 use std::alloc::{AllocError, Global};
-
-/// The exponents of a number without a unit.
-pub(crate) const NO_EXPONENTS: Exponents = Exponents {
-    kg: 0,
-    m: 0,
-    s: 0,
-    a: 0,
-    k: 0,
-    mol: 0,
-    cd: 0,
-    rad: 0,
-};
+use typed_parts::NO_EXPONENTS;
 
 /// The kind of what a field of the type holds.
 pub(crate) fn kind_value(kind: TypeKind, of: TypeId) -> ValueKind

@@ -15,11 +15,11 @@ use crate::held::held_at;
 use crate::names::{
     Meaning, duration_at, is_behaviour, is_duration, label_at, label_of, member_meant, path_of,
 };
-use crate::parts::{fault_if, least};
 use dsl_tree::Ident;
 use dsl_tree::osc_base::FaultCode;
 use expr_nodes::{Boxed, Checked, Fault, FieldType, Path, Place, Scope, Typed, Types, leads_into};
 use std::alloc::{AllocError, Global};
+use typed_parts::{fault_if, least};
 
 /// A field at a path.
 pub(crate) fn field_meant(

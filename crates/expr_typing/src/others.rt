@@ -12,13 +12,13 @@ ghost use Rattle.expr_nodes.specs.SeenNames.{seen_it, seen_scope};
 use crate::fields::object_at;
 use crate::held::held_at;
 use crate::names::{member_at, path_of};
-use crate::parts::{fault_if, least};
 use dsl_tree::Ident;
 use dsl_tree::osc_base::FaultCode;
 use expr_nodes::{
     Boxed, Checked, Fault, It, Place, Scope, TypeId, TypeKind, Typed, Types, ValueKind,
 };
 use std::alloc::{AllocError, Global};
+use typed_parts::{fault_if, least};
 
 /// What `it` stands for, at its path.
 fn it_at(

@@ -11,12 +11,12 @@ ghost use Rattle.expr_nodes.specs.Seen.{seen, seen_part};
 ghost use Rattle.expr_nodes.specs.SeenNames.{count_of, physical_of};
 
 use crate::literals::{constant_at, decimal, is_long};
-use crate::parts::fault_if;
 use dsl_tree::Digits;
 use dsl_tree::osc_base::FaultCode;
 use expr_nodes::size::gcd;
 use expr_nodes::{Boxed, Checked, Fraction, Typed, Types, Unit, ValueKind, literal};
 use std::alloc::{AllocError, Global};
+use typed_parts::fault_if;
 
 /// The slot value of a literal.
 fn slot_value(number: &Fraction, unit: &Unit) -> Option<i64>

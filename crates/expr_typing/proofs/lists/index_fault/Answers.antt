@@ -1,5 +1,5 @@
 use Rattle.std.proofs.Common.{◌∙◌, ap, ap₂, false}
-use Rattle.expr_typing.proofs.Results.{none_as}
+use Rattle.typed_parts.proofs.Results.{none_as}
 use Rattle.std.specs.Prelude.{is_none}
 use Rattle.std.specs.Option.{option_map_or}
 use Rattle.dsl_tree.specs.osc_base.declared.fault.FaultCode.{FaultCode}

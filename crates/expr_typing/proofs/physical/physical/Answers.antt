@@ -1,5 +1,5 @@
 use Rattle.std.proofs.Common.{◌∙◌, ap}
-use Rattle.expr_typing.proofs.Results.{none_as}
+use Rattle.typed_parts.proofs.Results.{none_as}
 use Rattle.dsl_tree.specs.osc_base.declared.fault.FaultCode.{FaultCode}
 use Rattle.dsl_tree.specs.osc_base.FaultRows.{row, row_fault}
 use Rattle.expr_nodes.specs.type_heads.Shown.{shown_unit}
