@@ -8,11 +8,15 @@ mod candidates;
 mod declared;
 mod excerpt;
 mod expected;
+mod fault;
+mod kept_files;
+mod keywords;
 mod message;
 mod noted_shelf;
 mod noted_sink;
 mod refusal;
 mod told;
+mod unknown;
 mod words;
 
 pub use noted_shelf::NotedShelf;
