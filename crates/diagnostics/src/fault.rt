@@ -104,11 +104,7 @@ fn view_of<'a>(found: Found<'a>) -> Option<View<'a>> {
 }
 
 /// How to mend a fault, if more is known of it than its code.
-fn help_of(
-    alloc: Global,
-    words: &[String],
-    found: Found<'_>,
-) -> Result<Option<Help>, AllocError> {
+fn help_of(alloc: Global, words: &[String], found: Found<'_>) -> Result<Option<Help>, AllocError> {
     let Some(view) = view_of(found) else {
         return Ok(None);
     };

@@ -6,9 +6,34 @@ use std::alloc::{AllocError, Global};
 
 /// The words of the language that users misspell: those of three letters and more.
 const WORDS: [&str; 28] = [
-    "import", "type", "unit", "enum", "struct", "actor", "action", "scenario", "inherits", "extend",
-    "list", "keep", "hard", "default", "remove_default", "serial", "parallel", "one_of", "wait",
-    "elapsed", "with", "range", "and", "not", "true", "false", "factor", "offset",
+    "import",
+    "type",
+    "unit",
+    "enum",
+    "struct",
+    "actor",
+    "action",
+    "scenario",
+    "inherits",
+    "extend",
+    "list",
+    "keep",
+    "hard",
+    "default",
+    "remove_default",
+    "serial",
+    "parallel",
+    "one_of",
+    "wait",
+    "elapsed",
+    "with",
+    "range",
+    "and",
+    "not",
+    "true",
+    "false",
+    "factor",
+    "offset",
 ];
 /// The least length of a word for which a near one is told.
 const SHORTEST: usize = 3;
@@ -45,7 +70,10 @@ pub fn keyword_help<'a>(
 /// The word before the place.
 fn word_before<'a>(view: &View<'a>, source: &'a [u8]) -> Word<'a> {
     let text = last_word(view.before);
-    let end = view.above.len().saturating_add(view.before.trim_end().len());
+    let end = view
+        .above
+        .len()
+        .saturating_add(view.before.trim_end().len());
     Word {
         source,
         at: end.saturating_sub(text.len()),

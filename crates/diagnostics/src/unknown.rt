@@ -24,6 +24,12 @@ pub fn unknown_help(
             let text = format!(in alloc; "A name near `{word}` is `{name}`.\n")?;
             Ok(Some(Help::of(text)))
         }
+        None if view.behind().starts_with('.') => {
+            let text = format!(in alloc;
+                "No field `{word}` is declared here: declare it, as in `{word}: vehicle`.\n"
+            )?;
+            Ok(Some(Help::of(text)))
+        }
         None => Ok(None),
     }
 }
@@ -47,7 +53,9 @@ fn unit_help(
         write!(text, "{mark}`{unit}`")?;
         mark = ", ";
     }
-    text.push_str(".\nOthers are declared by `unit`, as in `unit cm of length is SI(m: 1, factor: 0.01)`.\n")?;
+    text.push_str(
+        ".\nOthers are declared by `unit`, as in `unit cm of length is SI(m: 1, factor: 0.01)`.\n",
+    )?;
     Ok(Some(Help::of(text)))
 }
 
@@ -61,7 +69,10 @@ pub fn scenario_help(
     let mut text = String::new(alloc);
     put_near(alloc, &mut text, asked, names.as_slice())?;
     if names.is_empty() {
-        write!(text, "The files declare no scenario. Declare one: `scenario {asked}:`.\n")?;
+        write!(
+            text,
+            "The files declare no scenario. Declare one: `scenario {asked}:`.\n"
+        )?;
     } else {
         put_list(&mut text, names.as_slice())?;
     }

@@ -2,12 +2,12 @@
 //!
 //! It is asked of `read_words` which word is the first to be refused: words after which `--help` is taken have no fault yet.
 
-use mistake_helps::Nearest;
 use crate::message::{put_explain, put_help};
 use command_words::{
     Request, check_help, flat_help, general_help, generate_help, make_help, read_words, verify_help,
 };
 use fault_texts::{Status, Topic, topic_named};
+use mistake_helps::Nearest;
 use std::alloc::{AllocError, Global};
 
 /// The most words that are looked at.
@@ -45,7 +45,10 @@ fn put_page(text: &mut String, words: &[String]) -> Result<(), AllocError> {
     };
     match command {
         "generate" | "check" | "verify" | "flat" | "make" => {
-            write!(text, "  = help: `osc {command} --help` lists the words and options of `{command}`\n")
+            write!(
+                text,
+                "  = help: `osc {command} --help` lists the words and options of `{command}`\n"
+            )
         }
         "explain" => Ok(()),
         _ => text.push_str("  = help: `osc help` lists the commands\n"),
@@ -100,7 +103,10 @@ fn put_number(text: &mut String, word: &str) -> Result<(), AllocError> {
     let number = word.trim_matches(|c: char| !c.is_ascii_digit());
     match topic_named(number) {
         Some(Topic::Fault(_) | Topic::Status(_)) => {
-            write!(text, "  = help: write the number alone: `osc explain {number}`\n")
+            write!(
+                text,
+                "  = help: write the number alone: `osc explain {number}`\n"
+            )
         }
         None => Ok(()),
     }
@@ -166,7 +172,10 @@ fn put_stray(
     } else if word.starts_with('-') {
         put_no_option(alloc, text, command, name)
     } else {
-        write!(text, "`osc {command}` doesn't take the word `{word}` here\n")?;
+        write!(
+            text,
+            "`osc {command}` doesn't take the word `{word}` here\n"
+        )?;
         put_entry(text, command, "N")
     }
 }

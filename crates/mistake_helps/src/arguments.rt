@@ -51,9 +51,18 @@ const FOREIGN: [(&[&str], &str); 8] = [
         &["distance"],
         "The distance is the first argument, and has no name: `position([5m..20m], behind: c)`.\n",
     ),
-    (&["speed"], "The speed is the first argument, and has no name: `speed(20mps)`.\n"),
-    (&["lane"], "The lane is the first argument, and has no name: `lane(1)`.\n"),
-    (&["position"], "The position is the first argument, and has no name: `position(100m)`.\n"),
+    (
+        &["speed"],
+        "The speed is the first argument, and has no name: `speed(20mps)`.\n",
+    ),
+    (
+        &["lane"],
+        "The lane is the first argument, and has no name: `lane(1)`.\n",
+    ),
+    (
+        &["position"],
+        "The position is the first argument, and has no name: `position(100m)`.\n",
+    ),
     (
         &["side_of", "side"],
         "The side is in the argument's name: `lane(left_of: c)` or `lane(right_of: c)`.\n",
@@ -63,26 +72,38 @@ const FOREIGN: [(&[&str], &str); 8] = [
         "This profile has no headway in seconds. Write a distance: `position([20m..40m], behind: c)`.\n",
     ),
     (
-        &["start_to_start", "start_to_end", "end_to_start", "end_to_end"],
+        &[
+            "start_to_start",
+            "start_to_end",
+            "end_to_start",
+            "end_to_end",
+        ],
         "This profile has no offsets in a `parallel`. Give the later member a `serial` that begins with a wait:\n`wait elapsed(2s)`.\n",
     ),
     (
-        &["movement", "measure_by", "track", "rate_profile", "shape", "num_of_lanes"],
+        &[
+            "movement",
+            "measure_by",
+            "track",
+            "rate_profile",
+            "shape",
+            "num_of_lanes",
+        ],
         "This profile has no such argument: leave it out.\n",
     ),
 ];
 
 /// An argument as it is written.
 #[derive(Debug, Clone, Copy)]
-struct Argument<'a> {
+pub struct Argument<'a> {
     /// Where it begins, behind the place of the fault.
-    shift: usize,
+    pub shift: usize,
     /// Its name, empty if it has none.
-    name: &'a str,
+    pub name: &'a str,
     /// What it is, without white space around it.
-    value: &'a str,
+    pub value: &'a str,
     /// Where that begins, behind the place of the fault.
-    value_shift: usize,
+    pub value_shift: usize,
 }
 
 /// What is said of an argument that isn't taken. `None` if the cause isn't known.
@@ -216,7 +237,10 @@ fn count_help(
             Some(argument) => (alone_text(alloc, of)?, argument.shift),
             None => return Ok(None),
         },
-        (0, _) | (1, _) => (alone_text(alloc, of)?, shift_of(first_of(arguments, modifier.alone))),
+        (0, _) | (1, _) => (
+            alone_text(alloc, of)?,
+            shift_of(first_of(arguments, modifier.alone)),
+        ),
         _ => (
             format!(in alloc; "`{of}` takes one value: a second one has a name.\n")?,
             second_value(arguments),
@@ -226,7 +250,9 @@ fn count_help(
 }
 
 fn alone_text(alloc: Global, of: &str) -> Result<String, AllocError> {
-    format!(in alloc; "`{of}` takes either a value, or one vehicle to go by. Write two lines for both.\n")
+    format!(in alloc;
+        "`{of}` takes either a value, or one vehicle to go by. Write two lines for both.\n"
+    )
 }
 
 fn shift_of(argument: Option<&Argument<'_>>) -> usize {
@@ -327,7 +353,7 @@ fn argument_name(text: &str) -> &str {
 }
 
 /// The arguments in the first brackets of a text. There are none if the brackets aren't closed.
-fn arguments_in<'a>(alloc: Global, text: &'a str) -> Result<Vec<Argument<'a>>, AllocError> {
+pub fn arguments_in<'a>(alloc: Global, text: &'a str) -> Result<Vec<Argument<'a>>, AllocError> {
     let mut arguments = Vec::new(alloc);
     let mut depth: usize = 0;
     let mut start: usize = 0;

@@ -95,7 +95,8 @@ impl Test {
             Test::After(text) => before.trim_end().ends_with(text),
             Test::AfterWord(words) => words.contains(&last_word(before)),
             Test::AfterNumber => is_number(last_word(before)),
-            Test::AfterFirstName => is_name(before.trim()) && first_word(before.trim()) == before.trim(),
+            Test::AfterFirstName => is_name(before.trim())
+                && first_word(before.trim()) == before.trim(),
             Test::AfterRelation => has_relation(open_part(before)),
             Test::First => before.trim().is_empty(),
             Test::Has(text) => before.contains(text),
@@ -134,7 +135,7 @@ pub struct Case {
     pub code: FaultCode,
     pub tests: &'static [Test],
     /// One or more lines, each ended by a line feed. In it `{word}` stands for the word at the place, `{last}` for the one
-    /// before it, `{rest}` for the rest of the line, `{number}` for the number at the place, `{unit}` for its unit, and `{lower}` for the
+    /// before it, `{owner}` for the one before it and a point, `{rest}` for the rest of the line, `{number}` for the number at the place, `{unit}` for its unit, and `{lower}` for the
     /// word in small letters.
     pub text: &'static str,
 }
@@ -178,6 +179,7 @@ fn put_filler(text: &mut String, name: &str, view: &View<'_>) -> Result<(), Allo
     match name {
         "word" => text.push_str(view.word()),
         "last" => text.push_str(view.last()),
+        "owner" => text.push_str(last_word(view.before.trim_end_matches('.'))),
         "rest" => text.push_str(view.rest()),
         "lower" => put_lower(text, view.word()),
         "number" => text.push_str(view.number()),

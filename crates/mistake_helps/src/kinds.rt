@@ -65,7 +65,11 @@ fn sign_at(view: &View<'_>) -> Option<&'static str> {
             return Some(sign);
         }
     }
-    if view.word() == "in" { Some("in") } else { None }
+    if view.word() == "in" {
+        Some("in")
+    } else {
+        None
+    }
 }
 
 /// What is said of the two sides of an operator.
@@ -76,8 +80,10 @@ fn sides_help<'a>(
     scope: Scope<'_, 'a>,
 ) -> Result<Option<Help>, AllocError> {
     let behind = view.onward.get(sign.len()..).unwrap_or("");
-    let (Some(left), Some(right)) = (left_operand(view.before, scope), right_operand(behind, scope))
-    else {
+    let (Some(left), Some(right)) = (
+        left_operand(view.before, scope),
+        right_operand(behind, scope),
+    ) else {
         return Ok(None);
     };
     if left.kind == right.kind {
@@ -188,7 +194,7 @@ fn left_operand<'a>(before: &'a str, scope: Scope<'_, 'a>) -> Option<Operand<'a>
     if head.ends_with(['*', '/', ')', ']', '.']) {
         return None;
     }
-    operand(text, scope)
+    known_operand(text, scope)
 }
 
 /// The operand behind an operator, if it is a literal or a path and no factor, or the first end of a range.
@@ -202,7 +208,7 @@ fn right_operand<'a>(behind: &'a str, scope: Scope<'_, 'a>) -> Option<Operand<'a
     if later.trim_start().starts_with(['*', '/', '(', '[', '.']) {
         return None;
     }
-    operand(part, scope)
+    known_operand(part, scope)
 }
 
 /// The operand with which a part begins, or the first end of a range.
@@ -210,14 +216,18 @@ fn inner_operand<'a>(text: &'a str, scope: Scope<'_, 'a>) -> Option<Operand<'a>>
     let inner = text.strip_prefix('[').unwrap_or(text).trim_start();
     let part = first_part(inner.strip_prefix('-').unwrap_or(inner).trim_start());
     let (_, later) = inner.split_once(part)?;
-    if later.trim_start().starts_with([')', ',', ']', '.', '\n', '\r', '#']) || later.trim().is_empty() {
-        operand(part, scope)
+    if later
+        .trim_start()
+        .starts_with([')', ',', ']', '.', '\n', '\r', '#'])
+        || later.trim().is_empty()
+    {
+        known_operand(part, scope)
     } else {
         None
     }
 }
 
-fn operand<'a>(text: &'a str, scope: Scope<'_, 'a>) -> Option<Operand<'a>> {
+fn known_operand<'a>(text: &'a str, scope: Scope<'_, 'a>) -> Option<Operand<'a>> {
     let kind = if is_number(text) {
         kind_of_number(text, scope)?
     } else {
@@ -283,7 +293,11 @@ fn put_unit(
     scope: Scope<'_, '_>,
 ) -> Result<(), AllocError> {
     let digits = digits_of(written);
-    text.push_str(if digits.is_empty() { "The units of " } else { "Write a unit of " })?;
+    text.push_str(if digits.is_empty() {
+        "The units of "
+    } else {
+        "Write a unit of "
+    })?;
     write!(text, "{of}: ")?;
     let mut mark = "";
     for unit in units_of(alloc, scope.names, of)?.iter().take(UNITS) {

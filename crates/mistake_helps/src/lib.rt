@@ -18,11 +18,14 @@ mod text_parts;
 mod view;
 mod word_cases;
 
+pub use arguments::{Argument, arguments_in};
 pub use cases::mistake_help;
 pub use form::Help;
 pub use nearest::{Nearest, nearest_of};
 pub use program_names::{
     Declared, all_units, declared_names, first_of, nearest_name, scenarios, type_around,
 };
-pub use text_parts::{first_part, first_word, is_name, is_number, last_part, last_word, unit_of};
+pub use text_parts::{
+    first_part, first_word, indentation, is_name, is_number, last_part, last_word, unit_of,
+};
 pub use view::View;

@@ -1,7 +1,9 @@
 //! The names that a program declares.
 
 use crate::nearest::Nearest;
-use dsl_tree::{CompoundDecl, CompoundKind, Declaration, EnumItem, FieldDecl, File, Ident, Member, QName};
+use dsl_tree::{
+    CompoundDecl, CompoundKind, Declaration, EnumItem, FieldDecl, File, Ident, Member, QName,
+};
 use name_scope::Program;
 use std::alloc::{AllocError, Global};
 
@@ -194,9 +196,7 @@ pub fn units_of<'a>(
 
 /// Whether a physical type of this name has a unit.
 pub fn has_units(names: &[Declared<'_>], of: &str) -> bool {
-    names
-        .iter()
-        .any(|declared| matches!(declared.space, Space::Units) && declared.of == of)
+    names.iter().any(|declared| matches!(declared.space, Space::Units) && declared.of == of)
 }
 
 /// The type of a unit.

@@ -60,5 +60,6 @@ pub fn unit_of(number: &str) -> &str {
 
 /// How many spaces a line begins with.
 pub fn indentation(line: &str) -> usize {
-    line.len().saturating_sub(line.trim_start_matches(' ').len())
+    line.len()
+        .saturating_sub(line.trim_start_matches(' ').len())
 }
