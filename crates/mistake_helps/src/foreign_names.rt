@@ -243,22 +243,25 @@ const UNITS: &[Foreign] = &[
     ),
     (
         &["kmh", "kmph", "kmhr", "km_h", "kph_", "KPH", "kmH"],
-        "Kilometres an hour are `kph`.",
+        "Write `{digits}kph`: `kph` is kilometres an hour.",
     ),
     (
         &["ms2", "mss", "mps2", "mpss", "mpsq"],
-        "Metres a second squared are `mpsps`.",
+        "Write `{digits}mpsps`: `mpsps` is metres a second squared.",
     ),
-    (&["mp", "mpS", "MPS", "mpsec"], "Metres a second are `mps`."),
+    (
+        &["mp", "mpS", "MPS", "mpsec"],
+        "Write `{digits}mps`: `mps` is metres a second.",
+    ),
     (
         &["sec", "secs", "second", "seconds", "S"],
-        "Seconds are `s`.",
+        "Write `{digits}s`.",
     ),
-    (&["msec", "millis"], "Milliseconds are `ms`."),
-    (&["mins", "minute", "minutes"], "Minutes are `min`."),
+    (&["msec", "millis"], "Write `{digits}ms`."),
+    (&["mins", "minute", "minutes"], "Write `{digits}min`."),
     (
         &["meter", "meters", "metre", "metres", "M"],
-        "Metres are `m`.",
+        "Write `{digits}m`.",
     ),
     (
         &["mph"],

@@ -1,4 +1,6 @@
-use crate::text_parts::{first_word, indentation, is_name, is_number, last_word, unit_of};
+use crate::text_parts::{
+    digits_of, first_word, indentation, is_name, is_number, last_word, unit_of,
+};
 use crate::view::View;
 use osc_base::FaultCode;
 use std::alloc::{AllocError, Global};
@@ -34,7 +36,7 @@ pub enum Test {
     Relation,
     /// The character at the place isn't ASCII.
     NotAscii,
-    /// Nothing stands at the place or behind it, in its line.
+    /// Nothing but a comment stands at the place or behind it, in its line.
     End,
     /// Behind the word at the place stands this text.
     Behind(&'static str),
@@ -79,7 +81,7 @@ impl Test {
             Test::Operand => is_number(view.word()) || view.onward.starts_with('['),
             Test::Relation => begins_relation(view.onward),
             Test::NotAscii => view.onward.starts_with(|c: char| !c.is_ascii()),
-            Test::End => view.rest().is_empty(),
+            Test::End => is_end(view.rest()),
             Test::Behind(text) => view.behind().starts_with(text),
             Test::Above(text) => view.line_above().ends_with(text),
             Test::NotAbove(text) => !view.line_above().ends_with(text),
@@ -104,6 +106,12 @@ impl Test {
             _ => false,
         }
     }
+}
+
+/// Whether a line has nothing more but a comment.
+fn is_end(rest: &str) -> bool {
+    let rest = rest.trim_start();
+    rest.is_empty() || rest.starts_with('#')
 }
 
 fn is_deeper(view: &View<'_>) -> bool {
@@ -135,7 +143,7 @@ pub struct Case {
     pub code: FaultCode,
     pub tests: &'static [Test],
     /// One or more lines, each ended by a line feed. In it `{word}` stands for the word at the place, `{last}` for the one
-    /// before it, `{owner}` for the one before it and a point, `{rest}` for the rest of the line, `{number}` for the number at the place, `{unit}` for its unit, and `{lower}` for the
+    /// before it, `{owner}` for the one before it and a point, `{rest}` for the rest of the line, `{number}` for the number at the place, `{unit}` for its unit, `{digits}` for what is before that, and `{lower}` for the
     /// word in small letters.
     pub text: &'static str,
 }
@@ -184,6 +192,7 @@ fn put_filler(text: &mut String, name: &str, view: &View<'_>) -> Result<(), Allo
         "lower" => put_lower(text, view.word()),
         "number" => text.push_str(view.number()),
         "unit" => text.push_str(unit_of(view.number())),
+        "digits" => text.push_str(digits_of(view.number())),
         _ => Ok(()),
     }
 }

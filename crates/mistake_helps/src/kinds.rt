@@ -6,7 +6,7 @@ use crate::form::Help;
 use crate::program_names::{
     Declared, has_units, type_of_field, type_of_member, type_of_unit, units_of,
 };
-use crate::text_parts::{first_part, is_number, last_part, last_word, unit_of};
+use crate::text_parts::{digits_of, first_part, is_number, last_part, last_word, unit_of};
 use crate::view::View;
 use dsl_tree::QName;
 use osc_base::FaultCode;
@@ -292,7 +292,7 @@ fn put_unit(
     of: &str,
     scope: Scope<'_, '_>,
 ) -> Result<(), AllocError> {
-    let digits = digits_of(written);
+    let digits = written_digits(written);
     text.push_str(if digits.is_empty() {
         "The units of "
     } else {
@@ -308,17 +308,16 @@ fn put_unit(
 }
 
 fn put_plain(text: &mut String, written: &str) -> Result<(), AllocError> {
-    match digits_of(written) {
+    match written_digits(written) {
         "" => text.push_str("Write a number without a unit.\n"),
         digits => write!(text, "Write `{digits}`.\n"),
     }
 }
 
 /// The digits of a number, empty for a path.
-fn digits_of(written: &str) -> &str {
+fn written_digits(written: &str) -> &str {
     if is_number(written) {
-        let unit = unit_of(written);
-        written.strip_suffix(unit).unwrap_or(written)
+        digits_of(written)
     } else {
         ""
     }

@@ -58,6 +58,11 @@ pub fn unit_of(number: &str) -> &str {
     number.trim_start_matches(|c: char| c.is_ascii_digit() || c == '.')
 }
 
+/// The digits of a number before its unit.
+pub fn digits_of(number: &str) -> &str {
+    number.strip_suffix(unit_of(number)).unwrap_or(number)
+}
+
 /// How many spaces a line begins with.
 pub fn indentation(line: &str) -> usize {
     line.len()

@@ -1,6 +1,6 @@
 //! Why there is no run: the constraints that the record needs, and what the setting excludes.
 
-use crate::limits::{Excluded, excluded};
+use crate::limits::{Excluded, excluded, is_duration};
 use crate::places::{RulePlace, closed_places};
 use crate::setting::{Asked, put_setting};
 use diagnostics::{ClosedRules, Spot, bytes_of, gutter_of, line_start, put_site, source_of};
@@ -9,6 +9,8 @@ use osc_base::FaultCode;
 use outside_io::MemoryShelf;
 use std::alloc::{AllocError, Global};
 
+/// The most ticks of a setting.
+const MOST_TICKS: u32 = 600;
 /// How many places are shown.
 const SHOWN: usize = 6;
 /// The name of the library's file.
@@ -54,7 +56,32 @@ fn put_causes(
     if is_excluded {
         return Ok(());
     }
-    put_needed(alloc, text, places, kept)
+    put_needed(alloc, text, places, kept)?;
+    put_longer(alloc, text, asked, places, kept)
+}
+
+/// Puts that a longer run may serve, if nothing but durations is needed.
+fn put_longer(
+    alloc: Global,
+    text: &mut String,
+    asked: &Asked<'_>,
+    places: &[RulePlace<'_>],
+    kept: &mut MemoryShelf,
+) -> Result<(), AllocError> {
+    if places.is_empty() || asked.setting.ticks >= MOST_TICKS {
+        return Ok(());
+    }
+    for place in places {
+        let bytes = source_of(alloc, place.file, kept)?;
+        match view_at(bytes_of(&bytes), *place) {
+            Some(view) if is_duration(&view) => {}
+            _ => return Ok(()),
+        }
+    }
+    write!(
+        text,
+        "  = help: a longer run may have room for them: `--ticks {MOST_TICKS}`, which is 60 s, is the most\n"
+    )
 }
 
 /// What a limit of the setting excludes at a place of the user's files.

@@ -50,6 +50,11 @@ pub fn excluded(
     }
 }
 
+/// Whether a duration is asked for at a place.
+pub fn is_duration(view: &View<'_>) -> bool {
+    matches!(asked_at(view), Some((Asks::Duration, _)))
+}
+
 /// What is asked for at a place, and the text that says how much.
 fn asked_at<'a>(view: &View<'a>) -> Option<(Asks, &'a str)> {
     let before = view.before.trim_end();
