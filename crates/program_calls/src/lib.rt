@@ -23,7 +23,7 @@ pub use composition::{
     Binding, Condition, Content, Guard, ModifierSpot, Occurrence, PhaseKind, Scene, Setting,
     Source, Spot, ValueRange,
 };
-pub use expr_nodes::{LabelTable, TypeId, TypeKind, Types};
+pub use expr_nodes::{LabelTable, TextTable, Turn, TypeId, TypeKind, Types};
 pub use expr_typing::others::it;
 pub use expr_typing::steps::pointed;
 pub use first_tokens::first_place;

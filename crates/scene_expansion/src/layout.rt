@@ -14,9 +14,8 @@ ghost use Rattle.scene_expansion.specs.Walks.{modifier_at};
 
 use crate::counts::Counts;
 use crate::work::Work;
-use expr_nodes::{TextTable, TypeId};
 use osc_base::{Place, Row};
-use program_calls::{Binding, ModifierSpot, Occurrence, Scene, Spot};
+use program_calls::{Binding, ModifierSpot, Occurrence, Scene, Spot, TextTable, TypeId};
 use std::alloc::{AllocError, Global};
 
 /// The works of a program, and how much each comes to.

@@ -15,9 +15,8 @@ use crate::laid::{bindings_of, modifiers_of, occurrences_of, spots_of};
 use crate::layout::{Layout, WorkLayout};
 use crate::walk::{laid_after, laid_before};
 use crate::work::Work;
-use expr_nodes::TypeId;
 use osc_base::Row;
-use program_calls::{ModifierSpot, Scene, Setting};
+use program_calls::{ModifierSpot, Scene, Setting, TypeId};
 use scene_reads::{readable_modifiers, readable_occurrences};
 use std::alloc::{AllocError, Global};
 
