@@ -20,8 +20,8 @@ pub use actors::{actor_checked, actor_type, called, head_place, resolved_actor};
 pub use arguments::argument_named;
 pub use callees::{Callee, actor_of, behaviour_named, callee_of};
 pub use composition::{
-    Binding, Condition, Content, Guard, ModifierSpot, Occurrence, PhaseKind, Scene, Setting,
-    Source, Spot, ValueRange,
+    Binding, Condition, Content, Guard, ModifierSpot, Occurrence, PhaseKind, Scene, Setting, Spot,
+    ValueRange,
 };
 pub use expr_nodes::{LabelTable, TextTable, Turn, TypeId, TypeKind, Types};
 pub use expr_typing::others::it;
