@@ -25,11 +25,11 @@ use expr_nodes::{Checked, Typed, ValueKind};
 use expr_operators::constants::is_constant;
 use expr_operators::products::{product, product_pair};
 use expr_operators::quotients::{are_past_limits, is_varying, reciprocal_exponents};
+use expr_operators::{are_no_numbers, are_whole, fault_if, least, with_parts};
 use expr_typing::literals::constant_at;
 use expr_value::constant;
 use osc_base::{Boxed, Fault, FaultCode, Fraction, Place};
 use std::alloc::{AllocError, Global};
-use typed_parts::{are_no_numbers, are_whole, fault_if, least, with_parts};
 
 /// The denominator, which is above 0.
 fn bottom_of(number: &Fraction) -> u128

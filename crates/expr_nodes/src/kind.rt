@@ -7,8 +7,7 @@ ghost use Rattle.type_model.specs.units_si.ExponentTests.{same_exponents};
 ghost use Rattle.expr_nodes.specs.Kinds as Kinds;
 ghost use Rattle.expr_nodes.specs.Seen.{seen_kind};
 
-use type_model::TypeId;
-use units_si::Exponents;
+use type_model::{Exponents, TypeId};
 
 /// What a phase makes.
 #[derive(Debug, Clone, Copy, PartialEq, Eq)]

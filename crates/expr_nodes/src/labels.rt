@@ -4,8 +4,7 @@ ghost use Rattle.std.specs.Prelude.{◌≡◌, bytes_eq, find, map, option_copie
 
 use crate::{Made, Turn};
 use std::alloc::{AllocError, Global};
-use type_model::TextTable;
-use units_si::osc_base::{Path, Row, Text};
+use type_model::{Path, Row, Text, TextTable};
 
 /// A label of a phase, the phase's path from the object and the turns on its way, outermost first, and what it makes.
 #[derive(Drop)]

@@ -6,7 +6,7 @@ ghost use Rattle.type_model.specs.osc_base.Fraction.{value};
 ghost use Rattle.type_model.specs.osc_base.LowestTerms.{gcd as divisor, lcm as multiple};
 ghost use Rattle.expr_nodes.specs.Sizes.{unit_size, constant_size, field_size, duration_size, joined as joining, multiplied as product, divided as quotient, widened as wider, is_wide};
 
-use units_si::osc_base::Fraction;
+use type_model::Fraction;
 
 /// The greatest scale and reach, 2^120.
 const MOST: u128 = 0x100_0000_0000_0000_0000_0000_0000_0000;

@@ -5,7 +5,7 @@ ghost use Rattle.std.specs.List.{list_any};
 ghost use Rattle.type_model.specs.osc_base.Paths.{same_path};
 ghost use Rattle.expr_nodes.specs.Ways.{leads_into as way_leads_into, same_turn};
 
-use units_si::osc_base::Path;
+use type_model::Path;
 
 /// A `one_of` on the way to a phase, and the number of the member that the way takes.
 #[derive(Drop)]

@@ -11,3 +11,5 @@ pub mod steps;
 mod sums;
 mod truths;
 mod within;
+
+pub use typed_parts::{are_no_numbers, are_whole, fault_if, least, with_parts};

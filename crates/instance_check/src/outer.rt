@@ -8,9 +8,9 @@ ghost use Rattle.instance_check.specs.FirstWrong as firsts;
 
 use crate::wrongs::{either, wrong_at};
 use osc_base::{Path, Row, Step, Text};
-use run_check::{Clause, Wrong};
-use run_clauses::{
-    Entries, Scene, ends_right, first_choice_out, first_span_out, first_trace_out, first_uneven,
+use run_check::{Clause, Scene, Wrong};
+use run_constraints::{
+    Entries, ends_right, first_choice_out, first_span_out, first_trace_out, first_uneven,
     first_unlisted, first_value_out, has_root_do,
 };
 use std::alloc::{AllocError, Global};

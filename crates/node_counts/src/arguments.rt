@@ -12,10 +12,8 @@ ghost use Rattle.node_counts.specs.Arguments.{argument_amount, arguments_amount,
 
 use dsl_tree::{Argument, Expr, Ident};
 use expr_nodes::{FieldType, It, Scope, TypeId, Typed, Types};
-use expr_typing::others::it;
-use expr_typing::steps::pointed;
 use osc_base::{Boxed, Place};
-use scene_expansion::first_place;
+use scene_expansion::{first_place, it, pointed};
 use std::alloc::{AllocError, Global};
 use work_counts::{FieldsOf, ProgramTexts, Tally, TypeField, value_tally};
 

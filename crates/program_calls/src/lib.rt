@@ -24,6 +24,8 @@ pub use composition::{
     Source, Spot, ValueRange,
 };
 pub use expr_nodes::{LabelTable, TypeId, TypeKind, Types};
+pub use expr_typing::others::it;
+pub use expr_typing::steps::pointed;
 pub use first_tokens::first_place;
 pub use kinds::{is_drive, is_vehicle};
 pub use label_paths::{begins_with_label, begins_with_label_at};

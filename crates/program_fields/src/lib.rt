@@ -13,4 +13,5 @@ mod views;
 
 pub use fields::{TypeDo, TypeField};
 pub use tables::ProgramFields;
+pub use type_members::{ListedMember, MemberLists, heir_condition};
 pub use views::FieldsOf;

@@ -12,4 +12,4 @@ pub use Rattle.program_calls.specs as program_calls
 pub use Rattle.program_fields.specs as program_fields
 pub use Rattle.scene_texts.specs as scene_texts
 pub use Rattle.program_calls.specs.type_heads as type_heads
-pub use Rattle.type_members.specs as type_members
+pub use Rattle.program_fields.specs.type_members as type_members

@@ -22,10 +22,9 @@ use crate::texts::ProgramTexts;
 use dsl_tree::{FieldDecl, HeirCondition};
 use osc_base::{Place, Row};
 use program_calls::{LabelTable, TypeId, TypeKind, Types, do_labels, no_labels};
-use program_fields::{FieldsOf, ProgramFields, TypeDo, TypeField};
+use program_fields::{FieldsOf, MemberLists, ProgramFields, TypeDo, TypeField, heir_condition};
 use program_members::ProgramMembers;
 use std::alloc::{AllocError, Global};
-use type_members::{MemberLists, heir_condition};
 
 /// The place of what no file declares.
 const NOWHERE: Place = Place {

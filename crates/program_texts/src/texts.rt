@@ -9,7 +9,7 @@ ghost use Rattle.program_texts.specs.SeenFields.{types_of_parts};
 
 use program_calls::{LabelTable, Types};
 use program_fields::ProgramFields;
-use type_members::Body;
+use program_members::Body;
 
 /// The types of a program with their texts: the fields and the body of each, and the labels of each `do` that stands
 /// in the text of its own type.

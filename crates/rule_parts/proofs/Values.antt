@@ -2,10 +2,10 @@
 use Rattle.std.proofs.Common.{◌≡◌, ℕ, ◌*◌, ◌≤◌, ◌<◌, Bool, true, false, ◌&&◌, arith}
 use Rattle.std.specs.Prelude.{nat_lt, nat_le}
 use Rattle.osc_base.specs.Comparisons.{greatest_part}
-use Rattle.expr_nodes.specs.Kinds.{is_truth}
-use Rattle.expr_nodes.specs.Typed.{Typed, kind, scale, reach}
-use Rattle.expr_nodes.specs.Parts.{is_scalar}
-use Rattle.expr_nodes.specs.Sound.{is_sound, each_read}
+use Rattle.scene_conditions.specs.expr_nodes.Kinds.{is_truth}
+use Rattle.scene_conditions.specs.expr_nodes.Typed.{Typed, kind, scale, reach}
+use Rattle.scene_conditions.specs.expr_nodes.Parts.{is_scalar}
+use Rattle.scene_conditions.specs.expr_nodes.Sound.{is_sound, each_read}
 use Rattle.scene_conditions.specs.composition.Scenes.{Scene, source}
 use Rattle.scene_conditions.specs.composition.Invariants.{is_read, is_expression}
 use Rattle.scene_slots.specs.field_flatten.Rules.{layout}

@@ -3,7 +3,7 @@ use Rattle.std.specs.Prelude.{◌≡◌, ℕ, ◌≤◌, ◌^◌, Bool, true, Op
 use Rattle.std.specs.Option.{option_map_or}
 use Rattle.osc_base.specs.LowestTerms.{lcm}
 use Rattle.scene_slots.specs.modifier_rules.Relations.{position_scale}
-use Rattle.expr_nodes.specs.Typed.{Typed}
+use Rattle.scene_conditions.specs.expr_nodes.Typed.{Typed}
 use Rattle.scene_conditions.specs.composition.Scenes.{ModifierSpot}
 use Rattle.scene_slots.specs.field_flatten.Rules.{scale_of}
 use Rattle.scene_slots.specs.field_flatten.Seen.{has_values}

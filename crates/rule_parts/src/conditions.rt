@@ -7,12 +7,10 @@ ghost use Rattle.scene_conditions.specs.SeenConditions.{seen_condition};
 ghost use Rattle.scene_slots.specs.SeenSlots.{layout_of};
 
 use box_eval::{Rule, Term};
-use composition::Guard;
-use flat_terms::rows;
-use flat_terms::terms::{either, not};
 use osc_base::Path;
-use scene_conditions::Condition;
-use scene_slots::SceneSlots;
+use scene_conditions::{Condition, Guard};
+use scene_slots::terms::{either, not};
+use scene_slots::{SceneSlots, rows};
 use std::alloc::{AllocError, Global};
 
 /// The member of a `one_of` is chosen.

@@ -7,4 +7,4 @@ pub use Rattle.scene_texts.specs.expansion_laws as expansion_laws
 pub use Rattle.expr_nodes.specs as expr_nodes
 pub use Rattle.program_calls.specs as program_calls
 pub use Rattle.scene_texts.specs as scene_texts
-pub use Rattle.path_index.specs as path_index
+pub use Rattle.program_calls.specs.path_index as path_index

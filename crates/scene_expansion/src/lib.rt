@@ -15,12 +15,12 @@ pub use counts::Counts;
 pub use large::is_too_large;
 pub use layout::{Layout, WorkLayout};
 pub use named::{ExpandStop, expand, scene_of};
-pub use path_index::PathIndex;
 pub use program_calls::{
     Binding, Callee, Content, ModifierForm, ModifierSpot, PhaseKind, PlacedPhase, Scene, Spot,
-    ValueRange, actor_checked, argument_named, callee_of, first_place, invoked, modifier_form,
-    name_of, phases_in, scope_at,
+    ValueRange, actor_checked, argument_named, callee_of, first_place, invoked, it, modifier_form,
+    name_of, phases_in, pointed, scope_at,
 };
+pub use scene_reads::PathIndex;
 pub use scene_texts::{
     Bound, Moves, add, arguments_tokens, from_object, then_do, then_duration, then_index,
     then_member,

@@ -4,7 +4,7 @@ use Rattle.std.specs.List.{list_any}
 use Rattle.osc_base.specs.declared.path.Path.{Path}
 use Rattle.osc_base.specs.Paths.{same_path}
 use Rattle.osc_base.proofs.PathEquality.{path_flip}
-use Rattle.path_index.specs.Places.{first_place}
+use Rattle.composition.specs.path_index.Places.{first_place}
 use Rattle.scene_reads.specs.Vehicles.{vehicle_path}
 use Rattle.scene_reads.specs.declared.driven.Vehicle.{Vehicle}
 

@@ -5,12 +5,11 @@ ghost use Rattle.std.specs.List.{list_all};
 ghost use Rattle.osc_base.specs.declared.path.Path.{Path};
 ghost use Rattle.composition.specs.Expanded.{is_driven as driven};
 ghost use Rattle.composition.specs.SeenScenes.{seen_scene};
-ghost use Rattle.path_index.specs.Places.{place_at};
+ghost use Rattle.composition.specs.path_index.Places.{place_at};
 ghost use Rattle.scene_reads.specs.Vehicles.{vehicle_path};
 
-use composition::{ModifierSpot, Scene};
+use composition::{HasPath, ModifierSpot, PathIndex, Scene};
 use osc_base::Path;
-use path_index::{HasPath, PathIndex};
 use std::alloc::{AllocError, Global};
 
 /// A vehicle of a scene.

@@ -5,4 +5,5 @@ mod driven;
 mod readable;
 mod reads;
 
+pub use composition::PathIndex;
 pub use readable::{readable_modifiers, readable_occurrences};

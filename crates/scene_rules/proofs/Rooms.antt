@@ -7,11 +7,11 @@ use Rattle.osc_base.specs.declared.path.Path.{Path}
 use Rattle.osc_base.specs.Comparisons.{greatest_part}
 use Rattle.expr_nodes.specs.Kinds.{is_truth}
 use Rattle.expr_nodes.specs.Typed.{Typed, kind, scale, reach}
-use Rattle.scene_conditions.specs.composition.Scenes.{Scene, Occurrence, source}
-use Rattle.scene_conditions.specs.composition.Invariants.{is_expression, is_occurrence, is_target}
-use Rattle.scene_slots.specs.field_flatten.Seen.{has_values}
-use Rattle.scene_slots.proofs.of_field_flatten.Tests.{left_of, right_of}
-use Rattle.scene_slots.specs.flat_shapes.Room.{has_room}
+use Rattle.rule_parts.specs.composition.Scenes.{Scene, Occurrence, source}
+use Rattle.rule_parts.specs.composition.Invariants.{is_expression, is_occurrence, is_target}
+use Rattle.rule_parts.specs.field_flatten.Seen.{has_values}
+use Rattle.rule_parts.proofs.of_field_flatten.Tests.{left_of, right_of}
+use Rattle.rule_parts.specs.flat_shapes.Room.{has_room}
 use Rattle.rule_parts.specs.Rooms.{has_rule, are_values}
 use Rattle.rule_parts.proofs.Values.{known}
 

@@ -6,8 +6,7 @@ mod enums;
 mod phases;
 mod spans;
 
-pub use composition::{ModifierSpot, Occurrence, PhaseSpot, Run};
 pub use constraints::{default_rule, hard_rule};
 pub use enums::enum_rule;
 pub use phases::arranged_rule;
-pub use scene_slots::SceneSlots;
+pub use rule_parts::{ModifierSpot, Occurrence, PhaseSpot, Run, SceneSlots};

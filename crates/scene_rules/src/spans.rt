@@ -3,15 +3,13 @@
 ghost use Rattle.std.specs.Prelude.{◌≡◌, ◌++◌, ◌∷◌, [], map, IfOk};
 ghost use Rattle.box_eval.specs.FlatRules as Flat;
 ghost use Rattle.box_eval.specs.FlatRules.{flat_rule};
-ghost use Rattle.scene_slots.specs.field_flatten.Rules.{least_rules as rules_of_least, greatest_rules as rules_of_greatest, same_rules as rules_of_same, overlap_rules as rules_of_overlap, starts, ends};
+ghost use Rattle.rule_parts.specs.field_flatten.Rules.{least_rules as rules_of_least, greatest_rules as rules_of_greatest, same_rules as rules_of_same, overlap_rules as rules_of_overlap, starts, ends};
 ghost use Rattle.scene_rules.specs.Sides.{side_term, side_terms};
-ghost use Rattle.scene_slots.specs.SeenSlots.{layout_of};
+ghost use Rattle.rule_parts.specs.scene_slots.SeenSlots.{layout_of};
 
 use box_eval::Rule;
-use flat_terms::rows;
 use osc_base::Path;
-use rule_parts::{at_most, equal, with_row};
-use scene_slots::SceneSlots;
+use rule_parts::{SceneSlots, at_most, equal, rows, with_row};
 use std::alloc::{AllocError, Global};
 
 /// Where a phase starts, or where it ends.

@@ -13,7 +13,9 @@ pub use program::texts;
 pub use sorted::ordered;
 
 // Items of the crates below, for the crates above.
+pub use dsl_tree::osc_base::{Boxed, FaultCode, Fraction, Path};
 pub use type_heads::{
-    Body, CompoundKind, ConditionEntry, DeclId, Declarations, EnumHit, FieldType, Form, Heads,
-    MemberRef, Program, Row, Text, TypeId, TypeKind, Unit, bodies, unit_entries,
+    Body, CompoundKind, ConditionEntry, DeclId, Declarations, EnumHit, Exponents, Fault, FieldType,
+    Form, Heads, MemberRef, Place, Program, Row, Text, TypeId, TypeKind, Unit, bodies, literal,
+    unit_entries,
 };

@@ -5,9 +5,8 @@ ghost use Rattle.expr_nodes.specs.Seen.{seen, seen_part};
 ghost use Rattle.expr_nodes.specs.Typed.{row_of};
 ghost use Rattle.text_constraints.specs.Elements.{element_path, element_read, first_item, first_of as item_first, sample_at, sample_in, sample_read, seen_sample};
 
-use expr_eval::Checked;
+use expr_eval::{Checked, it};
 use expr_nodes::{FieldType, Info, It, Scope, Typed, Types};
-use expr_typing::others::it;
 use osc_base::{Boxed, Path, Place, Row};
 use program_texts::{TypeId, then_index, then_name};
 use std::alloc::{AllocError, Global};

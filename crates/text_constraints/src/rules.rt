@@ -16,9 +16,8 @@ ghost use Rattle.text_constraints.specs.Sites.{seen_site, typed_home as home_typ
 use crate::copies::copy_guards;
 use crate::targets::{TextSite, default_home, read_home, relation_home, removed_home};
 use dsl_tree::{Expr, KeepKind, PathNode, RelationSign, RuleDecl};
-use expr_eval::{Checked, checked};
+use expr_eval::{Checked, checked, related};
 use expr_nodes::{Typed, Types};
-use expr_operators::steps::related;
 use osc_base::{Mark, Path, Place, Strength};
 use program_texts::{Guard, Occurrence};
 use scene_places::moved_part;

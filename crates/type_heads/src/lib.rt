@@ -40,5 +40,5 @@ pub use units::unit_entries;
 // Items of the crates below, for the crates above. A whole crate that is passed on slows every proof above it.
 pub use name_scope::dsl_tree::{CompoundKind, HeirCondition};
 pub use name_scope::{DeclId, Program};
-pub use units_si::Unit;
 pub use units_si::osc_base::{Fault, Place, Row, Text};
+pub use units_si::{Exponents, Unit, literal};

@@ -8,6 +8,9 @@ mod types;
 
 pub use lists::member_lists;
 pub use parts::{Bodies, MemberTables, ProgramTables};
-pub use string_texts::{EnumHit, FieldType, MemberRef, TypeId, TypeKind};
+pub use string_texts::{
+    Boxed, EnumHit, Exponents, Fault, FaultCode, FieldType, Fraction, MemberRef, Path, Place, Row,
+    Text, TypeId, TypeKind, Unit, literal,
+};
 pub use type_tables::{ListedMember, MemberLists, TextTable};
 pub use types::Types;

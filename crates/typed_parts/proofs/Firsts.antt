@@ -1,9 +1,9 @@
 -- The first fault of rows that are joined.
 use Rattle.std.proofs.Common.{◌≡◌, ◌∙◌, refl, sym, ap, Bool, true, false, cond, List, [], ◌∷◌, ◌++◌, Option, Some, None, arith, true≢false}
 use Rattle.std.proofs.lemmas.Bool.Decides.{nat_tests}
-use Rattle.dsl_tree.specs.osc_base.declared.fault.Fault.{Fault}
-use Rattle.dsl_tree.specs.osc_base.FaultRows.{FaultRow, is_before, first_of, row_fault, first_from, first_fault}
-use Rattle.dsl_tree.proofs.of_osc_base.FaultRows.{first_from_joined}
+use Rattle.expr_nodes.specs.osc_base.declared.fault.Fault.{Fault}
+use Rattle.expr_nodes.specs.osc_base.FaultRows.{FaultRow, is_before, first_of, row_fault, first_from, first_fault}
+use Rattle.expr_nodes.proofs.of_osc_base.FaultRows.{first_from_joined}
 
 -- of three faults, the first comes before the last if it comes before the second, and the second before the last
 before_both : (f g h : Fault) → is_before h g ≡ true → is_before g f ≡ true → is_before h f ≡ true

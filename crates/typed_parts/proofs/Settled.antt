@@ -1,10 +1,10 @@
 -- An operator has a typed form exactly if it has no fault.
 use Rattle.std.proofs.Common.{◌≡◌, ◌∙◌, refl, sym, Bool, true, false, cond, List, [], ◌∷◌, Option, Some, None, true≢false}
 use Rattle.std.specs.Prelude.{◌||◌, ◌&&◌, not}
-use Rattle.dsl_tree.specs.osc_base.declared.fault.Place.{Place}
-use Rattle.dsl_tree.specs.osc_base.declared.fault.FaultCode.{FaultCode}
-use Rattle.dsl_tree.specs.osc_base.declared.fault.Fault.{Fault}
-use Rattle.dsl_tree.specs.osc_base.FaultRows.{FaultRow, row, is_before, first_of, first_from, first_fault}
+use Rattle.expr_nodes.specs.osc_base.declared.fault.Place.{Place}
+use Rattle.expr_nodes.specs.osc_base.declared.fault.FaultCode.{FaultCode}
+use Rattle.expr_nodes.specs.osc_base.declared.fault.Fault.{Fault}
+use Rattle.expr_nodes.specs.osc_base.FaultRows.{FaultRow, row, is_before, first_of, first_from, first_fault}
 use Rattle.expr_nodes.specs.units_si.ExponentTests.{are_exponents}
 use Rattle.expr_nodes.specs.Kinds.{same_units}
 use Rattle.expr_nodes.specs.Typed.{Typed, kind}

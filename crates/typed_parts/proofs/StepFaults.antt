@@ -1,7 +1,7 @@
 -- The first fault of an operator and its parts.
 use Rattle.std.proofs.Common.{◌≡◌, ◌∙◌, sym, ap, ap₂, List, ◌++◌, Option}
-use Rattle.dsl_tree.specs.osc_base.declared.fault.Fault.{Fault}
-use Rattle.dsl_tree.specs.osc_base.FaultRows.{FaultRow, first_of, first_fault}
+use Rattle.expr_nodes.specs.osc_base.declared.fault.Fault.{Fault}
+use Rattle.expr_nodes.specs.osc_base.FaultRows.{FaultRow, first_of, first_fault}
 use Rattle.expr_nodes.specs.Typed.{Typed}
 use Rattle.typed_parts.proofs.Firsts.{first_append}
 

@@ -1,7 +1,7 @@
 //! What is known of an operator, with the faults of its parts.
 
 ghost use Rattle.std.specs.Prelude.{◌≡◌};
-ghost use Rattle.dsl_tree.specs.osc_base.FaultRows.{first_of};
+ghost use Rattle.expr_nodes.specs.osc_base.FaultRows.{first_of};
 
 use crate::parts::least;
 use expr_nodes::{Checked, Fault};

@@ -1,15 +1,14 @@
 //! The tests that rows of faults ask of parts, and the first of two faults.
 
 ghost use Rattle.std.specs.Prelude.{◌≡◌, ◌&&◌, ◌||◌, not};
-ghost use Rattle.dsl_tree.specs.osc_base.FaultRows.{first_of, row, row_fault, is_before as precedes};
+ghost use Rattle.expr_nodes.specs.osc_base.FaultRows.{first_of, row, row_fault, is_before as precedes};
 ghost use Rattle.expr_nodes.specs.Kinds.{is_truth, is_number, same_units};
 ghost use Rattle.expr_nodes.specs.Typed.{kind};
 ghost use Rattle.expr_nodes.specs.Sizes.{size, joined, is_wide};
 ghost use Rattle.expr_nodes.specs.Parts.{of_one, of_two, is_whole as whole, both_numbers};
 ghost use Rattle.expr_nodes.specs.Seen.{seen, seen_part};
 
-use dsl_tree::osc_base::FaultCode;
-use expr_nodes::{Boxed, Fault, Place, Typed};
+use expr_nodes::{Boxed, Fault, FaultCode, Place, Typed};
 
 fn is_before(f: &Fault, g: &Fault) -> bool
     ensures { result ≡ precedes f.now g.now }

@@ -8,15 +8,15 @@ use Rattle.osc_base.specs.declared.path.Path.{Path}
 use Rattle.osc_base.specs.Comparisons.{greatest_part}
 use Rattle.osc_base.specs.LowestTerms.{lcm}
 use Rattle.osc_base.specs.Paths.{same_path}
-use Rattle.scene_slots.specs.modifier_rules.Relations.{position_scale}
+use Rattle.rule_parts.specs.modifier_rules.Relations.{position_scale}
 use Rattle.expr_nodes.specs.Kinds.{is_number}
 use Rattle.expr_nodes.specs.Typed.{Typed, kind}
-use Rattle.scene_conditions.specs.composition.Scenes.{Scene, ModifierSpot, vehicles, has_phase}
-use Rattle.scene_conditions.specs.composition.Invariants.{is_expression, is_end, has_range, has_other, is_modifier}
-use Rattle.scene_slots.specs.field_flatten.Rules.{scale_of}
-use Rattle.scene_slots.specs.field_flatten.Exactness.{quantity_reach, end_reach, is_narrow_range}
-use Rattle.scene_slots.proofs.of_field_flatten.Tests.{left_of, right_of}
-use Rattle.scene_slots.proofs.of_field_flatten.Multiples.{common, share_of}
+use Rattle.rule_parts.specs.composition.Scenes.{Scene, ModifierSpot, vehicles, has_phase}
+use Rattle.rule_parts.specs.composition.Invariants.{is_expression, is_end, has_range, has_other, is_modifier}
+use Rattle.rule_parts.specs.field_flatten.Rules.{scale_of}
+use Rattle.rule_parts.specs.field_flatten.Exactness.{quantity_reach, end_reach, is_narrow_range}
+use Rattle.rule_parts.proofs.of_field_flatten.Tests.{left_of, right_of}
+use Rattle.rule_parts.proofs.of_field_flatten.Multiples.{common, share_of}
 use Rattle.rule_parts.specs.Rooms.{has_part, are_values, range_scale, HasRoom}
 use Rattle.rule_parts.proofs.Values.{known, not_above}
 

@@ -4,8 +4,8 @@ use Rattle.std.specs.List.{range_with_len}
 use Rattle.std.proofs.lemmas.List.{append_assoc, map-append}
 use Rattle.box_eval.specs.declared.rule.Rule.{Rule}
 use Rattle.box_eval.specs.FlatRules.{FlatRule, flat_rule}
-use Rattle.scene_slots.specs.declared.track.Track.{Track}
-use Rattle.scene_slots.specs.Tracks.{track_slot}
+use Rattle.rule_parts.specs.scene_slots.declared.track.Track.{Track}
+use Rattle.rule_parts.specs.scene_slots.Tracks.{track_slot}
 
 -- up to one tick more
 module _ {X : Type 0} (f : ℕ → X) where

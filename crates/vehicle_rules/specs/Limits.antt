@@ -4,9 +4,9 @@ use Rattle.osc_base.specs.declared.path.Path.{Path}
 use Rattle.osc_base.specs.declared.sample.SampleSlots.{SampleSlots}
 use Rattle.osc_base.specs.declared.listing.SlotName.{SlotName}
 use Rattle.box_eval.specs.FlatRules.{FlatTerm, FlatRule, Whole, Slot, Sum, Less, AtMost, Equal, times}
-use Rattle.scene_conditions.specs.composition.Scenes.{max_speed, max_acceleration}
-use Rattle.scene_slots.specs.field_flatten.Shapes.{Layout}
-use Rattle.scene_slots.specs.field_flatten.Rules.{one_more}
+use Rattle.rule_parts.specs.composition.Scenes.{max_speed, max_acceleration}
+use Rattle.rule_parts.specs.field_flatten.Shapes.{Layout}
+use Rattle.rule_parts.specs.field_flatten.Rules.{one_more}
 use Rattle.vehicle_rules.specs.declared.motion.Limits.{Limits}
 
 -- what is in a slot, or 0 without one

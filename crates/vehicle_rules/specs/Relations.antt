@@ -1,7 +1,7 @@
 -- What modifiers say of two samples, by the slots that they compare.
 use Rattle.std.specs.Prelude.{ℕ, Bool, true, false, Option, Some, None}
 use Rattle.box_eval.specs.FlatRules.{FlatTerm, FlatRule, Whole, Slot, Sum, Equal}
-use Rattle.scene_slots.specs.modifier_rules.Relations.{between, apart}
+use Rattle.rule_parts.specs.modifier_rules.Relations.{between, apart}
 use Rattle.vehicle_rules.specs.declared.relations.Relation.{Relation}
 
 -- what is in a slot, or how much more that is than what is in another

@@ -4,33 +4,30 @@ ghost use Rattle.std.specs.Prelude.{◌≡◌, ◌<◌, ◌≤◌, ◌^◌, ◌+
 ghost use Rattle.osc_base.specs.LowestTerms.{lcm};
 ghost use Rattle.box_eval.specs.FlatRules as Flat;
 ghost use Rattle.box_eval.specs.FlatRules.{FlatTerm, flat_rule, flat_term};
-ghost use Rattle.scene_slots.specs.modifier_rules.Relations.{moment_at as rules_of_moment, relation_at};
+ghost use Rattle.rule_parts.specs.modifier_rules.Relations.{moment_at as rules_of_moment, relation_at};
 ghost use Rattle.expr_nodes.specs.Seen.{seen_part};
-ghost use Rattle.scene_conditions.specs.composition.Invariants.{has_range, is_modifier};
-ghost use Rattle.scene_conditions.specs.composition.Items.{other_of as other_path};
-ghost use Rattle.scene_conditions.specs.composition.SeenParts.{seen_modifier};
-ghost use Rattle.scene_conditions.specs.composition.Slots.{ticks_of};
-ghost use Rattle.scene_conditions.specs.composition.There.{modifier_presence as conditions_of};
-ghost use Rattle.scene_slots.specs.field_flatten.Exactness.{is_narrow_range};
-ghost use Rattle.scene_slots.specs.field_flatten.Rules.{modifier_rule as rule_of, presence_rules, sample_slots, scale_of as scale_in, end_of};
-ghost use Rattle.scene_slots.specs.field_flatten.Shapes.{phase_start, phase_end};
-ghost use Rattle.scene_conditions.specs.SeenConditions.{seen_condition};
+ghost use Rattle.rule_parts.specs.composition.Invariants.{has_range, is_modifier};
+ghost use Rattle.rule_parts.specs.composition.Items.{other_of as other_path};
+ghost use Rattle.rule_parts.specs.composition.SeenParts.{seen_modifier};
+ghost use Rattle.rule_parts.specs.composition.Slots.{ticks_of};
+ghost use Rattle.rule_parts.specs.composition.There.{modifier_presence as conditions_of};
+ghost use Rattle.rule_parts.specs.field_flatten.Exactness.{is_narrow_range};
+ghost use Rattle.rule_parts.specs.field_flatten.Rules.{modifier_rule as rule_of, presence_rules, sample_slots, scale_of as scale_in, end_of};
+ghost use Rattle.rule_parts.specs.field_flatten.Shapes.{phase_start, phase_end};
+ghost use Rattle.rule_parts.specs.scene_conditions.SeenConditions.{seen_condition};
 ghost use Rattle.vehicle_rules.specs.Relations.{relation_rule, is_ranged};
 ghost use Rattle.rule_parts.specs.Rooms.{HasRoom, are_values, has_part, range_scale as scale_of_range};
-ghost use Rattle.scene_slots.specs.SeenSlots.{layout_of, scene_of};
+ghost use Rattle.rule_parts.specs.scene_slots.SeenSlots.{layout_of, scene_of};
 
 use crate::quantity::Quantity;
 use crate::relations::{POSITION_SCALE, Relation, beside, in_range, relation_of};
 use box_eval::{Rule, Term};
-use composition::ModifierSpot;
 use expr_nodes::Typed;
-use flat_shapes::number;
-use flat_terms::rows;
-use flat_terms::scales::common_scale;
 use osc_base::{Moment, Path, Row, SampleSlots};
-use rule_parts::{condition_row, equal, under, with_row};
-use scene_conditions::{Condition, modifier_presence};
-use scene_slots::SceneSlots;
+use rule_parts::{
+    Condition, ModifierSpot, SceneSlots, common_scale, condition_row, equal, modifier_presence,
+    number, rows, under, with_row,
+};
 use std::alloc::{AllocError, Global};
 
 /// The scale of an end of a range, 1 if there is none.

@@ -5,18 +5,16 @@ ghost use Rattle.osc_base.specs.Paths.{then_name as with_name};
 ghost use Rattle.osc_base.specs.declared.listing.SlotName.{SlotName};
 ghost use Rattle.box_eval.specs.FlatRules as Flat;
 ghost use Rattle.box_eval.specs.FlatRules.{flat_rule, flat_term, under as under_row, times as so_often};
-ghost use Rattle.scene_conditions.specs.composition.Slots.{ticks_of};
-ghost use Rattle.scene_conditions.specs.composition.Scenes.{guards as conditions_of};
-ghost use Rattle.scene_slots.specs.field_flatten.Rules.{motion_rule as rule_of, motion_parts as parts_of, step_rules as rules_of_step, presence_rules, sample_slots, one_more};
+ghost use Rattle.rule_parts.specs.composition.Slots.{ticks_of};
+ghost use Rattle.rule_parts.specs.composition.Scenes.{guards as conditions_of};
+ghost use Rattle.rule_parts.specs.field_flatten.Rules.{motion_rule as rule_of, motion_parts as parts_of, step_rules as rules_of_step, presence_rules, sample_slots, one_more};
 ghost use Rattle.vehicle_rules.specs.Limits.{end_by, limits_by, limits_of, steps_by};
-ghost use Rattle.scene_slots.specs.SeenSlots.{layout_of, scene_of};
+ghost use Rattle.rule_parts.specs.scene_slots.SeenSlots.{layout_of, scene_of};
 
 use crate::modifiers::slots_at;
 use box_eval::{Rule, Term};
-use flat_terms::{rows, terms};
 use osc_base::{Boxed, Path, Row, SampleSlots, Step, Text};
-use rule_parts::{at_most, each_under, guard_row, under, with_row};
-use scene_slots::SceneSlots;
+use rule_parts::{SceneSlots, at_most, each_under, guard_row, rows, terms, under, with_row};
 use std::alloc::{AllocError, Global};
 
 /// The slots of a vehicle's greatest speed and of its greatest acceleration.

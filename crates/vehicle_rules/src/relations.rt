@@ -4,15 +4,14 @@ ghost use Rattle.std.specs.Prelude.{◌≡◌, ◌<◌, ◌≤◌, ◌^◌, ◌/
 ghost use Rattle.osc_base.specs.LowestTerms.{lcm};
 ghost use Rattle.box_eval.specs.FlatRules as Flat;
 ghost use Rattle.box_eval.specs.FlatRules.{FlatTerm, flat_rule, flat_term, times as so_often};
-ghost use Rattle.scene_slots.specs.modifier_rules.Relations.{relation_at, between, apart, position_scale};
-ghost use Rattle.scene_conditions.specs.composition.Invariants.{has_range};
+ghost use Rattle.rule_parts.specs.modifier_rules.Relations.{relation_at, between, apart, position_scale};
+ghost use Rattle.rule_parts.specs.composition.Invariants.{has_range};
 ghost use Rattle.vehicle_rules.specs.Relations.{quantity_term as term_of, relation_rule, is_ranged};
 
 use crate::quantity::Quantity;
 use box_eval::{Rule, Term};
-use flat_terms::scales::common_scale;
-use flat_terms::terms;
 use osc_base::{Boxed, Kind, SampleSlots};
+use rule_parts::{common_scale, terms};
 use std::alloc::{AllocError, Global};
 
 /// So many units of a speed's slot make a metre a second.

@@ -1,7 +1,7 @@
 use Rattle.std.proofs.Common.{◌∙◌, ap, map}
 use Rattle.composition.specs.Scenes.{vehicles}
 use Rattle.composition.specs.SeenScenes.{seen_scene}
-use Rattle.path_index.specs.Places.{place_at}
+use Rattle.composition.specs.path_index.Places.{place_at}
 use Rattle.scene_reads.specs.Vehicles.{vehicle_path}
 use Rattle.scene_reads.proofs.DrivenPaths.{driven_at}
 use Rattle.scene_reads.proofs.driven.vehicle_places.Goals as goal

@@ -1,6 +1,6 @@
-use Rattle.scene_conditions.specs.composition.SeenParts.{seen_modifier}
-use Rattle.scene_slots.specs.field_flatten.Rules.{modifier_rule}
-use Rattle.scene_slots.specs.SeenSlots.{scene_of, layout_of}
+use Rattle.rule_parts.specs.composition.SeenParts.{seen_modifier}
+use Rattle.rule_parts.specs.field_flatten.Rules.{modifier_rule}
+use Rattle.rule_parts.specs.scene_slots.SeenSlots.{scene_of, layout_of}
 use Rattle.vehicle_rules.proofs.Rooms.{modifier_room}
 use Rattle.vehicle_rules.proofs.TickRows.{one_more_tick}
 use Rattle.vehicle_rules.proofs.modifiers.modifier_rules.Goals as goal

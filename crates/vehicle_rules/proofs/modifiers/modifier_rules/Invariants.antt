@@ -1,9 +1,9 @@
 use Rattle.std.proofs.Common.{◌≡◌, ◌++◌, map}
 use Rattle.std.specs.List.{range_with_len}
 use Rattle.box_eval.specs.FlatRules.{flat_rule}
-use Rattle.scene_conditions.specs.composition.SeenParts.{seen_modifier}
-use Rattle.scene_slots.specs.field_flatten.Rules.{modifier_rule}
-use Rattle.scene_slots.specs.SeenSlots.{scene_of, layout_of}
+use Rattle.rule_parts.specs.composition.SeenParts.{seen_modifier}
+use Rattle.rule_parts.specs.field_flatten.Rules.{modifier_rule}
+use Rattle.rule_parts.specs.scene_slots.SeenSlots.{scene_of, layout_of}
 use Rattle.vehicle_rules.proofs.modifiers.modifier_rules.Given as goal
 
 abbrev pub invariant-ticks : goal.invariant-ticks

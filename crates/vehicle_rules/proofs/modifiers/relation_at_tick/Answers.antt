@@ -1,7 +1,7 @@
 use Rattle.std.proofs.Common.{◌∙◌, ap, ap₂}
-use Rattle.scene_slots.specs.modifier_rules.Relations.{relation_at}
-use Rattle.scene_slots.specs.field_flatten.Rules.{sample_slots}
-use Rattle.scene_slots.specs.SeenSlots.{layout_of}
+use Rattle.rule_parts.specs.modifier_rules.Relations.{relation_at}
+use Rattle.rule_parts.specs.field_flatten.Rules.{sample_slots}
+use Rattle.rule_parts.specs.scene_slots.SeenSlots.{layout_of}
 use Rattle.vehicle_rules.proofs.modifiers.relation_at_tick.Goals as goal
 
 pub returns-clause-rule : goal.returns-clause-rule

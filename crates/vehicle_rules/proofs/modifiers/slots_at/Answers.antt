@@ -1,5 +1,5 @@
 use Rattle.std.proofs.Common.{◌∙◌, ◌^◌}
-use Rattle.scene_slots.specs.SeenSlots.{scene_of}
+use Rattle.rule_parts.specs.scene_slots.SeenSlots.{scene_of}
 use Rattle.vehicle_rules.proofs.TickRows.{track_room}
 use Rattle.vehicle_rules.proofs.modifiers.slots_at.Goals as goal
 

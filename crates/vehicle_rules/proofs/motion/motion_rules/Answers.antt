@@ -1,5 +1,5 @@
-use Rattle.scene_slots.specs.field_flatten.Rules.{motion_rule}
-use Rattle.scene_slots.specs.SeenSlots.{scene_of, layout_of}
+use Rattle.rule_parts.specs.field_flatten.Rules.{motion_rule}
+use Rattle.rule_parts.specs.scene_slots.SeenSlots.{scene_of, layout_of}
 use Rattle.vehicle_rules.proofs.TickRows.{one_more_tick}
 use Rattle.vehicle_rules.proofs.motion.motion_rules.Goals as goal
 

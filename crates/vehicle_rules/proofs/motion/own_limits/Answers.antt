@@ -1,5 +1,5 @@
 use Rattle.std.proofs.Common.{◌∙◌, ap₂}
-use Rattle.scene_slots.specs.SeenSlots.{layout_of}
+use Rattle.rule_parts.specs.scene_slots.SeenSlots.{layout_of}
 use Rattle.vehicle_rules.specs.Limits.{limits_by}
 use Rattle.vehicle_rules.proofs.motion.own_limits.Goals as goal
 

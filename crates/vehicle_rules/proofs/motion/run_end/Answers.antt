@@ -1,5 +1,5 @@
 use Rattle.std.proofs.Common.{◌∙◌}
-use Rattle.scene_slots.specs.SeenSlots.{scene_of}
+use Rattle.rule_parts.specs.scene_slots.SeenSlots.{scene_of}
 use Rattle.vehicle_rules.proofs.RunEnds.{end_is}
 use Rattle.vehicle_rules.proofs.motion.run_end.Goals as goal
 
