@@ -64,17 +64,6 @@ pub fn line_start(source: &[u8], number: u32) -> Option<usize>
     None
 }
 
-/// The word that begins at a place of a source. `None` if none does.
-pub fn word_at(source: &[u8], line: u32, column: u32) -> Option<&str> {
-    let line = first_line(source.get(line_start(source, line)?..)?);
-    let after = line.get((column as usize).saturating_sub(1)..)?;
-    let word = after.get(..word_len(after))?;
-    if word.is_empty() {
-        return None;
-    }
-    str::from_utf8(word).ok()
-}
-
 /// The bytes before the first line end.
 fn first_line(bytes: &[u8]) -> &[u8] {
     let line = match bytes.iter().position(|b| *b == b'\n') {
