@@ -24,7 +24,10 @@ def calls():
 
 
 def sessions():
-    """The words after `$ ./osc` and all that it writes, of each block of code that begins so."""
+    """The words after `$ ./osc` and what it writes, of each block of code that begins so.
+
+    Words may end with a file to which standard output goes: then the block shows the message alone. If its last line is `..`, more follows.
+    """
     for page in pages():
         for words, text in re.findall(r"^```\n\$ \./osc ([^\n]+)\n(.*?)^```$", page, re.M | re.S):
             yield words.split(), text
