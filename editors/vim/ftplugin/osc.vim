@@ -5,4 +5,5 @@ endif
 let b:did_ftplugin = 1
 
 setlocal expandtab shiftwidth=4 softtabstop=4 commentstring=#\ %s
-let b:undo_ftplugin = "setlocal expandtab< shiftwidth< softtabstop< commentstring<"
+compiler osc
+let b:undo_ftplugin = "setlocal expandtab< shiftwidth< softtabstop< commentstring< makeprg< errorformat< | unlet! b:current_compiler"

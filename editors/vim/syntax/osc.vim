@@ -15,10 +15,17 @@ syntax keyword oscBuiltin it range
 syntax keyword oscConstant true false
 syntax keyword oscType int uint float bool string
 syntax keyword oscLeftOut call cover def emit event every export external fall global modifier namespace on record rise sample until var
+syntax keyword oscField max_speed max_acceleration
 
+syntax match oscLibrary /\<\%(length\|time\|speed\|acceleration\|vehicle\)\>/
+syntax match oscModifier /\<\%(lane\|position\|speed\)\>\ze\s*(/
+syntax match oscAction /\.\s*\zs\%(drive\)\>\ze\s*(/
+syntax match oscArgument /\<\%(ahead_of\|behind\|faster_than\|left_of\|right_of\|same_as\|slower_than\|at\|duration\|overlap\)\>\ze:/
+syntax match oscMoment /\%(\<\%(at\|overlap\):\s*\)\@<=\%(all\|any\|end\|equal\|start\)\>/
 syntax match oscOperatorMark /!\|\*\|+\|-\|\/\|<\|=\|>\|!=\|\.\.\|<=\|==\|=>\|>=/
 syntax match oscNumber /\<[0-9]\+\%(\.[0-9]\+\)\?\>/
-syntax match oscPhysical /\<[0-9]\+\%(\.[0-9]\+\)\?\h\w*\>/
+syntax match oscPhysical /\<[0-9]\+\%(\.[0-9]\+\)\?\h\w*\>/ contains=oscUnit
+syntax match oscUnit /[0-9]\@1<=\%(mpsps\|kph\|min\|mps\|km\|ms\|m\|s\)\>/ contained
 syntax match oscNumber /\<0x\x\{1,14}\>/
 syntax match oscEscape /\\["'\\]/ contained
 syntax region oscString start=/"/ skip=/\\./ end=/"/ oneline contains=oscEscape
@@ -33,6 +40,13 @@ highlight default link oscPhase Conditional
 highlight default link oscOperator Operator
 highlight default link oscBuiltin Identifier
 highlight default link oscConstant Boolean
+highlight default link oscLibrary Type
+highlight default link oscField Identifier
+highlight default link oscModifier Function
+highlight default link oscAction Function
+highlight default link oscArgument Label
+highlight default link oscMoment Constant
+highlight default link oscUnit Special
 highlight default link oscType Type
 highlight default link oscLeftOut Error
 highlight default link oscOperatorMark Operator
