@@ -1,0 +1,211 @@
+#!/usr/bin/env python3
+"""Makes the runs of a batch: one scenario in one setting, with one number of cuts, for some seeds.
+
+A run is checked, and then exported in the forms that are asked for. A refutation is verified, and holds for all seeds: no further run
+of the scenario in the setting is made. A line is written to the batch's journal after each run. So a batch that was ended in the middle
+goes on with the first run that isn't in a journal, also if other seeds or batches are asked for now. Errors aren't in a journal.
+"""
+import argparse
+import fcntl
+import glob
+import hashlib
+import json
+import os
+import signal
+import subprocess
+import sys
+import time
+
+from campaign import read_seeds, sources
+from measures import least_gap, least_time
+
+STOPS = (-signal.SIGINT, -signal.SIGTERM)  # the statuses of a program that was told to end
+MOST = 2000  # the most characters of a message
+
+
+class Batch:
+    """The runs that are asked for, and the files that hold them."""
+
+    def __init__(self, asked):
+        self.asked, self.exports = asked, [it for it in asked.exports.split(",") if it and can_export(asked.out)]
+        self.of = {"scenario": asked.name, "setting": asked.setting, "cuts": asked.cuts}
+        self.folder = f"{asked.out}/runs/{asked.name}/{asked.setting}/{asked.cuts}"
+        self.refutation = f"{asked.out}/refutations/{asked.name}.{asked.setting}"
+        self.key = self.content_key()
+
+    def content_key(self):
+        """A text that is another if a source, the scenario or the setting is."""
+        found = hashlib.sha256(json.dumps([self.asked.file, self.asked.scenario, self.asked.options]).encode())
+        for name in sorted(sources(self.asked.file)):
+            with open(name, "rb") as it:
+                found.update(hashlib.sha256(it.read()).digest())
+        return found.hexdigest()[:16]
+
+    def osc(self, command, *words):
+        asked = self.asked
+        done = subprocess.run([asked.program, command, asked.file, asked.scenario, *words, *asked.options.split()],
+                              stdin=subprocess.DEVNULL, stdout=subprocess.PIPE, stderr=subprocess.PIPE, check=False)
+        if done.returncode in STOPS:
+            sys.exit(f"{asked.program} was told to end")
+        return done
+
+    def row(self, seed):
+        """Makes a run, and tells what came of it."""
+        found = {**self.of, "seed": seed}
+        refuted = self.refuted_by()
+        if refuted is not None:
+            return {**found, "outcome": "skipped", "message": f"seed {refuted} gave a refutation, which holds for all seeds"}
+        began = time.monotonic()
+        done = self.osc("generate", "--seed", str(seed), "--cuts", str(self.asked.cuts))
+        found.update(status=done.returncode, seconds=round(time.monotonic() - began, 3))
+        if done.returncode == 0:
+            return {**found, **self.run(seed, done.stdout)}
+        if done.returncode == 1:
+            return {**found, **self.refuted(seed, done.stdout)}
+        if done.returncode == 2:
+            return {**found, "outcome": "undecided"}
+        return {**found, "outcome": "fault" if done.returncode == 3 else "error", "message": message(done)}
+
+    def run(self, seed, text):
+        path = self.path(seed, "json")
+        with writing(path) as file:
+            file.write(text)
+            file.flush()
+            checked = self.osc("check", file.name)
+        if checked.returncode:
+            return {"outcome": "error", "message": f"check of {path}: {message(checked)}"}
+        run = json.loads(text)
+        found = {"outcome": "run", "end": run["end"], "digest": hashlib.sha256(text).hexdigest()[:12], "values": dict(run["values"])}
+        for measure, least in (("gap", least_gap(run)), ("time", least_time(run))):
+            found[measure] = least
+        return {**found, **self.export(seed)}
+
+    def export(self, seed):
+        """Exports a run in the forms that aren't there; an error if that fails."""
+        for form in self.exports:
+            if not os.path.exists(self.path(seed, form)):
+                done = self.osc("export", self.path(seed, "json"), "--as", form)
+                if done.returncode:
+                    return {"outcome": "error", "message": f"export as {form}: {message(done)}"}
+                with writing(self.path(seed, form)) as file:
+                    file.write(done.stdout)
+        return {}
+
+    def refuted(self, seed, text):
+        with writing(f"{self.refutation}.txt") as file:
+            file.write(text)
+            file.flush()
+            verified = self.osc("verify", file.name)
+        if verified.returncode:
+            return {"outcome": "error", "message": f"verify of {self.refutation}.txt: {message(verified)}"}
+        with writing(f"{self.refutation}.json") as file:
+            file.write(json.dumps({"key": self.key, "seed": seed}).encode())
+        return {"outcome": "refuted"}
+
+    def refuted_by(self):
+        """The seed with which a refutation of just this was found; None if there is none yet."""
+        try:
+            with open(f"{self.refutation}.json", encoding="utf-8") as it:
+                found = json.load(it)
+            return found["seed"] if found["key"] == self.key else None
+        except FileNotFoundError:
+            return None
+
+    def path(self, seed, form):
+        return f"{self.folder}/seed-{seed}.{form}"
+
+    def known(self):
+        """The rows of the journals, by seed."""
+        rows = {}
+        for name in glob.glob(f"{glob.escape(self.folder)}/*.journal"):
+            with open(name, "rb") as it:
+                lines = [json.loads(line) for line in it if line.endswith(b"\n")]
+            if lines and lines[0] == {"key": self.key}:
+                rows.update((row["seed"], row) for row in lines[1:])
+        return {seed: row for seed, row in rows.items() if row["outcome"] != "run" or os.path.exists(self.path(seed, "json"))}
+
+
+def can_export(out):
+    """Whether the program of the campaign exports runs, as the workflow found out at its beginning."""
+    with open(f"{out}/program.json", encoding="utf-8") as it:
+        return json.load(it)["exports"]
+
+
+class writing:
+    """A file that gets its name when it is whole."""
+
+    def __init__(self, path):
+        os.makedirs(os.path.dirname(path), exist_ok=True)
+        self.path, self.file = path, open(f"{path}.{os.getpid()}.part", "wb")
+
+    def __enter__(self):
+        return self.file
+
+    def __exit__(self, kind, *_):
+        self.file.close()
+        if kind is None:
+            os.replace(self.file.name, self.path)
+        else:
+            os.remove(self.file.name)
+
+
+def message(done):
+    """What a call that failed told: its first line, and what it says for people."""
+    said = [part.decode(errors="replace").strip() for part in (done.stdout[:MOST], done.stderr[:MOST])]
+    return "\n".join(it for it in [f"status {done.returncode}", *said] if it)
+
+
+def begin(journal, key):
+    """Cuts off what isn't whole in a journal; of other sources all of it."""
+    journal.seek(0)
+    lines = journal.read().split(b"\n")
+    head = json.dumps({"key": key}).encode()
+    if lines[0] == head and len(lines) > 1:
+        journal.truncate(sum(len(it) + 1 for it in lines[:-1]))
+    else:
+        journal.truncate(0)
+        journal.write(head + b"\n")
+        journal.flush()
+
+
+def make(batch, seeds):
+    """The row of each seed. Another process that makes this batch is waited for."""
+    os.makedirs(batch.folder, exist_ok=True)
+    with open(f"{batch.folder}/{batch.asked.batch}.journal", "ab+") as journal:
+        fcntl.flock(journal, fcntl.LOCK_EX)
+        begin(journal, batch.key)
+        known = batch.known()
+        for seed in seeds:
+            if seed in known:
+                row = known[seed]
+                yield {**row, **batch.export(seed)} if row["outcome"] == "run" else row
+                continue
+            row = batch.row(seed)
+            if row["outcome"] not in ("skipped", "error"):
+                journal.write(json.dumps(row).encode() + b"\n")
+                journal.flush()
+            yield row
+
+
+def words():
+    it = argparse.ArgumentParser(description=__doc__.partition("\n\n")[0], epilog=__doc__.partition("\n\n")[2])
+    for name in ("program", "out", "name", "setting", "file", "scenario", "batch"):
+        it.add_argument(f"--{name}", required=True)
+    it.add_argument("--options", default="", help="the setting, as words of osc")
+    it.add_argument("--exports", default="", help="forms with commas between")
+    it.add_argument("--cuts", type=int, required=True)
+    it.add_argument("--seeds", type=read_seeds, required=True, help="as 0..99 or 1,5,9")
+    it.add_argument("--rows", required=True, help="the file that gets a line of JSON for each seed")
+    return it.parse_args()
+
+
+def main():
+    asked = words()
+    batch = Batch(asked)
+    rows = [json.dumps(row) + "\n" for row in make(batch, asked.seeds)]
+    with writing(asked.rows) as file:
+        file.write("".join(rows).encode())
+
+
+if __name__ == "__main__":
+    main()
