@@ -15,6 +15,7 @@ import signal
 import subprocess
 import sys
 import time
+from collections import Counter
 
 from campaign import read_seeds, sources
 from measures import least_gap, least_time
@@ -150,9 +151,10 @@ class writing:
 
 
 def message(done):
-    """What a call that failed told: its first line, and what it says for people."""
-    said = [part.decode(errors="replace").strip() for part in (done.stdout[:MOST], done.stderr[:MOST])]
-    return "\n".join(it for it in [f"status {done.returncode}", *said] if it)
+    """What a call that failed told: its answer, or else its status; and then what it said for people."""
+    answer = done.stdout.partition(b"\n")[0][:MOST].decode(errors="replace")
+    said = done.stderr[:MOST].decode(errors="replace").strip().removeprefix(answer).strip("\n")
+    return "\n".join(it for it in (answer or f"status {done.returncode}", said) if it)
 
 
 def begin(journal, key):
@@ -202,9 +204,11 @@ def words():
 def main():
     asked = words()
     batch = Batch(asked)
-    rows = [json.dumps(row) + "\n" for row in make(batch, asked.seeds)]
+    rows = list(make(batch, asked.seeds))
     with writing(asked.rows) as file:
-        file.write("".join(rows).encode())
+        file.write("".join(json.dumps(row) + "\n" for row in rows).encode())
+    counts = Counter(row["outcome"] for row in rows)
+    print(f"{asked.name}, {asked.setting}, {asked.cuts} cuts, batch {asked.batch}: {', '.join(f'{n} {it}' for it, n in counts.items())}", file=sys.stderr)
 
 
 if __name__ == "__main__":

@@ -53,7 +53,7 @@ def read_rows(campaign, names):
             for seed in campaign.seeds:
                 row = found.get((group.name, group.setting, cuts, seed))
                 yield row or {"scenario": group.name, "setting": group.setting, "cuts": cuts, "seed": seed, "outcome": "skipped",
-                              "message": f"seed {first['seed']} gave a {first['outcome']}, so no other was tried"}
+                              "message": f"seed {first['seed']}: {first['outcome']}, which holds for all seeds"}
 
 
 def failure(group, row):
@@ -151,33 +151,37 @@ def outcome_table(parts):
 
 
 def wrong_part(parts):
-    """What isn't as expected, each message once with the number of its runs."""
+    """What isn't as expected, each message of a scenario once with the number of its runs."""
     found = {}
     for group, cuts, rows in parts:
         for row in rows:
             wrong = failure(group, row)
             if wrong:
-                found.setdefault((group, cuts, row["outcome"], wrong), []).append(row["seed"])
-    lines = [f"<p><b>{escape(group.name)}</b>, {escape(group.setting)}, {cuts:,} cuts: {outcome}, seed {seeds[0]}"
-             f"{f' and {len(seeds) - 1:,} others' if seeds[1:] else ''}</p><pre>{escape(wrong)}</pre>"
-             for (group, cuts, outcome, wrong), seeds in found.items()]
+                found.setdefault((group.name, row["outcome"], wrong), []).append(f"{group.setting}, {cuts:,} cuts, seed {row['seed']}")
+    lines = [f"<p><b>{escape(name)}</b>: {outcome}, {escape(its[0])}{f' and {len(its) - 1:,} more' if its[1:] else ''}</p><pre>{escape(wrong)}</pre>"
+             for (name, outcome, wrong), its in found.items()]
     return "<h2>Not as expected</h2>" + "".join(lines) if lines else ""
 
 
 def extremes(campaign, rows):
-    """A picture of the run with the least gap, and of that with the least time to collision."""
-    lines = []
+    """A picture of the run with the least gap and of that with the least time to collision; one if they are the same moment."""
+    found = {}
     for measure, name, unit, scale in (("gap", "least gap", "m", 1e6), ("time", "least time to collision", "s", 1e3)):
         measured = [row for row in rows if row.get(measure)]
         if measured:
             row = min(measured, key=lambda row: row[measure][0])
-            value, tick, own, ahead = row[measure]
-            path = f"runs/{row['scenario']}/{row['setting']}/{row['cuts']}/seed-{row['seed']}.json"
-            with open(f"{campaign.out}/{path}", encoding="utf-8") as file:
-                run = json.load(file)
-            lines.append(f"<figure><figcaption>The {name}, {value / scale:.3f} {unit}: seed {row['seed']}, {escape(own)} behind {escape(ahead)} at "
-                         f"{tick / 10:.1f} s. <code>{escape(path)}</code></figcaption>{pictures.run(run, tick)}</figure>")
-    return "".join(lines)
+            value, *moment = row[measure]
+            found.setdefault((row["seed"], *moment), [row]).append(f"{name}, {value / scale:.3f} {unit}")
+    return "".join(extreme(campaign, row, names, *moment) for (_, *moment), (row, *names) in found.items())
+
+
+def extreme(campaign, row, names, tick, own, ahead):
+    """A picture of a run at a tick, at which a vehicle is behind the one ahead."""
+    path = f"{campaign.out}/runs/{row['scenario']}/{row['setting']}/{row['cuts']}/seed-{row['seed']}.json"
+    with open(path, encoding="utf-8") as file:
+        run = json.load(file)
+    return (f"<figure><figcaption>The {' and the '.join(names)}: seed {row['seed']}, {escape(own)} behind {escape(ahead)} at {tick / 10:.1f} s. "
+            f"<code>{escape(path)}</code></figcaption>{pictures.run(run, tick)}</figure>")
 
 
 def measured_part(campaign, parts):
@@ -202,7 +206,7 @@ def write_page(campaign, rows, program, path):
     head = f"{len(rows):,} runs were asked for. {escape(program['version'])} took {spent:,.0f} s for them, as the sum over all runs."
     if campaign.exports and not program["exports"]:
         head += " Exports were asked for, and this program has no command <code>export</code>: nothing is exported."
-    page = [HEAD, f'<h1>Campaign</h1><p class="soft">{head}</p>', tiles(rows), wrong_part(parts), "<h2>Outcome by scenario</h2>", outcome_table(parts),
+    page = [HEAD, f'<h1>Campaign {escape(campaign.out)}</h1><p class="soft">{head}</p>', tiles(rows), wrong_part(parts), "<h2>Outcome by scenario</h2>", outcome_table(parts),
             measured_part(campaign, parts), "</body></html>\n"]
     with open(path, "w", encoding="utf-8") as it:
         it.write("".join(page))
