@@ -1,6 +1,9 @@
 """What the YAML file of a campaign asks for: groups of runs, each of a scenario in a setting, and their batches of seeds."""
+import hashlib
+import json
 import os
 import re
+import subprocess
 from dataclasses import dataclass
 
 TOP = os.path.dirname(os.path.dirname(os.path.realpath(__file__)))
@@ -47,10 +50,49 @@ class Campaign:
         return next(it for it in self.groups if (it.name, it.setting) == (name, setting))
 
     def batches(self):
-        return range(-(-len(self.seeds) // self.batch))
+        """The seeds of each batch by its name, which other seeds don't have."""
+        parts = [self.seeds[k:k + self.batch] for k in range(0, len(self.seeds), self.batch)]
+        return {batch_name(it): it for it in parts}
 
-    def seeds_of(self, batch):
-        return self.seeds[batch * self.batch:(batch + 1) * self.batch]
+    def order(self, group):
+        """The file that says what is to be made of a group."""
+        return f"{self.out}/orders/{group.name}.{group.setting}.json"
+
+    def write_orders(self):
+        """Writes the orders, and one of the whole campaign. A file that says it already stays as it is, and so does its time."""
+        version, exports = self.ask_program()
+        whole_order = {"version": version, "exports": exports, "seeds": write_seeds(self.seeds), "cuts": self.cuts, "groups": [vars(it) for it in self.groups]}
+        write_changed(f"{self.out}/orders.json", whole_order)
+        for group in self.groups:
+            write_changed(self.order(group), {"program": self.program, "out": self.out, "exports": exports, **vars(group)})
+
+    def ask_program(self):
+        """The version of the program, and the forms that it is to export. The call builds it if it has to be built."""
+        try:
+            version = subprocess.run([self.program, "--version"], stdin=subprocess.DEVNULL, stdout=subprocess.PIPE, text=True, check=True)
+        except (OSError, subprocess.CalledProcessError) as why:
+            raise Wrong(f"program: {why}") from None
+        if not self.exports:
+            return version.stdout.strip(), []
+        helped = subprocess.run([self.program, "export", "--help"], stdin=subprocess.DEVNULL, stdout=subprocess.DEVNULL, stderr=subprocess.DEVNULL, check=False)
+        return version.stdout.strip(), [] if helped.returncode else self.exports
+
+
+def write_changed(path, content):
+    text = json.dumps(content) + "\n"
+    os.makedirs(os.path.dirname(path), exist_ok=True)
+    if os.path.exists(path):
+        with open(path, encoding="utf-8") as it:
+            if it.read() == text:
+                return
+    with open(path, "w", encoding="utf-8") as it:
+        it.write(text)
+
+
+def batch_name(seeds):
+    """The first and the last seed; and if others are between than those of the range, what tells them apart."""
+    text = write_seeds(seeds)
+    return f"{seeds[0]}-{seeds[-1]}" + (f"-{hashlib.sha256(text.encode()).hexdigest()[:8]}" if "," in text else "")
 
 
 def read_seeds(text):

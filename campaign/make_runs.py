@@ -27,37 +27,37 @@ MOST = 2000  # the most characters of a message
 class Batch:
     """The runs that are asked for, and the files that hold them."""
 
-    def __init__(self, asked):
-        self.asked, self.exports = asked, [it for it in asked.exports.split(",") if it and can_export(asked.out)]
-        self.of = {"scenario": asked.name, "setting": asked.setting, "cuts": asked.cuts}
-        self.folder = f"{asked.out}/runs/{asked.name}/{asked.setting}/{asked.cuts}"
-        self.refutation = f"{asked.out}/refutations/{asked.name}.{asked.setting}"
+    def __init__(self, order, cuts, name):
+        self.order, self.cuts, self.name = order, cuts, name
+        self.folder = f"{order['out']}/runs/{order['name']}/{order['setting']}/{cuts}"
+        self.refutation = f"{order['out']}/refutations/{order['name']}.{order['setting']}"
         self.key = self.content_key()
 
     def content_key(self):
         """A text that is another if a source, the scenario or the setting is."""
-        found = hashlib.sha256(json.dumps([self.asked.file, self.asked.scenario, self.asked.options]).encode())
-        for name in sorted(sources(self.asked.file)):
+        order = self.order
+        found = hashlib.sha256(json.dumps([order["file"], order["scenario"], order["options"]]).encode())
+        for name in sorted(sources(order["file"])):
             with open(name, "rb") as it:
                 found.update(hashlib.sha256(it.read()).digest())
         return found.hexdigest()[:16]
 
     def osc(self, command, *words):
-        asked = self.asked
-        done = subprocess.run([asked.program, command, asked.file, asked.scenario, *words, *asked.options.split()],
+        order = self.order
+        done = subprocess.run([order["program"], command, order["file"], order["scenario"], *words, *order["options"]],
                               stdin=subprocess.DEVNULL, stdout=subprocess.PIPE, stderr=subprocess.PIPE, check=False)
         if done.returncode in STOPS:
-            sys.exit(f"{asked.program} was told to end")
+            sys.exit(f"{order['program']} was told to end")
         return done
 
     def row(self, seed):
         """Makes a run, and tells what came of it."""
-        found = {**self.of, "seed": seed}
+        found = {"scenario": self.order["name"], "setting": self.order["setting"], "cuts": self.cuts, "seed": seed}
         refuted = self.refuted_by()
         if refuted is not None:
             return {**found, "outcome": "skipped", "message": f"seed {refuted} gave a refutation, which holds for all seeds"}
         began = time.monotonic()
-        done = self.osc("generate", "--seed", str(seed), "--cuts", str(self.asked.cuts))
+        done = self.osc("generate", "--seed", str(seed), "--cuts", str(self.cuts))
         found.update(status=done.returncode, seconds=round(time.monotonic() - began, 3))
         if done.returncode == 0:
             return {**found, **self.run(seed, done.stdout)}
@@ -83,7 +83,7 @@ class Batch:
 
     def export(self, seed):
         """Exports a run in the forms that aren't there; an error if that fails."""
-        for form in self.exports:
+        for form in self.order["exports"]:
             if not os.path.exists(self.path(seed, form)):
                 done = self.osc("export", self.path(seed, "json"), "--as", form)
                 if done.returncode:
@@ -124,12 +124,6 @@ class Batch:
             if lines and lines[0] == {"key": self.key}:
                 rows.update((row["seed"], row) for row in lines[1:])
         return {seed: row for seed, row in rows.items() if row["outcome"] != "run" or os.path.exists(self.path(seed, "json"))}
-
-
-def can_export(out):
-    """Whether the program of the campaign exports runs, as the workflow found out at its beginning."""
-    with open(f"{out}/program.json", encoding="utf-8") as it:
-        return json.load(it)["exports"]
 
 
 class writing:
@@ -173,7 +167,7 @@ def begin(journal, key):
 def make(batch, seeds):
     """The row of each seed. Another process that makes this batch is waited for."""
     os.makedirs(batch.folder, exist_ok=True)
-    with open(f"{batch.folder}/{batch.asked.batch}.journal", "ab+") as journal:
+    with open(f"{batch.folder}/{batch.name}.journal", "ab+") as journal:
         fcntl.flock(journal, fcntl.LOCK_EX)
         begin(journal, batch.key)
         known = batch.known()
@@ -191,24 +185,24 @@ def make(batch, seeds):
 
 def words():
     it = argparse.ArgumentParser(description=__doc__.partition("\n\n")[0], epilog=__doc__.partition("\n\n")[2])
-    for name in ("program", "out", "name", "setting", "file", "scenario", "batch"):
-        it.add_argument(f"--{name}", required=True)
-    it.add_argument("--options", default="", help="the setting, as words of osc")
-    it.add_argument("--exports", default="", help="forms with commas between")
+    it.add_argument("order", help="the file that says of which scenario, in which setting and by which program runs are made")
     it.add_argument("--cuts", type=int, required=True)
     it.add_argument("--seeds", type=read_seeds, required=True, help="as 0..99 or 1,5,9")
-    it.add_argument("--rows", required=True, help="the file that gets a line of JSON for each seed")
+    it.add_argument("--rows", required=True, help="the file that gets a line of JSON for each seed; the journal has its name")
     return it.parse_args()
 
 
 def main():
     asked = words()
-    batch = Batch(asked)
+    with open(asked.order, encoding="utf-8") as it:
+        order = json.load(it)
+    batch = Batch(order, asked.cuts, os.path.splitext(os.path.basename(asked.rows))[0])
     rows = list(make(batch, asked.seeds))
     with writing(asked.rows) as file:
         file.write("".join(json.dumps(row) + "\n" for row in rows).encode())
     counts = Counter(row["outcome"] for row in rows)
-    print(f"{asked.name}, {asked.setting}, {asked.cuts} cuts, batch {asked.batch}: {', '.join(f'{n} {it}' for it, n in counts.items())}", file=sys.stderr)
+    told = ", ".join(f"{count} {outcome}" for outcome, count in counts.items())
+    print(f"{order['name']}, {order['setting']}, {asked.cuts} cuts, {batch.name}: {told}", file=sys.stderr)
 
 
 if __name__ == "__main__":

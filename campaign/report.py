@@ -1,7 +1,6 @@
 """The ends of a campaign: summary.csv, junit.xml and report.html over the rows of all runs."""
 import csv
 import json
-import subprocess
 import xml.etree.ElementTree as xml
 from html import escape
 
@@ -29,17 +28,6 @@ svg text { font: 11px system-ui, sans-serif; fill: var(--soft); } @media print {
 """
 
 
-def write_program(campaign, path):
-    """Writes the version of the program, and whether it exports runs. If it can't be called, no run is made."""
-    version = subprocess.run([campaign.program, "--version"], stdin=subprocess.DEVNULL, stdout=subprocess.PIPE, text=True, check=True)
-    helped = subprocess.run([campaign.program, "export", "--help"], stdin=subprocess.DEVNULL, stdout=subprocess.PIPE, stderr=subprocess.PIPE, check=False)
-    found = {"program": campaign.program, "version": version.stdout.strip(), "exports": helped.returncode == 0}
-    if campaign.exports and not found["exports"]:
-        print(f"campaign: {found['version']} has no command export: nothing is exported")
-    with open(path, "w", encoding="utf-8") as it:
-        json.dump(found, it)
-
-
 def read_rows(campaign, names):
     """The rows of all runs that are asked for, group by group. What wasn't tried, since an answer holds for all seeds, is skipped."""
     found = {}
@@ -48,12 +36,19 @@ def read_rows(campaign, names):
             for row in map(json.loads, lines):
                 found[row["scenario"], row["setting"], row["cuts"], row["seed"]] = row
     for group in campaign.groups:
-        first = found.get((group.name, group.setting, max(campaign.cuts), campaign.seeds[0]))
+        first = found[group.name, group.setting, max(campaign.cuts), campaign.seeds[0]]
         for cuts in campaign.cuts:
             for seed in campaign.seeds:
                 row = found.get((group.name, group.setting, cuts, seed))
+                if row is None and not holds_for_all(first):
+                    raise ValueError(f"no row for {group.folder}, {cuts} cuts, seed {seed}")
                 yield row or {"scenario": group.name, "setting": group.setting, "cuts": cuts, "seed": seed, "outcome": "skipped",
                               "message": f"seed {first['seed']}: {first['outcome']}, which holds for all seeds"}
+
+
+def holds_for_all(row):
+    """Whether a scenario has this answer with all seeds: a refutation, a fault, or refused words or files."""
+    return row["outcome"] in ("refuted", "fault") or row.get("status") in (4, 6)
 
 
 def failure(group, row):
@@ -199,12 +194,16 @@ def measured_part(campaign, parts):
     return f"<h2>Gaps and times to collision</h2>{note}{''.join(lines)}" if lines else ""
 
 
-def write_page(campaign, rows, program, path):
+def not_exported(campaign, order):
+    return campaign.exports and not order["exports"]
+
+
+def write_page(campaign, rows, order, path):
     parts = [(group, cuts, [row for row in rows if (row["scenario"], row["setting"], row["cuts"]) == (group.name, group.setting, cuts)])
              for group in campaign.groups for cuts in campaign.cuts]
     spent = sum(row.get("seconds", 0) for row in rows)
-    head = f"{len(rows):,} runs were asked for. {escape(program['version'])} took {spent:,.0f} s for them, as the sum over all runs."
-    if campaign.exports and not program["exports"]:
+    head = f"{len(rows):,} runs were asked for. {escape(order['version'])} took {spent:,.0f} s for them, as the sum over all runs."
+    if not_exported(campaign, order):
         head += " Exports were asked for, and this program has no command <code>export</code>: nothing is exported."
     page = [HEAD, f'<h1>Campaign {escape(campaign.out)}</h1><p class="soft">{head}</p>', tiles(rows), wrong_part(parts), "<h2>Outcome by scenario</h2>", outcome_table(parts),
             measured_part(campaign, parts), "</body></html>\n"]
@@ -215,17 +214,19 @@ def write_page(campaign, rows, program, path):
 def write(campaign, names, summary, junit, page):
     """Writes the three files over the rows in the files of these names."""
     rows = list(read_rows(campaign, names))
-    with open(f"{campaign.out}/program.json", encoding="utf-8") as it:
-        program = json.load(it)
+    with open(f"{campaign.out}/orders.json", encoding="utf-8") as it:
+        order = json.load(it)
     write_summary(rows, summary)
     write_junit(campaign, rows, junit)
-    write_page(campaign, rows, program, page)
+    write_page(campaign, rows, order, page)
+    if not_exported(campaign, order):
+        print(f"campaign: {order['version']} has no command export: nothing is exported")
     print(f"{told(rows)}\n{page}", flush=True)
 
 
 def must_pass(junit):
-    """Ends with an error if a test failed."""
+    """Raises an error if a test failed."""
     top = xml.parse(junit).getroot()
     failed = int(top.get("failures")) + int(top.get("errors"))
     if failed:
-        raise SystemExit(f"{failed} of {top.get('tests')} runs aren't as expected: see the report")
+        raise RuntimeError(f"{failed} of {top.get('tests')} runs aren't as expected: see the report")
