@@ -61,20 +61,22 @@ class Campaign:
     def write_orders(self):
         """Writes the orders, and one of the whole campaign. A file that says it already stays as it is, and so does its time."""
         version, exports = self.ask_program()
-        whole_order = {"version": version, "exports": exports, "seeds": write_seeds(self.seeds), "cuts": self.cuts, "groups": [vars(it) for it in self.groups]}
+        groups = [vars(it) for it in self.groups]
+        whole_order = {"version": version, "exports": exports, "seeds": write_seeds(self.seeds), "cuts": self.cuts, "groups": groups}
         write_changed(f"{self.out}/orders.json", whole_order)
         for group in self.groups:
             write_changed(self.order(group), {"program": self.program, "out": self.out, "exports": exports, **vars(group)})
 
     def ask_program(self):
         """The version of the program, and the forms that it is to export. The call builds it if it has to be built."""
+        how = {"stdin": subprocess.DEVNULL, "stdout": subprocess.PIPE, "text": True}
         try:
-            version = subprocess.run([self.program, "--version"], stdin=subprocess.DEVNULL, stdout=subprocess.PIPE, text=True, check=True)
+            version = subprocess.run([self.program, "--version"], check=True, **how)
         except (OSError, subprocess.CalledProcessError) as why:
             raise Wrong(f"program: {why}") from None
         if not self.exports:
             return version.stdout.strip(), []
-        helped = subprocess.run([self.program, "export", "--help"], stdin=subprocess.DEVNULL, stdout=subprocess.DEVNULL, stderr=subprocess.DEVNULL, check=False)
+        helped = subprocess.run([self.program, "export", "--help"], stderr=subprocess.DEVNULL, check=False, **how)
         return version.stdout.strip(), [] if helped.returncode else self.exports
 
 
@@ -169,8 +171,8 @@ def read_scenario(value):
 def read_setting(value):
     """The name of a setting, and its options."""
     it = table(value, SETTING_KEYS, "settings")
-    options = [word for key in ("ticks", "lanes", "road") if key in it for word in (f"--{key}", str(whole(it[key], f"settings: {key}", 1, 10000)))]
-    return named(it.get("name", "default"), "settings: name"), tuple(options)
+    options = tuple(f"--{key}={whole(it[key], f'settings: {key}', 1, 10000)}" for key in ("ticks", "lanes", "road") if key in it)
+    return named(it.get("name", "default"), "settings: name"), options
 
 
 def distinct(names, what):

@@ -28,7 +28,8 @@ def bar(counts):
     for outcome, count in counts.items():
         wide = 160 * count / whole
         if count:
-            parts.append(f'<rect x="{x:.1f}" y="3" width="{max(wide, 1):.1f}" height="12" fill="var(--{outcome})"><title>{count:,} {outcome}</title></rect>')
+            parts.append(f'<rect x="{x:.1f}" y="3" width="{max(wide, 1):.1f}" height="12" fill="var(--{outcome})">'
+                         f"<title>{count:,} {outcome}</title></rect>")
         x += wide
     return svg(162, 18, *parts)
 
@@ -41,11 +42,15 @@ def histogram(values, title):
     for value in values:
         counts[min(int((value - low) / wide), BINS - 1)] += 1
     most, left, bottom, step = max(counts), 40, 120, 14
-    bars = [f'<rect x="{left + k * step + 1}" y="{bottom - 100 * count / most:.1f}" width="{step - 2}" height="{100 * count / most:.1f}" fill="var(--run)">'
-            f"<title>{plain(low + k * wide)} to {plain(low + (k + 1) * wide)}: {count:,}</title></rect>" for k, count in enumerate(counts) if count]
-    right = left + BINS * step
-    return svg(right + 20, 160, line(left, bottom, right, bottom), label(left - 6, 24, f"{most:,}", "end"), label(left - 6, bottom, "0", "end"), *bars,
-               label(left, bottom + 15, plain(low)), label(right, bottom + 15, plain(low + BINS * wide), "end"), label(left, bottom + 33, title))
+    right, bars = left + BINS * step, []
+    for k, count in enumerate(counts):
+        if count:
+            high, ends = 100 * count / most, f"{plain(low + k * wide)} to {plain(low + (k + 1) * wide)}"
+            bars.append(f'<rect x="{left + k * step + 1}" y="{bottom - high:.1f}" width="{step - 2}" height="{high:.1f}" fill="var(--run)">'
+                        f"<title>{ends}: {count:,}</title></rect>")
+    axes = [line(left, bottom, right, bottom), label(left - 6, 24, f"{most:,}", "end"), label(left - 6, bottom, "0", "end"),
+            label(left, bottom + 15, plain(low)), label(right, bottom + 15, plain(low + BINS * wide), "end"), label(left, bottom + 33, title)]
+    return svg(right + 20, 160, *axes, *bars)
 
 
 def run(of, tick):
@@ -55,9 +60,12 @@ def run(of, tick):
     ahead = [(name, [(it[1] - base[1]) / 1e6 for it, base in zip(samples, first)]) for name, samples in traces]
     speeds = [(name, [it[2] / 1e3 for it in samples]) for name, samples in traces]
     lanes = [(name, [it[0] for it in samples]) for name, samples in traces]
-    charts = [chart(ahead, tick, f"ahead of {traces[0][0]}, m", 0, False), chart(speeds, tick, "speed, m/s", 310, True), chart(lanes, tick, "lane", 620, True)]
-    names = [f'<circle cx="{8 + 120 * k}" cy="10" r="5" fill="{colour}"/>' + label(18 + 120 * k, 14, name) for k, ((name, _), colour) in enumerate(zip(traces, COLOURS))]
-    more = [label(8 + 120 * len(COLOURS), 14, f"and {len(of['traces']) - len(COLOURS)} others")] if len(of["traces"]) > len(COLOURS) else []
+    charts = [chart(ahead, tick, f"ahead of {traces[0][0]}, m", 0, False), chart(speeds, tick, "speed, m/s", 310, True),
+              chart(lanes, tick, "lane", 620, True)]
+    names = [f'<circle cx="{8 + 120 * k}" cy="10" r="5" fill="{colour}"/>{label(18 + 120 * k, 14, name)}'
+             for k, ((name, _), colour) in enumerate(zip(traces, COLOURS))]
+    others = len(of["traces"]) - len(traces)
+    more = [label(8 + 120 * len(traces), 14, f"and {others} others")] if others else []
     above, height = road(traces, tick)
     return svg(920, 175 + height, *names, *more, *above, f'<g transform="translate(0 {30 + height})">', *charts, "</g>")
 
@@ -89,8 +97,9 @@ def chart(lines, tick, title, left, stepped):
     high = high if high > low else low + 1
     ticks = max(len(lines[0][1]) - 1, 1)
     across, up = (lambda t: left + 44 + 236 * t / ticks), (lambda v: 110 - 90 * (v - low) / (high - low))
-    parts = [line(left + 44, 110, left + 280, 110), line(left + 44, 20, left + 44, 110), line(across(tick), 20, across(tick), 110, 'stroke-dasharray="3 3"'),
-             label(left + 38, 26, plain(high), "end"), label(left + 38, 110, plain(low), "end"), label(left + 44, 12, title),
+    parts = [line(left + 44, 110, left + 280, 110), line(left + 44, 20, left + 44, 110),
+             line(across(tick), 20, across(tick), 110, 'stroke-dasharray="3 3"'), label(left + 44, 12, title),
+             label(left + 38, 26, plain(high), "end"), label(left + 38, 110, plain(low), "end"),
              label(left + 44, 125, "0 s"), label(left + 280, 125, f"{ticks / 10:.1f} s", "end")]
     for (_, its), colour in zip(lines, COLOURS):
         points = [(t, v) for k, v in enumerate(its) for t in ([k, k + 1] if stepped and k < len(its) - 1 else [k])]

@@ -6,21 +6,26 @@ from html import escape
 
 import pictures
 
-OUTCOMES = ("run", "refuted", "undecided", "fault", "error", "skipped")
-PLAIN = ("scenario", "setting", "cuts", "seed", "outcome", "status", "seconds", "end_s", "least_gap_m", "least_time_to_collision_s", "message")
+NAMES = {"run": "runs", "refuted": "refuted", "undecided": "undecided", "fault": "faults", "error": "errors", "skipped": "skipped"}
+OUTCOMES = tuple(NAMES)
+PLAIN = ("scenario", "setting", "cuts", "seed", "outcome", "status", "seconds", "end_s", "least_gap_m", "least_time_to_collision_s",
+         "message")
 HEAD = """<!DOCTYPE html>
 <html lang="en"><head><meta charset="utf-8"><meta name="viewport" content="width=device-width"><title>Campaign</title><style>
 :root { --text: #1f2328; --soft: #59636e; --line: #d1d9e0; --page: #ffffff; --area: #f6f8fa; color-scheme: light dark;
   --run: #2f6fb7; --refuted: #7a5195; --undecided: #d9a514; --fault: #c0392b; --error: #7f1d1d; --skipped: #aab2bb; }
 @media (prefers-color-scheme: dark) { :root { --text: #e6edf3; --soft: #9aa4af; --line: #3d444d; --page: #14181d; --area: #1d2229;
   --run: #5b9be0; --refuted: #b08fd0; --undecided: #e0b53c; --fault: #f0705f; --error: #d65c5c; --skipped: #6e7681; } }
-body { font: 15px/1.5 system-ui, sans-serif; color: var(--text); background: var(--page); margin: 2rem auto; max-width: 62rem; padding: 0 1rem; }
+body { font: 15px/1.5 system-ui, sans-serif; color: var(--text); background: var(--page); margin: 2rem auto; max-width: 62rem;
+  padding: 0 1rem; }
 h1 { font-size: 1.6rem; margin: 0; } h2 { font-size: 1.2rem; margin: 2.2rem 0 .6rem; } h3 { font-size: 1rem; margin: 1.6rem 0 .4rem; }
 p { margin: .4rem 0; } .soft, figcaption { color: var(--soft); font-size: .87rem; }
-.tiles { display: flex; flex-wrap: wrap; gap: .7rem; margin: 1.2rem 0; } .tile { background: var(--area); border-left: 4px solid; padding: .5rem .9rem; }
+.tiles { display: flex; flex-wrap: wrap; gap: .7rem; margin: 1.2rem 0; }
+.tile { background: var(--area); border-left: 4px solid; padding: .5rem .9rem; }
 .tile b { display: block; font-size: 1.5rem; line-height: 1.2; } .wide { overflow-x: auto; }
 table { border-collapse: collapse; font-variant-numeric: tabular-nums; } th { color: var(--soft); font-weight: 500; font-size: .85rem; }
-td, th { padding: .3rem .7rem .3rem 0; text-align: right; border-bottom: 1px solid var(--line); white-space: nowrap; } td.name, th.name { text-align: left; }
+td, th { padding: .3rem .7rem .3rem 0; text-align: right; border-bottom: 1px solid var(--line); white-space: nowrap; }
+td.name, th.name { text-align: left; }
 pre { background: var(--area); padding: .7rem; overflow-x: auto; font-size: .82rem; margin: .3rem 0 1rem; }
 figure { margin: .4rem 0 1.2rem; } .row { display: flex; flex-wrap: wrap; gap: 1.5rem; } svg { max-width: 100%; height: auto; display: block; }
 svg text { font: 11px system-ui, sans-serif; fill: var(--soft); } @media print { body { margin: 0; } figure, tr { break-inside: avoid; } }
@@ -90,14 +95,16 @@ def printable(text):
 
 def write_junit(campaign, rows, path):
     """A test suite for each scenario in a setting. Undecided and skipped are skipped tests."""
-    top = xml.Element("testsuites")
+    top, by_group = xml.Element("testsuites"), {}
+    for row in rows:
+        by_group.setdefault((row["scenario"], row["setting"]), []).append(row)
     for group in campaign.groups:
-        its = [row for row in rows if (row["scenario"], row["setting"]) == (group.name, group.setting)]
+        its = by_group[group.name, group.setting]
         suite = xml.SubElement(top, "testsuite", name=f"{group.name}.{group.setting}", tests=str(len(its)))
         counts = dict.fromkeys(("failures", "errors", "skipped"), 0)
         for row in its:
-            case = xml.SubElement(suite, "testcase", classname=f"{group.name}.{group.setting}", name=f"seed {row['seed']}, {row['cuts']} cuts",
-                                  time=str(row.get("seconds", 0)))
+            case = xml.SubElement(suite, "testcase", classname=suite.get("name"), name=f"seed {row['seed']}, {row['cuts']} cuts")
+            case.set("time", str(row.get("seconds", 0)))
             wrong = failure(group, row)
             if wrong:
                 kind = "error" if row["outcome"] in ("fault", "error") else "failure"
@@ -121,28 +128,29 @@ def told(rows):
     """One line of counts."""
     counts = counted(rows)
     different = len({(row["scenario"], row["setting"], row["digest"]) for row in rows if row["outcome"] == "run"})
-    return f"{len(rows)} asked for: {counts['run']} runs, {different} of them different, " + ", ".join(f"{counts[it]} {it}" for it in OUTCOMES[1:])
+    others = ", ".join(f"{counts[it]} {NAMES[it]}" for it in OUTCOMES[1:])
+    return f"{len(rows)} asked for: {counts['run']} runs, {different} of them different, {others}"
 
 
 def tiles(rows):
-    names = {"run": "runs", "refuted": "refuted", "undecided": "undecided", "fault": "faults", "error": "errors", "skipped": "skipped"}
-    shown = "".join(f'<div class="tile" style="border-color: var(--{it})"><b>{count:,}</b>{names[it]}</div>' for it, count in counted(rows).items())
-    return f'<div class="tiles">{shown}</div>'
+    shown = [f'<div class="tile" style="border-color: var(--{it})"><b>{count:,}</b>{NAMES[it]}</div>' for it, count in counted(rows).items()]
+    return f'<div class="tiles">{"".join(shown)}</div>'
 
 
 def outcome_table(parts):
     """Outcomes by scenario, with a bar for each."""
-    head = ["runs", "different", "refuted", "undecided", "faults", "errors", "skipped", "seconds a run", "longest"]
-    lines = ['<div class="wide"><table><tr><th class="name">Scenario</th><th class="name">Setting</th><th class="name">Cuts</th><th class="name"></th>',
-             *[f"<th>{it}</th>" for it in head], "</tr>"]
-    for group, cuts, rows in parts:
-        counts, times = counted(rows), [row["seconds"] for row in rows if "seconds" in row]
-        different = len({row["digest"] for row in rows if row["outcome"] == "run"})
-        cells = [counts["run"], different, *[counts[it] for it in OUTCOMES[1:]]]
-        cells += [f"{sum(times) / len(times):.2f}", f"{max(times):.2f}"] if times else ["", ""]
-        lines.append(f'<tr><td class="name">{escape(group.name)}</td><td class="name">{escape(group.setting)}</td><td class="name">{cuts:,}</td>'
-                     f'<td class="name">{pictures.bar(counts)}</td>' + "".join(f"<td>{it:,}</td>" if isinstance(it, int) else f"<td>{it}</td>" for it in cells) + "</tr>")
-    return "".join(lines) + "</table></div>"
+    head = [f'<th class="name">{it}</th>' for it in ("Scenario", "Setting", "Cuts", "")]
+    head += [f"<th>{it}</th>" for it in ("runs", "different", *[NAMES[it] for it in OUTCOMES[1:]], "seconds a run", "longest")]
+    return f'<div class="wide"><table><tr>{"".join(head)}</tr>{"".join(outcome_line(*it) for it in parts)}</table></div>'
+
+
+def outcome_line(group, cuts, rows):
+    counts, times = counted(rows), [row["seconds"] for row in rows if "seconds" in row]
+    different = len({row["digest"] for row in rows if row["outcome"] == "run"})
+    numbers = [f"{it:,}" for it in (counts["run"], different, *[counts[it] for it in OUTCOMES[1:]])]
+    numbers += [f"{sum(times) / len(times):.2f}", f"{max(times):.2f}"] if times else ["", ""]
+    names = [escape(group.name), escape(group.setting), f"{cuts:,}", pictures.bar(counts)]
+    return "<tr>" + "".join(f'<td class="name">{it}</td>' for it in names) + "".join(f"<td>{it}</td>" for it in numbers) + "</tr>"
 
 
 def wrong_part(parts):
@@ -189,8 +197,9 @@ def measured_part(campaign, parts):
             charts += [pictures.histogram(times, f"least time to collision, s ({len(times):,} of {len(gaps):,} runs have one)")] if times else []
             lines.append(f'<h3>{escape(group.name)}, {escape(group.setting)}, {cuts:,} cuts</h3><div class="row">{"".join(charts)}</div>'
                          + extremes(campaign, rows))
-    note = ('<p class="soft">The gap is the distance of the positions of a vehicle and of the next one ahead in its lane, at a tick. The time to collision '
-            "is the time in which the gap would be gone at their speeds; there is none if the vehicle isn't faster than the one ahead.</p>")
+    note = ('<p class="soft">The gap is the distance of the positions of a vehicle and of the next one ahead in its lane, at a tick. The time '
+            "to collision is the time in which the gap would be gone at their speeds. There is none if the vehicle isn't faster than the one "
+            "ahead.</p>")
     return f"<h2>Gaps and times to collision</h2>{note}{''.join(lines)}" if lines else ""
 
 
@@ -199,14 +208,16 @@ def not_exported(campaign, order):
 
 
 def write_page(campaign, rows, order, path):
-    parts = [(group, cuts, [row for row in rows if (row["scenario"], row["setting"], row["cuts"]) == (group.name, group.setting, cuts)])
-             for group in campaign.groups for cuts in campaign.cuts]
+    by_part = {}
+    for row in rows:
+        by_part.setdefault((row["scenario"], row["setting"], row["cuts"]), []).append(row)
+    parts = [(group, cuts, by_part[group.name, group.setting, cuts]) for group in campaign.groups for cuts in campaign.cuts]
     spent = sum(row.get("seconds", 0) for row in rows)
     head = f"{len(rows):,} runs were asked for. {escape(order['version'])} took {spent:,.0f} s for them, as the sum over all runs."
     if not_exported(campaign, order):
         head += " Exports were asked for, and this program has no command <code>export</code>: nothing is exported."
-    page = [HEAD, f'<h1>Campaign {escape(campaign.out)}</h1><p class="soft">{head}</p>', tiles(rows), wrong_part(parts), "<h2>Outcome by scenario</h2>", outcome_table(parts),
-            measured_part(campaign, parts), "</body></html>\n"]
+    page = [HEAD, f'<h1>Campaign {escape(campaign.out)}</h1><p class="soft">{head}</p>', tiles(rows), wrong_part(parts),
+            "<h2>Outcome by scenario</h2>", outcome_table(parts), measured_part(campaign, parts), "</body></html>\n"]
     with open(path, "w", encoding="utf-8") as it:
         it.write("".join(page))
 
