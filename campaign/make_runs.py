@@ -31,6 +31,7 @@ class Batch:
         self.order, self.cuts, self.name = order, cuts, name
         self.folder = f"{order['out']}/runs/{order['name']}/{order['setting']}/{cuts}"
         self.refutation = f"{order['out']}/refutations/{order['name']}.{order['setting']}"
+        self.part = f"{cuts}-{name}.part"  # what the names of files end with that aren't whole
         self.key = self.content_key()
 
     def content_key(self):
@@ -55,7 +56,8 @@ class Batch:
         found = {"scenario": self.order["name"], "setting": self.order["setting"], "cuts": self.cuts, "seed": seed}
         refuted = self.refuted_by()
         if refuted is not None:
-            return {**found, "outcome": "skipped", "message": f"seed {refuted} gave a refutation, which holds for all seeds"}
+            outcome = "refuted" if self.name.startswith("first-") else "skipped"
+            return {**found, "outcome": outcome, "message": f"seed {refuted} gave a refutation, which holds for all seeds"}
         began = time.monotonic()
         done = self.osc("generate", "--seed", str(seed), "--cuts", str(self.cuts))
         found.update(status=done.returncode, seconds=round(time.monotonic() - began, 3))
@@ -69,7 +71,7 @@ class Batch:
 
     def run(self, seed, text):
         path = self.path(seed, "json")
-        with writing(path) as file:
+        with writing(path, self.part) as file:
             file.write(text)
             file.flush()
             checked = self.osc("check", file.name)
@@ -77,29 +79,27 @@ class Batch:
             return {"outcome": "error", "message": f"check of {path}: {message(checked)}"}
         run = json.loads(text)
         found = {"outcome": "run", "end": run["end"], "digest": hashlib.sha256(text).hexdigest()[:12], "values": dict(run["values"])}
-        for measure, least in (("gap", least_gap(run)), ("time", least_time(run))):
-            found[measure] = least
-        return {**found, **self.export(seed)}
+        return {**found, "gap": least_gap(run), "time": least_time(run), **self.export(seed, is_new=True)}
 
-    def export(self, seed):
-        """Exports a run in the forms that aren't there; an error if that fails."""
+    def export(self, seed, is_new=False):
+        """Exports a run; one that isn't new in the forms that aren't there. An error if that fails."""
         for form in self.order["exports"]:
-            if not os.path.exists(self.path(seed, form)):
+            if is_new or not os.path.exists(self.path(seed, form)):
                 done = self.osc("export", self.path(seed, "json"), "--as", form)
                 if done.returncode:
                     return {"outcome": "error", "message": f"export as {form}: {message(done)}"}
-                with writing(self.path(seed, form)) as file:
+                with writing(self.path(seed, form), self.part) as file:
                     file.write(done.stdout)
         return {}
 
     def refuted(self, seed, text):
-        with writing(f"{self.refutation}.txt") as file:
+        with writing(f"{self.refutation}.txt", self.part) as file:
             file.write(text)
             file.flush()
             verified = self.osc("verify", file.name)
         if verified.returncode:
             return {"outcome": "error", "message": f"verify of {self.refutation}.txt: {message(verified)}"}
-        with writing(f"{self.refutation}.json") as file:
+        with writing(f"{self.refutation}.json", self.part) as file:
             file.write(json.dumps({"key": self.key, "seed": seed}).encode())
         return {"outcome": "refuted"}
 
@@ -129,9 +129,9 @@ class Batch:
 class writing:
     """A file that gets its name when it is whole."""
 
-    def __init__(self, path):
+    def __init__(self, path, part):
         os.makedirs(os.path.dirname(path), exist_ok=True)
-        self.path, self.file = path, open(f"{path}.{os.getpid()}.part", "wb")
+        self.path, self.file = path, open(f"{path}.{part}", "wb")
 
     def __enter__(self):
         return self.file
@@ -152,7 +152,7 @@ def message(done):
 
 
 def begin(journal, key):
-    """Cuts off what isn't whole in a journal; of other sources all of it."""
+    """Cuts off what isn't whole in a journal. If it is of another content, all of it goes."""
     journal.seek(0)
     lines = journal.read().split(b"\n")
     head = json.dumps({"key": key}).encode()
@@ -169,6 +169,8 @@ def make(batch, seeds):
     os.makedirs(batch.folder, exist_ok=True)
     with open(f"{batch.folder}/{batch.name}.journal", "ab+") as journal:
         fcntl.flock(journal, fcntl.LOCK_EX)
+        for name in glob.glob(f"{glob.escape(batch.folder)}/*.{batch.part}"):
+            os.remove(name)
         begin(journal, batch.key)
         known = batch.known()
         for seed in seeds:
@@ -198,7 +200,7 @@ def main():
         order = json.load(it)
     batch = Batch(order, asked.cuts, os.path.splitext(os.path.basename(asked.rows))[0])
     rows = list(make(batch, asked.seeds))
-    with writing(asked.rows) as file:
+    with writing(asked.rows, batch.part) as file:
         file.write("".join(json.dumps(row) + "\n" for row in rows).encode())
     counts = Counter(row["outcome"] for row in rows)
     told = ", ".join(f"{count} {outcome}" for outcome, count in counts.items())

@@ -76,11 +76,11 @@ def seconds(row):
 
 
 def write_summary(rows, path):
-    """A line for each run. After the plain columns comes one for each field, with its number as in the text of a run."""
+    """A line for each run. After the plain columns comes one for each field, which has its number as in the text of a run."""
     fields = list(dict.fromkeys(path for row in rows for path in row.get("values", {})))
     with open(path, "w", newline="", encoding="utf-8") as file:
         lines = csv.writer(file)
-        lines.writerow([*PLAIN, *fields])
+        lines.writerow([*PLAIN, *[f"field.{it}" for it in fields]])
         for row in rows:
             end = f"{row['end'] / 10:.1f}" if "end" in row else ""
             plain = [row["scenario"], row["setting"], row["cuts"], row["seed"], row["outcome"], row.get("status", ""), row.get("seconds", ""),
