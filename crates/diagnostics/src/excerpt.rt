@@ -81,11 +81,22 @@ fn word_len(bytes: &[u8]) -> usize {
         .count()
 }
 
+/// The length of the number that the bytes begin with, whose part before a point has this length. Else that length.
+fn number_len(bytes: &[u8], whole: usize) -> usize {
+    let is_number = matches!(bytes.first(), Some(b'0'..=b'9'));
+    match bytes.get(whole..) {
+        Some([b'.', rest @ ..]) if is_number && matches!(rest.first(), Some(b'0'..=b'9')) => {
+            whole.saturating_add(1).saturating_add(word_len(rest))
+        }
+        _ => whole,
+    }
+}
+
 /// The length of the word that the bytes begin with, else of the character there.
 fn marked_len(bytes: &[u8]) -> usize
     ensures { result ≤ length bytes.now }
 {
-    let word = word_len(bytes);
+    let word = number_len(bytes, word_len(bytes));
     match bytes.first() {
         None => 0,
         Some(first) if word == 0 => character_len(*first).min(bytes.len()),

@@ -27,10 +27,19 @@ pub fn program_of(
     words: &[String],
     kept: &mut MemoryShelf,
 ) -> Result<Option<Program>, AllocError> {
-    let Some(source) = source_in(alloc, words)? else {
-        return Ok(None);
-    };
-    match load(alloc, kept, source.file) {
+    match source_in(alloc, words)? {
+        Some(source) => load_kept(alloc, source.file, kept),
+        None => Ok(None),
+    }
+}
+
+/// The program of a main file, if all its files are kept.
+pub fn load_kept(
+    alloc: Global,
+    main: &str,
+    kept: &mut MemoryShelf,
+) -> Result<Option<Program>, AllocError> {
+    match load(alloc, kept, main) {
         Ok(program) => Ok(Some(program)),
         Err(LoadStop::Memory) => Err(AllocError),
         Err(_) => Ok(None),

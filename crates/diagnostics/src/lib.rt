@@ -22,7 +22,7 @@ mod words;
 
 pub use closed_rules::ClosedRules;
 pub use excerpt::line_start;
-pub use kept_files::{bytes_of, program_of, source_of};
+pub use kept_files::{bytes_of, load_kept, source_of};
 pub use message::{gutter_of, put_help, put_site};
 pub use noted_shelf::NotedShelf;
 pub use noted_sink::NotedSink;

@@ -24,6 +24,7 @@ pub use form::Help;
 pub use nearest::{Nearest, nearest_of};
 pub use program_names::{
     Declared, all_units, declared_names, first_of, nearest_name, scenarios, type_around,
+    type_of_member,
 };
 pub use text_parts::{
     first_part, first_word, indentation, is_name, is_number, last_part, last_word, unit_of,

@@ -12,7 +12,7 @@ use std::alloc::{AllocError, Global};
 /// The most ticks of a setting.
 const MOST_TICKS: u32 = 600;
 /// How many places are shown.
-const SHOWN: usize = 6;
+const SHOWN: usize = 8;
 /// The name of the library's file.
 const LIBRARY: &str = "osc";
 
@@ -156,9 +156,11 @@ fn put_needed(
     let count = places.iter().filter(|it| it.file != LIBRARY).count();
     match count {
         0 => return put_none_needed(text),
-        1 => text.push_str("  this constraint leaves none, with how phases and vehicles go on:\n")?,
+        1 => text.push_str(
+            "  no run meets this constraint, with how phases follow and vehicles move:\n",
+        )?,
         _ => text.push_str(
-            "  these constraints leave none together, with how phases and vehicles go on:\n",
+            "  no run meets these constraints together, with how phases follow and vehicles move:\n",
         )?,
     }
     let mut shown = 0usize;
@@ -172,7 +174,7 @@ fn put_needed(
         let more = count.saturating_sub(shown);
         write!(text, "  and {more} more\n")?;
     }
-    put_library(text, places)
+    put_library(alloc, text, places, kept)
 }
 
 fn put_none_needed(text: &mut String) -> Result<(), AllocError> {
@@ -181,21 +183,32 @@ fn put_none_needed(text: &mut String) -> Result<(), AllocError> {
     )
 }
 
-/// Puts which places of the library the record needs besides.
-fn put_library(text: &mut String, places: &[RulePlace<'_>]) -> Result<(), AllocError> {
+/// Puts which initial values of the library the record needs besides.
+fn put_library(
+    alloc: Global,
+    text: &mut String,
+    places: &[RulePlace<'_>],
+    kept: &mut MemoryShelf,
+) -> Result<(), AllocError> {
+    let bytes = source_of(alloc, LIBRARY, kept)?;
     for place in places {
         if place.file == LIBRARY {
-            let limit = match place.line {
-                14 | 15 => "`max_speed`",
-                16 | 17 => "`max_acceleration`",
-                _ => "a constraint",
-            };
-            let (line, column) = (place.line, place.column);
-            write!(
-                text,
-                "  = note: it also needs {limit} of the library's `vehicle` ({LIBRARY}:{line}:{column})\n"
-            )?;
+            if let Some(view) = view_at(bytes_of(&bytes), *place) {
+                put_default(text, &view)?;
+            }
         }
     }
     Ok(())
+}
+
+/// Puts the field whose initial value stands at a place of the library.
+fn put_default(text: &mut String, view: &View<'_>) -> Result<(), AllocError> {
+    if !view.before.trim_end().ends_with('=') {
+        return Ok(());
+    }
+    let (before, value) = (view.before.trim(), view.number());
+    write!(
+        text,
+        "  = note: they also need the default `{before} {value}` of the library's `vehicle`\n"
+    )
 }

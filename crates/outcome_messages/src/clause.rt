@@ -2,12 +2,16 @@
 
 use crate::causes::{put_place, view_at};
 use crate::decimals::{put_decimal, put_tick};
+use crate::limits::is_duration;
 use crate::modifier::wrong_modifier;
 use crate::motion::wrong_motion;
 use crate::places::{RulePlace, place_in};
-use crate::run_parts::{end_of, item_of, number_at, samples_of, span_of};
+use crate::read_values::put_values;
+use crate::run_parts::{Sample, end_of, item_of, number_at, sample_at, samples_of, span_of};
 use crate::setting::Asked;
+use command_words::Setting;
 use diagnostics::{bytes_of, source_of};
+use mistake_helps::View;
 use outside_io::MemoryShelf;
 use serde_json::Value;
 use std::alloc::{AllocError, Global};
@@ -43,7 +47,7 @@ pub fn put_failed(
     put_clause(text, failed)?;
     text.push_str("\n")?;
     match failed.place {
-        Some(place) => put_at_place(alloc, text, failed, place, run.as_ref(), kept),
+        Some(place) => put_at_place(alloc, text, asked, failed, place, run.as_ref(), kept),
         None => put_at_path(alloc, text, asked, failed, run.as_ref()),
     }
 }
@@ -97,6 +101,7 @@ fn put_clause(text: &mut String, failed: Failed<'_>) -> Result<(), AllocError> {
 fn put_at_place(
     alloc: Global,
     text: &mut String,
+    asked: &Asked<'_>,
     failed: Failed<'_>,
     place: RulePlace<'_>,
     run: Option<&Value>,
@@ -106,15 +111,47 @@ fn put_at_place(
     let Some(run) = run else {
         return Ok(());
     };
-    if failed.path.contains('.') || failed.clause != "modifier" {
-        return Ok(());
-    }
     let bytes = source_of(alloc, place.file, kept)?;
     let Some(view) = view_at(bytes_of(&bytes), place) else {
         return Ok(());
     };
+    if failed.clause != "modifier" {
+        return put_read(alloc, text, asked, failed, &view, run, kept);
+    }
+    if failed.path.contains('.') {
+        return Ok(());
+    }
     let what = wrong_modifier(alloc, &view, run, failed.path)?;
     put_note(text, what.as_str())
+}
+
+/// Puts what the run has of the fields that a constraint reads, or how long a phase takes.
+fn put_read(
+    alloc: Global,
+    text: &mut String,
+    asked: &Asked<'_>,
+    failed: Failed<'_>,
+    view: &View<'_>,
+    run: &Value,
+    kept: &mut MemoryShelf,
+) -> Result<(), AllocError> {
+    let mut what = String::new(alloc);
+    if is_duration(view) {
+        put_length(&mut what, run, failed.path)?;
+    } else if failed.path == "." {
+        put_values(alloc, &mut what, view, run, asked, kept)?;
+    }
+    put_note(text, what.as_str())
+}
+
+/// Puts how long a phase takes.
+fn put_length(text: &mut String, run: &Value, path: &str) -> Result<(), AllocError> {
+    let Some((start, end)) = span_of(run, path) else {
+        return Ok(());
+    };
+    write!(text, "`{path}` takes ")?;
+    put_decimal(text, end.saturating_sub(start), 1)?;
+    write!(text, " s, from tick {start} to tick {end}")
 }
 
 /// Puts a line of its own, unless there is nothing to say.
@@ -141,7 +178,7 @@ fn put_at_path(
         "motion" => what = wrong_motion(alloc, run, failed.path)?,
         "end" => put_end(&mut what, run, asked.setting.ticks)?,
         "arranged" => put_span(&mut what, run, failed.path)?,
-        "bounds" => put_bounds(&mut what, run, failed.path)?,
+        "bounds" => put_bounds(&mut what, run, failed.path, asked.setting)?,
         "listed" => put_listed(&mut what, run, failed.path)?,
         _ => {}
     }
@@ -156,10 +193,9 @@ fn put_end(text: &mut String, run: &Value, ticks: u32) -> Result<(), AllocError>
     text.push_str("it ends at ")?;
     put_tick(text, end)?;
     if end > u64::from(ticks) {
-        return write!(
-            text,
-            ", and a run has at most {ticks} ticks (`--ticks {ticks}`)"
-        );
+        text.push_str(", and a run has at most ")?;
+        put_decimal(text, i64::from(ticks), 1)?;
+        return write!(text, " s (`--ticks {ticks}`)");
     }
     match span_of(run, "do") {
         Some((_, last)) => {
@@ -206,7 +242,15 @@ fn put_part(text: &mut String, phase: &Value, path: &str) -> Result<(), AllocErr
 }
 
 /// Puts what the run has at a path that isn't within its range.
-fn put_bounds(text: &mut String, run: &Value, path: &str) -> Result<(), AllocError> {
+fn put_bounds(
+    text: &mut String,
+    run: &Value,
+    path: &str,
+    setting: Setting,
+) -> Result<(), AllocError> {
+    if let Some(samples) = samples_of(run, path) {
+        return put_outside(text, samples, setting);
+    }
     if let Some(parts) = item_of(run, "values", path) {
         return match number_at(parts, 1) {
             Some(number) => {
@@ -226,6 +270,36 @@ fn put_bounds(text: &mut String, run: &Value, path: &str) -> Result<(), AllocErr
     }
 }
 
+/// Puts the first sample that isn't on the road.
+fn put_outside(text: &mut String, samples: &[Value], setting: Setting) -> Result<(), AllocError> {
+    let (lanes, road) = (setting.lanes, setting.road);
+    for tick in 0..samples.len() {
+        let Some(sample) = sample_at(samples, tick) else {
+            return Ok(());
+        };
+        let Sample {
+            lane,
+            position,
+            speed,
+        } = sample;
+        let is_on_lane = 1 <= lane && lane <= i64::from(lanes);
+        let is_on_road = 0 <= position && position <= i64::from(road).saturating_mul(1_000_000);
+        if !is_on_lane || !is_on_road || speed < 0 {
+            text.push_str("at ")?;
+            put_tick(text, u64::try_from(tick).unwrap_or(0))?;
+            write!(text, " it is on lane {lane} at ")?;
+            put_decimal(text, position, 6)?;
+            text.push_str(" m with a speed of ")?;
+            put_decimal(text, speed, 3)?;
+            return write!(
+                text,
+                " m/s: the road has the lanes 1 to {lanes} and {road} m"
+            );
+        }
+    }
+    Ok(())
+}
+
 /// Puts whether the run has a path that isn't listed as the scenario has it.
 fn put_listed(text: &mut String, run: &Value, path: &str) -> Result<(), AllocError> {
     let end = end_of(run).unwrap_or(0);
@@ -233,7 +307,7 @@ fn put_listed(text: &mut String, run: &Value, path: &str) -> Result<(), AllocErr
         let (count, wanted) = (samples.len(), end.saturating_add(1));
         return write!(
             text,
-            "it has {count} samples of `{path}`, and ends at tick {end}: {wanted} samples make a trace"
+            "samples of `{path}`: {count}, where a run to tick {end} has {wanted}"
         );
     }
     for list in ["choices", "values", "phases"] {

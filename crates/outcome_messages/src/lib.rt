@@ -15,6 +15,7 @@ mod modifier;
 mod motion;
 mod outcome;
 mod places;
+mod read_values;
 mod run_parts;
 mod setting;
 mod undecided;

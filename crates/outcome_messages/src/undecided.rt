@@ -18,7 +18,7 @@ pub fn put_undecided(
     let (scenario, file, cuts) = (asked.source.scenario, asked.source.file, asked.cuts);
     write!(
         text,
-        "undecided: after {cuts} cuts (`--cuts {cuts}`) `{scenario}` may still have a run within "
+        "undecided: {cuts} cuts (`--cuts {cuts}`) found no run of `{scenario}`, and no proof that there is none,\n  within "
     )?;
     put_setting(text, asked.setting)?;
     text.push_str("\n")?;
