@@ -4,6 +4,7 @@
 mod call;
 
 pub use call::{Outside, SOUND, answer};
+pub use scenario_tool::{one_answer, some_answer};
 
 #[cfg(test)]
 mod cases;

@@ -4,17 +4,17 @@ use Rattle.std.specs.Prelude.{filter, is_some, bytes_eq, nat_lt, option_map, opt
 use Rattle.std.specs.Option.{option_map_or}
 use Rattle.std.proofs.lemmas.Slice.Eq.{bytes_eq-Decides}
 use Rattle.osc_base.specs.declared.fault.Place.{Place}
-use Rattle.dsl_tree.specs.declared.parts.Ident.{Ident}
-use Rattle.dsl_tree.specs.declared.compounds.HeirCondition.{HeirCondition}
-use Rattle.dsl_tree.specs.FileTree.{FieldTree, MemberTree}
-use Rattle.type_heads.specs.Form.{Form}
-use Rattle.type_heads.specs.Table.{base, bases, form}
-use Rattle.type_heads.specs.Types.{Types, Written, Member, Field}
-use Rattle.type_heads.specs.Members.{has, heir_condition, is_conditional, items_in, list_length, members, members_of, fields_declared, fields, field, field_type, declared_type}
-use Rattle.type_heads.specs.Conditions.{Condition, condition_value, condition_on, condition}
-use Rattle.type_heads.specs.MemberFaults.{can_decide, condition_field, depends_on, decided_rows, field_rows}
-use Rattle.type_heads.specs.Cycles.{returns}
-use Rattle.expr_nodes.specs.Parts.{any_holds}
+use Rattle.expr_eval.specs.dsl_tree.declared.parts.Ident.{Ident}
+use Rattle.expr_eval.specs.dsl_tree.declared.compounds.HeirCondition.{HeirCondition}
+use Rattle.expr_eval.specs.dsl_tree.FileTree.{FieldTree, MemberTree}
+use Rattle.expr_eval.specs.type_heads.Form.{Form}
+use Rattle.expr_eval.specs.type_heads.Table.{base, bases, form}
+use Rattle.expr_eval.specs.type_heads.Types.{Types, Written, Member, Field}
+use Rattle.expr_eval.specs.type_heads.Members.{has, heir_condition, is_conditional, items_in, list_length, members, members_of, fields_declared, fields, field, field_type, declared_type}
+use Rattle.expr_eval.specs.type_heads.Conditions.{Condition, condition_value, condition_on, condition}
+use Rattle.expr_eval.specs.type_heads.MemberFaults.{can_decide, condition_field, depends_on, decided_rows, field_rows}
+use Rattle.expr_eval.specs.type_heads.Cycles.{returns}
+use Rattle.expr_eval.specs.expr_nodes.Parts.{any_holds}
 use Rattle.run_values.proofs.of_field_flatten.Tests.{two_ways, In, in_left, in_right, in_map, map_in, in_flat_map, flat_map_in, in_filter, filter_in, found_in}
 use Rattle.scene_laws.proofs.FaultRows.{no_left, no_right, not_so}
 use Rattle.scene_laws.proofs.FieldNames.{AreCounted, less, more}

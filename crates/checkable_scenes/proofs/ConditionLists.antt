@@ -8,14 +8,14 @@ use Rattle.std.proofs.lemmas.Int.{ints}
 use Rattle.std.proofs.lemmas.Slice.Eq.{bytes_eq-Decides}
 use Rattle.osc_base.specs.declared.path.Path.{Path}
 use Rattle.osc_base.specs.Paths.{then_name}
-use Rattle.dsl_tree.specs.declared.compounds.HeirCondition.{HeirCondition}
-use Rattle.type_heads.specs.Table.{base, bases, line_within}
-use Rattle.type_heads.specs.Types.{Types, Member, Field}
-use Rattle.type_heads.specs.Members.{heir_condition, is_conditional, members, fields, field}
-use Rattle.type_heads.specs.Conditions.{Condition, condition}
-use Rattle.type_heads.specs.MemberFaults.{condition_field, depends_on}
-use Rattle.composition.specs.cond_inherit.Conditions.{same_condition, once_after, conditions_within, conditions}
-use Rattle.composition.specs.declared.guard.Guard.{Guard}
+use Rattle.expr_eval.specs.dsl_tree.declared.compounds.HeirCondition.{HeirCondition}
+use Rattle.expr_eval.specs.type_heads.Table.{base, bases, line_within}
+use Rattle.expr_eval.specs.type_heads.Types.{Types, Member, Field}
+use Rattle.expr_eval.specs.type_heads.Members.{heir_condition, is_conditional, members, fields, field}
+use Rattle.expr_eval.specs.type_heads.Conditions.{Condition, condition}
+use Rattle.expr_eval.specs.type_heads.MemberFaults.{condition_field, depends_on}
+use Rattle.run_values.specs.cond_inherit.Conditions.{same_condition, once_after, conditions_within, conditions}
+use Rattle.run_values.specs.composition.declared.guard.Guard.{Guard}
 use Rattle.run_values.proofs.of_field_flatten.Tests.{left_of, right_of, two_ways, In, in_left, in_either, flat_map_in, in_filter, found_in, any_at}
 use Rattle.scene_laws.proofs.Picked.{of_option, filter_map_in}
 use Rattle.scene_laws.proofs.FieldNames.{Pairs}

@@ -4,24 +4,24 @@ use Rattle.std.specs.Prelude.{filter, flat_map, filter_map, option_to_list, code
 use Rattle.osc_base.specs.declared.fault.Place.{Place}
 use Rattle.osc_base.specs.declared.path.Path.{Path}
 use Rattle.osc_base.specs.Paths.{root, then_name}
-use Rattle.dsl_tree.specs.declared.parts.Ident.{Ident}
-use Rattle.dsl_tree.specs.declared.phases.CompKind.{CompKind}
-use Rattle.dsl_tree.specs.declared.phases.InvokeHead.{InvokeHead}
-use Rattle.dsl_tree.specs.ExprTree.{ExprTree}
-use Rattle.dsl_tree.specs.PhaseTree.{ArgumentTree, PartTree, PhaseTree, Comp, Invoke, Wait, PhaseRow}
-use Rattle.type_heads.specs.Table.{form, owner, is_object}
-use Rattle.type_heads.specs.Types.{Types, Field, Do}
-use Rattle.type_heads.specs.Members.{fields, field_type, list_length, the_do}
-use Rattle.expr_nodes.specs.Scope.{It}
-use Rattle.composition.specs.declared.guard.Guard.{Guard}
-use Rattle.composition.specs.declared.spot.ValueRange.{ValueRange}
-use Rattle.composition.specs.Calls.{PhaseHere, phases_in, invoked}
-use Rattle.composition.specs.Scenes.{Binding}
-use Rattle.composition.specs.Ranges.{range_of}
-use Rattle.composition.specs.Homes.{is_bound}
-use Rattle.composition.specs.Givens.{Given, guards_under, own_givens}
-use Rattle.composition.specs.Expansion.{GivenModifier, Expansion, Value, in_row, Maker, value_parts, field_parts, Calling, calling, here_in, argument_named, given_duration, given_argument, part_rule, part_modifier, of_arguments, invocation, phase_part, do_parts, expand_within, own_actor, expansion}
-use Rattle.composition.specs.Expanded.{givens_of, givens_in, modifiers_of, modifiers_in, bindings_of, bindings_in}
+use Rattle.expr_eval.specs.dsl_tree.declared.parts.Ident.{Ident}
+use Rattle.expr_eval.specs.dsl_tree.declared.phases.CompKind.{CompKind}
+use Rattle.expr_eval.specs.dsl_tree.declared.phases.InvokeHead.{InvokeHead}
+use Rattle.expr_eval.specs.dsl_tree.ExprTree.{ExprTree}
+use Rattle.expr_eval.specs.dsl_tree.PhaseTree.{ArgumentTree, PartTree, PhaseTree, Comp, Invoke, Wait, PhaseRow}
+use Rattle.expr_eval.specs.type_heads.Table.{form, owner, is_object}
+use Rattle.expr_eval.specs.type_heads.Types.{Types, Field, Do}
+use Rattle.expr_eval.specs.type_heads.Members.{fields, field_type, list_length, the_do}
+use Rattle.expr_eval.specs.expr_nodes.Scope.{It}
+use Rattle.run_values.specs.composition.declared.guard.Guard.{Guard}
+use Rattle.run_values.specs.composition.declared.spot.ValueRange.{ValueRange}
+use Rattle.run_values.specs.composition.Calls.{PhaseHere, phases_in, invoked}
+use Rattle.run_values.specs.composition.Scenes.{Binding}
+use Rattle.run_values.specs.composition.Ranges.{range_of}
+use Rattle.run_values.specs.composition.Homes.{is_bound}
+use Rattle.run_values.specs.composition.Givens.{Given, guards_under, own_givens}
+use Rattle.run_values.specs.composition.Expansion.{GivenModifier, Expansion, Value, in_row, Maker, value_parts, field_parts, Calling, calling, here_in, argument_named, given_duration, given_argument, part_rule, part_modifier, of_arguments, invocation, phase_part, do_parts, expand_within, own_actor, expansion}
+use Rattle.run_values.specs.composition.Expanded.{givens_of, givens_in, modifiers_of, modifiers_in, bindings_of, bindings_in}
 use Rattle.run_values.proofs.of_field_flatten.Tests.{In, in_either, map_in, flat_map_in, in_filter}
 use Rattle.scene_laws.proofs.Picked.{of_option}
 use Rattle.scene_laws.proofs.EachSpot.{value_spots, call_bindings}

@@ -6,24 +6,24 @@ use Rattle.osc_base.specs.declared.path.Path.{Path}
 use Rattle.osc_base.specs.declared.path.Step.{Step}
 use Rattle.osc_base.specs.declared.path.Step.TheVariants.{Member}
 use Rattle.osc_base.specs.Paths.{root, same_path, then_name, then_member, then_do}
-use Rattle.type_heads.specs.Table.{owner}
-use Rattle.type_heads.specs.Types.{Types, Field}
-use Rattle.type_heads.specs.Members.{fields, the_do}
-use Rattle.expr_nodes.specs.Sizes.{field_reach}
-use Rattle.composition.specs.declared.guard.Guard.{Guard}
-use Rattle.composition.specs.declared.setting.Setting.{Setting}
+use Rattle.expr_eval.specs.type_heads.Table.{owner}
+use Rattle.expr_eval.specs.type_heads.Types.{Types, Field}
+use Rattle.expr_eval.specs.type_heads.Members.{fields, the_do}
+use Rattle.expr_eval.specs.expr_nodes.Sizes.{field_reach}
+use Rattle.run_values.specs.composition.declared.guard.Guard.{Guard}
+use Rattle.run_values.specs.composition.declared.setting.Setting.{Setting}
 use Rattle.osc_base.specs.declared.listing.SlotName.{SlotName}
-use Rattle.composition.specs.declared.spot.ChoiceSpot.{ChoiceSpot}
-use Rattle.composition.specs.declared.spot.ValueSpot.{ValueSpot}
-use Rattle.composition.specs.declared.spot.PhaseKind.{PhaseKind}
-use Rattle.composition.specs.declared.spot.PhaseSpot.{PhaseSpot}
-use Rattle.composition.specs.declared.spot.ValueRange.{ValueRange}
-use Rattle.composition.specs.Scenes.{Content, Spot, Scene, phase_spot, phases, has_phase, guards, choices, values, vehicles}
-use Rattle.composition.specs.Slots.{ticks_of, sample_names, slot_names}
-use Rattle.composition.specs.Expansion.{calling, expansion}
-use Rattle.composition.specs.Expanded.{scene, scene_from, spots_of}
-use Rattle.composition.specs.SceneFaults.{is_too_large, object_count, most_slots}
-use Rattle.composition.specs.Invariants.{is_member, are_choices, are_members}
+use Rattle.run_values.specs.composition.declared.spot.ChoiceSpot.{ChoiceSpot}
+use Rattle.run_values.specs.composition.declared.spot.ValueSpot.{ValueSpot}
+use Rattle.run_values.specs.composition.declared.spot.PhaseKind.{PhaseKind}
+use Rattle.run_values.specs.composition.declared.spot.PhaseSpot.{PhaseSpot}
+use Rattle.run_values.specs.composition.declared.spot.ValueRange.{ValueRange}
+use Rattle.run_values.specs.composition.Scenes.{Content, Spot, Scene, phase_spot, phases, has_phase, guards, choices, values, vehicles}
+use Rattle.run_values.specs.composition.Slots.{ticks_of, sample_names, slot_names}
+use Rattle.run_values.specs.composition.Expansion.{calling, expansion}
+use Rattle.run_values.specs.composition.Expanded.{scene, scene_from, spots_of}
+use Rattle.run_values.specs.composition.SceneFaults.{is_too_large, object_count, most_slots}
+use Rattle.run_values.specs.composition.Invariants.{is_member, are_choices, are_members}
 use Rattle.run_values.proofs.of_field_flatten.Tests.{left_of, right_of, In, in_map, all_at, all_from, any_at, path_is}
 use Rattle.scene_laws.specs.Premises.{is_free}
 use Rattle.scene_laws.proofs.FaultRows.{no_left, no_right}

@@ -8,32 +8,32 @@ use Rattle.osc_base.specs.declared.fault.Place.{Place}
 use Rattle.osc_base.specs.declared.path.Path.{Path}
 use Rattle.osc_base.specs.Paths.{root, same_path, then_name, then_member}
 use Rattle.osc_base.specs.Comparisons.{same_number}
-use Rattle.dsl_tree.specs.declared.parts.Ident.{Ident}
-use Rattle.dsl_tree.specs.declared.phases.CompKind.{CompKind}
-use Rattle.dsl_tree.specs.declared.phases.InvokeHead.{InvokeHead}
-use Rattle.dsl_tree.specs.declared.compounds.ConditionValue.{ConditionValue}
-use Rattle.dsl_tree.specs.PhaseTree.{ArgumentTree, PartTree, Comp, Invoke, PhaseRow, phases_of}
-use Rattle.type_heads.specs.Form.{Form}
-use Rattle.type_heads.specs.Table.{form, owner, is_object}
-use Rattle.type_heads.specs.Types.{Types, Field, Do}
-use Rattle.type_heads.specs.Members.{fields, field, field_type, the_do}
-use Rattle.type_heads.specs.Conditions.{Condition, condition_value}
-use Rattle.composition.specs.cond_inherit.Conditions.{conditions}
-use Rattle.composition.specs.declared.guard.Guard.{Guard}
-use Rattle.composition.specs.declared.setting.Setting.{Setting}
-use Rattle.composition.specs.declared.spot.ChoiceSpot.{ChoiceSpot}
-use Rattle.composition.specs.declared.spot.ValueSpot.{ValueSpot}
-use Rattle.composition.specs.declared.spot.ValueRange.{ValueRange}
-use Rattle.composition.specs.declared.spot.PhaseKind.{PhaseKind}
-use Rattle.composition.specs.Calls.{Turn, PhaseHere, phases_in, invoked}
-use Rattle.composition.specs.Scenes.{Content, Spot, Scene, Binding, choice_spot, value_spot, choices, values, guards}
-use Rattle.composition.specs.Ranges.{range_of}
-use Rattle.composition.specs.Homes.{is_bound}
-use Rattle.composition.specs.There.{same_guard}
-use Rattle.composition.specs.Givens.{guards_under}
-use Rattle.composition.specs.Expansion.{Expansion, Maker, Calling, from_object, calling, composition_kind, phase_part, expand_within, expansion}
-use Rattle.composition.specs.Expanded.{spot, spots_of, scene}
-use Rattle.composition.specs.Invariants.{value_at, is_numeric, is_guard, are_grounded}
+use Rattle.expr_eval.specs.dsl_tree.declared.parts.Ident.{Ident}
+use Rattle.expr_eval.specs.dsl_tree.declared.phases.CompKind.{CompKind}
+use Rattle.expr_eval.specs.dsl_tree.declared.phases.InvokeHead.{InvokeHead}
+use Rattle.expr_eval.specs.dsl_tree.declared.compounds.ConditionValue.{ConditionValue}
+use Rattle.expr_eval.specs.dsl_tree.PhaseTree.{ArgumentTree, PartTree, Comp, Invoke, PhaseRow, phases_of}
+use Rattle.expr_eval.specs.type_heads.Form.{Form}
+use Rattle.expr_eval.specs.type_heads.Table.{form, owner, is_object}
+use Rattle.expr_eval.specs.type_heads.Types.{Types, Field, Do}
+use Rattle.expr_eval.specs.type_heads.Members.{fields, field, field_type, the_do}
+use Rattle.expr_eval.specs.type_heads.Conditions.{Condition, condition_value}
+use Rattle.run_values.specs.cond_inherit.Conditions.{conditions}
+use Rattle.run_values.specs.composition.declared.guard.Guard.{Guard}
+use Rattle.run_values.specs.composition.declared.setting.Setting.{Setting}
+use Rattle.run_values.specs.composition.declared.spot.ChoiceSpot.{ChoiceSpot}
+use Rattle.run_values.specs.composition.declared.spot.ValueSpot.{ValueSpot}
+use Rattle.run_values.specs.composition.declared.spot.ValueRange.{ValueRange}
+use Rattle.run_values.specs.composition.declared.spot.PhaseKind.{PhaseKind}
+use Rattle.run_values.specs.composition.Calls.{Turn, PhaseHere, phases_in, invoked}
+use Rattle.run_values.specs.composition.Scenes.{Content, Spot, Scene, Binding, choice_spot, value_spot, choices, values, guards}
+use Rattle.run_values.specs.composition.Ranges.{range_of}
+use Rattle.run_values.specs.composition.Homes.{is_bound}
+use Rattle.run_values.specs.composition.There.{same_guard}
+use Rattle.run_values.specs.composition.Givens.{guards_under}
+use Rattle.run_values.specs.composition.Expansion.{Expansion, Maker, Calling, from_object, calling, composition_kind, phase_part, expand_within, expansion}
+use Rattle.run_values.specs.composition.Expanded.{spot, spots_of, scene}
+use Rattle.run_values.specs.composition.Invariants.{value_at, is_numeric, is_guard, are_grounded}
 use Rattle.run_values.proofs.of_field_flatten.Tests.{both, In, in_left, in_right, in_either, map_in, all_from, any_from, path_is, path_self, number_self, finds, found_in}
 use Rattle.run_values.proofs.of_field_flatten.Presence.{same_number_self}
 use Rattle.scene_laws.specs.Premises.{is_free}

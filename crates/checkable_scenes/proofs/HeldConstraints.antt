@@ -6,23 +6,23 @@ use Rattle.std.specs.List.{list_all}
 use Rattle.osc_base.specs.declared.fault.Place.{Place}
 use Rattle.osc_base.specs.declared.path.Path.{Path}
 use Rattle.osc_base.specs.Paths.{root, then_name}
-use Rattle.dsl_tree.specs.declared.parts.Ident.{Ident}
-use Rattle.dsl_tree.specs.declared.compounds.HeirCondition.{HeirCondition}
-use Rattle.dsl_tree.specs.ExprTree.{ExprTree, items_of}
-use Rattle.dsl_tree.specs.PhaseTree.{RuleTree, ArgumentTree, PartTree}
-use Rattle.dsl_tree.specs.FileTree.{MemberTree}
-use Rattle.type_heads.specs.Table.{owner, bases}
-use Rattle.type_heads.specs.Types.{Types, Member, Field}
-use Rattle.type_heads.specs.Members.{members, fields_declared, fields, field, field_type, heir_condition}
-use Rattle.expr_nodes.specs.Scope.{It}
-use Rattle.composition.specs.declared.guard.Guard.{Guard}
-use Rattle.composition.specs.declared.setting.Setting.{Setting}
-use Rattle.composition.specs.Calls.{Assigned, assigned, scope_at}
-use Rattle.composition.specs.Scenes.{Content, Spot, Scene, Occurrence, guards}
-use Rattle.composition.specs.Givens.{Here, Given, guards_under, FieldHere, field_here, given_rule, given_initials, given_elements, given_condition, given_conditions, given_field, given_member, own_givens}
-use Rattle.composition.specs.Expansion.{Calling, calling, here_in, given_argument, part_rule, of_arguments, given_duration, parameter, expansion}
-use Rattle.composition.specs.Expanded.{is_vehicle, spot, spots_of, givens_of, bindings_of, occurrence_of, can_be_asked, scene_from}
-use Rattle.composition.specs.Invariants.{are_grounded}
+use Rattle.expr_eval.specs.dsl_tree.declared.parts.Ident.{Ident}
+use Rattle.expr_eval.specs.dsl_tree.declared.compounds.HeirCondition.{HeirCondition}
+use Rattle.expr_eval.specs.dsl_tree.ExprTree.{ExprTree, items_of}
+use Rattle.expr_eval.specs.dsl_tree.PhaseTree.{RuleTree, ArgumentTree, PartTree}
+use Rattle.expr_eval.specs.dsl_tree.FileTree.{MemberTree}
+use Rattle.expr_eval.specs.type_heads.Table.{owner, bases}
+use Rattle.expr_eval.specs.type_heads.Types.{Types, Member, Field}
+use Rattle.expr_eval.specs.type_heads.Members.{members, fields_declared, fields, field, field_type, heir_condition}
+use Rattle.expr_eval.specs.expr_nodes.Scope.{It}
+use Rattle.run_values.specs.composition.declared.guard.Guard.{Guard}
+use Rattle.run_values.specs.composition.declared.setting.Setting.{Setting}
+use Rattle.run_values.specs.composition.Calls.{Assigned, assigned, scope_at}
+use Rattle.run_values.specs.composition.Scenes.{Content, Spot, Scene, Occurrence, guards}
+use Rattle.run_values.specs.composition.Givens.{Here, Given, guards_under, FieldHere, field_here, given_rule, given_initials, given_elements, given_condition, given_conditions, given_field, given_member, own_givens}
+use Rattle.run_values.specs.composition.Expansion.{Calling, calling, here_in, given_argument, part_rule, of_arguments, given_duration, parameter, expansion}
+use Rattle.run_values.specs.composition.Expanded.{is_vehicle, spot, spots_of, givens_of, bindings_of, occurrence_of, can_be_asked, scene_from}
+use Rattle.run_values.specs.composition.Invariants.{are_grounded}
 use Rattle.run_values.proofs.of_field_flatten.Tests.{In, in_either, map_in, flat_map_in, in_filter, all_from}
 use Rattle.run_values.proofs.of_field_flatten.Presence.{guards_grounded}
 use Rattle.scene_laws.specs.Premises.{is_free, are_held}

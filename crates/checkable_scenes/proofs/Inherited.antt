@@ -2,9 +2,9 @@
 use Rattle.std.proofs.Common.{◌≡◌, ℕ, zero, suc, ◌+◌, ◌≤◌, ◌<◌, refl, sym, ap, ◌∙◌, subst, ◌⊎◌, inl, inr, List, [], ◌∷◌, ◌++◌, true, false, ◌&&◌, not, Option, Some, None, map, length, arith, true≢false}
 use Rattle.std.specs.Prelude.{⊤, filter, flat_map, option_to_list, nat_eq}
 use Rattle.std.specs.Option.{option_map_or}
-use Rattle.type_heads.specs.Table.{TypeHead, base, bases, line_within, all_types}
-use Rattle.type_heads.specs.Types.{Written, TypeBody, Member}
-use Rattle.type_heads.specs.Members.{has, body, is_conditional, subtypes, Line, line_of, through, down_within, down, lines_within, member_of, members_of}
+use Rattle.expr_eval.specs.type_heads.Table.{TypeHead, base, bases, line_within, all_types}
+use Rattle.expr_eval.specs.type_heads.Types.{Written, TypeBody, Member}
+use Rattle.expr_eval.specs.type_heads.Members.{has, body, is_conditional, subtypes, Line, line_of, through, down_within, down, lines_within, member_of, members_of}
 use Rattle.run_values.proofs.of_field_flatten.Tests.{both, two_ways, number_self, left_of, right_of, number_is, In, in_left, in_right, in_either, in_map, map_in, in_flat_map, flat_map_in, in_filter, filter_in}
 use Rattle.scene_laws.proofs.FaultRows.{not_so}
 use Rattle.scene_laws.proofs.Picked.{of_option}

@@ -3,22 +3,22 @@ use Rattle.std.proofs.Common.{◌≡◌, ℕ, ◌<◌, refl, sym, ap, ap₂, ◌
 use Rattle.std.specs.Prelude.{⊤, is_none, flat_map, option_and_then}
 use Rattle.std.specs.Option.{option_map_or}
 use Rattle.osc_base.specs.FaultRows.{FaultRow}
-use Rattle.dsl_tree.specs.declared.parts.Ident.{Ident}
-use Rattle.dsl_tree.specs.declared.phases.InvokeHead.{InvokeHead}
-use Rattle.dsl_tree.specs.ExprTree as Tree
-use Rattle.dsl_tree.specs.ExprTree.{ExprTree}
-use Rattle.dsl_tree.specs.PhaseTree.{Invoke}
-use Rattle.dsl_tree.specs.FileTree.{MemberTree}
-use Rattle.type_heads.specs.Table.{Table, TableField, all_types, field_of}
-use Rattle.type_heads.specs.Types.{Types, Member, Written, Do}
-use Rattle.type_heads.specs.Members.{members, body, do_declared, the_do}
-use Rattle.expr_nodes.specs.Parts.{any_holds, of_one}
-use Rattle.expr_nodes.specs.Scope.{Label, Scope}
-use Rattle.expr_nodes.specs.Names.{label_named, is_label, dot_rows, dot_typed}
-use Rattle.expr_nodes.specs.Typing.{typed, expr_rows}
+use Rattle.expr_eval.specs.dsl_tree.declared.parts.Ident.{Ident}
+use Rattle.expr_eval.specs.dsl_tree.declared.phases.InvokeHead.{InvokeHead}
+use Rattle.expr_eval.specs.dsl_tree.ExprTree as Tree
+use Rattle.expr_eval.specs.dsl_tree.ExprTree.{ExprTree}
+use Rattle.expr_eval.specs.dsl_tree.PhaseTree.{Invoke}
+use Rattle.expr_eval.specs.dsl_tree.FileTree.{MemberTree}
+use Rattle.expr_eval.specs.type_heads.Table.{Table, TableField, all_types, field_of}
+use Rattle.expr_eval.specs.type_heads.Types.{Types, Member, Written, Do}
+use Rattle.expr_eval.specs.type_heads.Members.{members, body, do_declared, the_do}
+use Rattle.expr_eval.specs.expr_nodes.Parts.{any_holds, of_one}
+use Rattle.expr_eval.specs.expr_nodes.Scope.{Label, Scope}
+use Rattle.expr_eval.specs.expr_nodes.Names.{label_named, is_label, dot_rows, dot_typed}
+use Rattle.expr_eval.specs.expr_nodes.Typing.{typed, expr_rows}
 use Rattle.expr_eval.proofs.TypedForms.{typed_or_refused}
-use Rattle.composition.specs.Calls.{PhaseHere, phases_in, Callee, last_of, callee, actor_type, owned_behaviour, behaviour_named, without_labels, invoked, called, scope_at}
-use Rattle.composition.specs.Uses.{begins_with_label, callee_rows, call_rows, part_rows, it_made, phase_rows, member_use_rows, text_rows, invocation_row, use_rows}
+use Rattle.run_values.specs.composition.Calls.{PhaseHere, phases_in, Callee, last_of, callee, actor_type, owned_behaviour, behaviour_named, without_labels, invoked, called, scope_at}
+use Rattle.run_values.specs.composition.Uses.{begins_with_label, callee_rows, call_rows, part_rows, it_made, phase_rows, member_use_rows, text_rows, invocation_row, use_rows}
 use Rattle.run_values.proofs.of_field_flatten.Tests.{In, in_left, in_right}
 use Rattle.scene_laws.proofs.FaultRows.{no_left, no_right, rows_left, rows_among}
 use Rattle.scene_laws.proofs.FieldNames.{number_in}

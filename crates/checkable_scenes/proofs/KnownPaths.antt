@@ -7,21 +7,21 @@ use Rattle.osc_base.specs.declared.path.Step.{Step}
 use Rattle.osc_base.specs.declared.path.Step.TheVariants.{Name, Index, Member}
 use Rattle.osc_base.specs.FaultRows.{FaultRow}
 use Rattle.osc_base.specs.Paths.{path_of, same_step}
-use Rattle.dsl_tree.specs.declared.parts.Ident.{Ident}
-use Rattle.dsl_tree.specs.ExprTree as Tree
-use Rattle.dsl_tree.specs.ExprTree.{ExprTree, ExprRow}
-use Rattle.dsl_tree.specs.declared.compounds.CompoundKind.{CompoundKind}
-use Rattle.type_heads.specs.Form.{Form}
-use Rattle.type_heads.specs.Table.{Table, TableField, form, field_of, is_actor, is_scenario, is_behaviour}
-use Rattle.type_heads.specs.Types.{Types, Do}
-use Rattle.type_heads.specs.Members.{the_do}
-use Rattle.expr_nodes.specs.Scope.{It, Label, Scope}
-use Rattle.expr_nodes.specs.Parts.{any_holds}
-use Rattle.expr_nodes.specs.Names.{dot_rows, dot_typed}
-use Rattle.expr_nodes.specs.Operators.{not_rows, not_typed, logic_rows, and_typed, or_typed, implies_typed, minus_rows, minus_typed, sum_rows, sum_typed, factor_rows, factor_typed, relation_rows, relation_typed, part_rows, span_rows, span_typed, item_typed, list_typed, index_rows, index_typed, group_typed}
-use Rattle.expr_nodes.specs.Typing.{typed, typed_row, expr_rows, items_rows}
-use Rattle.composition.specs.Calls.{Turn, PhaseHere, phases_in, made, labels_at, leads_into, label_of, scope_at}
-use Rattle.composition.specs.Givens.{steps_from, from_root}
+use Rattle.expr_eval.specs.dsl_tree.declared.parts.Ident.{Ident}
+use Rattle.expr_eval.specs.dsl_tree.ExprTree as Tree
+use Rattle.expr_eval.specs.dsl_tree.ExprTree.{ExprTree, ExprRow}
+use Rattle.expr_eval.specs.dsl_tree.declared.compounds.CompoundKind.{CompoundKind}
+use Rattle.expr_eval.specs.type_heads.Form.{Form}
+use Rattle.expr_eval.specs.type_heads.Table.{Table, TableField, form, field_of, is_actor, is_scenario, is_behaviour}
+use Rattle.expr_eval.specs.type_heads.Types.{Types, Do}
+use Rattle.expr_eval.specs.type_heads.Members.{the_do}
+use Rattle.expr_eval.specs.expr_nodes.Scope.{It, Label, Scope}
+use Rattle.expr_eval.specs.expr_nodes.Parts.{any_holds}
+use Rattle.expr_eval.specs.expr_nodes.Names.{dot_rows, dot_typed}
+use Rattle.expr_eval.specs.expr_nodes.Operators.{not_rows, not_typed, logic_rows, and_typed, or_typed, implies_typed, minus_rows, minus_typed, sum_rows, sum_typed, factor_rows, factor_typed, relation_rows, relation_typed, part_rows, span_rows, span_typed, item_typed, list_typed, index_rows, index_typed, group_typed}
+use Rattle.expr_eval.specs.expr_nodes.Typing.{typed, typed_row, expr_rows, items_rows}
+use Rattle.run_values.specs.composition.Calls.{Turn, PhaseHere, phases_in, made, labels_at, leads_into, label_of, scope_at}
+use Rattle.run_values.specs.composition.Givens.{steps_from, from_root}
 use Rattle.run_values.proofs.of_field_flatten.Tests.{In, flat_map_in}
 use Rattle.scene_laws.specs.Premises.{is_free}
 use Rattle.scene_laws.proofs.FaultRows.{no_left, rows_left, rows_right}

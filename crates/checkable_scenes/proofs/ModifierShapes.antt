@@ -4,13 +4,13 @@ use Rattle.std.specs.Prelude.{filter, filter_map, find, flat_map, is_some, bytes
 use Rattle.std.specs.Option.{option_map_or}
 use Rattle.std.specs.List.{list_all}
 use Rattle.osc_base.specs.declared.modifier.Moment.{Moment}
-use Rattle.dsl_tree.specs.declared.parts.Ident.{Ident}
-use Rattle.dsl_tree.specs.ExprTree.{ExprTree}
-use Rattle.dsl_tree.specs.PhaseTree.{ArgumentTree, ModifierTree}
-use Rattle.composition.specs.ModifierLines.{ModifierLine, NamedValue, named_value, unnamed_value, is_at, moment_of, ModifierForm, same_name, is_line, modifier_lines, form_on_line, form_of_arguments, modifier_form}
-use Rattle.composition.specs.Uses as Uses
-use Rattle.composition.specs.Uses.{compared_exprs}
-use Rattle.composition.specs.Invariants.{has_range, has_other}
+use Rattle.expr_eval.specs.dsl_tree.declared.parts.Ident.{Ident}
+use Rattle.expr_eval.specs.dsl_tree.ExprTree.{ExprTree}
+use Rattle.expr_eval.specs.dsl_tree.PhaseTree.{ArgumentTree, ModifierTree}
+use Rattle.run_values.specs.composition.ModifierLines.{ModifierLine, NamedValue, named_value, unnamed_value, is_at, moment_of, ModifierForm, same_name, is_line, modifier_lines, form_on_line, form_of_arguments, modifier_form}
+use Rattle.run_values.specs.composition.Uses as Uses
+use Rattle.run_values.specs.composition.Uses.{compared_exprs}
+use Rattle.run_values.specs.composition.Invariants.{has_range, has_other}
 use Rattle.run_values.proofs.of_field_flatten.Tests.{left_of, right_of, In, in_flat_map, in_filter, all_at, found_in}
 use Rattle.scene_laws.proofs.FaultRows.{not_from}
 use Rattle.scene_laws.proofs.Picked.{filter_map_in}

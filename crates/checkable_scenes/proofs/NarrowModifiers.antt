@@ -5,32 +5,32 @@ use Rattle.std.specs.Option.{option_map_or}
 use Rattle.std.specs.List.{list_any, list_all}
 use Rattle.osc_base.specs.declared.path.Path.{Path}
 use Rattle.osc_base.specs.LowestTerms.{lcm}
-use Rattle.dsl_tree.specs.declared.parts.Ident.{Ident}
-use Rattle.dsl_tree.specs.declared.phases.InvokeHead.{InvokeHead}
-use Rattle.dsl_tree.specs.ExprTree.{ExprTree}
-use Rattle.dsl_tree.specs.PhaseTree.{ArgumentTree, ModifierTree, PartTree, Invoke}
-use Rattle.type_heads.specs.Texts.{argument_exprs, part_exprs}
-use Rattle.type_heads.specs.Types.{Types, Do}
-use Rattle.type_heads.specs.Members.{the_do}
-use Rattle.expr_nodes.specs.Typed as Typing
-use Rattle.expr_nodes.specs.Typed.{Typed, scale, reach, moved}
-use Rattle.expr_nodes.specs.Kinds.{ValueKind}
-use Rattle.expr_nodes.specs.Sizes.{Size, size, unit_size, joined, is_wide}
-use Rattle.expr_nodes.specs.Scope.{It}
-use Rattle.expr_nodes.specs.Parts.{any_holds, is_scalar}
-use Rattle.expr_nodes.specs.Fits.{sample_size, end_sizes, modifier_fit_rows, is_kind, differs, ends_of}
-use Rattle.expr_nodes.specs.Sound.{has_size, is_sound}
-use Rattle.expr_nodes.specs.Typing.{typed, expr_rows, first}
-use Rattle.composition.specs.declared.guard.Guard.{Guard}
-use Rattle.composition.specs.declared.setting.Setting.{Setting}
-use Rattle.composition.specs.Calls.{PhaseHere, phases_in, callee, invoked, scope_at}
-use Rattle.composition.specs.ModifierLines.{ModifierForm, is_modifier, modifier_form}
-use Rattle.composition.specs.Uses.{compared_kind, compared_exprs, is_drive, form_rows, modifier_rows, part_rows, it_made, callee_rows, call_rows, phase_rows, use_rows}
-use Rattle.composition.specs.Homes.{home}
-use Rattle.composition.specs.Scenes.{Binding}
-use Rattle.composition.specs.Givens.{from_root, typed_here}
-use Rattle.composition.specs.Expansion.{GivenModifier, Calling, calling, here_in, low_end, high_end, given_modifier, part_modifier, expansion}
-use Rattle.composition.specs.Expanded.{modifiers_of, modifier_of, bindings_of, can_apply, scene_from, scene}
+use Rattle.expr_eval.specs.dsl_tree.declared.parts.Ident.{Ident}
+use Rattle.expr_eval.specs.dsl_tree.declared.phases.InvokeHead.{InvokeHead}
+use Rattle.expr_eval.specs.dsl_tree.ExprTree.{ExprTree}
+use Rattle.expr_eval.specs.dsl_tree.PhaseTree.{ArgumentTree, ModifierTree, PartTree, Invoke}
+use Rattle.expr_eval.specs.type_heads.Texts.{argument_exprs, part_exprs}
+use Rattle.expr_eval.specs.type_heads.Types.{Types, Do}
+use Rattle.expr_eval.specs.type_heads.Members.{the_do}
+use Rattle.expr_eval.specs.expr_nodes.Typed as Typing
+use Rattle.expr_eval.specs.expr_nodes.Typed.{Typed, scale, reach, moved}
+use Rattle.expr_eval.specs.expr_nodes.Kinds.{ValueKind}
+use Rattle.expr_eval.specs.expr_nodes.Sizes.{Size, size, unit_size, joined, is_wide}
+use Rattle.expr_eval.specs.expr_nodes.Scope.{It}
+use Rattle.expr_eval.specs.expr_nodes.Parts.{any_holds, is_scalar}
+use Rattle.expr_eval.specs.expr_nodes.Fits.{sample_size, end_sizes, modifier_fit_rows, is_kind, differs, ends_of}
+use Rattle.expr_eval.specs.expr_nodes.Sound.{has_size, is_sound}
+use Rattle.expr_eval.specs.expr_nodes.Typing.{typed, expr_rows, first}
+use Rattle.run_values.specs.composition.declared.guard.Guard.{Guard}
+use Rattle.run_values.specs.composition.declared.setting.Setting.{Setting}
+use Rattle.run_values.specs.composition.Calls.{PhaseHere, phases_in, callee, invoked, scope_at}
+use Rattle.run_values.specs.composition.ModifierLines.{ModifierForm, is_modifier, modifier_form}
+use Rattle.run_values.specs.composition.Uses.{compared_kind, compared_exprs, is_drive, form_rows, modifier_rows, part_rows, it_made, callee_rows, call_rows, phase_rows, use_rows}
+use Rattle.run_values.specs.composition.Homes.{home}
+use Rattle.run_values.specs.composition.Scenes.{Binding}
+use Rattle.run_values.specs.composition.Givens.{from_root, typed_here}
+use Rattle.run_values.specs.composition.Expansion.{GivenModifier, Calling, calling, here_in, low_end, high_end, given_modifier, part_modifier, expansion}
+use Rattle.run_values.specs.composition.Expanded.{modifiers_of, modifier_of, bindings_of, can_apply, scene_from, scene}
 use Rattle.run_values.specs.field_flatten.Exactness.{is_narrow_range}
 use Rattle.run_values.proofs.of_field_flatten.Tests.{left_of, right_of, In, in_right, in_flat_map, map_in, flat_map_in, in_filter, all_from}
 use Rattle.scene_laws.specs.Premises.{IsSmallTable, are_short}

@@ -4,9 +4,9 @@ use Rattle.std.specs.Prelude.{nat_lt}
 use Rattle.std.proofs.Math.Nat.{mul_assoc, dvd_antisymm, dvd-mul_right, dvd_refl}
 use Rattle.osc_base.specs.Comparisons.{greatest_part}
 use Rattle.osc_base.specs.LowestTerms.{gcd, lcm}
-use Rattle.expr_nodes.specs.Typed.{scale, reach}
-use Rattle.expr_nodes.specs.Sizes.{Size, joined, is_wide}
-use Rattle.expr_nodes.specs.Fits.{sample_size}
+use Rattle.expr_eval.specs.expr_nodes.Typed.{scale, reach}
+use Rattle.expr_eval.specs.expr_nodes.Sizes.{Size, joined, is_wide}
+use Rattle.expr_eval.specs.expr_nodes.Fits.{sample_size}
 use Rattle.run_values.specs.modifier_rules.Relations.{position_scale}
 use Rattle.run_values.specs.field_flatten.Exactness.{quantity_reach}
 use Rattle.run_values.proofs.of_field_flatten.Tests.{both}

@@ -6,8 +6,8 @@ use Rattle.osc_base.specs.declared.path.Path.{Path}
 use Rattle.osc_base.specs.declared.path.Step.{Step}
 use Rattle.osc_base.specs.declared.path.Step.TheVariants.{Name, Index, Member}
 use Rattle.osc_base.specs.Paths.{path_of, same_step, steps_after}
-use Rattle.composition.specs.Scenes.{Binding}
-use Rattle.composition.specs.Homes.{home}
+use Rattle.run_values.specs.composition.Scenes.{Binding}
+use Rattle.run_values.specs.composition.Homes.{home}
 use Rattle.run_values.proofs.of_field_flatten.Tests.{In, path_is}
 use Rattle.scene_laws.proofs.Steps.{joined_again}
 

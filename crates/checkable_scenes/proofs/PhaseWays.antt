@@ -4,11 +4,11 @@ use Rattle.std.specs.Prelude.{⊤}
 use Rattle.osc_base.specs.declared.fault.Place.{Place}
 use Rattle.osc_base.specs.declared.path.Path.{Path}
 use Rattle.osc_base.specs.Paths.{root, then_do, then_member}
-use Rattle.dsl_tree.specs.declared.parts.Ident.{Ident}
-use Rattle.dsl_tree.specs.declared.phases.CompKind.{CompKind}
-use Rattle.dsl_tree.specs.PhaseTree as Tree
-use Rattle.dsl_tree.specs.PhaseTree.{ArgumentTree, PhaseTree, Comp, Invoke, Wait, PhaseRow, phases_of}
-use Rattle.composition.specs.Calls.{Turn, turns, PhaseHere, phases_at, phases_among, phases_in}
+use Rattle.expr_eval.specs.dsl_tree.declared.parts.Ident.{Ident}
+use Rattle.expr_eval.specs.dsl_tree.declared.phases.CompKind.{CompKind}
+use Rattle.expr_eval.specs.dsl_tree.PhaseTree as Tree
+use Rattle.expr_eval.specs.dsl_tree.PhaseTree.{ArgumentTree, PhaseTree, Comp, Invoke, Wait, PhaseRow, phases_of}
+use Rattle.run_values.specs.composition.Calls.{Turn, turns, PhaseHere, phases_at, phases_among, phases_in}
 use Rattle.run_values.proofs.of_field_flatten.Tests.{In, in_left, in_right, in_either}
 use Rattle.scene_laws.proofs.Steps.{joined_again}
 

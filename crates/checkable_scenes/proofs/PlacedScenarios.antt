@@ -2,15 +2,15 @@
 use Rattle.std.proofs.Common.{◌≡◌, ℕ, zero, suc, ◌<◌, refl, sym, subst, inl, inr, List, [], ◌++◌, Bool, true, false, cond, Option, Some, None, length, arith, true≢false}
 use Rattle.std.specs.Prelude.{flat_map, option_to_list, option_and_then, codes}
 use Rattle.osc_base.specs.Paths.{root, then_name}
-use Rattle.dsl_tree.specs.declared.compounds.CompoundKind.{CompoundKind}
-use Rattle.type_heads.specs.Form.{Form}
-use Rattle.type_heads.specs.Table.{head, form, named, owner, is_object, is_actor, is_scenario}
-use Rattle.type_heads.specs.Types.{Types}
-use Rattle.type_heads.specs.Members.{fields, the_do}
-use Rattle.composition.specs.Scenes.{Spot}
-use Rattle.composition.specs.Expansion.{Expansion, field_parts, do_parts, expand_within, own_actor, expansion}
-use Rattle.composition.specs.Expanded.{spots_of}
-use Rattle.composition.specs.SceneFaults.{named_scenario}
+use Rattle.expr_eval.specs.dsl_tree.declared.compounds.CompoundKind.{CompoundKind}
+use Rattle.expr_eval.specs.type_heads.Form.{Form}
+use Rattle.expr_eval.specs.type_heads.Table.{head, form, named, owner, is_object, is_actor, is_scenario}
+use Rattle.expr_eval.specs.type_heads.Types.{Types}
+use Rattle.expr_eval.specs.type_heads.Members.{fields, the_do}
+use Rattle.run_values.specs.composition.Scenes.{Spot}
+use Rattle.run_values.specs.composition.Expansion.{Expansion, field_parts, do_parts, expand_within, own_actor, expansion}
+use Rattle.run_values.specs.composition.Expanded.{spots_of}
+use Rattle.run_values.specs.composition.SceneFaults.{named_scenario}
 use Rattle.run_values.proofs.of_field_flatten.Tests.{In, in_left, in_map}
 use Rattle.scene_laws.proofs.OwnedHeads.{HaveActors}
 use Rattle.scene_laws.proofs.HeldTypes.{named_below}

@@ -5,25 +5,25 @@ use Rattle.std.specs.Option.{option_map_or}
 use Rattle.std.specs.List.{list_any}
 use Rattle.osc_base.specs.declared.fault.FaultCode.{FaultCode}
 use Rattle.osc_base.specs.FaultRows.{row}
-use Rattle.dsl_tree.specs.declared.compounds.CompoundKind.{CompoundKind}
-use Rattle.dsl_tree.specs.declared.compounds.Heir.{Heir}
-use Rattle.dsl_tree.specs.declared.compounds.HeirCondition.{HeirCondition}
-use Rattle.dsl_tree.specs.declared.enums.EnumItem.{EnumItem}
-use Rattle.dsl_tree.specs.declared.units.BasePart.{BasePart}
-use Rattle.dsl_tree.specs.declared.units.UnitDecl.{UnitDecl}
-use Rattle.dsl_tree.specs.FileTree.{FileTree, DeclarationTree}
-use Rattle.units_si.specs.declared.units.Exponents.{Exponents}
-use Rattle.type_heads.specs.Form.{Form}
-use Rattle.type_heads.specs.Table.{TypeHead, TableUnit, int_head, form, base, bases, line_within, has_members, all_types}
-use Rattle.type_heads.specs.Types.{Program, Types, Member}
-use Rattle.type_heads.specs.Members.{has, heir_condition, is_conditional, members, dos}
-use Rattle.type_heads.specs.MemberFaults.{names_among, repeated_rows, names_given, do_rows, initial_rows, condition_field, depends_on, field_rows, condition_rows, member_fault_rows}
-use Rattle.type_heads.specs.Cycles.{returns}
-use Rattle.type_heads.specs.Units.{is_base_unit, are_bases, exponents_of, unit_of, unit_declared, units_of}
-use Rattle.type_heads.specs.HeadingFaults.{bracket_rows, unit_rows, declaration_rows, heading_rows, twice_rows, basic_names, name_declared, enum_rows_from, cycle_row, held_types}
-use Rattle.type_heads.specs.DeclaredTypes.{Placed, placed, placed_in, placed_from, Declared, basic_types, type_declared, all_declared, meant, items_with, form_with, heads_from, bodies_from, declared_heads, types_of}
-use Rattle.expr_nodes.specs.Kinds.{ValueKind, plain, kind_of}
-use Rattle.expr_nodes.specs.Parts.{any_holds}
+use Rattle.expr_eval.specs.dsl_tree.declared.compounds.CompoundKind.{CompoundKind}
+use Rattle.expr_eval.specs.dsl_tree.declared.compounds.Heir.{Heir}
+use Rattle.expr_eval.specs.dsl_tree.declared.compounds.HeirCondition.{HeirCondition}
+use Rattle.expr_eval.specs.dsl_tree.declared.enums.EnumItem.{EnumItem}
+use Rattle.expr_eval.specs.dsl_tree.declared.units.BasePart.{BasePart}
+use Rattle.expr_eval.specs.dsl_tree.declared.units.UnitDecl.{UnitDecl}
+use Rattle.expr_eval.specs.dsl_tree.FileTree.{FileTree, DeclarationTree}
+use Rattle.expr_eval.specs.units_si.declared.units.Exponents.{Exponents}
+use Rattle.expr_eval.specs.type_heads.Form.{Form}
+use Rattle.expr_eval.specs.type_heads.Table.{TypeHead, TableUnit, int_head, form, base, bases, line_within, has_members, all_types}
+use Rattle.expr_eval.specs.type_heads.Types.{Program, Types, Member}
+use Rattle.expr_eval.specs.type_heads.Members.{has, heir_condition, is_conditional, members, dos}
+use Rattle.expr_eval.specs.type_heads.MemberFaults.{names_among, repeated_rows, names_given, do_rows, initial_rows, condition_field, depends_on, field_rows, condition_rows, member_fault_rows}
+use Rattle.expr_eval.specs.type_heads.Cycles.{returns}
+use Rattle.expr_eval.specs.type_heads.Units.{is_base_unit, are_bases, exponents_of, unit_of, unit_declared, units_of}
+use Rattle.expr_eval.specs.type_heads.HeadingFaults.{bracket_rows, unit_rows, declaration_rows, heading_rows, twice_rows, basic_names, name_declared, enum_rows_from, cycle_row, held_types}
+use Rattle.expr_eval.specs.type_heads.DeclaredTypes.{Placed, placed, placed_in, placed_from, Declared, basic_types, type_declared, all_declared, meant, items_with, form_with, heads_from, bodies_from, declared_heads, types_of}
+use Rattle.expr_eval.specs.expr_nodes.Kinds.{ValueKind, plain, kind_of}
+use Rattle.expr_eval.specs.expr_nodes.Parts.{any_holds}
 use Rattle.run_values.proofs.of_field_flatten.Tests.{both, two_ways, In, in_left, in_right, in_either, flat_map_in, found_in}
 use Rattle.scene_laws.proofs.FaultRows.{NoFaults, no_left, no_right, rows_left, rows_right, rows_among, row_among, holds_not, not_so}
 use Rattle.scene_laws.proofs.Picked.{filter_map_in}

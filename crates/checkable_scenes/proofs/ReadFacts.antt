@@ -4,19 +4,19 @@ use Rattle.std.specs.Prelude.{flat_map, filter_map, find, is_none, slice_index_o
 use Rattle.std.specs.Option.{option_map_or}
 use Rattle.std.specs.List.{list_all, cons_option}
 use Rattle.std.proofs.lemmas.Slice.Eq.{bytes_eq-Decides}
-use Rattle.dsl_tree.specs.declared.parts.Ident.{Ident}
-use Rattle.dsl_tree.specs.declared.parts.QName.{QName}
-use Rattle.dsl_tree.specs.declared.compounds.CompoundKind.{CompoundKind}
-use Rattle.dsl_tree.specs.declared.compounds.Heir.{Heir}
-use Rattle.dsl_tree.specs.declared.enums.EnumItem.{EnumItem}
-use Rattle.dsl_tree.specs.FileTree.{MemberTree, CompoundTree, DeclarationTree}
-use Rattle.type_heads.specs.Form.{Form}
-use Rattle.type_heads.specs.Table.{TypeHead, TableField, int_head, form, base, line_within, named, field_of, is_behaviour, is_compound, has_members, all_types}
-use Rattle.type_heads.specs.Types.{Program, Types, Member, Field}
-use Rattle.type_heads.specs.Members.{list_length, members, members_of, fields, field_type, fields_declared, table_field, table_fields}
-use Rattle.type_heads.specs.HeadingFaults.{can_hold, member_rows, meant_row, fits_base, name_rows, heir_rows, compound_rows, declaration_rows, heading_rows, twice_rows, basic_names, name_declared, enum_rows_from, cycle_row, owner_rows}
-use Rattle.type_heads.specs.DeclaredTypes.{Placed, placed, Declared, basic_types, type_declared, all_declared, meant, items_with, form_with, heads_from, bodies_from, declared_heads, types_of}
-use Rattle.expr_nodes.specs.Parts.{any_holds}
+use Rattle.expr_eval.specs.dsl_tree.declared.parts.Ident.{Ident}
+use Rattle.expr_eval.specs.dsl_tree.declared.parts.QName.{QName}
+use Rattle.expr_eval.specs.dsl_tree.declared.compounds.CompoundKind.{CompoundKind}
+use Rattle.expr_eval.specs.dsl_tree.declared.compounds.Heir.{Heir}
+use Rattle.expr_eval.specs.dsl_tree.declared.enums.EnumItem.{EnumItem}
+use Rattle.expr_eval.specs.dsl_tree.FileTree.{MemberTree, CompoundTree, DeclarationTree}
+use Rattle.expr_eval.specs.type_heads.Form.{Form}
+use Rattle.expr_eval.specs.type_heads.Table.{TypeHead, TableField, int_head, form, base, line_within, named, field_of, is_behaviour, is_compound, has_members, all_types}
+use Rattle.expr_eval.specs.type_heads.Types.{Program, Types, Member, Field}
+use Rattle.expr_eval.specs.type_heads.Members.{list_length, members, members_of, fields, field_type, fields_declared, table_field, table_fields}
+use Rattle.expr_eval.specs.type_heads.HeadingFaults.{can_hold, member_rows, meant_row, fits_base, name_rows, heir_rows, compound_rows, declaration_rows, heading_rows, twice_rows, basic_names, name_declared, enum_rows_from, cycle_row, owner_rows}
+use Rattle.expr_eval.specs.type_heads.DeclaredTypes.{Placed, placed, Declared, basic_types, type_declared, all_declared, meant, items_with, form_with, heads_from, bodies_from, declared_heads, types_of}
+use Rattle.expr_eval.specs.expr_nodes.Parts.{any_holds}
 use Rattle.run_values.proofs.of_field_flatten.Tests.{left_of, two_ways, In, in_either, flat_map_in, map_in, found_in, all_from}
 use Rattle.scene_laws.specs.Premises.{is_free}
 use Rattle.scene_laws.proofs.FaultRows.{no_left, no_right, not_so, not_from, holds_not, rows_left, rows_right, rows_among}

@@ -4,30 +4,30 @@ use Rattle.std.specs.Prelude.{flat_map, option_to_list, option_map, option_and_t
 use Rattle.std.specs.Option.{option_map_or}
 use Rattle.osc_base.specs.declared.path.Path.{Path}
 use Rattle.osc_base.specs.Paths.{then_name}
-use Rattle.dsl_tree.specs.declared.parts.Ident.{Ident}
-use Rattle.dsl_tree.specs.declared.phases.InvokeHead.{InvokeHead}
-use Rattle.dsl_tree.specs.ExprTree.{ExprTree}
-use Rattle.dsl_tree.specs.PhaseTree.{ArgumentTree, PartTree, Invoke}
-use Rattle.dsl_tree.specs.FileTree.{MemberTree}
-use Rattle.type_heads.specs.Table.{form, bases, is_actor, is_object, is_behaviour, is_kind_of}
-use Rattle.type_heads.specs.Types.{Types, Member, Field, Do}
-use Rattle.type_heads.specs.Members.{fields, field, field_type, do_declared, the_do}
-use Rattle.expr_nodes.specs.Kinds.{ValueKind, object_type}
-use Rattle.expr_nodes.specs.Typed as Typing
-use Rattle.expr_nodes.specs.Typed.{Typed, Info, Whole, kind, moved}
-use Rattle.expr_nodes.specs.Scope.{It, Scope}
-use Rattle.expr_nodes.specs.Sizes.{field_size}
-use Rattle.expr_nodes.specs.Names.{per_of}
-use Rattle.expr_nodes.specs.Parts.{any_holds, of_one}
-use Rattle.expr_nodes.specs.Fits.{argument_fit_rows}
-use Rattle.expr_nodes.specs.Typing.{typed, expr_rows, first, is_path}
-use Rattle.composition.specs.declared.guard.Guard.{Guard}
-use Rattle.composition.specs.Calls.{PhaseHere, phases_in, Callee, callee, actor_type, owned_behaviour, called, without_labels, invoked, scope_at, Assigned, assigned}
-use Rattle.composition.specs.Uses.{among, begins_with_label, isnt_path_to, is_object_of, object_rows, with_kind, given_rows, name_assigned, assigned_rows, arguments_rows, callee_rows, call_rows, part_rows, it_made, phase_rows, use_rows}
-use Rattle.composition.specs.Scenes.{Binding}
-use Rattle.composition.specs.Homes.{home}
-use Rattle.composition.specs.Givens.{Here, from_root, typed_here}
-use Rattle.composition.specs.Expansion.{Calling, calling, here_in, object_at, binding, argument_binding, actor_binding, of_arguments}
+use Rattle.expr_eval.specs.dsl_tree.declared.parts.Ident.{Ident}
+use Rattle.expr_eval.specs.dsl_tree.declared.phases.InvokeHead.{InvokeHead}
+use Rattle.expr_eval.specs.dsl_tree.ExprTree.{ExprTree}
+use Rattle.expr_eval.specs.dsl_tree.PhaseTree.{ArgumentTree, PartTree, Invoke}
+use Rattle.expr_eval.specs.dsl_tree.FileTree.{MemberTree}
+use Rattle.expr_eval.specs.type_heads.Table.{form, bases, is_actor, is_object, is_behaviour, is_kind_of}
+use Rattle.expr_eval.specs.type_heads.Types.{Types, Member, Field, Do}
+use Rattle.expr_eval.specs.type_heads.Members.{fields, field, field_type, do_declared, the_do}
+use Rattle.expr_eval.specs.expr_nodes.Kinds.{ValueKind, object_type}
+use Rattle.expr_eval.specs.expr_nodes.Typed as Typing
+use Rattle.expr_eval.specs.expr_nodes.Typed.{Typed, Info, Whole, kind, moved}
+use Rattle.expr_eval.specs.expr_nodes.Scope.{It, Scope}
+use Rattle.expr_eval.specs.expr_nodes.Sizes.{field_size}
+use Rattle.expr_eval.specs.expr_nodes.Names.{per_of}
+use Rattle.expr_eval.specs.expr_nodes.Parts.{any_holds, of_one}
+use Rattle.expr_eval.specs.expr_nodes.Fits.{argument_fit_rows}
+use Rattle.expr_eval.specs.expr_nodes.Typing.{typed, expr_rows, first, is_path}
+use Rattle.run_values.specs.composition.declared.guard.Guard.{Guard}
+use Rattle.run_values.specs.composition.Calls.{PhaseHere, phases_in, Callee, callee, actor_type, owned_behaviour, called, without_labels, invoked, scope_at, Assigned, assigned}
+use Rattle.run_values.specs.composition.Uses.{among, begins_with_label, isnt_path_to, is_object_of, object_rows, with_kind, given_rows, name_assigned, assigned_rows, arguments_rows, callee_rows, call_rows, part_rows, it_made, phase_rows, use_rows}
+use Rattle.run_values.specs.composition.Scenes.{Binding}
+use Rattle.run_values.specs.composition.Homes.{home}
+use Rattle.run_values.specs.composition.Givens.{Here, from_root, typed_here}
+use Rattle.run_values.specs.composition.Expansion.{Calling, calling, here_in, object_at, binding, argument_binding, actor_binding, of_arguments}
 use Rattle.run_values.proofs.of_field_flatten.Tests.{In, in_either, map_in, found_in}
 use Rattle.scene_laws.specs.Premises.{is_free}
 use Rattle.scene_laws.proofs.FaultRows.{no_left, no_right, rows_left, rows_right, holds_not}

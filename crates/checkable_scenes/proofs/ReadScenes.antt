@@ -8,33 +8,33 @@ use Rattle.osc_base.specs.declared.path.Path.{Path}
 use Rattle.osc_base.specs.declared.path.Step.{Step}
 use Rattle.osc_base.specs.declared.path.Step.TheVariants.{Name, Index, Member as AMember}
 use Rattle.osc_base.specs.Paths.{path_of, root, same_path, timed_part, then_name, then_index}
-use Rattle.dsl_tree.specs.ExprTree.{ExprTree}
-use Rattle.type_heads.specs.Table.{form, owner, is_behaviour}
-use Rattle.type_heads.specs.Types.{Types, Member, Field}
-use Rattle.type_heads.specs.Members.{members, fields_declared, fields, field_type, list_length}
-use Rattle.expr_nodes.specs.Typed as Typing
-use Rattle.expr_nodes.specs.Typed.{Typed, TypedRow, Info, reads, reads_of, moved, moved_row}
-use Rattle.expr_nodes.specs.Sizes.{field_size}
-use Rattle.expr_nodes.specs.Sound.{has_size, each_read, each_read_of}
-use Rattle.composition.specs.declared.guard.Guard.{Guard}
-use Rattle.composition.specs.declared.setting.Setting.{Setting}
-use Rattle.composition.specs.declared.spot.ValueSpot.{ValueSpot}
-use Rattle.composition.specs.declared.spot.ValueRange.{ValueRange}
-use Rattle.composition.specs.declared.spot.PhaseSpot.{PhaseSpot}
-use Rattle.composition.specs.declared.spot.PhaseKind.{PhaseKind}
-use Rattle.composition.specs.Scenes.{Content, Spot, Scene, Binding, Occurrence, ModifierSpot, Source, OfRun, OfPhase, OfValue, value_spot, phase_spot, values, phases, has_phase, source, source_timed}
-use Rattle.composition.specs.There.{read_by, removed}
-use Rattle.composition.specs.Homes.{home}
-use Rattle.composition.specs.Givens.{Given, from_root, typed_here, it_of, field_here, own_givens}
-use Rattle.composition.specs.Calls.{scope_at}
-use Rattle.composition.specs.Expansion.{GivenModifier, Calling, calling, here_in, low_end, high_end, expansion}
-use Rattle.composition.specs.Expanded.{spots_of, givens_of, modifiers_of, bindings_of, occurrence_of, modifier_of, scene_from, is_readable, is_driven, can_be_asked, can_apply, scene}
-use Rattle.composition.specs.Invariants.{value_at, is_read, is_target}
+use Rattle.expr_eval.specs.dsl_tree.ExprTree.{ExprTree}
+use Rattle.expr_eval.specs.type_heads.Table.{form, owner, is_behaviour}
+use Rattle.expr_eval.specs.type_heads.Types.{Types, Member, Field}
+use Rattle.expr_eval.specs.type_heads.Members.{members, fields_declared, fields, field_type, list_length}
+use Rattle.expr_eval.specs.expr_nodes.Typed as Typing
+use Rattle.expr_eval.specs.expr_nodes.Typed.{Typed, TypedRow, Info, reads, reads_of, moved, moved_row}
+use Rattle.expr_eval.specs.expr_nodes.Sizes.{field_size}
+use Rattle.expr_eval.specs.expr_nodes.Sound.{has_size, each_read, each_read_of}
+use Rattle.run_values.specs.composition.declared.guard.Guard.{Guard}
+use Rattle.run_values.specs.composition.declared.setting.Setting.{Setting}
+use Rattle.run_values.specs.composition.declared.spot.ValueSpot.{ValueSpot}
+use Rattle.run_values.specs.composition.declared.spot.ValueRange.{ValueRange}
+use Rattle.run_values.specs.composition.declared.spot.PhaseSpot.{PhaseSpot}
+use Rattle.run_values.specs.composition.declared.spot.PhaseKind.{PhaseKind}
+use Rattle.run_values.specs.composition.Scenes.{Content, Spot, Scene, Binding, Occurrence, ModifierSpot, Source, OfRun, OfPhase, OfValue, value_spot, phase_spot, values, phases, has_phase, source, source_timed}
+use Rattle.run_values.specs.composition.There.{read_by, removed}
+use Rattle.run_values.specs.composition.Homes.{home}
+use Rattle.run_values.specs.composition.Givens.{Given, from_root, typed_here, it_of, field_here, own_givens}
+use Rattle.run_values.specs.composition.Calls.{scope_at}
+use Rattle.run_values.specs.composition.Expansion.{GivenModifier, Calling, calling, here_in, low_end, high_end, expansion}
+use Rattle.run_values.specs.composition.Expanded.{spots_of, givens_of, modifiers_of, bindings_of, occurrence_of, modifier_of, scene_from, is_readable, is_driven, can_be_asked, can_apply, scene}
+use Rattle.run_values.specs.composition.Invariants.{value_at, is_read, is_target}
 use Rattle.run_values.specs.field_flatten.Exactness.{expressions}
 use Rattle.run_values.proofs.of_field_flatten.Tests.{left_of, right_of, both, In, in_either, in_filter, map_in, in_flat_map, flat_map_in, all_from, all_append, any_at, path_is, found_in}
 use Rattle.scene_laws.proofs.Picked.{of_option, filter_map_in}
 use Rattle.scene_laws.proofs.EachSpot.{value_paths, each_spot}
-use Rattle.expr_nodes.specs.Scope.{It}
+use Rattle.expr_eval.specs.expr_nodes.Scope.{It}
 use Rattle.checkable_scenes.proofs.ShortTexts.{AreShort}
 use Rattle.checkable_scenes.proofs.EachText.{each_text}
 use Rattle.checkable_scenes.proofs.NarrowModifiers.{given_by}

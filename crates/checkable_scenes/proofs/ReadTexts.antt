@@ -5,23 +5,23 @@ use Rattle.std.specs.Option.{option_map_or}
 use Rattle.osc_base.specs.declared.fault.Place.{Place}
 use Rattle.osc_base.specs.declared.path.Path.{Path}
 use Rattle.osc_base.specs.Paths.{then_duration}
-use Rattle.dsl_tree.specs.declared.parts.Ident.{Ident}
-use Rattle.dsl_tree.specs.declared.compounds.HeirCondition.{HeirCondition}
-use Rattle.dsl_tree.specs.ExprTree.{ExprTree, items_of}
-use Rattle.dsl_tree.specs.PhaseTree.{RuleTree, ArgumentTree, PartTree}
-use Rattle.dsl_tree.specs.FileTree.{MemberTree}
-use Rattle.type_heads.specs.Table.{Table, bases}
-use Rattle.type_heads.specs.Types.{Types, Member, Field}
-use Rattle.type_heads.specs.Members.{members, fields_declared, fields, field, field_type, heir_condition}
-use Rattle.expr_nodes.specs.Typed as Typing
-use Rattle.expr_nodes.specs.Typed.{Typed, TypedRow, moved, moved_row}
-use Rattle.expr_nodes.specs.Scope.{It}
-use Rattle.expr_nodes.specs.Names.{duration_at}
-use Rattle.expr_nodes.specs.Typing.{typed, first}
-use Rattle.composition.specs.declared.guard.Guard.{Guard}
-use Rattle.composition.specs.Calls.{Assigned, assigned, scope_at}
-use Rattle.composition.specs.Givens.{Here, Given, from_root, typed_here, read_at, guards_under, FieldHere, field_here, given_rule, given_initial, given_initials, given_elements, equals, element, value_tree, given_condition, given_conditions, given_field, given_member, own_givens, required, given_required}
-use Rattle.composition.specs.Expansion.{Calling, here_in, given_argument, part_rule, of_arguments, given_duration, parameter}
+use Rattle.expr_eval.specs.dsl_tree.declared.parts.Ident.{Ident}
+use Rattle.expr_eval.specs.dsl_tree.declared.compounds.HeirCondition.{HeirCondition}
+use Rattle.expr_eval.specs.dsl_tree.ExprTree.{ExprTree, items_of}
+use Rattle.expr_eval.specs.dsl_tree.PhaseTree.{RuleTree, ArgumentTree, PartTree}
+use Rattle.expr_eval.specs.dsl_tree.FileTree.{MemberTree}
+use Rattle.expr_eval.specs.type_heads.Table.{Table, bases}
+use Rattle.expr_eval.specs.type_heads.Types.{Types, Member, Field}
+use Rattle.expr_eval.specs.type_heads.Members.{members, fields_declared, fields, field, field_type, heir_condition}
+use Rattle.expr_eval.specs.expr_nodes.Typed as Typing
+use Rattle.expr_eval.specs.expr_nodes.Typed.{Typed, TypedRow, moved, moved_row}
+use Rattle.expr_eval.specs.expr_nodes.Scope.{It}
+use Rattle.expr_eval.specs.expr_nodes.Names.{duration_at}
+use Rattle.expr_eval.specs.expr_nodes.Typing.{typed, first}
+use Rattle.run_values.specs.composition.declared.guard.Guard.{Guard}
+use Rattle.run_values.specs.composition.Calls.{Assigned, assigned, scope_at}
+use Rattle.run_values.specs.composition.Givens.{Here, Given, from_root, typed_here, read_at, guards_under, FieldHere, field_here, given_rule, given_initial, given_initials, given_elements, equals, element, value_tree, given_condition, given_conditions, given_field, given_member, own_givens, required, given_required}
+use Rattle.run_values.specs.composition.Expansion.{Calling, here_in, given_argument, part_rule, of_arguments, given_duration, parameter}
 use Rattle.run_values.proofs.of_field_flatten.Tests.{In, in_either, map_in, flat_map_in, found_in}
 use Rattle.scene_laws.proofs.Picked.{of_option}
 use Rattle.checkable_scenes.proofs.PhaseSteps.{OnlyPhases}

@@ -2,16 +2,16 @@
 use Rattle.std.proofs.Common.{◌≡◌, ℕ, refl, sym, ap, ◌∙◌, List, true, false, Option, Some, None, true≢false}
 use Rattle.std.specs.Prelude.{is_none, is_some, not, option_map, option_to_list}
 use Rattle.std.specs.Option.{option_map_or}
-use Rattle.units_si.specs.declared.units.Exponents.{Exponents}
-use Rattle.dsl_tree.specs.declared.parts.Ident.{Ident}
-use Rattle.dsl_tree.specs.PhaseTree.{PhaseTree, Comp, Invoke, Wait}
-use Rattle.type_heads.specs.Table.{Table, TableUnit, form, unit}
-use Rattle.type_heads.specs.Types.{Types, Do}
-use Rattle.type_heads.specs.Members.{the_do}
-use Rattle.expr_nodes.specs.Kinds.{Made, ValueKind, kind_of}
-use Rattle.expr_nodes.specs.Scope.{It, Label}
+use Rattle.expr_eval.specs.units_si.declared.units.Exponents.{Exponents}
+use Rattle.expr_eval.specs.dsl_tree.declared.parts.Ident.{Ident}
+use Rattle.expr_eval.specs.dsl_tree.PhaseTree.{PhaseTree, Comp, Invoke, Wait}
+use Rattle.expr_eval.specs.type_heads.Table.{Table, TableUnit, form, unit}
+use Rattle.expr_eval.specs.type_heads.Types.{Types, Do}
+use Rattle.expr_eval.specs.type_heads.Members.{the_do}
+use Rattle.expr_eval.specs.expr_nodes.Kinds.{Made, ValueKind, kind_of}
+use Rattle.expr_eval.specs.expr_nodes.Scope.{It, Label}
 use Rattle.expr_eval.specs.Resolved.{is_told, is_told_it, IsResolved}
-use Rattle.composition.specs.Calls.{Turn, PhaseHere, phases_in, label_of, made, leads_into, labels_at, without_labels, scope_at}
+use Rattle.run_values.specs.composition.Calls.{Turn, PhaseHere, phases_in, label_of, made, leads_into, labels_at, without_labels, scope_at}
 use Rattle.run_values.proofs.of_field_flatten.Tests.{In, all_from, flat_map_in}
 use Rattle.scene_laws.proofs.Picked.{of_option, filter_map_in}
 use Rattle.scene_laws.proofs.MemberPhases.{Resolves}

@@ -2,14 +2,14 @@
 use Rattle.std.proofs.Common.{◌≡◌, ℕ, ◌≤◌, refl, ◌∙◌, inl, inr, subst, List, [], true, false, Option, Some, None, length, arith}
 use Rattle.std.specs.Prelude.{codes, nat_le}
 use Rattle.osc_base.specs.Paths.{root, then_name}
-use Rattle.type_heads.specs.Table.{TableField, form, owner, field_of, is_object}
-use Rattle.type_heads.specs.Types.{Program}
-use Rattle.type_heads.specs.DeclaredTypes.{types_of}
-use Rattle.expr_nodes.specs.Sizes.{field_reach}
-use Rattle.composition.specs.Expansion.{expansion}
-use Rattle.composition.specs.Expanded.{scene, spots_of}
-use Rattle.composition.specs.StaticFaults.{declaration_fault}
-use Rattle.composition.specs.SceneFaults.{named_scenario}
+use Rattle.expr_eval.specs.type_heads.Table.{TableField, form, owner, field_of, is_object}
+use Rattle.expr_eval.specs.type_heads.Types.{Program}
+use Rattle.expr_eval.specs.type_heads.DeclaredTypes.{types_of}
+use Rattle.expr_eval.specs.expr_nodes.Sizes.{field_reach}
+use Rattle.run_values.specs.composition.Expansion.{expansion}
+use Rattle.run_values.specs.composition.Expanded.{scene, spots_of}
+use Rattle.run_values.specs.composition.StaticFaults.{declaration_fault}
+use Rattle.run_values.specs.composition.SceneFaults.{named_scenario}
 use Rattle.scene_laws.specs.Premises.{IsSmallTable, is_free, is_spelled_program}
 use Rattle.scene_laws.proofs.FaultRows.{NoFaults, no_faults}
 use Rattle.scene_laws.proofs.EnumHeads.{program_enums}

@@ -6,18 +6,18 @@ use Rattle.std.specs.List.{list_all}
 use Rattle.osc_base.specs.declared.modifier.Moment.{Moment}
 use Rattle.osc_base.specs.declared.path.Path.{Path}
 use Rattle.osc_base.specs.Paths.{root, then_member, then_do}
-use Rattle.dsl_tree.specs.declared.parts.Ident.{Ident}
-use Rattle.dsl_tree.specs.declared.phases.CompKind.{CompKind}
-use Rattle.dsl_tree.specs.ExprTree.{ExprTree}
-use Rattle.dsl_tree.specs.PhaseTree as Tree
-use Rattle.dsl_tree.specs.PhaseTree.{ArgumentTree, ModifierTree, PhaseTree, Comp, Invoke, Wait, PhaseRow}
-use Rattle.dsl_tree.specs.FileTree.{MemberTree}
-use Rattle.type_heads.specs.Texts.{argument_exprs, part_exprs, phase_exprs, row_exprs, member_exprs}
-use Rattle.type_heads.specs.Types.{Program, Types, Member, Do}
-use Rattle.type_heads.specs.Members.{members, do_declared, the_do}
-use Rattle.type_heads.specs.DeclaredTypes.{types_of}
-use Rattle.composition.specs.Calls.{Turn, turns, PhaseHere, phases_at, phases_among, phases_in}
-use Rattle.composition.specs.ModifierLines.{ModifierLine, NamedValue, named_value, unnamed_value, is_at, moment_of, ModifierForm, is_line, modifier_lines, form_on_line, form_of_arguments, modifier_form}
+use Rattle.expr_eval.specs.dsl_tree.declared.parts.Ident.{Ident}
+use Rattle.expr_eval.specs.dsl_tree.declared.phases.CompKind.{CompKind}
+use Rattle.expr_eval.specs.dsl_tree.ExprTree.{ExprTree}
+use Rattle.expr_eval.specs.dsl_tree.PhaseTree as Tree
+use Rattle.expr_eval.specs.dsl_tree.PhaseTree.{ArgumentTree, ModifierTree, PhaseTree, Comp, Invoke, Wait, PhaseRow}
+use Rattle.expr_eval.specs.dsl_tree.FileTree.{MemberTree}
+use Rattle.expr_eval.specs.type_heads.Texts.{argument_exprs, part_exprs, phase_exprs, row_exprs, member_exprs}
+use Rattle.expr_eval.specs.type_heads.Types.{Program, Types, Member, Do}
+use Rattle.expr_eval.specs.type_heads.Members.{members, do_declared, the_do}
+use Rattle.expr_eval.specs.type_heads.DeclaredTypes.{types_of}
+use Rattle.run_values.specs.composition.Calls.{Turn, turns, PhaseHere, phases_at, phases_among, phases_in}
+use Rattle.run_values.specs.composition.ModifierLines.{ModifierLine, NamedValue, named_value, unnamed_value, is_at, moment_of, ModifierForm, is_line, modifier_lines, form_on_line, form_of_arguments, modifier_form}
 use Rattle.run_values.proofs.of_field_flatten.Tests.{right_of, In, in_left, in_right, in_either, in_flat_map, in_filter, all_at}
 use Rattle.scene_laws.specs.Premises.{is_formed, are_short, is_spelled_program}
 use Rattle.scene_laws.proofs.Picked.{filter_map_in}

@@ -5,28 +5,28 @@ use Rattle.std.specs.List.{list_all, range_with_len}
 use Rattle.std.proofs.lemmas.Int.{ints}
 use Rattle.osc_base.specs.declared.path.Path.{Path}
 use Rattle.osc_base.specs.Paths.{root, then_name, then_member}
-use Rattle.dsl_tree.specs.declared.parts.Ident.{Ident}
-use Rattle.dsl_tree.specs.declared.compounds.ConditionValue.{ConditionValue}
-use Rattle.dsl_tree.specs.declared.phases.InvokeHead.{InvokeHead}
-use Rattle.dsl_tree.specs.PhaseTree.{ArgumentTree, PartTree, Invoke, phases_of}
-use Rattle.type_heads.specs.Form.{Form}
-use Rattle.type_heads.specs.Table.{form, owner, is_object, number_of, enum_members}
-use Rattle.type_heads.specs.Types.{Types, Field, Do}
-use Rattle.type_heads.specs.Members.{fields, field_type, the_do}
-use Rattle.type_heads.specs.Conditions.{condition_value}
-use Rattle.composition.specs.cond_inherit.Conditions.{conditions}
-use Rattle.expr_nodes.specs.Sizes.{field_reach}
-use Rattle.composition.specs.declared.guard.Guard.{Guard}
-use Rattle.composition.specs.declared.setting.Setting.{Setting}
-use Rattle.composition.specs.declared.spot.PhaseKind.{PhaseKind}
-use Rattle.composition.specs.Calls.{Turn, PhaseHere, phases_in, invoked}
-use Rattle.composition.specs.Scenes.{Spot, Occurrence, Binding}
-use Rattle.composition.specs.Homes.{is_bound}
-use Rattle.composition.specs.Givens.{Given, guards_under}
-use Rattle.composition.specs.Expansion.{from_object, calling, given_duration, expansion}
-use Rattle.composition.specs.Expanded.{spots_of, givens_of, bindings_of, occurrence_of, can_be_asked, scene_from, scene}
-use Rattle.composition.specs.SceneFaults.{is_too_large, most_slots}
-use Rattle.composition.specs.Invariants.{is_small}
+use Rattle.expr_eval.specs.dsl_tree.declared.parts.Ident.{Ident}
+use Rattle.expr_eval.specs.dsl_tree.declared.compounds.ConditionValue.{ConditionValue}
+use Rattle.expr_eval.specs.dsl_tree.declared.phases.InvokeHead.{InvokeHead}
+use Rattle.expr_eval.specs.dsl_tree.PhaseTree.{ArgumentTree, PartTree, Invoke, phases_of}
+use Rattle.expr_eval.specs.type_heads.Form.{Form}
+use Rattle.expr_eval.specs.type_heads.Table.{form, owner, is_object, number_of, enum_members}
+use Rattle.expr_eval.specs.type_heads.Types.{Types, Field, Do}
+use Rattle.expr_eval.specs.type_heads.Members.{fields, field_type, the_do}
+use Rattle.expr_eval.specs.type_heads.Conditions.{condition_value}
+use Rattle.run_values.specs.cond_inherit.Conditions.{conditions}
+use Rattle.expr_eval.specs.expr_nodes.Sizes.{field_reach}
+use Rattle.run_values.specs.composition.declared.guard.Guard.{Guard}
+use Rattle.run_values.specs.composition.declared.setting.Setting.{Setting}
+use Rattle.run_values.specs.composition.declared.spot.PhaseKind.{PhaseKind}
+use Rattle.run_values.specs.composition.Calls.{Turn, PhaseHere, phases_in, invoked}
+use Rattle.run_values.specs.composition.Scenes.{Spot, Occurrence, Binding}
+use Rattle.run_values.specs.composition.Homes.{is_bound}
+use Rattle.run_values.specs.composition.Givens.{Given, guards_under}
+use Rattle.run_values.specs.composition.Expansion.{from_object, calling, given_duration, expansion}
+use Rattle.run_values.specs.composition.Expanded.{spots_of, givens_of, bindings_of, occurrence_of, can_be_asked, scene_from, scene}
+use Rattle.run_values.specs.composition.SceneFaults.{is_too_large, most_slots}
+use Rattle.run_values.specs.composition.Invariants.{is_small}
 use Rattle.run_values.specs.field_flatten.Exactness.{is_small_guard, are_small_guards}
 use Rattle.run_values.proofs.of_field_flatten.Tests.{both, In, in_filter, map_in, all_from, all_append}
 use Rattle.scene_laws.specs.Premises.{is_free, IsSmallTable}

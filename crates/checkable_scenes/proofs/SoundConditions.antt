@@ -13,28 +13,28 @@ use Rattle.osc_base.specs.FaultRows.{row}
 use Rattle.osc_base.specs.LowestTerms.{lcm}
 use Rattle.osc_base.specs.Number.{whole}
 use Rattle.osc_base.specs.Paths.{root, then_name}
-use Rattle.dsl_tree.specs.declared.compounds.ConditionValue.{ConditionValue}
-use Rattle.dsl_tree.specs.declared.compounds.HeirCondition.{HeirCondition}
-use Rattle.dsl_tree.specs.declared.parts.Ident.{Ident}
-use Rattle.dsl_tree.specs.ExprTree.{ExprTree}
-use Rattle.dsl_tree.specs.FileTree.{FieldTree}
-use Rattle.type_heads.specs.Form.{Form, EnumMember}
-use Rattle.type_heads.specs.MemberFaults.{held_rows, can_decide, decided_rows, field_rows}
-use Rattle.type_heads.specs.Members.{list_length, declared_type, field, field_type, fields, items_in, heir_condition}
-use Rattle.type_heads.specs.Table.{form, base, bases, line_within, named, has_members, is_object, is_behaviour, is_enum, enum_members, enum_number, number_of}
-use Rattle.type_heads.specs.Types.{Types, Field}
-use Rattle.expr_nodes.specs.declared.compare.Compare.{Compare}
-use Rattle.expr_nodes.specs.Kinds.{ValueKind}
-use Rattle.expr_nodes.specs.Names.{single, held_at, member_at, enum_named, enum_name_typed}
-use Rattle.expr_nodes.specs.Operators.{comparison_rows}
-use Rattle.expr_nodes.specs.Parts.{any_holds}
-use Rattle.expr_nodes.specs.Scope.{Scope}
-use Rattle.expr_nodes.specs.Sizes.{info_at, unit_size, field_size}
-use Rattle.expr_nodes.specs.Typed as Nodes
-use Rattle.expr_nodes.specs.Typed.{Typed, Read, Whole}
-use Rattle.expr_nodes.specs.Typing.{typed, first}
-use Rattle.composition.specs.Givens.{FieldHere, field_here, value_tree, given_condition}
-use Rattle.composition.specs.Tokens.{value_tokens}
+use Rattle.expr_eval.specs.dsl_tree.declared.compounds.ConditionValue.{ConditionValue}
+use Rattle.expr_eval.specs.dsl_tree.declared.compounds.HeirCondition.{HeirCondition}
+use Rattle.expr_eval.specs.dsl_tree.declared.parts.Ident.{Ident}
+use Rattle.expr_eval.specs.dsl_tree.ExprTree.{ExprTree}
+use Rattle.expr_eval.specs.dsl_tree.FileTree.{FieldTree}
+use Rattle.expr_eval.specs.type_heads.Form.{Form, EnumMember}
+use Rattle.expr_eval.specs.type_heads.MemberFaults.{held_rows, can_decide, decided_rows, field_rows}
+use Rattle.expr_eval.specs.type_heads.Members.{list_length, declared_type, field, field_type, fields, items_in, heir_condition}
+use Rattle.expr_eval.specs.type_heads.Table.{form, base, bases, line_within, named, has_members, is_object, is_behaviour, is_enum, enum_members, enum_number, number_of}
+use Rattle.expr_eval.specs.type_heads.Types.{Types, Field}
+use Rattle.expr_eval.specs.expr_nodes.declared.compare.Compare.{Compare}
+use Rattle.expr_eval.specs.expr_nodes.Kinds.{ValueKind}
+use Rattle.expr_eval.specs.expr_nodes.Names.{single, held_at, member_at, enum_named, enum_name_typed}
+use Rattle.expr_eval.specs.expr_nodes.Operators.{comparison_rows}
+use Rattle.expr_eval.specs.expr_nodes.Parts.{any_holds}
+use Rattle.expr_eval.specs.expr_nodes.Scope.{Scope}
+use Rattle.expr_eval.specs.expr_nodes.Sizes.{info_at, unit_size, field_size}
+use Rattle.expr_eval.specs.expr_nodes.Typed as Nodes
+use Rattle.expr_eval.specs.expr_nodes.Typed.{Typed, Read, Whole}
+use Rattle.expr_eval.specs.expr_nodes.Typing.{typed, first}
+use Rattle.run_values.specs.composition.Givens.{FieldHere, field_here, value_tree, given_condition}
+use Rattle.run_values.specs.composition.Tokens.{value_tokens}
 use Rattle.run_values.proofs.of_field_flatten.Tests.{number_self, In, in_either, found_in}
 use Rattle.scene_laws.specs.Premises.{are_short}
 use Rattle.scene_laws.proofs.FaultRows.{no_left, no_right}

@@ -6,29 +6,29 @@ use Rattle.osc_base.specs.declared.fault.Place.{Place}
 use Rattle.osc_base.specs.declared.path.Path.{Path}
 use Rattle.osc_base.specs.Paths.{root, then_name, then_duration}
 use Rattle.osc_base.specs.declared.mark.Strength.{Strength}
-use Rattle.dsl_tree.specs.declared.rules.KeepKind.{KeepKind}
-use Rattle.dsl_tree.specs.ExprTree.{ExprTree}
-use Rattle.dsl_tree.specs.PhaseTree.{RuleTree}
-use Rattle.type_heads.specs.Texts.{rule_exprs}
-use Rattle.type_heads.specs.Types.{Types}
-use Rattle.expr_nodes.specs.declared.compare.Compare.{Compare}
-use Rattle.expr_nodes.specs.Kinds.{is_number, is_truth, same_units, are_alike}
-use Rattle.expr_nodes.specs.Typed as Nodes
-use Rattle.expr_nodes.specs.Typed.{Typed, Info, kind, moved, place_of}
-use Rattle.expr_nodes.specs.Sizes.{size, joined, is_wide}
-use Rattle.expr_nodes.specs.Parts.{any_holds, of_one, is_scalar, both_numbers}
-use Rattle.expr_nodes.specs.Operators.{truth_at, comparison_rows, within_rows}
-use Rattle.expr_nodes.specs.Fits.{is_kind, differs, ends_of, sizes_of, fit_rows, duration_fit_rows, constraint_rows}
-use Rattle.expr_nodes.specs.Fits as Fits
-use Rattle.expr_nodes.specs.Names.{duration_at}
-use Rattle.expr_nodes.specs.Sound.{is_sound, is_truth_info}
-use Rattle.expr_nodes.specs.Typing.{typed, expr_rows, first, is_path}
+use Rattle.expr_eval.specs.dsl_tree.declared.rules.KeepKind.{KeepKind}
+use Rattle.expr_eval.specs.dsl_tree.ExprTree.{ExprTree}
+use Rattle.expr_eval.specs.dsl_tree.PhaseTree.{RuleTree}
+use Rattle.expr_eval.specs.type_heads.Texts.{rule_exprs}
+use Rattle.expr_eval.specs.type_heads.Types.{Types}
+use Rattle.expr_eval.specs.expr_nodes.declared.compare.Compare.{Compare}
+use Rattle.expr_eval.specs.expr_nodes.Kinds.{is_number, is_truth, same_units, are_alike}
+use Rattle.expr_eval.specs.expr_nodes.Typed as Nodes
+use Rattle.expr_eval.specs.expr_nodes.Typed.{Typed, Info, kind, moved, place_of}
+use Rattle.expr_eval.specs.expr_nodes.Sizes.{size, joined, is_wide}
+use Rattle.expr_eval.specs.expr_nodes.Parts.{any_holds, of_one, is_scalar, both_numbers}
+use Rattle.expr_eval.specs.expr_nodes.Operators.{truth_at, comparison_rows, within_rows}
+use Rattle.expr_eval.specs.expr_nodes.Fits.{is_kind, differs, ends_of, sizes_of, fit_rows, duration_fit_rows, constraint_rows}
+use Rattle.expr_eval.specs.expr_nodes.Fits as Fits
+use Rattle.expr_eval.specs.expr_nodes.Names.{duration_at}
+use Rattle.expr_eval.specs.expr_nodes.Sound.{is_sound, is_truth_info}
+use Rattle.expr_eval.specs.expr_nodes.Typing.{typed, expr_rows, first, is_path}
 use Rattle.expr_eval.specs.Resolved.{IsResolved}
 use Rattle.expr_eval.proofs.TypedForms.{typed_or_refused}
-use Rattle.composition.specs.declared.guard.Guard.{Guard}
-use Rattle.composition.specs.Uses.{isnt_path_to, default_rows, rule_rows}
-use Rattle.composition.specs.Givens.{Here, Given, from_root, typed_here, read_at, strength_of, given_rule, required, given_required}
-use Rattle.composition.specs.Expansion.{Calling, here_in, given_duration}
+use Rattle.run_values.specs.composition.declared.guard.Guard.{Guard}
+use Rattle.run_values.specs.composition.Uses.{isnt_path_to, default_rows, rule_rows}
+use Rattle.run_values.specs.composition.Givens.{Here, Given, from_root, typed_here, read_at, strength_of, given_rule, required, given_required}
+use Rattle.run_values.specs.composition.Expansion.{Calling, here_in, given_duration}
 use Rattle.run_values.specs.field_flatten.Seen.{has_values}
 use Rattle.run_values.proofs.of_field_flatten.Tests.{left_of, right_of, both, In}
 use Rattle.scene_laws.specs.Premises.{IsSmallTable, are_short}

@@ -7,33 +7,33 @@ use Rattle.osc_base.specs.declared.fault.Place.{Place}
 use Rattle.osc_base.specs.declared.mark.Strength.{Strength}
 use Rattle.osc_base.specs.declared.path.Path.{Path}
 use Rattle.osc_base.specs.Paths.{root, then_name, then_index}
-use Rattle.dsl_tree.specs.declared.parts.Ident.{Ident}
-use Rattle.dsl_tree.specs.ExprTree as Tree
-use Rattle.dsl_tree.specs.ExprTree.{ExprTree, ExprRow}
-use Rattle.type_heads.specs.Form.{Form}
-use Rattle.type_heads.specs.MemberFaults.{is_list_of, initial_rows}
-use Rattle.type_heads.specs.Members.{list_length, field, field_type, fields, members, items_in, table_fields}
-use Rattle.type_heads.specs.Table.{Table, TableField, form, base, field_of, has_members, is_object, is_behaviour}
-use Rattle.type_heads.specs.Types.{Types, Member, Field}
-use Rattle.expr_nodes.specs.declared.compare.Compare.{Compare}
-use Rattle.expr_nodes.specs.Fits.{is_kind, differs, ends_of, sizes_of, initial_fit_rows}
-use Rattle.expr_nodes.specs.Kinds.{ValueKind, kind_of, are_alike}
-use Rattle.expr_nodes.specs.Names.{per_of, single, elements_from, held_at, typed_meaning, after_point, field_meant, duration_if, is_duration, it_at}
-use Rattle.expr_nodes.specs.Operators.{truth_at, comparison_rows}
-use Rattle.expr_nodes.specs.Operators as Operators
-use Rattle.expr_nodes.specs.Parts.{any_holds, unless, on_two, is_scalar}
-use Rattle.expr_nodes.specs.Scope.{It, Scope}
-use Rattle.expr_nodes.specs.Sizes.{info_at, size, unit_size, field_size, joined, is_wide}
-use Rattle.expr_nodes.specs.Typed as Nodes
-use Rattle.expr_nodes.specs.Typed.{Typed, Read, Whole, kind, moved, place_of, begun_at}
-use Rattle.expr_nodes.specs.Typing.{typed, expr_rows, items_rows, first}
+use Rattle.expr_eval.specs.dsl_tree.declared.parts.Ident.{Ident}
+use Rattle.expr_eval.specs.dsl_tree.ExprTree as Tree
+use Rattle.expr_eval.specs.dsl_tree.ExprTree.{ExprTree, ExprRow}
+use Rattle.expr_eval.specs.type_heads.Form.{Form}
+use Rattle.expr_eval.specs.type_heads.MemberFaults.{is_list_of, initial_rows}
+use Rattle.expr_eval.specs.type_heads.Members.{list_length, field, field_type, fields, members, items_in, table_fields}
+use Rattle.expr_eval.specs.type_heads.Table.{Table, TableField, form, base, field_of, has_members, is_object, is_behaviour}
+use Rattle.expr_eval.specs.type_heads.Types.{Types, Member, Field}
+use Rattle.expr_eval.specs.expr_nodes.declared.compare.Compare.{Compare}
+use Rattle.expr_eval.specs.expr_nodes.Fits.{is_kind, differs, ends_of, sizes_of, initial_fit_rows}
+use Rattle.expr_eval.specs.expr_nodes.Kinds.{ValueKind, kind_of, are_alike}
+use Rattle.expr_eval.specs.expr_nodes.Names.{per_of, single, elements_from, held_at, typed_meaning, after_point, field_meant, duration_if, is_duration, it_at}
+use Rattle.expr_eval.specs.expr_nodes.Operators.{truth_at, comparison_rows}
+use Rattle.expr_eval.specs.expr_nodes.Operators as Operators
+use Rattle.expr_eval.specs.expr_nodes.Parts.{any_holds, unless, on_two, is_scalar}
+use Rattle.expr_eval.specs.expr_nodes.Scope.{It, Scope}
+use Rattle.expr_eval.specs.expr_nodes.Sizes.{info_at, size, unit_size, field_size, joined, is_wide}
+use Rattle.expr_eval.specs.expr_nodes.Typed as Nodes
+use Rattle.expr_eval.specs.expr_nodes.Typed.{Typed, Read, Whole, kind, moved, place_of, begun_at}
+use Rattle.expr_eval.specs.expr_nodes.Typing.{typed, expr_rows, items_rows, first}
 use Rattle.expr_eval.specs.Resolved.{IsResolved}
 use Rattle.expr_eval.proofs.TypedForms.{typed_or_refused}
-use Rattle.composition.specs.declared.guard.Guard.{Guard}
-use Rattle.composition.specs.Calls.{scope_at}
-use Rattle.composition.specs.Givens.{Here, Given, FieldHere, from_root, given_keep, equals, it_of, field_here, given_initial, given_initials, given_elements, element}
-use Rattle.composition.specs.Tokens.{tokens}
-use Rattle.composition.specs.Uses.{values_rows, values_given}
+use Rattle.run_values.specs.composition.declared.guard.Guard.{Guard}
+use Rattle.run_values.specs.composition.Calls.{scope_at}
+use Rattle.run_values.specs.composition.Givens.{Here, Given, FieldHere, from_root, given_keep, equals, it_of, field_here, given_initial, given_initials, given_elements, element}
+use Rattle.run_values.specs.composition.Tokens.{tokens}
+use Rattle.run_values.specs.composition.Uses.{values_rows, values_given}
 use Rattle.run_values.proofs.of_field_flatten.Tests.{left_of, right_of, In}
 use Rattle.scene_laws.specs.Premises.{IsSmallTable, are_short, row_is_short}
 use Rattle.scene_laws.proofs.FaultRows.{no_left, no_right, rows_left, rows_right, rows_among, holds_not}

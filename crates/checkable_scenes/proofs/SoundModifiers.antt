@@ -8,37 +8,37 @@ use Rattle.osc_base.specs.declared.modifier.Kind.{Kind}
 use Rattle.osc_base.specs.declared.fault.FaultCode.{FaultCode}
 use Rattle.osc_base.specs.FaultRows.{row}
 use Rattle.osc_base.specs.Paths.{root, same_path, then_name}
-use Rattle.dsl_tree.specs.declared.parts.Ident.{Ident}
-use Rattle.dsl_tree.specs.declared.phases.InvokeHead.{InvokeHead}
-use Rattle.dsl_tree.specs.ExprTree.{ExprTree}
-use Rattle.dsl_tree.specs.PhaseTree.{ArgumentTree, PartTree, Invoke}
-use Rattle.type_heads.specs.Table.{TableField, form, owner, field_of, is_object}
-use Rattle.type_heads.specs.Types.{Types, Do}
-use Rattle.type_heads.specs.Members.{the_do}
-use Rattle.expr_nodes.specs.Kinds.{ValueKind, is_number, are_alike, object_type}
-use Rattle.expr_nodes.specs.Typed as Nodes
-use Rattle.expr_nodes.specs.Typed.{Typed, Whole, kind, moved}
-use Rattle.expr_nodes.specs.Scope.{It}
-use Rattle.expr_nodes.specs.Sizes.{unit_size}
-use Rattle.expr_nodes.specs.Parts.{any_holds, of_one, is_scalar}
-use Rattle.expr_nodes.specs.Fits.{is_kind, modifier_fit_rows}
-use Rattle.expr_nodes.specs.Sound.{has_size, is_sound, each_read}
-use Rattle.expr_nodes.specs.Typing.{typed, expr_rows, first, is_path}
+use Rattle.expr_eval.specs.dsl_tree.declared.parts.Ident.{Ident}
+use Rattle.expr_eval.specs.dsl_tree.declared.phases.InvokeHead.{InvokeHead}
+use Rattle.expr_eval.specs.dsl_tree.ExprTree.{ExprTree}
+use Rattle.expr_eval.specs.dsl_tree.PhaseTree.{ArgumentTree, PartTree, Invoke}
+use Rattle.expr_eval.specs.type_heads.Table.{TableField, form, owner, field_of, is_object}
+use Rattle.expr_eval.specs.type_heads.Types.{Types, Do}
+use Rattle.expr_eval.specs.type_heads.Members.{the_do}
+use Rattle.expr_eval.specs.expr_nodes.Kinds.{ValueKind, is_number, are_alike, object_type}
+use Rattle.expr_eval.specs.expr_nodes.Typed as Nodes
+use Rattle.expr_eval.specs.expr_nodes.Typed.{Typed, Whole, kind, moved}
+use Rattle.expr_eval.specs.expr_nodes.Scope.{It}
+use Rattle.expr_eval.specs.expr_nodes.Sizes.{unit_size}
+use Rattle.expr_eval.specs.expr_nodes.Parts.{any_holds, of_one, is_scalar}
+use Rattle.expr_eval.specs.expr_nodes.Fits.{is_kind, modifier_fit_rows}
+use Rattle.expr_eval.specs.expr_nodes.Sound.{has_size, is_sound, each_read}
+use Rattle.expr_eval.specs.expr_nodes.Typing.{typed, expr_rows, first, is_path}
 use Rattle.expr_eval.specs.Resolved.{IsResolved}
 use Rattle.expr_eval.proofs.TypedForms.{typed_or_refused}
-use Rattle.composition.specs.declared.guard.Guard.{Guard}
-use Rattle.composition.specs.declared.setting.Setting.{Setting}
-use Rattle.composition.specs.declared.spot.PhaseSpot.{PhaseSpot}
-use Rattle.composition.specs.Calls.{PhaseHere, phases_in, made, scope_at, invoked}
-use Rattle.composition.specs.ModifierLines.{is_modifier as is_modifier_name, modifier_form}
-use Rattle.composition.specs.Uses.{compared_kind, compared_exprs, isnt_path_to, is_vehicle_object, is_drive, form_rows}
-use Rattle.composition.specs.Homes.{home}
-use Rattle.composition.specs.Scenes.{Content, Spot, Scene, Binding, Occurrence, ModifierSpot, source, phase_spot, phases, has_phase, vehicles}
-use Rattle.composition.specs.There.{read_by}
-use Rattle.composition.specs.Givens.{from_root, typed_here}
-use Rattle.composition.specs.Expansion.{GivenModifier, Calling, calling, here_in, object_at, low_end, high_end, invocation, phase_part, expand_within, expansion}
-use Rattle.composition.specs.Expanded.{is_vehicle, spot, spots_of, modifiers_of, modifier_of, bindings_of, is_driven, is_readable, can_apply, scene_from, scene}
-use Rattle.composition.specs.Invariants.{is_read, has_range, has_other, is_end, is_modifier}
+use Rattle.run_values.specs.composition.declared.guard.Guard.{Guard}
+use Rattle.run_values.specs.composition.declared.setting.Setting.{Setting}
+use Rattle.run_values.specs.composition.declared.spot.PhaseSpot.{PhaseSpot}
+use Rattle.run_values.specs.composition.Calls.{PhaseHere, phases_in, made, scope_at, invoked}
+use Rattle.run_values.specs.composition.ModifierLines.{is_modifier as is_modifier_name, modifier_form}
+use Rattle.run_values.specs.composition.Uses.{compared_kind, compared_exprs, isnt_path_to, is_vehicle_object, is_drive, form_rows}
+use Rattle.run_values.specs.composition.Homes.{home}
+use Rattle.run_values.specs.composition.Scenes.{Content, Spot, Scene, Binding, Occurrence, ModifierSpot, source, phase_spot, phases, has_phase, vehicles}
+use Rattle.run_values.specs.composition.There.{read_by}
+use Rattle.run_values.specs.composition.Givens.{from_root, typed_here}
+use Rattle.run_values.specs.composition.Expansion.{GivenModifier, Calling, calling, here_in, object_at, low_end, high_end, invocation, phase_part, expand_within, expansion}
+use Rattle.run_values.specs.composition.Expanded.{is_vehicle, spot, spots_of, modifiers_of, modifier_of, bindings_of, is_driven, is_readable, can_apply, scene_from, scene}
+use Rattle.run_values.specs.composition.Invariants.{is_read, has_range, has_other, is_end, is_modifier}
 use Rattle.run_values.specs.field_flatten.Exactness.{expressions}
 use Rattle.run_values.specs.field_flatten.Seen.{has_values}
 use Rattle.run_values.proofs.of_field_flatten.Tests.{left_of, right_of, both, two_ways, In, in_left, in_right, in_either, in_map, map_in, in_flat_map, flat_map_in, in_filter, all_at, all_from, any_from, path_self}

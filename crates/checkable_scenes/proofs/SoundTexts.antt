@@ -7,33 +7,33 @@ use Rattle.osc_base.specs.declared.fault.Place.{Place}
 use Rattle.osc_base.specs.declared.path.Path.{Path}
 use Rattle.osc_base.specs.FaultRows.{FaultRow, row}
 use Rattle.osc_base.specs.Paths.{root, then_name}
-use Rattle.dsl_tree.specs.declared.compounds.HeirCondition.{HeirCondition}
-use Rattle.dsl_tree.specs.declared.parts.Ident.{Ident}
-use Rattle.dsl_tree.specs.declared.phases.CompKind.{CompKind}
-use Rattle.dsl_tree.specs.declared.phases.InvokeHead.{InvokeHead}
-use Rattle.dsl_tree.specs.ExprTree.{ExprTree}
-use Rattle.dsl_tree.specs.FileTree.{MemberTree}
-use Rattle.dsl_tree.specs.PhaseTree.{ArgumentTree, PartTree, Comp, Invoke, Wait, PhaseRow}
-use Rattle.type_heads.specs.MemberFaults.{is_list_of, initial_rows}
-use Rattle.type_heads.specs.Members.{declared_type, field, field_type, fields, fields_declared, heir_condition, items_in, list_length, members, the_do}
-use Rattle.type_heads.specs.Table.{form, bases, has_members, is_object, is_behaviour, named}
-use Rattle.type_heads.specs.Texts.{argument_exprs, member_exprs, part_exprs, rule_exprs}
-use Rattle.type_heads.specs.Types.{Types, Member, Field, Do}
-use Rattle.expr_nodes.specs.Fits.{argument_fit_rows, duration_fit_rows}
-use Rattle.expr_nodes.specs.Kinds.{ValueKind}
-use Rattle.expr_nodes.specs.Names.{per_of, held_at, single}
-use Rattle.expr_nodes.specs.Parts.{any_holds}
-use Rattle.expr_nodes.specs.Scope.{It, Scope}
-use Rattle.expr_nodes.specs.Sizes.{field_size, info_at, unit_size}
-use Rattle.expr_nodes.specs.Typed.{Typed, Read, Whole, moved}
-use Rattle.expr_nodes.specs.Typing.{typed, expr_rows, first}
+use Rattle.expr_eval.specs.dsl_tree.declared.compounds.HeirCondition.{HeirCondition}
+use Rattle.expr_eval.specs.dsl_tree.declared.parts.Ident.{Ident}
+use Rattle.expr_eval.specs.dsl_tree.declared.phases.CompKind.{CompKind}
+use Rattle.expr_eval.specs.dsl_tree.declared.phases.InvokeHead.{InvokeHead}
+use Rattle.expr_eval.specs.dsl_tree.ExprTree.{ExprTree}
+use Rattle.expr_eval.specs.dsl_tree.FileTree.{MemberTree}
+use Rattle.expr_eval.specs.dsl_tree.PhaseTree.{ArgumentTree, PartTree, Comp, Invoke, Wait, PhaseRow}
+use Rattle.expr_eval.specs.type_heads.MemberFaults.{is_list_of, initial_rows}
+use Rattle.expr_eval.specs.type_heads.Members.{declared_type, field, field_type, fields, fields_declared, heir_condition, items_in, list_length, members, the_do}
+use Rattle.expr_eval.specs.type_heads.Table.{form, bases, has_members, is_object, is_behaviour, named}
+use Rattle.expr_eval.specs.type_heads.Texts.{argument_exprs, member_exprs, part_exprs, rule_exprs}
+use Rattle.expr_eval.specs.type_heads.Types.{Types, Member, Field, Do}
+use Rattle.expr_eval.specs.expr_nodes.Fits.{argument_fit_rows, duration_fit_rows}
+use Rattle.expr_eval.specs.expr_nodes.Kinds.{ValueKind}
+use Rattle.expr_eval.specs.expr_nodes.Names.{per_of, held_at, single}
+use Rattle.expr_eval.specs.expr_nodes.Parts.{any_holds}
+use Rattle.expr_eval.specs.expr_nodes.Scope.{It, Scope}
+use Rattle.expr_eval.specs.expr_nodes.Sizes.{field_size, info_at, unit_size}
+use Rattle.expr_eval.specs.expr_nodes.Typed.{Typed, Read, Whole, moved}
+use Rattle.expr_eval.specs.expr_nodes.Typing.{typed, expr_rows, first}
 use Rattle.expr_eval.specs.Resolved.{IsResolved}
 use Rattle.expr_eval.proofs.TypedForms.{typed_or_refused}
-use Rattle.composition.specs.Calls.{PhaseHere, phases_in, callee, invoked, scope_at, Assigned, assigned}
-use Rattle.composition.specs.Expanded.{givens_of}
-use Rattle.composition.specs.Expansion.{Calling, calling, here_in, argument_named, given_argument, given_duration, of_arguments, parameter, part_rule, expansion}
-use Rattle.composition.specs.Givens.{Here, Given, field_here, from_root, given_condition, given_conditions, given_field, given_initials, given_member, given_required, given_rule, guards_under, own_givens, read_at, typed_here}
-use Rattle.composition.specs.Uses.{among, arguments_rows, assigned_rows, call_rows, callee_rows, composition_rows, field_scope, field_use_rows, given_rows, initial_value_rows, it_made, member_use_rows, name_assigned, named_rows, object_rows, part_rows, phase_rows, rule_rows, values_given, values_rows, with_kind}
+use Rattle.run_values.specs.composition.Calls.{PhaseHere, phases_in, callee, invoked, scope_at, Assigned, assigned}
+use Rattle.run_values.specs.composition.Expanded.{givens_of}
+use Rattle.run_values.specs.composition.Expansion.{Calling, calling, here_in, argument_named, given_argument, given_duration, of_arguments, parameter, part_rule, expansion}
+use Rattle.run_values.specs.composition.Givens.{Here, Given, field_here, from_root, given_condition, given_conditions, given_field, given_initials, given_member, given_required, given_rule, guards_under, own_givens, read_at, typed_here}
+use Rattle.run_values.specs.composition.Uses.{among, arguments_rows, assigned_rows, call_rows, callee_rows, composition_rows, field_scope, field_use_rows, given_rows, initial_value_rows, it_made, member_use_rows, name_assigned, named_rows, object_rows, part_rows, phase_rows, rule_rows, values_given, values_rows, with_kind}
 use Rattle.run_values.proofs.of_field_flatten.Tests.{In, in_either, in_flat_map, in_left, in_right, flat_map_in, map_in, found_in}
 use Rattle.scene_laws.specs.Premises.{are_short}
 use Rattle.scene_laws.proofs.FaultRows.{no_left, no_right, rows_left, rows_right, rows_among}

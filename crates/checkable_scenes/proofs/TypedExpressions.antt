@@ -5,26 +5,26 @@ use Rattle.std.specs.Option.{option_map_or}
 use Rattle.std.specs.List.{All}
 use Rattle.osc_base.specs.declared.fault.FaultCode.{FaultCode}
 use Rattle.osc_base.specs.FaultRows.{row}
-use Rattle.dsl_tree.specs.declared.parts.Ident.{Ident}
-use Rattle.dsl_tree.specs.declared.phases.CompKind.{CompKind}
-use Rattle.dsl_tree.specs.declared.phases.InvokeHead.{InvokeHead}
-use Rattle.dsl_tree.specs.ExprTree.{ExprTree}
-use Rattle.dsl_tree.specs.PhaseTree.{RuleTree, ArgumentTree, ModifierTree, PartTree, PhaseTree, Comp, Invoke, Wait}
-use Rattle.dsl_tree.specs.FileTree.{FieldTree, MemberTree}
-use Rattle.type_heads.specs.Table.{all_types}
-use Rattle.type_heads.specs.Types.{Types, Written}
-use Rattle.type_heads.specs.Members.{body, declared_type, list_length}
-use Rattle.type_heads.specs.Texts.{rule_exprs, argument_exprs}
-use Rattle.expr_nodes.specs.Scope.{It, Scope}
-use Rattle.expr_nodes.specs.Names.{is_duration}
-use Rattle.expr_nodes.specs.Parts.{any_holds, of_one}
-use Rattle.expr_nodes.specs.Fits.{is_read, duration_fit_rows, constraint_rows}
-use Rattle.expr_nodes.specs.Typing.{typed, expr_rows, first}
+use Rattle.expr_eval.specs.dsl_tree.declared.parts.Ident.{Ident}
+use Rattle.expr_eval.specs.dsl_tree.declared.phases.CompKind.{CompKind}
+use Rattle.expr_eval.specs.dsl_tree.declared.phases.InvokeHead.{InvokeHead}
+use Rattle.expr_eval.specs.dsl_tree.ExprTree.{ExprTree}
+use Rattle.expr_eval.specs.dsl_tree.PhaseTree.{RuleTree, ArgumentTree, ModifierTree, PartTree, PhaseTree, Comp, Invoke, Wait}
+use Rattle.expr_eval.specs.dsl_tree.FileTree.{FieldTree, MemberTree}
+use Rattle.expr_eval.specs.type_heads.Table.{all_types}
+use Rattle.expr_eval.specs.type_heads.Types.{Types, Written}
+use Rattle.expr_eval.specs.type_heads.Members.{body, declared_type, list_length}
+use Rattle.expr_eval.specs.type_heads.Texts.{rule_exprs, argument_exprs}
+use Rattle.expr_eval.specs.expr_nodes.Scope.{It, Scope}
+use Rattle.expr_eval.specs.expr_nodes.Names.{is_duration}
+use Rattle.expr_eval.specs.expr_nodes.Parts.{any_holds, of_one}
+use Rattle.expr_eval.specs.expr_nodes.Fits.{is_read, duration_fit_rows, constraint_rows}
+use Rattle.expr_eval.specs.expr_nodes.Typing.{typed, expr_rows, first}
 use Rattle.expr_eval.specs.Resolved.{is_told_it, IsResolved}
 use Rattle.expr_eval.proofs.TypedForms.{typed_or_refused}
-use Rattle.composition.specs.Calls.{Turn, PhaseHere, phases_in, Callee, callee, actor_type, owned_behaviour, without_labels, invoked, scope_at, assigned}
-use Rattle.composition.specs.ModifierLines.{is_modifier, modifier_form}
-use Rattle.composition.specs.Uses.{among, takes_overlap, is_overlap, named_rows, composition_rows, isnt_path_to, default_rows, rule_rows, initial_value_rows, field_scope, begins_with_label, assigned_rows, name_assigned, arguments_rows, is_drive, form_rows, compared_exprs, modifier_rows, callee_rows, part_rows, call_rows, it_made, phase_rows, member_use_rows, text_rows, invocation_row, use_rows}
+use Rattle.run_values.specs.composition.Calls.{Turn, PhaseHere, phases_in, Callee, callee, actor_type, owned_behaviour, without_labels, invoked, scope_at, assigned}
+use Rattle.run_values.specs.composition.ModifierLines.{is_modifier, modifier_form}
+use Rattle.run_values.specs.composition.Uses.{among, takes_overlap, is_overlap, named_rows, composition_rows, isnt_path_to, default_rows, rule_rows, initial_value_rows, field_scope, begins_with_label, assigned_rows, name_assigned, arguments_rows, is_drive, form_rows, compared_exprs, modifier_rows, callee_rows, part_rows, call_rows, it_made, phase_rows, member_use_rows, text_rows, invocation_row, use_rows}
 use Rattle.run_values.proofs.of_field_flatten.Tests.{In, in_either, map_in, flat_map_in}
 use Rattle.scene_laws.proofs.FaultRows.{no_right, rows_left, rows_right, rows_among}
 use Rattle.scene_laws.proofs.MemberPhases.{Resolves}

@@ -5,19 +5,19 @@ use Rattle.std.specs.Option.{option_map_or}
 use Rattle.std.specs.List.{list_all}
 use Rattle.osc_base.specs.declared.mark.Strength.{Strength}
 use Rattle.osc_base.specs.declared.path.Path.{Path}
-use Rattle.type_heads.specs.Types.{Types}
-use Rattle.expr_nodes.specs.Kinds.{is_truth}
-use Rattle.expr_nodes.specs.Parts.{is_scalar}
-use Rattle.expr_nodes.specs.Sound.{is_sound, each_read}
-use Rattle.expr_nodes.specs.Typed.{Typed, kind, moved}
-use Rattle.composition.specs.declared.setting.Setting.{Setting}
-use Rattle.composition.specs.Expanded.{bindings_of, can_be_asked, givens_of, is_readable, occurrence_of, scene, scene_from}
-use Rattle.composition.specs.Expansion.{expansion}
-use Rattle.composition.specs.Givens.{Given}
-use Rattle.composition.specs.Homes.{home}
-use Rattle.composition.specs.Invariants.{is_expression, is_occurrence, is_read, is_target}
-use Rattle.composition.specs.Scenes.{Binding, ModifierSpot, Occurrence, Scene, source}
-use Rattle.composition.specs.There.{read_by, removed}
+use Rattle.expr_eval.specs.type_heads.Types.{Types}
+use Rattle.expr_eval.specs.expr_nodes.Kinds.{is_truth}
+use Rattle.expr_eval.specs.expr_nodes.Parts.{is_scalar}
+use Rattle.expr_eval.specs.expr_nodes.Sound.{is_sound, each_read}
+use Rattle.expr_eval.specs.expr_nodes.Typed.{Typed, kind, moved}
+use Rattle.run_values.specs.composition.declared.setting.Setting.{Setting}
+use Rattle.run_values.specs.composition.Expanded.{bindings_of, can_be_asked, givens_of, is_readable, occurrence_of, scene, scene_from}
+use Rattle.run_values.specs.composition.Expansion.{expansion}
+use Rattle.run_values.specs.composition.Givens.{Given}
+use Rattle.run_values.specs.composition.Homes.{home}
+use Rattle.run_values.specs.composition.Invariants.{is_expression, is_occurrence, is_read, is_target}
+use Rattle.run_values.specs.composition.Scenes.{Binding, ModifierSpot, Occurrence, Scene, source}
+use Rattle.run_values.specs.composition.There.{read_by, removed}
 use Rattle.run_values.specs.field_flatten.Exactness.{expressions}
 use Rattle.run_values.specs.field_flatten.Seen.{has_values}
 use Rattle.run_values.proofs.of_field_flatten.Tests.{all_at, all_from, both, In, in_either, in_filter, in_flat_map, in_left, flat_map_in, left_of, map_in}

@@ -12,27 +12,27 @@ use Rattle.osc_base.specs.LowestTerms.{lowest}
 use Rattle.osc_base.specs.Number.{whole}
 use Rattle.scene_laws.specs.name_scope.Declaring.{first_place}
 use Rattle.osc_base.specs.Paths.{path_of, root, then_name, then_duration}
-use Rattle.dsl_tree.specs.declared.parts.Ident.{Ident}
-use Rattle.dsl_tree.specs.declared.parts.Digits.{Digits}
-use Rattle.dsl_tree.specs.declared.expr.Operator.{Operator}
-use Rattle.dsl_tree.specs.declared.expr.RelationSign.{RelationSign}
-use Rattle.dsl_tree.specs.ExprTree as Tree
-use Rattle.dsl_tree.specs.ExprTree.{ExprTree, ExprRow}
-use Rattle.units_si.specs.declared.units.Exponents.{Exponents}
-use Rattle.type_heads.specs.Form.{Form}
-use Rattle.type_heads.specs.Table.{Table, TableField, TableUnit, form, owner, has_members, field_of, is_behaviour, is_object, unit, enum_number, enums_with}
-use Rattle.type_heads.specs.Units.{digits_number}
-use Rattle.expr_nodes.specs.declared.compare.Compare.{Compare}
-use Rattle.expr_nodes.specs.Kinds.{ValueKind, Made, plain, kind_of}
-use Rattle.expr_nodes.specs.Typed as Types
-use Rattle.expr_nodes.specs.Typed.{Typed, TypedRow, Info, Read, Whole, info, kind, begun_at, place_of, items_of}
-use Rattle.expr_nodes.specs.Scope.{It, Label, Scope}
-use Rattle.expr_nodes.specs.Sizes.{info_at, unit_size, field_size, duration_size, is_wide}
-use Rattle.expr_nodes.specs.Sound.{has_size}
-use Rattle.expr_nodes.specs.Parts.{any_holds, unless}
-use Rattle.expr_nodes.specs.Names.{per_of, elements_from, held_at, duration_at, Something, typed_meaning, is_duration, member_at, member_meant, label_named, label_at, meaning_by_duration, meaning_by_label, meaning_by_field, meaning, name_rows, it_at, enum_named, duration_if, member_of_object, member_made, member_of_phase, member_of_whole, after_point}
-use Rattle.expr_nodes.specs.Operators.{number_rows, row_kind, constant_at, count_in, truth_at, not_rows, logic_rows, minus_rows, sum_rows, sum_of, product_rows, product_of, quotient_rows, reciprocal_of, factor_typed, comparison_rows, comparison_typed, compare_of, within_rows, within_typed, relation_typed, part_rows, span_rows, span_typed, item_typed, list_typed, index_of, element, index_typed, group_typed, physical_typed}
-use Rattle.expr_nodes.specs.Typing.{typed, typed_row}
+use Rattle.expr_eval.specs.dsl_tree.declared.parts.Ident.{Ident}
+use Rattle.expr_eval.specs.dsl_tree.declared.parts.Digits.{Digits}
+use Rattle.expr_eval.specs.dsl_tree.declared.expr.Operator.{Operator}
+use Rattle.expr_eval.specs.dsl_tree.declared.expr.RelationSign.{RelationSign}
+use Rattle.expr_eval.specs.dsl_tree.ExprTree as Tree
+use Rattle.expr_eval.specs.dsl_tree.ExprTree.{ExprTree, ExprRow}
+use Rattle.expr_eval.specs.units_si.declared.units.Exponents.{Exponents}
+use Rattle.expr_eval.specs.type_heads.Form.{Form}
+use Rattle.expr_eval.specs.type_heads.Table.{Table, TableField, TableUnit, form, owner, has_members, field_of, is_behaviour, is_object, unit, enum_number, enums_with}
+use Rattle.expr_eval.specs.type_heads.Units.{digits_number}
+use Rattle.expr_eval.specs.expr_nodes.declared.compare.Compare.{Compare}
+use Rattle.expr_eval.specs.expr_nodes.Kinds.{ValueKind, Made, plain, kind_of}
+use Rattle.expr_eval.specs.expr_nodes.Typed as Types
+use Rattle.expr_eval.specs.expr_nodes.Typed.{Typed, TypedRow, Info, Read, Whole, info, kind, begun_at, place_of, items_of}
+use Rattle.expr_eval.specs.expr_nodes.Scope.{It, Label, Scope}
+use Rattle.expr_eval.specs.expr_nodes.Sizes.{info_at, unit_size, field_size, duration_size, is_wide}
+use Rattle.expr_eval.specs.expr_nodes.Sound.{has_size}
+use Rattle.expr_eval.specs.expr_nodes.Parts.{any_holds, unless}
+use Rattle.expr_eval.specs.expr_nodes.Names.{per_of, elements_from, held_at, duration_at, Something, typed_meaning, is_duration, member_at, member_meant, label_named, label_at, meaning_by_duration, meaning_by_label, meaning_by_field, meaning, name_rows, it_at, enum_named, duration_if, member_of_object, member_made, member_of_phase, member_of_whole, after_point}
+use Rattle.expr_eval.specs.expr_nodes.Operators.{number_rows, row_kind, constant_at, count_in, truth_at, not_rows, logic_rows, minus_rows, sum_rows, sum_of, product_rows, product_of, quotient_rows, reciprocal_of, factor_typed, comparison_rows, comparison_typed, compare_of, within_rows, within_typed, relation_typed, part_rows, span_rows, span_typed, item_typed, list_typed, index_of, element, index_typed, group_typed, physical_typed}
+use Rattle.expr_eval.specs.expr_nodes.Typing.{typed, typed_row}
 use Rattle.run_values.proofs.of_field_flatten.Tests.{right_of, In, found_in}
 use Rattle.scene_laws.proofs.FaultRows.{one_made, two_made}
 use Rattle.scene_laws.proofs.IsSound.{sized}

@@ -7,21 +7,21 @@ use Rattle.std.proofs.lemmas.Slice.Eq.{bytes_eq-Decides}
 use Rattle.osc_base.specs.declared.fault.Place.{Place}
 use Rattle.osc_base.specs.declared.path.Path.{Path}
 use Rattle.osc_base.specs.Paths.{root, then_name, path_of}
-use Rattle.dsl_tree.specs.declared.parts.Ident.{Ident}
-use Rattle.dsl_tree.specs.FileTree.{FieldTree, MemberTree}
-use Rattle.type_heads.specs.Table.{form, named, owner, bases, is_kind_of}
-use Rattle.type_heads.specs.Types.{Types, Field, Member, Written}
-use Rattle.type_heads.specs.Members.{has, body, list_length, items_in, members, fields_declared, fields, field_type}
-use Rattle.composition.specs.cond_inherit.Conditions.{conditions_within, conditions, once_after}
-use Rattle.composition.specs.declared.guard.Guard.{Guard}
-use Rattle.composition.specs.declared.setting.Setting.{Setting}
-use Rattle.composition.specs.declared.spot.ValueRange.{ValueRange}
-use Rattle.composition.specs.Scenes.{Content, Spot, Scene, Binding, vehicle_spot, vehicles, OfValue, source, source_timed, max_speed, max_acceleration}
-use Rattle.composition.specs.Ranges.{range_of}
-use Rattle.composition.specs.Givens.{guards_under}
-use Rattle.composition.specs.Expansion.{expansion}
-use Rattle.composition.specs.Expanded.{is_vehicle, spot, spots_of, scene}
-use Rattle.composition.specs.Invariants.{is_numeric, is_limit, is_limited, same_guards}
+use Rattle.expr_eval.specs.dsl_tree.declared.parts.Ident.{Ident}
+use Rattle.expr_eval.specs.dsl_tree.FileTree.{FieldTree, MemberTree}
+use Rattle.expr_eval.specs.type_heads.Table.{form, named, owner, bases, is_kind_of}
+use Rattle.expr_eval.specs.type_heads.Types.{Types, Field, Member, Written}
+use Rattle.expr_eval.specs.type_heads.Members.{has, body, list_length, items_in, members, fields_declared, fields, field_type}
+use Rattle.run_values.specs.cond_inherit.Conditions.{conditions_within, conditions, once_after}
+use Rattle.run_values.specs.composition.declared.guard.Guard.{Guard}
+use Rattle.run_values.specs.composition.declared.setting.Setting.{Setting}
+use Rattle.run_values.specs.composition.declared.spot.ValueRange.{ValueRange}
+use Rattle.run_values.specs.composition.Scenes.{Content, Spot, Scene, Binding, vehicle_spot, vehicles, OfValue, source, source_timed, max_speed, max_acceleration}
+use Rattle.run_values.specs.composition.Ranges.{range_of}
+use Rattle.run_values.specs.composition.Givens.{guards_under}
+use Rattle.run_values.specs.composition.Expansion.{expansion}
+use Rattle.run_values.specs.composition.Expanded.{is_vehicle, spot, spots_of, scene}
+use Rattle.run_values.specs.composition.Invariants.{is_numeric, is_limit, is_limited, same_guards}
 use Rattle.run_values.proofs.of_field_flatten.Tests.{left_of, right_of, both, In, in_map, in_flat_map, all_from, any_at}
 use Rattle.scene_laws.specs.Premises.{is_free}
 use Rattle.scene_laws.proofs.Picked.{filter_map_in}

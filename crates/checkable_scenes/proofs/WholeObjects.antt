@@ -6,26 +6,26 @@ use Rattle.osc_base.specs.declared.fault.Place.{Place}
 use Rattle.osc_base.specs.declared.path.Path.{Path}
 use Rattle.osc_base.specs.FaultRows.{FaultRow}
 use Rattle.osc_base.specs.Paths.{root, then_name, then_index, then_duration}
-use Rattle.dsl_tree.specs.declared.parts.Ident.{Ident}
-use Rattle.dsl_tree.specs.declared.compounds.CompoundKind.{CompoundKind}
-use Rattle.dsl_tree.specs.ExprTree as Tree
-use Rattle.dsl_tree.specs.ExprTree.{ExprTree}
-use Rattle.dsl_tree.specs.FileTree.{FieldTree, MemberTree}
-use Rattle.type_heads.specs.Form.{Form}
-use Rattle.type_heads.specs.Table.{Table, TableField, form, named, owner, has_members, field_of, is_object, is_behaviour, enum_number, enums_with}
-use Rattle.type_heads.specs.Types.{Program, Member, Field}
-use Rattle.type_heads.specs.Members.{list_length, items_in, members, fields, field_type, fields_declared}
-use Rattle.type_heads.specs.HeadingFaults.{can_hold, member_rows, heading_rows}
-use Rattle.type_heads.specs.DeclaredTypes.{types_of}
-use Rattle.expr_nodes.specs.Kinds.{ValueKind, Made, kind_of, object_type}
-use Rattle.expr_nodes.specs.Typed as Nodes
-use Rattle.expr_nodes.specs.Typed.{Typed, TypedRow, Info, Read, Whole, kind, begun_at, place_of, items_of}
-use Rattle.expr_nodes.specs.Scope.{It, Label, Scope}
-use Rattle.expr_nodes.specs.Sizes.{info_at, unit_size, field_size}
-use Rattle.expr_nodes.specs.Parts.{any_holds, unless}
-use Rattle.expr_nodes.specs.Names.{per_of, elements_from, held_at, duration_at, Something, typed_meaning, is_duration, member_at, member_meant, label_named, label_at, meaning_by_duration, meaning_by_label, meaning_by_field, meaning, name_rows, it_at, duration_if, member_of_object, member_made, member_of_whole, after_point}
-use Rattle.expr_nodes.specs.Operators.{index_of, element, index_typed}
-use Rattle.expr_nodes.specs.Typing.{typed, is_path}
+use Rattle.expr_eval.specs.dsl_tree.declared.parts.Ident.{Ident}
+use Rattle.expr_eval.specs.dsl_tree.declared.compounds.CompoundKind.{CompoundKind}
+use Rattle.expr_eval.specs.dsl_tree.ExprTree as Tree
+use Rattle.expr_eval.specs.dsl_tree.ExprTree.{ExprTree}
+use Rattle.expr_eval.specs.dsl_tree.FileTree.{FieldTree, MemberTree}
+use Rattle.expr_eval.specs.type_heads.Form.{Form}
+use Rattle.expr_eval.specs.type_heads.Table.{Table, TableField, form, named, owner, has_members, field_of, is_object, is_behaviour, enum_number, enums_with}
+use Rattle.expr_eval.specs.type_heads.Types.{Program, Member, Field}
+use Rattle.expr_eval.specs.type_heads.Members.{list_length, items_in, members, fields, field_type, fields_declared}
+use Rattle.expr_eval.specs.type_heads.HeadingFaults.{can_hold, member_rows, heading_rows}
+use Rattle.expr_eval.specs.type_heads.DeclaredTypes.{types_of}
+use Rattle.expr_eval.specs.expr_nodes.Kinds.{ValueKind, Made, kind_of, object_type}
+use Rattle.expr_eval.specs.expr_nodes.Typed as Nodes
+use Rattle.expr_eval.specs.expr_nodes.Typed.{Typed, TypedRow, Info, Read, Whole, kind, begun_at, place_of, items_of}
+use Rattle.expr_eval.specs.expr_nodes.Scope.{It, Label, Scope}
+use Rattle.expr_eval.specs.expr_nodes.Sizes.{info_at, unit_size, field_size}
+use Rattle.expr_eval.specs.expr_nodes.Parts.{any_holds, unless}
+use Rattle.expr_eval.specs.expr_nodes.Names.{per_of, elements_from, held_at, duration_at, Something, typed_meaning, is_duration, member_at, member_meant, label_named, label_at, meaning_by_duration, meaning_by_label, meaning_by_field, meaning, name_rows, it_at, duration_if, member_of_object, member_made, member_of_whole, after_point}
+use Rattle.expr_eval.specs.expr_nodes.Operators.{index_of, element, index_typed}
+use Rattle.expr_eval.specs.expr_nodes.Typing.{typed, is_path}
 use Rattle.run_values.proofs.of_field_flatten.Tests.{In, map_in, flat_map_in}
 use Rattle.scene_laws.proofs.FaultRows.{no_left, no_right, not_from, holds_not}
 use Rattle.scene_laws.proofs.WrittenMembers.{all_members}

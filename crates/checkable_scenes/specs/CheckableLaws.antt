@@ -1,21 +1,21 @@
 -- What the scenes and texts of programs without faults meet of what the check of runs, flat forms and typing ask.
 use Rattle.std.specs.Prelude.{◌≡◌, ℕ, true, false, List, [], Option, Some, None}
 use Rattle.std.specs.List.{All, list_all}
-use Rattle.type_heads.specs.Types.{Program, Types}
-use Rattle.type_heads.specs.DeclaredTypes.{types_of}
-use Rattle.composition.specs.declared.setting.Setting.{Setting}
-use Rattle.composition.specs.declared.spot.PhaseSpot.{PhaseSpot}
-use Rattle.expr_nodes.specs.Typed.{Typed}
-use Rattle.expr_nodes.specs.Sound.{each_read}
-use Rattle.expr_nodes.specs.Scope.{It}
+use Rattle.expr_eval.specs.type_heads.Types.{Program, Types}
+use Rattle.expr_eval.specs.type_heads.DeclaredTypes.{types_of}
+use Rattle.run_values.specs.composition.declared.setting.Setting.{Setting}
+use Rattle.run_values.specs.composition.declared.spot.PhaseSpot.{PhaseSpot}
+use Rattle.expr_eval.specs.expr_nodes.Typed.{Typed}
+use Rattle.expr_eval.specs.expr_nodes.Sound.{each_read}
+use Rattle.expr_eval.specs.expr_nodes.Scope.{It}
 use Rattle.expr_eval.specs.Resolved.{is_told_it, IsResolved}
-use Rattle.composition.specs.Calls.{Turn, without_labels, scope_at}
-use Rattle.composition.specs.Scenes.{Scene, Spot, Occurrence, ModifierSpot, source, phases, vehicles}
-use Rattle.composition.specs.There.{presence, modifier_presence}
-use Rattle.composition.specs.Expanded.{scene}
-use Rattle.composition.specs.SceneFaults.{named_scenario, is_too_large}
-use Rattle.composition.specs.StaticFaults.{declaration_fault}
-use Rattle.composition.specs.Invariants.{are_grounded, are_members, is_limited, is_read, is_occurrence, is_modifier, is_setting}
+use Rattle.run_values.specs.composition.Calls.{Turn, without_labels, scope_at}
+use Rattle.run_values.specs.composition.Scenes.{Scene, Spot, Occurrence, ModifierSpot, source, phases, vehicles}
+use Rattle.run_values.specs.composition.There.{presence, modifier_presence}
+use Rattle.run_values.specs.composition.Expanded.{scene}
+use Rattle.run_values.specs.composition.SceneFaults.{named_scenario, is_too_large}
+use Rattle.run_values.specs.composition.StaticFaults.{declaration_fault}
+use Rattle.run_values.specs.composition.Invariants.{are_grounded, are_members, is_limited, is_read, is_occurrence, is_modifier, is_setting}
 use Rattle.run_values.specs.field_flatten.Seen.{has_values}
 use Rattle.run_values.specs.field_flatten.Exactness.{IsExpanded, IsLimited, is_narrow_range, expressions}
 use Rattle.run_values.specs.Frames.{IsCheckable}

@@ -1,22 +1,22 @@
 -- The expressions of a program's texts, each with the scope in which it is judged.
 use Rattle.std.specs.Prelude.{◌≡◌, ℕ, true, false, cond, List, [], ◌∷◌, ◌++◌, Some, None, bytes_eq, codes, map, flat_map, option_to_list}
 use Rattle.std.specs.Option.{option_map_or}
-use Rattle.dsl_tree.specs.declared.parts.Ident.{Ident}
-use Rattle.dsl_tree.specs.ExprTree.{ExprTree}
-use Rattle.dsl_tree.specs.PhaseTree.{ArgumentTree, PartTree, PhaseTree, Comp, Invoke, Wait}
-use Rattle.dsl_tree.specs.FileTree.{MemberTree}
-use Rattle.type_heads.specs.Table.{Table, all_types}
-use Rattle.type_heads.specs.Types.{Written, Types}
-use Rattle.type_heads.specs.Members.{body}
-use Rattle.type_heads.specs.Texts.{rule_exprs, argument_exprs}
-use Rattle.expr_nodes.specs.Typed.{Typed}
-use Rattle.expr_nodes.specs.Scope.{Scope}
-use Rattle.expr_nodes.specs.Typing.{typed}
-use Rattle.expr_nodes.specs.Sound.{is_sound}
+use Rattle.expr_eval.specs.dsl_tree.declared.parts.Ident.{Ident}
+use Rattle.expr_eval.specs.dsl_tree.ExprTree.{ExprTree}
+use Rattle.expr_eval.specs.dsl_tree.PhaseTree.{ArgumentTree, PartTree, PhaseTree, Comp, Invoke, Wait}
+use Rattle.expr_eval.specs.dsl_tree.FileTree.{MemberTree}
+use Rattle.expr_eval.specs.type_heads.Table.{Table, all_types}
+use Rattle.expr_eval.specs.type_heads.Types.{Written, Types}
+use Rattle.expr_eval.specs.type_heads.Members.{body}
+use Rattle.expr_eval.specs.type_heads.Texts.{rule_exprs, argument_exprs}
+use Rattle.expr_eval.specs.expr_nodes.Typed.{Typed}
+use Rattle.expr_eval.specs.expr_nodes.Scope.{Scope}
+use Rattle.expr_eval.specs.expr_nodes.Typing.{typed}
+use Rattle.expr_eval.specs.expr_nodes.Sound.{is_sound}
 use Rattle.expr_eval.specs.Narrow.{is_narrow}
 use Rattle.expr_eval.specs.Resolved.{IsResolved}
-use Rattle.composition.specs.Calls.{Turn, PhaseHere, phases_in, Callee, callee, without_labels, invoked, scope_at}
-use Rattle.composition.specs.Uses.{field_scope, compared_exprs, it_made}
+use Rattle.run_values.specs.composition.Calls.{Turn, PhaseHere, phases_in, Callee, callee, without_labels, invoked, scope_at}
+use Rattle.run_values.specs.composition.Uses.{field_scope, compared_exprs, it_made}
 
 -- an expression, and the scope in which it is judged
 pub record Judged : Type 0 where

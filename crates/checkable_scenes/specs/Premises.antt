@@ -2,16 +2,16 @@
 use Rattle.std.specs.Prelude.{◌≡◌, ℕ, ◌&&◌, ◌||◌, Bool, true, false, not, List, None, length, is_none, is_some, bytes_eq, codes, nat_le}
 use Rattle.std.specs.Option.{option_map_or}
 use Rattle.std.specs.List.{list_any}
-use Rattle.dsl_tree.specs.declared.parts.Ident.{Ident}
-use Rattle.dsl_tree.specs.FileTree.{MemberTree}
-use Rattle.type_heads.specs.Form.{Form}
-use Rattle.type_heads.specs.Table.{TypeHead, form, named}
-use Rattle.type_heads.specs.Types.{Program, Types, Written}
-use Rattle.type_heads.specs.Members.{body}
-use Rattle.type_heads.specs.DeclaredTypes.{types_of}
-use Rattle.expr_nodes.specs.Sizes.{field_reach}
-use Rattle.composition.specs.Ranges.{range_of}
-use Rattle.composition.specs.Invariants.{is_numeric}
+use Rattle.expr_eval.specs.dsl_tree.declared.parts.Ident.{Ident}
+use Rattle.expr_eval.specs.dsl_tree.FileTree.{MemberTree}
+use Rattle.expr_eval.specs.type_heads.Form.{Form}
+use Rattle.expr_eval.specs.type_heads.Table.{TypeHead, form, named}
+use Rattle.expr_eval.specs.type_heads.Types.{Program, Types, Written}
+use Rattle.expr_eval.specs.type_heads.Members.{body}
+use Rattle.expr_eval.specs.type_heads.DeclaredTypes.{types_of}
+use Rattle.expr_eval.specs.expr_nodes.Sizes.{field_reach}
+use Rattle.run_values.specs.composition.Ranges.{range_of}
+use Rattle.run_values.specs.composition.Invariants.{is_numeric}
 use Rattle.scene_laws.specs.Premises.{is_spelled_program}
 
 -- a field of this form holds a number

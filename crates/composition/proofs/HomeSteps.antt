@@ -3,20 +3,19 @@ use Rattle.std.proofs.Common.{◌≡◌, ◌∙◌, refl, sym, ap, ap₂, arith,
 use Rattle.std.specs.Prelude.{find, option_map, Result, Ok, Err, IfOk}
 use Rattle.std.specs.Option.{option_map_or}
 use Rattle.std.proofs.lemmas.List.{take_more}
-use Rattle.osc_base.specs.declared.path.Path.{Path}
-use Rattle.osc_base.specs.declared.path.Step.{Step}
-use Rattle.osc_base.specs.Paths.{path_of, same_path, same_step, same_steps, steps_after}
+use Rattle.expr_nodes.specs.osc_base.declared.path.Path.{Path}
+use Rattle.expr_nodes.specs.osc_base.declared.path.Step.{Step}
+use Rattle.expr_nodes.specs.osc_base.Paths.{path_of, same_path, same_step, same_steps, steps_after}
 use Rattle.keep_rules.specs.path_index.declared.index.PathIndex.{PathIndex}
 use Rattle.keep_rules.specs.path_index.Places.{first_place, place_at, Places}
 use Rattle.composition.specs.declared.part.Binding.{Binding}
-use Rattle.composition.specs.SeenParts.{seen_binding}
+use Rattle.composition.specs.SeenParts.{seen_binding, seen_spot}
 use Rattle.composition.specs.SeenHomes.{leads, moved_on, least_place}
 use Rattle.composition.specs.Homes.{home}
 use Rattle.composition.specs.Homes as homes
 use Rattle.composition.specs.SeenHomes as seen
 use Rattle.composition.specs.declared.part.Spot.{Spot}
 use Rattle.composition.specs.declared.source.Source.{Source}
-use Rattle.composition.specs.SeenParts.{seen_spot}
 use Rattle.composition.specs.SeenSources.{seen_source}
 use Rattle.composition.specs.Scenes as Scenes
 use Rattle.composition.proofs.Sources.{found_map}

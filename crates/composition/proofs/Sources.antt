@@ -3,11 +3,11 @@ use Rattle.std.proofs.Common.{◌≡◌, ◌∙◌, refl, sym, ap, ap₂, List, 
 use Rattle.std.specs.Prelude.{find, option_and_then, option_map, bytes_eq}
 use Rattle.std.specs.Option.{option_or, option_map_or}
 use Rattle.std.specs.List.{list_any}
-use Rattle.osc_base.specs.declared.path.Path.{Path}
-use Rattle.osc_base.specs.declared.path.Step.{Step}
-use Rattle.osc_base.specs.declared.path.Step.TheVariants.{Name, Index, Member}
-use Rattle.osc_base.specs.Paths.{path_of, same_path, then_duration, timed_part}
-use Rattle.osc_base.proofs.PathEquality.{path_is}
+use Rattle.expr_nodes.specs.osc_base.declared.path.Path.{Path}
+use Rattle.expr_nodes.specs.osc_base.declared.path.Step.{Step}
+use Rattle.expr_nodes.specs.osc_base.declared.path.Step.TheVariants.{Name, Index, Member}
+use Rattle.expr_nodes.specs.osc_base.Paths.{path_of, same_path, then_duration, timed_part}
+use Rattle.expr_nodes.proofs.of_osc_base.PathEquality.{path_is}
 use Rattle.keep_rules.proofs.of_path_index.Durations.{timed_find}
 use Rattle.composition.specs.declared.part.Spot.{Spot}
 use Rattle.composition.specs.declared.spot.PhaseSpot.{PhaseSpot}

@@ -16,16 +16,16 @@ seen_sort see f (x ∷ xs) = ap (cons_option (f (see x))) (seen_sort see f xs)
 
 -- the lists of a scene are the definitions'
 module _ (s : Scene) where
-  pub choices_seen : s.choices ≡ choices (seen_scene s)
+  pub choices_seen : s.lists.choices ≡ choices (seen_scene s)
   choices_seen = s.choices_are ∙ seen_sort seen_spot (λ (t : Scenes.Spot). choice_spot t.path t.content) s.spots
 
-  pub values_seen : s.values ≡ values (seen_scene s)
+  pub values_seen : s.lists.values ≡ values (seen_scene s)
   values_seen = s.values_are ∙ seen_sort seen_spot (λ (t : Scenes.Spot). value_spot t.path t.content) s.spots
 
-  pub phases_seen : s.phases ≡ phases (seen_scene s)
+  pub phases_seen : s.lists.phases ≡ phases (seen_scene s)
   phases_seen = s.phases_are ∙ seen_sort seen_spot (λ (t : Scenes.Spot). phase_spot t.path t.content) s.spots
 
-  pub vehicles_seen : s.vehicles ≡ vehicles (seen_scene s)
+  pub vehicles_seen : s.lists.vehicles ≡ vehicles (seen_scene s)
   vehicles_seen = s.vehicles_are ∙ seen_sort seen_spot (λ (t : Scenes.Spot). vehicle_spot t.path t.content) s.spots
 
 -- ---- one spot more

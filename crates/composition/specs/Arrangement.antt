@@ -1,8 +1,8 @@
 -- How phases are arranged. It is said of any times: of those that a run lists, and of those that the slots of a point hold.
 use Rattle.std.specs.Prelude.{ℕ, ◌+◌, ◌&&◌, ◌||◌, Bool, true, not, List, [], ◌∷◌, map, ℤ, pos, int_lt, int_le}
 use Rattle.std.specs.List.{list_any, list_all}
-use Rattle.osc_base.specs.declared.path.Path.{Path}
-use Rattle.osc_base.specs.Comparisons.{same_number}
+use Rattle.expr_nodes.specs.osc_base.declared.path.Path.{Path}
+use Rattle.expr_nodes.specs.osc_base.Comparisons.{same_number}
 use Rattle.composition.specs.declared.spot.PhaseSpot.{PhaseSpot}
 use Rattle.composition.specs.declared.spot.PhaseKind.{PhaseKind}
 

@@ -2,9 +2,9 @@
 use Rattle.std.specs.Prelude.{ℕ, ◌+◌, ◌&&◌, Bool, true, not, cond, List, [], ◌∷◌, ◌++◌, Option, Some, None, nat_eq, slice_get, find, filter_map, option_map, option_and_then, option_to_list, flat_map}
 use Rattle.std.specs.Option.{option_map_or}
 use Rattle.std.specs.List.{list_all, list_any}
-use Rattle.osc_base.specs.declared.fault.Place.{Place}
-use Rattle.osc_base.specs.declared.path.Path.{Path}
-use Rattle.osc_base.specs.Paths.{root, same_path, then_do, then_member}
+use Rattle.expr_nodes.specs.osc_base.declared.fault.Place.{Place}
+use Rattle.expr_nodes.specs.osc_base.declared.path.Path.{Path}
+use Rattle.expr_nodes.specs.osc_base.Paths.{root, same_path, then_do, then_member}
 use Rattle.cond_inherit.specs.dsl_tree.declared.parts.Ident.{Ident}
 use Rattle.cond_inherit.specs.dsl_tree.declared.phases.CompKind.{CompKind}
 use Rattle.cond_inherit.specs.dsl_tree.declared.phases.InvokeHead.{InvokeHead}

@@ -2,8 +2,8 @@
 use Rattle.std.specs.Prelude.{ℕ, ◌&&◌, Bool, false, List, [], ◌∷◌, ◌++◌, None, map, filter, codes, is_some, option_map, option_to_list}
 use Rattle.std.specs.Option.{option_map_or}
 use Rattle.std.specs.List.{list_any, list_all}
-use Rattle.osc_base.specs.declared.path.Path.{Path}
-use Rattle.osc_base.specs.Paths.{same_path}
+use Rattle.expr_nodes.specs.osc_base.declared.path.Path.{Path}
+use Rattle.expr_nodes.specs.osc_base.Paths.{same_path}
 use Rattle.cond_inherit.specs.type_heads.Table.{named, is_kind_of}
 use Rattle.cond_inherit.specs.type_heads.Types.{Types}
 use Rattle.expr_nodes.specs.Typed.{moved}

@@ -2,8 +2,8 @@
 use Rattle.std.specs.Prelude.{ℕ, zero, suc, ◌+◌, ◌&&◌, false, cond, not, List, [], ◌∷◌, ◌++◌, Option, Some, None, length, map, filter, filter_map, flat_map, bytes_eq, codes, find, is_some, option_map, option_and_then, option_to_list}
 use Rattle.std.specs.Option.{option_map_or}
 use Rattle.std.specs.List.{range_with_len}
-use Rattle.osc_base.specs.declared.path.Path.{Path}
-use Rattle.osc_base.specs.Paths.{path_of, root, then_name, then_index, then_member, then_duration, then_do}
+use Rattle.expr_nodes.specs.osc_base.declared.path.Path.{Path}
+use Rattle.expr_nodes.specs.osc_base.Paths.{path_of, root, then_name, then_index, then_member, then_duration, then_do}
 use Rattle.cond_inherit.specs.dsl_tree.declared.parts.Ident.{Ident}
 use Rattle.cond_inherit.specs.dsl_tree.declared.phases.CompKind.{CompKind}
 use Rattle.cond_inherit.specs.dsl_tree.declared.phases.InvokeHead.{InvokeHead}

@@ -2,12 +2,12 @@
 -- and aren't homes yet.
 use Rattle.std.specs.Prelude.{ℕ, ◌+◌, Bool, true, false, cond, List, [], ◌∷◌, ◌++◌, Option, Some, None, map, reverse, flat_map, filter_map, codes, option_map, option_and_then, option_to_list}
 use Rattle.std.specs.Option.{option_or, option_map_or}
-use Rattle.osc_base.specs.declared.fault.Place.{Place}
-use Rattle.osc_base.specs.declared.path.Path.{Path}
-use Rattle.osc_base.specs.declared.path.Step.{Step}
-use Rattle.osc_base.specs.declared.path.Step.TheVariants.{Name}
-use Rattle.osc_base.specs.declared.mark.Strength.{Strength}
-use Rattle.osc_base.specs.Paths.{path_of, same_step, then_name}
+use Rattle.expr_nodes.specs.osc_base.declared.fault.Place.{Place}
+use Rattle.expr_nodes.specs.osc_base.declared.path.Path.{Path}
+use Rattle.expr_nodes.specs.osc_base.declared.path.Step.{Step}
+use Rattle.expr_nodes.specs.osc_base.declared.path.Step.TheVariants.{Name}
+use Rattle.expr_nodes.specs.osc_base.declared.mark.Strength.{Strength}
+use Rattle.expr_nodes.specs.osc_base.Paths.{path_of, same_step, then_name}
 use Rattle.cond_inherit.specs.dsl_tree.declared.parts.Ident.{Ident}
 use Rattle.cond_inherit.specs.dsl_tree.declared.expr.RelationSign.{RelationSign}
 use Rattle.cond_inherit.specs.dsl_tree.declared.rules.KeepKind.{KeepKind}

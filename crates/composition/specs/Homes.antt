@@ -2,8 +2,8 @@
 use Rattle.std.specs.Prelude.{Bool, true, false, cond, List, [], ◌∷◌, ◌++◌, Option, Some, None}
 use Rattle.std.specs.Option.{option_map_or}
 use Rattle.std.specs.List.{list_any}
-use Rattle.osc_base.specs.declared.path.Path.{Path}
-use Rattle.osc_base.specs.Paths.{path_of, same_path, steps_after}
+use Rattle.expr_nodes.specs.osc_base.declared.path.Path.{Path}
+use Rattle.expr_nodes.specs.osc_base.Paths.{path_of, same_path, steps_after}
 use Rattle.composition.specs.Scenes.{Binding, Scene, Source, OfRun, OfPhase, OfValue, source, spot_at}
 
 -- The path with a bound prefix replaced by its home. A home is no bound path, so one replacement is enough.

@@ -1,6 +1,6 @@
 -- When a run is an instance of a scenario whose members are whole numbers, each held in a range.
 use Rattle.std.specs.Prelude.{◌≡◌, ◌≤◌, ℕ, pos, List, [], ◌∷◌}
-use Rattle.osc_base.specs.declared.path.Step.TheVariants.{Name}
+use Rattle.expr_nodes.specs.osc_base.declared.path.Step.TheVariants.{Name}
 use Rattle.composition.specs.declared.run.Run.{Run}
 use Rattle.composition.specs.declared.run.Value.{Value}
 use Rattle.composition.specs.declared.run.Held.TheVariants.{Number}

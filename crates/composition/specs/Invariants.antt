@@ -2,10 +2,10 @@
 use Rattle.std.specs.Prelude.{◌≡◌, ℕ, ◌+◌, ◌*◌, ◌^◌, ◌&&◌, ◌||◌, Bool, true, false, not, List, [], ◌∷◌, ◌++◌, Option, length, map, find, is_some, is_none, nat_eq, nat_lt, nat_le, bytes_eq, ℤ, pos, neg_ℤ, int_le}
 use Rattle.std.specs.Option.{option_map_or}
 use Rattle.std.specs.List.{list_any, list_all}
-use Rattle.osc_base.specs.declared.path.Path.{Path}
-use Rattle.osc_base.specs.declared.mark.Strength.{Strength}
-use Rattle.osc_base.specs.declared.modifier.Kind.{Kind}
-use Rattle.osc_base.specs.Paths.{same_path}
+use Rattle.expr_nodes.specs.osc_base.declared.path.Path.{Path}
+use Rattle.expr_nodes.specs.osc_base.declared.mark.Strength.{Strength}
+use Rattle.expr_nodes.specs.osc_base.declared.modifier.Kind.{Kind}
+use Rattle.expr_nodes.specs.osc_base.Paths.{same_path}
 use Rattle.expr_nodes.specs.Kinds.{is_number, is_truth}
 use Rattle.expr_nodes.specs.Typed.{Typed, Info, kind}
 use Rattle.expr_nodes.specs.Parts.{is_scalar}

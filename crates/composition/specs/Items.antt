@@ -3,13 +3,13 @@
 use Rattle.std.specs.Prelude.{ℕ, ◌+◌, ◌&&◌, ◌||◌, Bool, true, false, cond, not, List, [], ◌∷◌, ◌++◌, Option, map, flat_map, unwrap_or, slice_get, option_and_then, ℤ, pos}
 use Rattle.std.specs.Option.{option_map_or}
 use Rattle.std.specs.List.{list_any}
-use Rattle.osc_base.specs.declared.path.Path.{Path}
-use Rattle.osc_base.specs.declared.sample.Sample.{Sample}
-use Rattle.osc_base.specs.declared.mark.Strength.{Strength}
-use Rattle.osc_base.specs.declared.listing.RuleName.{RuleName}
-use Rattle.osc_base.specs.Number.{Number, whole}
-use Rattle.osc_base.specs.Paths.{same_path}
-use Rattle.osc_base.specs.Modifiers.{holds_of, is_moment}
+use Rattle.expr_nodes.specs.osc_base.declared.path.Path.{Path}
+use Rattle.expr_nodes.specs.osc_base.declared.sample.Sample.{Sample}
+use Rattle.expr_nodes.specs.osc_base.declared.mark.Strength.{Strength}
+use Rattle.expr_nodes.specs.osc_base.declared.listing.RuleName.{RuleName}
+use Rattle.expr_nodes.specs.osc_base.Number.{Number, whole}
+use Rattle.expr_nodes.specs.osc_base.Paths.{same_path}
+use Rattle.expr_nodes.specs.osc_base.Modifiers.{holds_of, is_moment}
 use Rattle.keep_rules.specs.Overriding.{overriders}
 use Rattle.expr_nodes.specs.Typed.{Typed}
 use Rattle.expr_nodes.specs.Value.{value}

@@ -31,3 +31,6 @@ pub use Rattle.expr_nodes.specs as expr_nodes
 pub use Rattle.keep_rules.specs as keep_rules
 pub use Rattle.keep_rules.specs.path_index as path_index
 pub use Rattle.cond_inherit.specs.type_heads as type_heads
+pub use Rattle.expr_nodes.specs.osc_base as osc_base
+pub use Rattle.expr_nodes.specs.name_scope as name_scope
+pub use Rattle.expr_nodes.specs.units_si as units_si

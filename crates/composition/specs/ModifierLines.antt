@@ -2,8 +2,8 @@
 use Rattle.std.specs.Prelude.{ℕ, ◌&&◌, ◌||◌, Bool, true, false, cond, not, List, [], ◌∷◌, Option, Some, None, bytes_eq, codes, find, filter, filter_map, option_map, option_and_then}
 use Rattle.std.specs.Option.{option_map_or}
 use Rattle.std.specs.List.{list_any}
-use Rattle.osc_base.specs.declared.modifier.Kind.{Kind}
-use Rattle.osc_base.specs.declared.modifier.Moment.{Moment}
+use Rattle.expr_nodes.specs.osc_base.declared.modifier.Kind.{Kind}
+use Rattle.expr_nodes.specs.osc_base.declared.modifier.Moment.{Moment}
 use Rattle.cond_inherit.specs.dsl_tree.declared.parts.Ident.{Ident}
 use Rattle.cond_inherit.specs.dsl_tree.ExprTree.{ExprTree}
 use Rattle.cond_inherit.specs.dsl_tree.PhaseTree.{ArgumentTree, ModifierTree}

@@ -1,7 +1,7 @@
 -- How a vehicle moves. It is said of any samples: of those that a run lists, and of those that the slots of a point hold.
 use Rattle.std.specs.Prelude.{ℕ, ◌+◌, ◌&&◌, ◌||◌, Bool, not, nat_lt, ℤ, pos, ◌+ℤ◌, ◌-ℤ◌, ◌*ℤ◌, int_lt, int_le}
-use Rattle.osc_base.specs.declared.sample.Sample.{Sample}
-use Rattle.osc_base.specs.Comparisons.{same_number}
+use Rattle.expr_nodes.specs.osc_base.declared.sample.Sample.{Sample}
+use Rattle.expr_nodes.specs.osc_base.Comparisons.{same_number}
 
 -- The length of a tick in milliseconds, the last tick that a run may have, the tick at which it ends, the vehicle's greatest speed and
 -- acceleration in thousandths, and its samples.

@@ -1,7 +1,7 @@
 -- Which numbers a run holds at the paths of a scene, and whether an expression is true in it.
 use Rattle.std.specs.Prelude.{ℕ, Bool, false, List, Option, Some, option_map, option_and_then, position, bytes_eq, ℤ, pos, ◌-ℤ◌, ◌*ℤ◌}
 use Rattle.std.specs.Option.{option_map_or}
-use Rattle.osc_base.specs.declared.path.Path.{Path}
+use Rattle.expr_nodes.specs.osc_base.declared.path.Path.{Path}
 use Rattle.expr_nodes.specs.Typed.{Typed}
 use Rattle.expr_nodes.specs.Value.{value, is_one}
 use Rattle.composition.specs.declared.run.Held.{Held}

@@ -1,7 +1,7 @@
 -- What a field may hold.
 use Rattle.std.specs.Prelude.{ℕ, ◌-◌, ◌&&◌, Bool, false, not, List, Option, Some, None, length, bytes_eq, ℤ, pos, neg_ℤ, ◌-ℤ◌, int_le}
 use Rattle.std.specs.List.{list_any}
-use Rattle.osc_base.specs.Comparisons.{same_number}
+use Rattle.expr_nodes.specs.osc_base.Comparisons.{same_number}
 use Rattle.cond_inherit.specs.type_heads.Form.{Form}
 use Rattle.cond_inherit.specs.type_heads.Bounds.{least_of, greatest_of, numbers_of}
 use Rattle.expr_nodes.specs.Sizes.{field_reach}

@@ -1,8 +1,8 @@
 -- The faults of the named scenario: there is none, or what it expands to is too large.
 use Rattle.std.specs.Prelude.{ℕ, ◌+◌, ◌*◌, ◌||◌, Bool, true, false, cond, List, [], ◌∷◌, Option, Some, None, length, filter, sum_by, nat_lt, option_and_then}
-use Rattle.osc_base.specs.declared.fault.Place.{Place}
-use Rattle.osc_base.specs.declared.fault.FaultCode.{FaultCode}
-use Rattle.osc_base.specs.FaultRows.{FaultRow, row}
+use Rattle.expr_nodes.specs.osc_base.declared.fault.Place.{Place}
+use Rattle.expr_nodes.specs.osc_base.declared.fault.FaultCode.{FaultCode}
+use Rattle.expr_nodes.specs.osc_base.FaultRows.{FaultRow, row}
 use Rattle.cond_inherit.specs.type_heads.Table.{form, named, is_scenario}
 use Rattle.cond_inherit.specs.type_heads.Types.{Types}
 use Rattle.cond_inherit.specs.type_heads.Members.{body}

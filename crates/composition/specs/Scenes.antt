@@ -2,12 +2,12 @@
 use Rattle.std.specs.Prelude.{ℕ, Bool, true, false, cond, List, [], Option, Some, None, length, map, find, filter_map, option_and_then, codes}
 use Rattle.std.specs.Option.{option_or, option_map_or}
 use Rattle.std.specs.List.{list_any}
-use Rattle.osc_base.specs.declared.fault.Place.{Place}
-use Rattle.osc_base.specs.declared.path.Path.{Path}
-use Rattle.osc_base.specs.declared.mark.Mark.{Mark}
-use Rattle.osc_base.specs.declared.modifier.Kind.{Kind}
-use Rattle.osc_base.specs.declared.modifier.Moment.{Moment}
-use Rattle.osc_base.specs.Paths.{path_of, root, same_path, then_name, then_do, timed_part}
+use Rattle.expr_nodes.specs.osc_base.declared.fault.Place.{Place}
+use Rattle.expr_nodes.specs.osc_base.declared.path.Path.{Path}
+use Rattle.expr_nodes.specs.osc_base.declared.mark.Mark.{Mark}
+use Rattle.expr_nodes.specs.osc_base.declared.modifier.Kind.{Kind}
+use Rattle.expr_nodes.specs.osc_base.declared.modifier.Moment.{Moment}
+use Rattle.expr_nodes.specs.osc_base.Paths.{path_of, root, same_path, then_name, then_do, timed_part}
 use Rattle.expr_nodes.specs.Typed.{Typed}
 use Rattle.composition.specs.declared.guard.Guard.{Guard}
 use Rattle.composition.specs.declared.spot.ChoiceSpot.{ChoiceSpot}

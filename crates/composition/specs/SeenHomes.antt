@@ -1,8 +1,8 @@
 -- Homes, by the program's own parts of a scene.
 use Rattle.std.specs.Prelude.{ℕ, Bool, true, false, List, ◌++◌, Option, Some, None, drop, length, is_some, min}
-use Rattle.osc_base.specs.declared.path.Path.{Path}
-use Rattle.osc_base.specs.declared.path.Step.{Step}
-use Rattle.osc_base.specs.Paths.{path_of, steps_after}
+use Rattle.expr_nodes.specs.osc_base.declared.path.Path.{Path}
+use Rattle.expr_nodes.specs.osc_base.declared.path.Step.{Step}
+use Rattle.expr_nodes.specs.osc_base.Paths.{path_of, steps_after}
 use Rattle.composition.specs.declared.part.Binding.{Binding}
 use Rattle.composition.specs.declared.source.Source.{Source}
 

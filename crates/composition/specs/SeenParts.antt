@@ -1,6 +1,6 @@
 -- What the program's own parts of a scene stand for in the definitions.
 use Rattle.std.specs.Prelude.{ℕ, List, Option, map}
-use Rattle.osc_base.specs.declared.path.Path.{Path}
+use Rattle.expr_nodes.specs.osc_base.declared.path.Path.{Path}
 use Rattle.expr_nodes.specs.Seen.{seen_part}
 use Rattle.composition.specs.declared.setting.Setting.{Setting}
 use Rattle.composition.specs.declared.part.Content.{Content}

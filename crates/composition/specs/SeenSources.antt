@@ -1,10 +1,10 @@
 -- What the program's own sources stand for in the definitions.
 use Rattle.std.specs.Prelude.{Bool, false, List, [], ◌∷◌, Option, find, bytes_eq, codes}
 use Rattle.std.specs.Option.{option_or}
-use Rattle.osc_base.specs.declared.path.Path.{Path}
-use Rattle.osc_base.specs.declared.path.Step.{Step}
-use Rattle.osc_base.specs.declared.path.Step.TheVariants.{Name, Index, Member}
-use Rattle.osc_base.specs.Paths.{same_path, then_duration}
+use Rattle.expr_nodes.specs.osc_base.declared.path.Path.{Path}
+use Rattle.expr_nodes.specs.osc_base.declared.path.Step.{Step}
+use Rattle.expr_nodes.specs.osc_base.declared.path.Step.TheVariants.{Name, Index, Member}
+use Rattle.expr_nodes.specs.osc_base.Paths.{same_path, then_duration}
 use Rattle.composition.specs.declared.part.Spot.{Spot}
 use Rattle.composition.specs.declared.source.Source.{Source}
 use Rattle.composition.specs.Scenes as Scenes

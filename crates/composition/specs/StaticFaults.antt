@@ -1,9 +1,9 @@
 -- The first static fault of a program. Each group of faults is judged only if the ones before it have none.
 use Rattle.std.specs.Prelude.{ℕ, List, Option}
 use Rattle.std.specs.Option.{option_or}
-use Rattle.osc_base.specs.declared.fault.Place.{Place}
-use Rattle.osc_base.specs.declared.fault.Fault.{Fault}
-use Rattle.osc_base.specs.FaultRows.{first_fault}
+use Rattle.expr_nodes.specs.osc_base.declared.fault.Place.{Place}
+use Rattle.expr_nodes.specs.osc_base.declared.fault.Fault.{Fault}
+use Rattle.expr_nodes.specs.osc_base.FaultRows.{first_fault}
 use Rattle.cond_inherit.specs.type_heads.Types.{Program, Types}
 use Rattle.cond_inherit.specs.type_heads.HeadingFaults.{heading_rows}
 use Rattle.cond_inherit.specs.type_heads.MemberFaults.{member_fault_rows}

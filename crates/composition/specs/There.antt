@@ -2,11 +2,11 @@
 use Rattle.std.specs.Prelude.{◌&&◌, Bool, false, cond, List, [], ◌∷◌, ◌++◌, Option, flat_map, nat_eq, option_to_list, ℤ}
 use Rattle.std.specs.Option.{option_map_or}
 use Rattle.std.specs.List.{list_any, list_all}
-use Rattle.osc_base.specs.declared.path.Path.{Path}
-use Rattle.osc_base.specs.declared.mark.Strength.{Strength}
-use Rattle.osc_base.specs.declared.mark.Mark.{Mark}
-use Rattle.osc_base.specs.Paths.{same_path}
-use Rattle.osc_base.specs.Comparisons.{same_number}
+use Rattle.expr_nodes.specs.osc_base.declared.path.Path.{Path}
+use Rattle.expr_nodes.specs.osc_base.declared.mark.Strength.{Strength}
+use Rattle.expr_nodes.specs.osc_base.declared.mark.Mark.{Mark}
+use Rattle.expr_nodes.specs.osc_base.Paths.{same_path}
+use Rattle.expr_nodes.specs.osc_base.Comparisons.{same_number}
 use Rattle.expr_nodes.specs.Typed.{Typed, reads}
 use Rattle.composition.specs.declared.guard.Guard.{Guard}
 use Rattle.composition.specs.declared.run.Held.{Held}

@@ -1,8 +1,8 @@
 -- Runs with the length of their ticks, and what they hold at a path.
 use Rattle.std.specs.Prelude.{ℕ, List, Option, find, option_map, option_and_then, slice_get}
-use Rattle.osc_base.specs.declared.path.Path.{Path}
-use Rattle.osc_base.specs.declared.sample.Sample.{Sample}
-use Rattle.osc_base.specs.Paths.{same_path}
+use Rattle.expr_nodes.specs.osc_base.declared.path.Path.{Path}
+use Rattle.expr_nodes.specs.osc_base.declared.sample.Sample.{Sample}
+use Rattle.expr_nodes.specs.osc_base.Paths.{same_path}
 use Rattle.composition.specs.declared.run.Run.{Run}
 use Rattle.composition.specs.declared.run.Choice.{Choice}
 use Rattle.composition.specs.declared.run.Value.{Value}

@@ -2,10 +2,10 @@
 use Rattle.std.specs.Prelude.{ℕ, ◌+◌, pos, negsuc, ◌&&◌, ◌||◌, Bool, true, false, not, cond, List, [], ◌∷◌, ◌++◌, Option, Some, None, length, is_none, is_some, bytes_eq, codes, flat_map, map, option_map, option_to_list}
 use Rattle.std.specs.Option.{option_map_or}
 use Rattle.std.specs.List.{list_any}
-use Rattle.osc_base.specs.declared.fault.Place.{Place}
-use Rattle.osc_base.specs.declared.fault.FaultCode.{FaultCode}
-use Rattle.osc_base.specs.declared.modifier.Kind.{Kind}
-use Rattle.osc_base.specs.FaultRows.{FaultRow, row}
+use Rattle.expr_nodes.specs.osc_base.declared.fault.Place.{Place}
+use Rattle.expr_nodes.specs.osc_base.declared.fault.FaultCode.{FaultCode}
+use Rattle.expr_nodes.specs.osc_base.declared.modifier.Kind.{Kind}
+use Rattle.expr_nodes.specs.osc_base.FaultRows.{FaultRow, row}
 use Rattle.cond_inherit.specs.dsl_tree.declared.parts.Ident.{Ident}
 use Rattle.cond_inherit.specs.dsl_tree.declared.rules.KeepKind.{KeepKind}
 use Rattle.cond_inherit.specs.dsl_tree.declared.phases.CompKind.{CompKind}

@@ -6,7 +6,7 @@ ghost use Rattle.composition.specs.SeenScenes.{seen_scene};
 
 use crate::part::{ModifierSpot, Occurrence};
 use crate::scene::Scene;
-use osc_base::Row;
+use expr_nodes::Row;
 
 impl Scene {
     /// The scene with these constraints and modifiers in place of its own.
@@ -20,17 +20,9 @@ impl Scene {
             modifiers,
             setting: self.setting,
             texts: self.texts,
-            choices: self.choices,
-            values: self.values,
-            phases: self.phases,
-            vehicles: self.vehicles,
-            spot_index: self.spot_index,
-            duration_index: self.duration_index,
-            choice_index: self.choice_index,
-            value_index: self.value_index,
-            phase_index: self.phase_index,
-            phase_duration_index: self.phase_duration_index,
-            binding_index: self.binding_index,
+            lists: self.lists,
+            part_indexes: self.part_indexes,
+            list_indexes: self.list_indexes,
         }
     }
 }

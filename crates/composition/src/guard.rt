@@ -1,7 +1,7 @@
-use osc_base::Path;
+use expr_nodes::Path;
 
 /// A condition under which a part of a scene is there.
-#[derive(Debug, PartialEq, Eq, Drop)]
+#[derive(Drop)]
 pub enum Guard {
     /// The `one_of` at the path chose this member, counted from 0.
     Choice { phase: Path, member: u32 },

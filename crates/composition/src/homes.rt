@@ -10,8 +10,9 @@ ghost use Rattle.keep_rules.specs.path_index.Places.{first_place};
 use crate::part::Binding;
 use crate::scene::Scene;
 use crate::source::Source;
-use osc_base::{Path, Row, Step};
-use path_index::found;
+use expr_nodes::{Path, Row};
+use keep_rules::path_index::found;
+use keep_rules::path_index::osc_base::Step;
 use std::alloc::{AllocError, Global};
 
 impl Scene {
@@ -31,7 +32,7 @@ impl Scene {
     fn is_home(&self, path: &Path) -> bool
         ensures { result ≡ homes.is_home (seen_scene self.now) path.now }
     {
-        match found(&self.spot_index, self.spots.as_slice(), path) {
+        match found(&self.part_indexes.spots, self.spots.as_slice(), path) {
             Some(_) => true,
             None => is_timed(self.source(path)),
         }
@@ -64,10 +65,10 @@ impl Scene {
         let mut prefix = Path {
             steps: Row::new(alloc),
         };
-        let mut first = self.binding_index.get(&prefix);
+        let mut first = self.part_indexes.bindings.get(&prefix);
         for step in path.steps.as_slice() {
             prefix.steps.push(step.copy(alloc)?)?;
-            first = least_place(first, self.binding_index.get(&prefix));
+            first = least_place(first, self.part_indexes.bindings.get(&prefix));
         }
         Ok(first)
     }

@@ -1,8 +1,8 @@
 //! The parts of a scene.
 
 use crate::{Guard, PhaseKind, ValueRange};
-use expr_nodes::Typed;
-use osc_base::{Kind, Mark, Moment, Path, Place, Row};
+use expr_nodes::{Path, Place, Row, Typed};
+use keep_rules::path_index::osc_base::{Kind, Mark, Moment};
 
 /// What stands at a path.
 #[derive(Drop)]

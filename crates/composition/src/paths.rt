@@ -1,11 +1,11 @@
 //! At which path each thing stands.
 
-ghost use Rattle.osc_base.specs.declared.path.Path.{Path};
+ghost use Rattle.expr_nodes.specs.osc_base.declared.path.Path.{Path};
 
 use crate::part::{Binding, Spot};
 use crate::{Choice, ChoiceSpot, PhaseSpot, Span, Trace, Value, ValueSpot};
-use osc_base::Path;
-use path_index::HasPath;
+use expr_nodes::Path;
+use keep_rules::path_index::HasPath;
 
 impl HasPath for Spot {
     ghost path_of = { λ s. s.path };

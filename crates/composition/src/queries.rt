@@ -1,22 +1,22 @@
 //! What a scene tells.
 
 ghost use Rattle.std.specs.Prelude.{◌≡◌, find, map, option_copied, IfOk, None, Some};
-ghost use Rattle.osc_base.specs.Paths.{same_path};
+ghost use Rattle.expr_nodes.specs.osc_base.Paths.{same_path};
 ghost use Rattle.composition.specs.Numbers.{text_number};
 ghost use Rattle.composition.specs.SeenParts.{scene_of, seen_occurrence, seen_modifier, seen_spot};
 ghost use Rattle.composition.specs.SeenScenes.{seen_scene};
 ghost use Rattle.composition.specs.SeenSources.{first_read, is_root_timed, seen_source};
 ghost use Rattle.composition.specs.Scenes.{choices as all_choices, values as all_values, phases as all_phases, vehicles as all_vehicles, guards as all_guards, source as source_at};
 
+use crate::lists::{ListIndexes, PartIndexes, SpotLists};
 use crate::part::{Binding, ModifierSpot, Occurrence, Spot};
 use crate::scene::Scene;
-use crate::sorts::sorted;
 use crate::source::Source;
 use crate::{ChoiceSpot, Guard, PhaseSpot, Setting, ValueSpot};
-use osc_base::{Path, Row, Step, Text};
-use path_index::{PathIndex, found, found_timed};
+use expr_nodes::{Path, Row, Text, TextTable};
+use keep_rules::path_index::osc_base::Step;
+use keep_rules::path_index::{found, found_timed};
 use std::alloc::{AllocError, Global};
-use type_tables::TextTable;
 
 impl Scene {
     /// A scene of these parts. The spots stand in the order of expansion, at their homes.
@@ -31,17 +31,9 @@ impl Scene {
     ) -> Result<Scene, AllocError>
         ensures { IfOk result (λ s. seen_scene s ≡ scene_of spots bindings occurrences modifiers setting texts) }
     {
-        let choices = sorted::<ChoiceSpot>(alloc, spots.as_slice())?;
-        let values = sorted::<ValueSpot>(alloc, spots.as_slice())?;
-        let phases = sorted::<PhaseSpot>(alloc, spots.as_slice())?;
-        let vehicles = sorted::<Path>(alloc, spots.as_slice())?;
-        let spot_index = PathIndex::of(alloc, spots.as_slice())?;
-        let duration_index = PathIndex::of_durations(alloc, spots.as_slice())?;
-        let choice_index = PathIndex::of(alloc, choices.as_slice())?;
-        let value_index = PathIndex::of(alloc, values.as_slice())?;
-        let phase_index = PathIndex::of(alloc, phases.as_slice())?;
-        let phase_duration_index = PathIndex::of_durations(alloc, phases.as_slice())?;
-        let binding_index = PathIndex::of(alloc, bindings.as_slice())?;
+        let lists = SpotLists::of(alloc, spots.as_slice())?;
+        let part_indexes = PartIndexes::of(alloc, spots.as_slice(), bindings.as_slice())?;
+        let list_indexes = ListIndexes::of(alloc, &lists)?;
         Ok(Scene {
             spots,
             bindings,
@@ -49,17 +41,9 @@ impl Scene {
             modifiers,
             setting,
             texts,
-            choices,
-            values,
-            phases,
-            vehicles,
-            spot_index,
-            duration_index,
-            choice_index,
-            value_index,
-            phase_index,
-            phase_duration_index,
-            binding_index,
+            lists,
+            part_indexes,
+            list_indexes,
         })
     }
 
@@ -77,9 +61,9 @@ impl Scene {
     fn spot_read(&self, path: &Path) -> Option<&Spot>
         ensures { option_copied result ≡ first_read self.now.spots path.now }
     {
-        match found(&self.spot_index, self.spots.as_slice(), path) {
+        match found(&self.part_indexes.spots, self.spots.as_slice(), path) {
             Some(spot) => Some(spot),
-            None => found_timed(&self.duration_index, self.spots.as_slice(), path),
+            None => found_timed(&self.part_indexes.durations, self.spots.as_slice(), path),
         }
     }
 
@@ -90,7 +74,11 @@ impl Scene {
         if is_root_duration(path) {
             return Source::Run;
         }
-        match found_timed(&self.phase_duration_index, self.phases.as_slice(), path) {
+        match found_timed(
+            &self.list_indexes.phase_durations,
+            self.lists.phases.as_slice(),
+            path,
+        ) {
             Some(phase) => Source::Phase(&phase.path),
             None => Source::Value,
         }
@@ -100,49 +88,61 @@ impl Scene {
     pub fn choices(&self) -> &[ChoiceSpot]
         ensures { result.now ≡ all_choices (seen_scene self.now) }
     {
-        self.choices.as_slice()
+        self.lists.choices.as_slice()
     }
 
     /// Each field that holds a value.
     pub fn values(&self) -> &[ValueSpot]
         ensures { result.now ≡ all_values (seen_scene self.now) }
     {
-        self.values.as_slice()
+        self.lists.values.as_slice()
     }
 
     /// Each phase.
     pub fn phases(&self) -> &[PhaseSpot]
         ensures { result.now ≡ all_phases (seen_scene self.now) }
     {
-        self.phases.as_slice()
+        self.lists.phases.as_slice()
     }
 
     /// Each vehicle.
     pub fn vehicles(&self) -> &[Path]
         ensures { result.now ≡ all_vehicles (seen_scene self.now) }
     {
-        self.vehicles.as_slice()
+        self.lists.vehicles.as_slice()
     }
 
     /// The first `one_of` at the path.
     pub fn choice(&self, path: &Path) -> Option<&ChoiceSpot>
         ensures { option_copied result ≡ find (λ s. same_path s.path path.now) (all_choices (seen_scene self.now)) }
     {
-        found(&self.choice_index, self.choices.as_slice(), path)
+        found(
+            &self.list_indexes.choices,
+            self.lists.choices.as_slice(),
+            path,
+        )
     }
 
     /// The first value at the path.
     pub fn value(&self, path: &Path) -> Option<&ValueSpot>
         ensures { option_copied result ≡ find (λ s. same_path s.path path.now) (all_values (seen_scene self.now)) }
     {
-        found(&self.value_index, self.values.as_slice(), path)
+        found(
+            &self.list_indexes.values,
+            self.lists.values.as_slice(),
+            path,
+        )
     }
 
     /// The first phase at the path.
     pub fn phase(&self, path: &Path) -> Option<&PhaseSpot>
         ensures { option_copied result ≡ find (λ s. same_path s.path path.now) (all_phases (seen_scene self.now)) }
     {
-        found(&self.phase_index, self.phases.as_slice(), path)
+        found(
+            &self.list_indexes.phases,
+            self.lists.phases.as_slice(),
+            path,
+        )
     }
 
     /// The constraints.

@@ -1,5 +1,5 @@
 /// The bounds within which a run is looked for.
-#[derive(Debug, Clone, Copy, PartialEq, Eq)]
+#[derive(Clone, Copy)]
 pub struct Setting {
     /// The last tick at which a run may end, from 1 to 600.
     pub ticks: u32,

@@ -6,7 +6,7 @@ ghost use Rattle.composition.specs.declared.part.Spot.{Spot};
 
 use crate::part::{Content, Spot};
 use crate::{ChoiceSpot, PhaseKind, PhaseSpot, ValueRange, ValueSpot};
-use osc_base::{Path, Row};
+use expr_nodes::{Path, Row};
 use std::alloc::{AllocError, Global};
 
 /// What a spot may be.

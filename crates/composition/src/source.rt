@@ -1,4 +1,4 @@
-use osc_base::Path;
+use expr_nodes::Path;
 
 /// What is read at a path.
 #[derive(Clone, Copy)]

@@ -1,14 +1,14 @@
-use osc_base::{Path, Row};
+use expr_nodes::{Path, Row};
 
 /// A `one_of`, and how many members it has.
-#[derive(Debug, PartialEq, Eq, Drop)]
+#[derive(Drop)]
 pub struct ChoiceSpot {
     pub path: Path,
     pub members: u32,
 }
 
 /// What a field may hold.
-#[derive(Debug, PartialEq, Eq, Drop)]
+#[derive(Drop)]
 pub enum ValueRange {
     /// The whole numbers from one to another.
     Between { low: i64, high: i64 },
@@ -19,14 +19,14 @@ pub enum ValueRange {
 }
 
 /// A field that holds a value.
-#[derive(Debug, PartialEq, Eq, Drop)]
+#[derive(Drop)]
 pub struct ValueSpot {
     pub path: Path,
     pub range: ValueRange,
 }
 
 /// What a phase is, and by which rule it is arranged.
-#[derive(Debug, Clone, Copy, PartialEq, Eq)]
+#[derive(Clone, Copy)]
 pub enum PhaseKind {
     /// `serial`.
     Serial,
@@ -50,7 +50,7 @@ pub enum PhaseKind {
 
 /// A phase, and the paths of its members. An invocation of a scenario with a `do` has that as its
 /// only member; another invocation and a wait have none.
-#[derive(Debug, PartialEq, Eq, Drop)]
+#[derive(Drop)]
 pub struct PhaseSpot {
     pub path: Path,
     pub kind: PhaseKind,

@@ -3,8 +3,7 @@
 ghost use Rattle.std.specs.Prelude.{◌≡◌};
 ghost use Rattle.std.specs.Ordering.{int_eq};
 
-use osc_base::Text;
-use type_heads::TypeId;
+use type_model::{Text, TypeId};
 
 /// The condition of a conditional subtype: a field of its base, the number that this must have, and the subtype, whose
 /// members are there then. A truth value is 1 or 0, and a member of an enum its number.

@@ -4,10 +4,8 @@ ghost use Rattle.std.specs.Prelude.{◌≡◌, ◌++◌, ◌<◌, ℕ, [], ◌�
 ghost use Rattle.cond_inherit.specs.SubtypeConditions.{AreConditions, condition_at, condition_under, seen_condition, seen_rows};
 
 use crate::Condition;
-use osc_base::{Row, Text};
 use std::alloc::{AllocError, Global};
-use type_heads::TypeId;
-use type_model::Types;
+use type_model::{Row, Text, TypeId, Types};
 
 /// The conditions of the conditional subtypes of each type, that `seen_rows` sees as a list for each type.
 #[derive(Drop)]

@@ -3,8 +3,8 @@ use Rattle.std.specs.Prelude.{◌≡◌, refl, ℕ, [], ◌∷◌, codes}
 use Rattle.osc_base.specs.LowestTerms.{gcd, lcm}
 use Rattle.osc_base.specs.Paths.{path_of}
 use Rattle.type_heads.specs.DeclaredTypes.{types_of}
-use Rattle.composition.specs.declared.clause.Clause.{Clause}
-use Rattle.composition.specs.TimedRuns.{TimedRun}
+use Rattle.field_flatten.specs.composition.declared.clause.Clause.{Clause}
+use Rattle.field_flatten.specs.composition.TimedRuns.{TimedRun}
 use Rattle.definition_rows.proofs.Makers.{at, within, name, member, root, ego, whole, part, number, span, sample, trace, limits, values_only, checked, is_instance, fails, fails_at}
 use Rattle.definition_rows.proofs.Sources.{single_value, cargo_truck, cargo_car, removed_before}
 use Rattle.definition_rows.proofs.VehicleSources.{one_vehicle, robot, one_wait}

@@ -3,9 +3,9 @@ use Rattle.std.specs.Prelude.{◌≡◌, refl, ◌&&◌, Bool, true, Some}
 use Rattle.std.specs.List.{list_all}
 use Rattle.osc_base.specs.LowestTerms.{gcd, lcm}
 use Rattle.type_heads.specs.DeclaredTypes.{types_of}
-use Rattle.composition.specs.declared.spot.ValueSpot.{ValueSpot}
-use Rattle.composition.specs.Scenes.{Scene, Spot, source, values}
-use Rattle.composition.specs.Expanded.{scene}
+use Rattle.field_flatten.specs.composition.declared.spot.ValueSpot.{ValueSpot}
+use Rattle.field_flatten.specs.composition.Scenes.{Scene, Spot, source, values}
+use Rattle.field_flatten.specs.composition.Expanded.{scene}
 use Rattle.field_flatten.specs.Seen.{has_values}
 use Rattle.field_flatten.specs.Exactness.{IsExpanded, IsLimited, expressions, is_value_source, is_ordered_range, is_narrow_range}
 use Rattle.definition_rows.proofs.Makers.{within, of_top}

@@ -8,7 +8,7 @@ use Rattle.dsl_tree.specs.declared.compounds.CompoundKind.{CompoundKind}
 use Rattle.dsl_tree.specs.FileTree.{MemberTree, DeclarationTree, FileTree}
 use Rattle.type_heads.specs.Types.{Program}
 use Rattle.type_heads.specs.DeclaredTypes.{types_of}
-use Rattle.composition.specs.StaticFaults.{static_fault}
+use Rattle.field_flatten.specs.composition.StaticFaults.{static_fault}
 use Rattle.definition_rows.proofs.Makers.{at, name_at, within}
 use Rattle.definition_rows.proofs.Sources.{single_value}
 use Rattle.definition_rows.proofs.VehicleSources.{library}

@@ -9,16 +9,16 @@ use Rattle.type_heads.specs.DeclaredTypes.{types_of}
 use Rattle.keep_rules.specs.Overriding.{overriders}
 use Rattle.box_eval.specs.Box.{pair}
 use Rattle.box_eval.specs.FlatRules.{Whole, Slot, Less, Times, AtMost, Equal, Both}
-use Rattle.composition.specs.declared.guard.Guard.{Guard}
-use Rattle.composition.specs.declared.setting.Setting.{Setting}
-use Rattle.composition.specs.declared.spot.PhaseKind.{PhaseKind}
-use Rattle.composition.specs.TimedRuns.{TimedRun}
-use Rattle.composition.specs.Scenes.{choices, values, phases, vehicles, guards, marks}
-use Rattle.composition.specs.Slots.{slot_names}
-use Rattle.composition.specs.Items.{rule_names}
-use Rattle.composition.specs.Homes.{home_of}
-use Rattle.composition.specs.Expanded.{scene}
-use Rattle.composition.specs.Invariants.{IsScene}
+use Rattle.field_flatten.specs.composition.declared.guard.Guard.{Guard}
+use Rattle.field_flatten.specs.composition.declared.setting.Setting.{Setting}
+use Rattle.field_flatten.specs.composition.declared.spot.PhaseKind.{PhaseKind}
+use Rattle.field_flatten.specs.composition.TimedRuns.{TimedRun}
+use Rattle.field_flatten.specs.composition.Scenes.{choices, values, phases, vehicles, guards, marks}
+use Rattle.field_flatten.specs.composition.Slots.{slot_names}
+use Rattle.field_flatten.specs.composition.Items.{rule_names}
+use Rattle.field_flatten.specs.composition.Homes.{home_of}
+use Rattle.field_flatten.specs.composition.Expanded.{scene}
+use Rattle.field_flatten.specs.composition.Invariants.{IsScene}
 use Rattle.field_flatten.specs.Ends.{bounds}
 use Rattle.field_flatten.specs.Rules.{rules}
 use Rattle.field_flatten.specs.Points.{run_of, point_of}

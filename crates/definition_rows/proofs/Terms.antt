@@ -16,7 +16,7 @@ use Rattle.dsl_tree.specs.PhaseTree.{RuleTree, ArgumentTree}
 use Rattle.dsl_tree.specs.FileTree.{MemberTree, DeclarationTree}
 use Rattle.type_heads.specs.Types.{Program}
 use Rattle.type_heads.specs.DeclaredTypes.{types_of}
-use Rattle.composition.specs.StaticFaults.{declaration_fault}
+use Rattle.field_flatten.specs.composition.StaticFaults.{declaration_fault}
 
 -- the line, the column and the number of a token
 abbrev pub p : ℕ → ℕ → ℕ → Place

@@ -6,9 +6,9 @@ use Rattle.osc_base.specs.LowestTerms.{gcd, lcm}
 use Rattle.osc_base.specs.Paths.{path_of, then_do}
 use Rattle.type_heads.specs.DeclaredTypes.{types_of}
 use Rattle.box_eval.specs.FlatRules.{holds_at}
-use Rattle.composition.specs.declared.clause.Clause.{Clause}
-use Rattle.composition.specs.declared.setting.Setting.{Setting}
-use Rattle.composition.specs.TimedRuns.{TimedRun}
+use Rattle.field_flatten.specs.composition.declared.clause.Clause.{Clause}
+use Rattle.field_flatten.specs.composition.declared.setting.Setting.{Setting}
+use Rattle.field_flatten.specs.composition.TimedRuns.{TimedRun}
 use Rattle.field_flatten.specs.Rules.{rules}
 use Rattle.definition_rows.proofs.Makers.{at, within, of_top, name, member, index, root, ego, whole, part, chose, number, span, sample, trace, limits, values_only, checked, is_instance, fails, fails_at}
 use Rattle.definition_rows.proofs.Sources.{single_value, no_value, import_cycle, cargo_truck, cargo_car, removed_before, removed_after, two_elements, overridden_argument}

@@ -64,17 +64,6 @@ pub fn line_start(source: &[u8], number: u32) -> Option<usize>
     None
 }
 
-/// The word that begins at a place of a source. `None` if none does.
-pub fn word_at(source: &[u8], line: u32, column: u32) -> Option<&str> {
-    let line = first_line(source.get(line_start(source, line)?..)?);
-    let after = line.get((column as usize).saturating_sub(1)..)?;
-    let word = after.get(..word_len(after))?;
-    if word.is_empty() {
-        return None;
-    }
-    str::from_utf8(word).ok()
-}
-
 /// The bytes before the first line end.
 fn first_line(bytes: &[u8]) -> &[u8] {
     let line = match bytes.iter().position(|b| *b == b'\n') {
@@ -92,11 +81,22 @@ fn word_len(bytes: &[u8]) -> usize {
         .count()
 }
 
+/// The length of the number that the bytes begin with, whose part before a point has this length. Else that length.
+fn number_len(bytes: &[u8], whole: usize) -> usize {
+    let is_number = matches!(bytes.first(), Some(b'0'..=b'9'));
+    match bytes.get(whole..) {
+        Some([b'.', rest @ ..]) if is_number && matches!(rest.first(), Some(b'0'..=b'9')) => {
+            whole.saturating_add(1).saturating_add(word_len(rest))
+        }
+        _ => whole,
+    }
+}
+
 /// The length of the word that the bytes begin with, else of the character there.
 fn marked_len(bytes: &[u8]) -> usize
     ensures { result ≤ length bytes.now }
 {
-    let word = word_len(bytes);
+    let word = number_len(bytes, word_len(bytes));
     match bytes.first() {
         None => 0,
         Some(first) if word == 0 => character_len(*first).min(bytes.len()),

@@ -68,6 +68,35 @@ pub fn expected(alloc: Global, source: &[u8], at: usize) -> Result<String, Alloc
     }
 }
 
+/// Whether the token that a text makes may stand after the first `at` bytes of a source, so many tokens before its syntax
+/// fault. False if the text before is long.
+pub fn takes(
+    alloc: Global,
+    source: &[u8],
+    at: usize,
+    back: u32,
+    text: &str,
+) -> Result<bool, AllocError> {
+    let before = source.get(..at).unwrap_or(source);
+    if before.len() > BEFORE_LIMIT {
+        return Ok(false);
+    }
+    match first_dead_near(alloc, source, at)? {
+        Read::Dead(tokens) => {
+            let tokens = tokens.saturating_sub(back);
+            may_stand(
+                Question {
+                    alloc,
+                    before,
+                    tokens,
+                },
+                text,
+            )
+        }
+        Read::Whole | Read::Uncut => Ok(false),
+    }
+}
+
 /// The reading of a source whose syntax fault is at the byte `at`. Of a long source only a part is read, if that can be
 /// cut into tokens: the fault is the same one.
 fn first_dead_near(alloc: Global, source: &[u8], at: usize) -> Result<Read, AllocError> {

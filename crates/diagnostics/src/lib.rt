@@ -5,16 +5,26 @@
 #![tactic(auto)]
 
 mod candidates;
+mod closed_rules;
 mod declared;
 mod excerpt;
 mod expected;
+mod fault;
+mod kept_files;
+mod keywords;
 mod message;
 mod noted_shelf;
 mod noted_sink;
 mod refusal;
 mod told;
+mod unknown;
 mod words;
 
+pub use closed_rules::ClosedRules;
+pub use excerpt::line_start;
+pub use kept_files::{bytes_of, load_kept, source_of};
+pub use message::{gutter_of, put_help, put_site};
 pub use noted_shelf::NotedShelf;
 pub use noted_sink::NotedSink;
 pub use refusal::{refusal_message, status_message};
+pub use told::Spot;

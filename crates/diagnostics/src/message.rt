@@ -111,6 +111,12 @@ pub fn put_help(text: &mut String, gutter: usize, help: &str) -> Result<(), Allo
     Ok(())
 }
 
+/// Puts which page of `osc explain` tells more.
+pub fn put_explain(text: &mut String, gutter: usize, number: u16) -> Result<(), AllocError> {
+    put_times(text, ' ', gutter)?;
+    write!(text, "  = help: `osc explain {number}` tells more\n")
+}
+
 fn put_help_line(
     text: &mut String,
     gutter: usize,

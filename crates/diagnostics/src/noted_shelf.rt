@@ -6,8 +6,8 @@ use osc_base::{Row, Text};
 use outside_io::{MemoryShelf, NamedBytes, Shelf, ShelfFault};
 use std::alloc::Global;
 
-/// The longest file that is kept, in bytes. No source is longer, and messages show nothing but sources.
-const LONGEST: usize = 1_048_576;
+/// The longest file that is kept, in bytes: the longest run. No source is longer.
+const LONGEST: usize = 16_777_216;
 /// How many bytes the kept files pass at a time.
 const PIECE: usize = 4096;
 

@@ -1,7 +1,8 @@
-//! A sink that keeps the line that went through it.
+//! A sink that keeps the line that went through it, and the rules that a record is closed by.
 
 ghost use Rattle.std.specs.Prelude.{◌≡◌};
 
+use crate::closed_rules::ClosedRules;
 use outside_io::{Sink, SinkFault};
 use std::alloc::Global;
 
@@ -15,6 +16,7 @@ const ROOM: usize = 8192;
 pub struct NotedSink<K: Sink> {
     sink: K,
     note: Vec<u8>,
+    closed: ClosedRules,
 }
 
 impl<K: Sink> NotedSink<K> {
@@ -23,12 +25,18 @@ impl<K: Sink> NotedSink<K> {
         NotedSink {
             sink,
             note: Vec::new(alloc),
+            closed: ClosedRules::new(alloc),
         }
     }
 
     /// The first bytes that the sink took.
     pub fn note(&self) -> &[u8] {
         self.note.as_slice()
+    }
+
+    /// The rules that the lines of a record that the sink took are closed by.
+    pub fn closed(&self) -> &ClosedRules {
+        &self.closed
     }
 
     /// Keeps bytes that the sink took.
@@ -38,6 +46,7 @@ impl<K: Sink> NotedSink<K> {
         let room = ROOM.saturating_sub(self.note.len());
         let kept = bytes.get(..room).unwrap_or(bytes);
         let _ = self.note.extend_from_slice(kept);
+        self.closed.take(bytes);
     }
 }
 

@@ -31,6 +31,19 @@ pub struct Spot<'a> {
     pub column: u32,
 }
 
+impl Spot<'_> {
+    /// The place so many lines below and so many columns behind a column.
+    pub fn moved(self, lines: usize, column: u32, columns: usize) -> Self {
+        let lines = u32::try_from(lines).unwrap_or(0);
+        let columns = u32::try_from(columns).unwrap_or(0);
+        Spot {
+            line: self.line.saturating_add(lines),
+            column: column.saturating_add(columns),
+            ..self
+        }
+    }
+}
+
 /// What a line says. A line feed at its end isn't looked at.
 pub fn told_by(line: &str) -> Told<'_> {
     let line = line.strip_suffix('\n').unwrap_or(line);

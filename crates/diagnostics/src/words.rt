@@ -2,11 +2,12 @@
 //!
 //! It is asked of `read_words` which word is the first to be refused: words after which `--help` is taken have no fault yet.
 
-use crate::declared::Nearest;
-use crate::message::put_help;
-use crate::refusal::put_status;
-use command_words::{Request, read_words};
-use fault_texts::Status;
+use crate::message::{put_explain, put_help};
+use command_words::{
+    Request, check_help, flat_help, general_help, generate_help, make_help, read_words, verify_help,
+};
+use fault_texts::{Status, Topic, topic_named};
+use mistake_helps::Nearest;
 use std::alloc::{AllocError, Global};
 
 /// The most words that are looked at.
@@ -31,8 +32,39 @@ pub fn words_message(alloc: Global, words: &[String]) -> Result<String, AllocErr
         None => text.push_str("there is no command\n")?,
         Some((first, rest)) => put_words(alloc, &mut text, first.as_str(), rest)?,
     }
-    put_status(&mut text, Status::Words)?;
+    put_page(&mut text, words)?;
+    put_explain(&mut text, 0, u16::from(Status::Words.number()))?;
     Ok(text)
+}
+
+/// Puts which help lists the words: that of the command, if there is such a one.
+fn put_page(text: &mut String, words: &[String]) -> Result<(), AllocError> {
+    let command = match words.first() {
+        Some(word) => word.as_str(),
+        None => "",
+    };
+    match command {
+        "generate" | "check" | "verify" | "flat" | "make" => {
+            write!(
+                text,
+                "  = help: `osc {command} --help` lists the words and options of `{command}`\n"
+            )
+        }
+        "explain" => Ok(()),
+        _ => text.push_str("  = help: `osc help` lists the commands\n"),
+    }
+}
+
+/// The help text of a command.
+fn help_of(command: &str) -> &'static str {
+    match command {
+        "generate" => generate_help(),
+        "check" => check_help(),
+        "verify" => verify_help(),
+        "flat" => flat_help(),
+        "make" => make_help(),
+        _ => general_help(),
+    }
 }
 
 fn put_words<'a>(
@@ -59,9 +91,24 @@ fn put_explained(text: &mut String, rest: &[String]) -> Result<(), AllocError> {
                 text,
                 "`{word}` is the number of no code and of no status that refuses\n"
             )?;
+            put_number(text, word)?;
             put_help(text, 0, "`osc explain` lists all of them")
         }
         _ => text.push_str("`osc explain` takes one word at most\n"),
+    }
+}
+
+/// Puts the number within a word, if it is that of a topic.
+fn put_number(text: &mut String, word: &str) -> Result<(), AllocError> {
+    let number = word.trim_matches(|c: char| !c.is_ascii_digit());
+    match topic_named(number) {
+        Some(Topic::Fault(_) | Topic::Status(_)) => {
+            write!(
+                text,
+                "  = help: write the number alone: `osc explain {number}`\n"
+            )
+        }
+        None => Ok(()),
     }
 }
 
@@ -98,12 +145,102 @@ fn put_refused<'a>(
     let (before, after) = words.split_at(count.min(words.len()));
     match after {
         [] => put_missing(alloc, text, command, words),
-        [word, ..] if is_option(alloc, before, word)? => put_value(text, word, after.get(1)),
-        [word, ..] => write!(
+        [word, ..] if is_option(alloc, before, word)? => {
+            put_value(text, command, word, after.get(1).copied())
+        }
+        [word, ..] => put_stray(alloc, text, command, before, word),
+    }
+}
+
+/// Puts that a word isn't taken: an option of that name has a value, stands twice or isn't there.
+fn put_stray(
+    alloc: Global,
+    text: &mut String,
+    command: &str,
+    before: &[&str],
+    word: &str,
+) -> Result<(), AllocError> {
+    let (name, value) = match word.split_once('=') {
+        Some((name, value)) => (name, Some(value)),
+        None => (word, None),
+    };
+    let has_option = has_entry(command, name);
+    if has_option && before.iter().any(|it| names_option(it, name)) {
+        write!(text, "`{name}` stands twice\n")
+    } else if has_option && value.is_some() {
+        put_value(text, command, name, value)
+    } else if word.starts_with('-') {
+        put_no_option(alloc, text, command, name)
+    } else {
+        write!(
             text,
             "`osc {command}` doesn't take the word `{word}` here\n"
-        ),
+        )?;
+        put_entry(text, command, "N")
     }
+}
+
+/// Whether a word is an option of this name, alone or with its value.
+fn names_option(word: &str, name: &str) -> bool {
+    match word.strip_prefix(name) {
+        Some(rest) => rest.is_empty() || rest.starts_with('='),
+        None => false,
+    }
+}
+
+/// Puts that a command has no such option, and which one is near.
+fn put_no_option(
+    alloc: Global,
+    text: &mut String,
+    command: &str,
+    name: &str,
+) -> Result<(), AllocError> {
+    write!(text, "`osc {command}` has no option `{name}`\n")?;
+    let mut nearest = Nearest::new(name);
+    for line in help_of(command).lines() {
+        if let Some(option) = entry_of(line) {
+            nearest.look_at(alloc, option)?;
+        }
+    }
+    match nearest.name() {
+        Some(name) => write!(text, "  = help: an option near it is `{name}`\n"),
+        None => Ok(()),
+    }
+}
+
+/// The word or option of which a line of a help text tells.
+fn entry_of(line: &str) -> Option<&str> {
+    let entry = line.strip_prefix("  ")?;
+    if entry.starts_with([' ', '-']) && !entry.starts_with("--") {
+        return None;
+    }
+    entry.split(' ').next()
+}
+
+/// Whether the help of a command tells of a word or option of this name.
+fn has_entry(command: &str, name: &str) -> bool {
+    help_of(command)
+        .lines()
+        .any(|line| entry_of(line) == Some(name))
+}
+
+/// Puts what the help of a command tells of a word or option. It may tell nothing.
+fn put_entry(text: &mut String, command: &str, name: &str) -> Result<(), AllocError> {
+    let mut is_told = false;
+    for line in help_of(command).lines() {
+        let entry = entry_of(line);
+        if entry == Some(name) {
+            is_told = true;
+            let what = line.strip_prefix("  ").unwrap_or(line);
+            write!(text, "  = help: {what}\n")?;
+        } else if entry.is_some() || line.is_empty() || line.starts_with("  -") {
+            is_told = false;
+        } else if is_told {
+            let what = line.trim_start();
+            write!(text, "            {what}\n")?;
+        }
+    }
+    Ok(())
 }
 
 /// How many of the words come before the first one that is refused.
@@ -162,11 +299,17 @@ fn missing(alloc: Global, words: &[&str]) -> Result<usize, AllocError> {
 }
 
 /// Puts that an option doesn't take the value after it, or has none.
-fn put_value(text: &mut String, option: &str, value: Option<&&str>) -> Result<(), AllocError> {
+fn put_value(
+    text: &mut String,
+    command: &str,
+    option: &str,
+    value: Option<&str>,
+) -> Result<(), AllocError> {
     match value {
-        Some(value) => write!(text, "`{option}` doesn't take the value `{value}`\n"),
-        None => write!(text, "`{option}` has no value\n"),
+        Some(value) => write!(text, "`{option}` doesn't take the value `{value}`\n")?,
+        None => write!(text, "`{option}` has no value\n")?,
     }
+    put_entry(text, command, option)
 }
 
 /// Whether after these words this one is an option that wants a value. Each option takes the value 1.

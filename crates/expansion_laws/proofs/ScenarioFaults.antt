@@ -1,9 +1,9 @@
 -- The fault of the named scenario: it isn't there, or it is too large.
 use Rattle.std.proofs.Common.{◌≡◌, ℕ, Bool, true, false, List, [], ◌∷◌, ◌∙◌, Option, Some, None, ap}
-use Rattle.osc_base.specs.declared.fault.Place.{Place}
-use Rattle.osc_base.specs.declared.fault.FaultCode.{FaultCode}
-use Rattle.osc_base.specs.declared.fault.Fault.{Fault}
-use Rattle.osc_base.specs.FaultRows.{row, first_fault}
+use Rattle.composition.specs.osc_base.declared.fault.Place.{Place}
+use Rattle.composition.specs.osc_base.declared.fault.FaultCode.{FaultCode}
+use Rattle.composition.specs.osc_base.declared.fault.Fault.{Fault}
+use Rattle.composition.specs.osc_base.FaultRows.{row, first_fault}
 use Rattle.composition.specs.type_heads.Types.{Types}
 use Rattle.composition.specs.type_heads.Members.{body}
 use Rattle.composition.specs.declared.setting.Setting.{Setting}

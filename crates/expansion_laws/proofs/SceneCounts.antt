@@ -5,9 +5,9 @@ use Rattle.std.specs.List.{cons_option}
 use Rattle.std.proofs.lemmas.List.{length-map}
 use Rattle.std.proofs.lemmas.List.Sums.{sum_by-cons}
 use Rattle.std.proofs.lemmas.List.FromFn.{length-range_with_len, length-map-range_with_len}
-use Rattle.osc_base.specs.declared.path.Path.{Path}
-use Rattle.osc_base.specs.declared.mark.Strength.{Strength}
-use Rattle.osc_base.specs.declared.listing.SlotName.{SlotName}
+use Rattle.composition.specs.osc_base.declared.path.Path.{Path}
+use Rattle.composition.specs.osc_base.declared.mark.Strength.{Strength}
+use Rattle.composition.specs.osc_base.declared.listing.SlotName.{SlotName}
 use Rattle.composition.specs.declared.spot.ValueRange.{ValueRange}
 use Rattle.composition.specs.declared.spot.ValueSpot.{ValueSpot}
 use Rattle.composition.specs.declared.spot.ChoiceSpot.{ChoiceSpot}

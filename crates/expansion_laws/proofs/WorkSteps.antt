@@ -3,8 +3,8 @@ use Rattle.std.proofs.Common.{◌≡◌, ℕ, zero, suc, List, [], ◌∷◌, �
 use Rattle.std.proofs.lemmas.List.{map-append}
 use Rattle.std.specs.Prelude.{◌&&◌, not, option_to_list, codes}
 use Rattle.std.specs.List.{range_with_len}
-use Rattle.osc_base.specs.declared.path.Path.{Path}
-use Rattle.osc_base.specs.Paths.{root, then_name, then_index}
+use Rattle.composition.specs.osc_base.declared.path.Path.{Path}
+use Rattle.composition.specs.osc_base.Paths.{root, then_name, then_index}
 use Rattle.composition.specs.dsl_tree.PhaseTree as PhaseTrees
 use Rattle.composition.specs.dsl_tree.PhaseTree.{PhaseTree}
 use Rattle.composition.specs.type_heads.Table.{form, owner, is_object}

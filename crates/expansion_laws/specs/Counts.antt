@@ -1,6 +1,6 @@
 -- How many objects, slots, rules and tokens a scene has, part by part.
 use Rattle.std.specs.Prelude.{ℕ, ◌+◌, ◌*◌, ◌||◌, Bool, cond, List, [], ◌∷◌, nat_lt}
-use Rattle.osc_base.specs.declared.mark.Strength.{Strength}
+use Rattle.composition.specs.osc_base.declared.mark.Strength.{Strength}
 use Rattle.composition.specs.declared.spot.ValueRange.{ValueRange}
 use Rattle.composition.specs.Scenes.{Content, Spot, is_one_of}
 use Rattle.composition.specs.Ranges.{has_gap}

@@ -1,6 +1,6 @@
 -- The parts of an expansion as lists, in the two orders in which they are listed.
 use Rattle.std.specs.Prelude.{ℕ, List, [], ◌∷◌, ◌++◌}
-use Rattle.osc_base.specs.declared.path.Path.{Path}
+use Rattle.composition.specs.osc_base.declared.path.Path.{Path}
 use Rattle.composition.specs.type_heads.Types.{Types}
 use Rattle.composition.specs.declared.guard.Guard.{Guard}
 use Rattle.composition.specs.declared.spot.ValueRange.{ValueRange}

@@ -1,8 +1,8 @@
 -- The node of each part that is laid out.
 use Rattle.std.specs.Prelude.{ℕ, zero, suc, cond, List, [], ◌∷◌, ◌++◌, Some, None, length, map, flat_map, codes, is_some, option_to_list}
 use Rattle.std.specs.List.{range_with_len}
-use Rattle.osc_base.specs.declared.path.Path.{Path}
-use Rattle.osc_base.specs.Paths.{root, then_member, then_do}
+use Rattle.composition.specs.osc_base.declared.path.Path.{Path}
+use Rattle.composition.specs.osc_base.Paths.{root, then_member, then_do}
 use Rattle.composition.specs.type_heads.Types.{Types}
 use Rattle.composition.specs.type_heads.Members.{the_do}
 use Rattle.composition.specs.expr_nodes.Scope.{It}

@@ -1,8 +1,8 @@
 -- What is left to lay out while a scenario is expanded.
 use Rattle.std.specs.Prelude.{ℕ, zero, suc, ◌&&◌, not, cond, List, [], ◌∷◌, ◌++◌, Option, Some, None, length, map, filter, filter_map, flat_map, codes, is_some, option_to_list}
 use Rattle.std.specs.List.{range_with_len}
-use Rattle.osc_base.specs.declared.path.Path.{Path}
-use Rattle.osc_base.specs.Paths.{root, then_name, then_index, then_member, then_do}
+use Rattle.composition.specs.osc_base.declared.path.Path.{Path}
+use Rattle.composition.specs.osc_base.Paths.{root, then_name, then_index, then_member, then_do}
 use Rattle.composition.specs.dsl_tree.declared.parts.Ident.{Ident}
 use Rattle.composition.specs.dsl_tree.declared.phases.CompKind.{CompKind}
 use Rattle.composition.specs.dsl_tree.declared.phases.InvokeHead.{InvokeHead}

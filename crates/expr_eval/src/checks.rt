@@ -14,11 +14,11 @@ use crate::items::{Items, listed, no_items, with_item};
 use crate::leaves;
 use crate::pairs::{Level, Pair, paired};
 use dsl_tree::{Expr, Further, Suffix};
-use expr_nodes::{Checked, Scope};
-use expr_typing::steps::{grouped, indexed, negated, opposed, pointed};
+use expr_nodes::{Checked, Scope, Types};
+use expr_operators::steps::{grouped, negated, opposed};
+use expr_typing::steps::{indexed, pointed};
 use osc_base::Place;
 use std::alloc::{AllocError, Global};
-use type_model::Types;
 
 /// What is known of an expression.
 #[cycle(checks)]

@@ -11,9 +11,9 @@ ghost use Rattle.expr_nodes.specs.Seen.{seen, seen_part};
 ghost use Rattle.expr_eval.specs.ItemChecks.{more_items, one_value as value_of, AreChecked};
 
 use expr_nodes::{Checked, Typed};
+use expr_operators::least;
+use expr_operators::spans::part_fault;
 use expr_typing::lists::list;
-use expr_typing::parts::least;
-use expr_typing::spans::part_fault;
 use osc_base::{Boxed, Fault, Place, Row};
 use std::alloc::{AllocError, Global};
 

@@ -9,11 +9,10 @@ ghost use Rattle.expr_nodes.specs.Seen.{seen, seen_part};
 ghost use Rattle.expr_nodes.specs.SeenNames.{seen_scope};
 
 use dsl_tree::{Digits, Ident};
-use expr_nodes::{Checked, Scope, Typed};
+use expr_nodes::{Checked, Scope, Typed, Types};
 use expr_typing::{literals, meanings, others, physical};
 use osc_base::{Boxed, Place};
 use std::alloc::{AllocError, Global};
-use type_model::Types;
 
 /// An expression without a fault.
 fn faultless(alloc: Global, typed: Typed) -> Result<Checked, AllocError>

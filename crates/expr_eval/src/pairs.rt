@@ -12,7 +12,9 @@ ghost use Rattle.expr_eval.specs.NodePairs.{row_node, pair_node};
 use crate::quotients::factored;
 use dsl_tree::{Operator, RelationSign};
 use expr_nodes::Checked;
-use expr_typing::steps::{conjoined, disjoined, implied, range_called, related, spanned, summed};
+use expr_operators::steps::{
+    conjoined, disjoined, implied, range_called, related, spanned, summed,
+};
 use osc_base::Place;
 use std::alloc::{AllocError, Global};
 

@@ -10,13 +10,12 @@ ghost use Rattle.expr_nodes.specs.Typing.{first as first_in};
 
 use crate::checks::checked;
 use dsl_tree::{PathHead, PathNode, Suffix};
-use expr_nodes::{Checked, Scope};
+use expr_nodes::{Checked, Scope, Types};
 use expr_typing::meanings::name;
 use expr_typing::others::{actor, it};
 use expr_typing::steps::{indexed, pointed};
 use osc_base::Place;
 use std::alloc::{AllocError, Global};
-use type_model::Types;
 
 /// What a path begins with, as an expression.
 fn head_checked(

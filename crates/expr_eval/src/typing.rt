@@ -13,10 +13,9 @@ ghost use Rattle.expr_eval.specs.TypeAnswers.{IsTyped};
 
 use crate::checks::checked;
 use dsl_tree::Expr;
-use expr_nodes::{Checked, Scope, Typed};
+use expr_nodes::{Checked, Scope, Typed, Types};
 use osc_base::{Boxed, Fault, Stop};
 use std::alloc::Global;
-use type_model::Types;
 
 /// Why an expression has no typed form: its first fault, or out of memory.
 pub type TypeStop = Stop<Fault>;

@@ -5,7 +5,7 @@ use Rattle.std.proofs.Math.Nat.{one-le-pow, pow-le-pow_right, div-le_self}
 use Rattle.std.proofs.lemmas.Int.{ints, to_z_pos}
 use Rattle.std.proofs.lemmas.Nat.{le-div}
 use Rattle.std.specs.Prelude.{◌^◌, pos, ◌≤ℤ◌, Some, None, cond, Bool, true, false, nat_lt}
-use Rattle.osc_base.specs.LowestTerms.{gcd_within, gcd, lcm}
+use Rattle.type_model.specs.osc_base.LowestTerms.{gcd_within, gcd, lcm}
 
 -- steps above the second number don't count
 enough : (n m a b : ℕ) → b ≤ n → b ≤ m → gcd_within (suc n) a b ≡ gcd_within (suc m) a b
@@ -15,7 +15,7 @@ enough (suc n) zero a (suc b) p q = absurd (omega arith)
 enough (suc n) (suc m) a (suc b) p q = enough n m (suc b) (a % suc b) (omega arith) (omega arith)
 
 by_step : (a b : ℕ) → gcd a (suc b) ≡ gcd (suc b) (a % suc b)
-unfolding Rattle.osc_base.specs.LowestTerms.gcd
+unfolding Rattle.type_model.specs.osc_base.LowestTerms.gcd
 by_step a b = enough b (a % suc b) (suc b) (a % suc b) (omega arith) (omega arith)
 
 pub gcd_step : (a b : ℕ) → 0 < b → gcd a b ≡ gcd b (a % b)
@@ -23,7 +23,7 @@ gcd_step a zero above = absurd (omega arith)
 gcd_step a (suc b) above = by_step a b
 
 pub gcd_end : (a : ℕ) → gcd a 0 ≡ a
-unfolding Rattle.osc_base.specs.LowestTerms.gcd
+unfolding Rattle.type_model.specs.osc_base.LowestTerms.gcd
 gcd_end a = refl
 
 within_above : (n a b : ℕ) → b ≤ n → 0 < a → 0 < gcd_within (suc n) a b
@@ -32,11 +32,11 @@ within_above zero a (suc b) p q = absurd (omega arith)
 within_above (suc n) a (suc b) p q = within_above n (suc b) (a % suc b) (omega arith) (omega arith)
 
 pub gcd_above : (a b : ℕ) → 0 < a → 0 < gcd a b
-unfolding Rattle.osc_base.specs.LowestTerms.gcd
+unfolding Rattle.type_model.specs.osc_base.LowestTerms.gcd
 gcd_above a b above = within_above b a b (omega arith) above
 
 pub lcm_is : (a b : ℕ) → lcm a b ≡ a * (b / gcd a b)
-unfolding Rattle.osc_base.specs.LowestTerms.lcm
+unfolding Rattle.type_model.specs.osc_base.LowestTerms.lcm
 lcm_is a b = refl
 
 within_small : (n a b : ℕ) → b ≤ n → b ≤ a → gcd_within (suc n) a b ≤ a
@@ -45,7 +45,7 @@ within_small zero a (suc b) p q = absurd (omega arith)
 within_small (suc n) a (suc b) p q = let h = within_small n (suc b) (a % suc b) (omega arith) (omega arith) in omega arith
 
 gcd_small : (a b : ℕ) → gcd a (suc b) ≤ suc b
-unfolding Rattle.osc_base.specs.LowestTerms.gcd
+unfolding Rattle.type_model.specs.osc_base.LowestTerms.gcd
 gcd_small a b = within_small b (suc b) (a % suc b) (omega arith) (omega arith)
 
 quotient_above : (b g : ℕ) → 0 < g → g ≤ b → 0 < b / g

@@ -1,3 +1,5 @@
 pub mod Divisors
 pub mod LabelPlaces
 pub mod SeenNodes
+-- Crates below, for the crates above.
+pub use Rattle.type_model.proofs.of_osc_base as of_osc_base

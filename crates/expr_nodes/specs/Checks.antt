@@ -1,6 +1,6 @@
 -- What is known of an expression: its first fault, and its typed form.
 use Rattle.std.specs.Prelude.{◌≡◌}
-use Rattle.osc_base.specs.FaultRows.{first_fault}
+use Rattle.type_model.specs.osc_base.FaultRows.{first_fault}
 use Rattle.type_model.specs.dsl_tree.ExprTree.{ExprTree}
 use Rattle.type_model.specs.type_heads.Table.{Table}
 use Rattle.expr_nodes.specs.declared.parts.Checked.{Checked}

@@ -2,10 +2,10 @@
 -- at its first token.
 use Rattle.std.specs.Prelude.{◌&&◌, ◌||◌, Bool, true, false, not, List, [], ◌∷◌, Option, map}
 use Rattle.std.specs.List.{list_any}
-use Rattle.osc_base.specs.declared.fault.Place.{Place}
-use Rattle.osc_base.specs.declared.fault.FaultCode.{FaultCode}
-use Rattle.osc_base.specs.FaultRows.{FaultRow, row}
-use Rattle.osc_base.specs.LowestTerms.{lcm}
+use Rattle.type_model.specs.osc_base.declared.fault.Place.{Place}
+use Rattle.type_model.specs.osc_base.declared.fault.FaultCode.{FaultCode}
+use Rattle.type_model.specs.osc_base.FaultRows.{FaultRow, row}
+use Rattle.type_model.specs.osc_base.LowestTerms.{lcm}
 use Rattle.expr_nodes.specs.Kinds.{ValueKind, seconds, is_number, is_truth, same_units, are_alike}
 use Rattle.expr_nodes.specs.Typed.{Typed, Read, Span, kind}
 use Rattle.expr_nodes.specs.Sizes.{Size, size, widened, joined, duration_size, is_wide}

@@ -20,3 +20,4 @@ pub use Rattle.type_model.specs.dsl_tree as dsl_tree
 pub use Rattle.type_model.specs.name_scope as name_scope
 pub use Rattle.type_model.specs.type_heads as type_heads
 pub use Rattle.type_model.specs.units_si as units_si
+pub use Rattle.type_model.specs.osc_base as osc_base

@@ -1,6 +1,6 @@
 -- When a typed expression, such as one whose rows of operators are balanced, means what another does.
 use Rattle.std.specs.Prelude.{◌≡◌, ℤ, true, Option}
-use Rattle.osc_base.specs.declared.path.Path.{Path}
+use Rattle.type_model.specs.osc_base.declared.path.Path.{Path}
 use Rattle.expr_nodes.specs.Typed.{Typed, info, reads}
 use Rattle.expr_nodes.specs.Value.{value}
 use Rattle.expr_nodes.specs.Sound.{is_sound}

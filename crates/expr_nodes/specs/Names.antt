@@ -1,12 +1,12 @@
 -- What names mean: fields, labels, durations, members of enums, and what stands after a point.
 use Rattle.std.specs.Prelude.{ℕ, zero, suc, ◌+◌, pos, ◌&&◌, Bool, true, false, cond, List, [], ◌∷◌, Option, Some, None, bytes_eq, codes, find, is_none, option_map, option_and_then}
 use Rattle.std.specs.Option.{option_map_or}
-use Rattle.osc_base.specs.declared.fault.Place.{Place}
-use Rattle.osc_base.specs.declared.fault.FaultCode.{FaultCode}
-use Rattle.osc_base.specs.declared.path.Path.{Path}
-use Rattle.osc_base.specs.Number.{whole}
-use Rattle.osc_base.specs.FaultRows.{FaultRow, row}
-use Rattle.osc_base.specs.Paths.{root, then_name, then_index, then_duration}
+use Rattle.type_model.specs.osc_base.declared.fault.Place.{Place}
+use Rattle.type_model.specs.osc_base.declared.fault.FaultCode.{FaultCode}
+use Rattle.type_model.specs.osc_base.declared.path.Path.{Path}
+use Rattle.type_model.specs.osc_base.Number.{whole}
+use Rattle.type_model.specs.osc_base.FaultRows.{FaultRow, row}
+use Rattle.type_model.specs.osc_base.Paths.{root, then_name, then_index, then_duration}
 use Rattle.type_model.specs.dsl_tree.declared.parts.Ident.{Ident}
 use Rattle.type_model.specs.type_heads.Form.{Form}
 use Rattle.type_model.specs.type_heads.Table.{Table, TableField, form, named, owner, field_of, is_behaviour, has_members, is_enum, enum_number, enums_with}

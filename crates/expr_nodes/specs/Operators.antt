@@ -5,11 +5,11 @@ use Rattle.std.specs.Prelude.{ℕ, ℤ, pos, negsuc, neg_ℤ, ◌+ℤ◌, ◌-�
 use Rattle.std.specs.Option.{option_map_or}
 use Rattle.std.specs.List.{list_any}
 use Rattle.std.specs.Ordering.{int_eq}
-use Rattle.osc_base.specs.declared.fault.Place.{Place}
-use Rattle.osc_base.specs.declared.fault.FaultCode.{FaultCode}
-use Rattle.osc_base.specs.Number.{Number, whole}
-use Rattle.osc_base.specs.LowestTerms.{lowest}
-use Rattle.osc_base.specs.FaultRows.{FaultRow, row}
+use Rattle.type_model.specs.osc_base.declared.fault.Place.{Place}
+use Rattle.type_model.specs.osc_base.declared.fault.FaultCode.{FaultCode}
+use Rattle.type_model.specs.osc_base.Number.{Number, whole}
+use Rattle.type_model.specs.osc_base.LowestTerms.{lowest}
+use Rattle.type_model.specs.osc_base.FaultRows.{FaultRow, row}
 use Rattle.type_model.specs.dsl_tree.declared.parts.Digits.{Digits}
 use Rattle.type_model.specs.dsl_tree.declared.expr.Operator.{Operator}
 use Rattle.type_model.specs.dsl_tree.declared.expr.RelationSign.{RelationSign}

@@ -1,7 +1,7 @@
 -- Parts of an expression that may have a fault. A part with a fault has no kind, and no rule that needs its kind applies.
 use Rattle.std.specs.Prelude.{Bool, true, false, not, cond, ◌&&◌, List, [], ◌∷◌, Option, Some, None}
 use Rattle.std.specs.List.{list_any}
-use Rattle.osc_base.specs.FaultRows.{FaultRow}
+use Rattle.type_model.specs.osc_base.FaultRows.{FaultRow}
 use Rattle.expr_nodes.specs.Kinds.{is_number}
 use Rattle.expr_nodes.specs.Typed.{Typed, Whole, Listed, Span, kind, items_of}
 

@@ -1,6 +1,6 @@
 -- Where an expression stands: what its names mean.
 use Rattle.std.specs.Prelude.{ℕ, Bool, List, Option}
-use Rattle.osc_base.specs.declared.path.Path.{Path}
+use Rattle.type_model.specs.osc_base.declared.path.Path.{Path}
 use Rattle.expr_nodes.specs.Kinds.{Made}
 
 -- what `it` stands for: a field or an invoked object of that type, with the number of elements of a list; or an object that its invocation

@@ -1,7 +1,7 @@
 -- What the program's own types stand for in the definitions.
 use Rattle.std.specs.Prelude.{List, [], ◌∷◌, Option, Some, None, cond, option_map}
-use Rattle.osc_base.specs.declared.fault.Place.{Place}
-use Rattle.osc_base.specs.Fraction.{value}
+use Rattle.type_model.specs.osc_base.declared.fault.Place.{Place}
+use Rattle.type_model.specs.osc_base.Fraction.{value}
 use Rattle.expr_nodes.specs.declared.kind.Made.{Made}
 use Rattle.expr_nodes.specs.declared.kind.ValueKind.{ValueKind}
 use Rattle.expr_nodes.specs.declared.size.Size.{Size}

@@ -1,8 +1,8 @@
 -- What the program's own scopes stand for in the definitions.
 use Rattle.std.specs.Prelude.{ℕ, ℤ, true, cond, not, List, [], Option, Some, None, option_copied, option_map, option_and_then, map}
-use Rattle.osc_base.specs.declared.fault.Place.{Place}
-use Rattle.osc_base.specs.declared.path.Path.{Path}
-use Rattle.osc_base.specs.LowestTerms.{lowest}
+use Rattle.type_model.specs.osc_base.declared.fault.Place.{Place}
+use Rattle.type_model.specs.osc_base.declared.path.Path.{Path}
+use Rattle.type_model.specs.osc_base.LowestTerms.{lowest}
 use Rattle.type_model.specs.dsl_tree.declared.parts.Digits.{Digits}
 use Rattle.type_model.specs.units_si.Literals.{literal_count}
 use Rattle.type_model.specs.type_heads.Shown.{UnitParts}

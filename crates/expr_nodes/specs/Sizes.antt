@@ -1,9 +1,9 @@
 -- Scales and reaches: a value times the scale is whole, and its magnitude is at most the reach.
 use Rattle.std.specs.Prelude.{ℕ, ◌+◌, ◌*◌, ◌/◌, max, Bool, ◌||◌, unsigned_abs, nat_lt}
-use Rattle.osc_base.specs.declared.fault.Place.{Place}
-use Rattle.osc_base.specs.Number.{Number}
-use Rattle.osc_base.specs.LowestTerms.{lcm}
-use Rattle.osc_base.specs.Comparisons.{greatest_part}
+use Rattle.type_model.specs.osc_base.declared.fault.Place.{Place}
+use Rattle.type_model.specs.osc_base.Number.{Number}
+use Rattle.type_model.specs.osc_base.LowestTerms.{lcm}
+use Rattle.type_model.specs.osc_base.Comparisons.{greatest_part}
 use Rattle.type_model.specs.type_heads.Form.{greatest_value}
 use Rattle.expr_nodes.specs.Kinds.{ValueKind}
 use Rattle.expr_nodes.specs.Typed.{Typed, Info, scale, reach}

@@ -2,9 +2,9 @@
 -- sound, and so they stay when paths are replaced by their homes.
 use Rattle.std.specs.Prelude.{ℕ, pos, ◌&&◌, ◌||◌, Bool, true, not, nat_eq, int_le, unsigned_abs}
 use Rattle.std.specs.List.{list_all}
-use Rattle.osc_base.specs.declared.path.Path.{Path}
-use Rattle.osc_base.specs.Number.{Number}
-use Rattle.osc_base.specs.LowestTerms.{gcd}
+use Rattle.type_model.specs.osc_base.declared.path.Path.{Path}
+use Rattle.type_model.specs.osc_base.Number.{Number}
+use Rattle.type_model.specs.osc_base.LowestTerms.{gcd}
 use Rattle.expr_nodes.specs.Kinds.{ValueKind, is_number, is_truth, same_units}
 use Rattle.expr_nodes.specs.Typed.{Typed, Info, Constant, Read, Whole, Listed, Span, Minus, Not, Sum, Times, And, Or, Implies, Relation, Within, TypedRow, End, Item, kind}
 use Rattle.expr_nodes.specs.Sizes.{Size, size, constant_size, field_size, duration_size, unit_size, joined, multiplied, is_wide}

@@ -1,8 +1,8 @@
 -- Typed expressions: each node with its kind, and its scale and reach as the flat language has them.
 use Rattle.std.specs.Prelude.{ℕ, Bool, List, [], ◌∷◌, ◌++◌}
-use Rattle.osc_base.specs.declared.fault.Place.{Place}
-use Rattle.osc_base.specs.declared.path.Path.{Path}
-use Rattle.osc_base.specs.Number.{Number}
+use Rattle.type_model.specs.osc_base.declared.fault.Place.{Place}
+use Rattle.type_model.specs.osc_base.declared.path.Path.{Path}
+use Rattle.type_model.specs.osc_base.Number.{Number}
 use Rattle.expr_nodes.specs.declared.compare.Compare.{Compare}
 use Rattle.expr_nodes.specs.Kinds.{ValueKind}
 

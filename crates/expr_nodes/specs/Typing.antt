@@ -1,7 +1,7 @@
 -- The typed form of an expression, and its faults: one line for each node.
 use Rattle.std.specs.Prelude.{List, [], ◌++◌, Bool, true, false, Option, Some}
-use Rattle.osc_base.specs.declared.fault.Place.{Place}
-use Rattle.osc_base.specs.FaultRows.{FaultRow}
+use Rattle.type_model.specs.osc_base.declared.fault.Place.{Place}
+use Rattle.type_model.specs.osc_base.FaultRows.{FaultRow}
 use Rattle.type_model.specs.dsl_tree.ExprTree.{ExprTree, Implies, Or, And, Not, Relation, Sum, Product, Minus, Dot, Index, Number, Physical, Chars, Truth, It, Actor, Name, EnumName, Group, Span, Listed, RangeCall, Start, ExprRow, End, Item}
 use Rattle.type_model.specs.type_heads.Table.{Table}
 use Rattle.expr_nodes.specs.Typed as Types

@@ -1,9 +1,9 @@
 -- The value of a typed expression, an exact fraction. A truth value is 1 or 0, a member of an enum or a text its number.
 use Rattle.std.specs.Prelude.{ℤ, pos, neg_ℤ, ◌&&◌, ◌||◌, Bool, false, not, cond, Option, Some, None, is_some, unwrap_or}
 use Rattle.std.specs.List.{list_all}
-use Rattle.osc_base.specs.declared.path.Path.{Path}
-use Rattle.osc_base.specs.Number.{Number, whole, plus, product}
-use Rattle.osc_base.specs.Comparisons.{is_same, is_less, is_at_most, is_between}
+use Rattle.type_model.specs.osc_base.declared.path.Path.{Path}
+use Rattle.type_model.specs.osc_base.Number.{Number, whole, plus, product}
+use Rattle.type_model.specs.osc_base.Comparisons.{is_same, is_less, is_at_most, is_between}
 use Rattle.expr_nodes.specs.declared.compare.Compare.{Compare}
 use Rattle.expr_nodes.specs.Typed.{Typed, Constant, Read, Whole, Listed, Span, Minus, Not, Sum, Times, And, Or, Implies, Relation, Within, TypedRow, End, Item, reads}
 

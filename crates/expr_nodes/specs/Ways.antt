@@ -1,7 +1,7 @@
 -- Ways into a `do`, as the program has them.
 use Rattle.std.specs.Prelude.{List, Bool, ◌&&◌, nat_eq}
 use Rattle.std.specs.List.{list_all, list_any}
-use Rattle.osc_base.specs.Paths.{same_path}
+use Rattle.type_model.specs.osc_base.Paths.{same_path}
 use Rattle.expr_nodes.specs.declared.ways.Turn.{Turn}
 
 -- two turns take the same member of the same `one_of`

@@ -2,13 +2,12 @@
 
 ghost use Rattle.std.specs.Prelude.{◌≡◌, ◌&&◌};
 ghost use Rattle.expr_nodes.specs.Kinds.{object_type as type_of_object, is_number as number, is_truth as truth, same_units as of_one_unit, are_alike as alike};
-ghost use Rattle.osc_base.specs.Comparisons.{same_number};
+ghost use Rattle.type_model.specs.osc_base.Comparisons.{same_number};
 ghost use Rattle.type_model.specs.units_si.ExponentTests.{same_exponents};
 ghost use Rattle.expr_nodes.specs.Kinds as Kinds;
 ghost use Rattle.expr_nodes.specs.Seen.{seen_kind};
 
-use type_model::TypeId;
-use units_si::Exponents;
+use type_model::{Exponents, TypeId};
 
 /// What a phase makes.
 #[derive(Debug, Clone, Copy, PartialEq, Eq)]

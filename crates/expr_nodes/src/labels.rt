@@ -3,9 +3,8 @@
 ghost use Rattle.std.specs.Prelude.{◌≡◌, bytes_eq, find, map, option_copied, IfOk};
 
 use crate::{Made, Turn};
-use osc_base::{Path, Row, Text};
 use std::alloc::{AllocError, Global};
-use type_tables::TextTable;
+use type_model::{Path, Row, Text, TextTable};
 
 /// A label of a phase, the phase's path from the object and the turns on its way, outermost first, and what it makes.
 #[derive(Drop)]

@@ -17,4 +17,8 @@ pub use node::{Earlier, Info, Join, Typed};
 pub use parts::Checked;
 pub use scope::{It, Scope};
 pub use size::Size;
+pub use type_model::{
+    Boxed, EnumHit, Exponents, Fault, FaultCode, FieldType, Fraction, Path, Place, Row, Text,
+    TextTable, TypeId, TypeKind, Types, Unit, literal,
+};
 pub use ways::{Turn, leads_into};

@@ -8,8 +8,8 @@ ghost use Rattle.expr_nodes.specs.Seen.{seen, seen_info, reached};
 
 use crate::size::Size;
 use crate::{Compare, ValueKind};
-use osc_base::{Boxed, Fraction, Path, Place, Row};
 use std::alloc::{AllocError, Global};
+use type_model::{Boxed, Fraction, Path, Place, Row};
 
 /// Where an expression begins, its kind, and its scale and reach. The kind of a range or list is that of its parts.
 #[derive(Debug, Clone, Copy)]

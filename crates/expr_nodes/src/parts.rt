@@ -1,7 +1,7 @@
 //! Parts of an expression that may have a fault.
 
 use crate::Typed;
-use osc_base::{Boxed, Fault};
+use type_model::{Boxed, Fault};
 
 /// What is known of a part: its first fault, and its typed form, unless it has a fault.
 #[derive(Drop)]

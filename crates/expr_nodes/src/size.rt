@@ -1,12 +1,12 @@
 //! Scales and reaches: a value times the scale is whole, and its magnitude is at most the reach.
 
 ghost use Rattle.std.specs.Prelude.{◌≡◌, ◌<◌, ◌≤◌, ◌+◌, ◌*◌, ◌/◌, ◌^◌, cond, pos, None, Some, max, unsigned_abs, option_map, nat_lt};
-ghost use Rattle.osc_base.specs.Comparisons.{greatest_part};
-ghost use Rattle.osc_base.specs.Fraction.{value};
-ghost use Rattle.osc_base.specs.LowestTerms.{gcd as divisor, lcm as multiple};
+ghost use Rattle.type_model.specs.osc_base.Comparisons.{greatest_part};
+ghost use Rattle.type_model.specs.osc_base.Fraction.{value};
+ghost use Rattle.type_model.specs.osc_base.LowestTerms.{gcd as divisor, lcm as multiple};
 ghost use Rattle.expr_nodes.specs.Sizes.{unit_size, constant_size, field_size, duration_size, joined as joining, multiplied as product, divided as quotient, widened as wider, is_wide};
 
-use osc_base::Fraction;
+use type_model::Fraction;
 
 /// The greatest scale and reach, 2^120.
 const MOST: u128 = 0x100_0000_0000_0000_0000_0000_0000_0000;

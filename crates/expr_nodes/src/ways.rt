@@ -2,10 +2,10 @@
 
 ghost use Rattle.std.specs.Prelude.{◌≡◌};
 ghost use Rattle.std.specs.List.{list_any};
-ghost use Rattle.osc_base.specs.Paths.{same_path};
+ghost use Rattle.type_model.specs.osc_base.Paths.{same_path};
 ghost use Rattle.expr_nodes.specs.Ways.{leads_into as way_leads_into, same_turn};
 
-use osc_base::Path;
+use type_model::Path;
 
 /// A `one_of` on the way to a phase, and the number of the member that the way takes.
 #[derive(Drop)]

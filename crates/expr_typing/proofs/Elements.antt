@@ -1,8 +1,8 @@
 -- The elements of a list field, one after another.
 use Rattle.std.proofs.Common.{◌≡◌, ◌∙◌, refl, sym, ap, ℕ, suc, ◌+◌, ◌-◌, ◌<◌, ◌≤◌, List, [], ◌∷◌, ◌++◌, append_assoc, arith}
 use Rattle.std.proofs.lemmas.List.{append-nil}
-use Rattle.osc_base.specs.declared.path.Path.{Path}
-use Rattle.osc_base.specs.Paths.{then_index}
+use Rattle.dsl_tree.specs.osc_base.declared.path.Path.{Path}
+use Rattle.dsl_tree.specs.osc_base.Paths.{then_index}
 use Rattle.expr_nodes.specs.Typed.{Typed, TypedRow, End, Item, row_of, items_of}
 use Rattle.expr_nodes.specs.Names.{elements_from}
 

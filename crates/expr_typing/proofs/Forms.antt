@@ -2,8 +2,8 @@
 use Rattle.std.proofs.Common.{◌≡◌, ◌∙◌, refl, sym, ap, ap₂, ℕ, true, List, [], ◌∷◌, Option, Some, None}
 use Rattle.std.specs.Prelude.{ℤ, pos, option_map}
 use Rattle.dsl_tree.specs.declared.parts.Ident.{Ident}
-use Rattle.osc_base.specs.declared.fault.Place.{Place}
-use Rattle.osc_base.specs.declared.path.Path.{Path}
+use Rattle.dsl_tree.specs.osc_base.declared.fault.Place.{Place}
+use Rattle.dsl_tree.specs.osc_base.declared.path.Path.{Path}
 use Rattle.expr_nodes.specs.type_heads.Form.{Form}
 use Rattle.expr_nodes.specs.type_heads.declared.kinds.EnumHit.{EnumHit}
 use Rattle.expr_nodes.specs.type_heads.Shown.{bare, hit_of}

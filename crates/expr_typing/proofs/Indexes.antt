@@ -1,7 +1,7 @@
 -- An index is a number literal, and no other expression.
 use Rattle.std.proofs.Common.{◌≡◌, ◌∙◌, refl, sym, ap, ℕ, zero, suc, List, [], ◌∷◌, map, Option, None}
 use Rattle.std.specs.Prelude.{option_map, slice_get, Bool, true}
-use Rattle.osc_base.specs.declared.fault.Place.{Place}
+use Rattle.dsl_tree.specs.osc_base.declared.fault.Place.{Place}
 use Rattle.dsl_tree.specs.declared.parts.Digits.{Digits}
 use Rattle.dsl_tree.specs.declared.expr.Operator.{Operator}
 use Rattle.dsl_tree.specs.declared.expr.Expr.{Expr}

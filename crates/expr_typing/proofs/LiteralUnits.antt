@@ -2,10 +2,10 @@
 use Rattle.std.proofs.Common.{◌≡◌, refl, ap, ℕ, List, [], ◌∷◌, true, false, Option, Some, None}
 use Rattle.std.specs.Prelude.{option_map, option_and_then, is_none}
 use Rattle.std.specs.Option.{option_map_or}
-use Rattle.osc_base.specs.declared.fault.Fault.{Fault}
-use Rattle.osc_base.specs.declared.fault.FaultCode.{FaultCode}
-use Rattle.osc_base.specs.FaultRows.{row, row_fault, first_fault}
-use Rattle.osc_base.specs.LowestTerms.{lowest}
+use Rattle.dsl_tree.specs.osc_base.declared.fault.Fault.{Fault}
+use Rattle.dsl_tree.specs.osc_base.declared.fault.FaultCode.{FaultCode}
+use Rattle.dsl_tree.specs.osc_base.FaultRows.{row, row_fault, first_fault}
+use Rattle.dsl_tree.specs.osc_base.LowestTerms.{lowest}
 use Rattle.dsl_tree.specs.declared.parts.Digits.{Digits}
 use Rattle.expr_nodes.specs.type_heads.Table.{Table, TableUnit, unit}
 use Rattle.expr_nodes.specs.type_heads.Shown.{UnitParts, unit_parts}

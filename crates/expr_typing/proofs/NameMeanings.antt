@@ -2,12 +2,12 @@
 use Rattle.std.proofs.Common.{◌≡◌, ◌∙◌, refl, ap, ap₂, ℕ, List, [], ◌∷◌, Bool, Option, Some, None}
 use Rattle.std.specs.Prelude.{option_map, ◌&&◌}
 use Rattle.std.specs.Option.{option_map_or}
-use Rattle.osc_base.specs.declared.fault.Place.{Place}
-use Rattle.osc_base.specs.declared.fault.Fault.{Fault}
-use Rattle.osc_base.specs.declared.fault.FaultCode.{FaultCode}
-use Rattle.osc_base.specs.declared.path.Path.{Path}
-use Rattle.osc_base.specs.FaultRows.{row, first_fault}
-use Rattle.osc_base.specs.Paths.{root, then_name}
+use Rattle.dsl_tree.specs.osc_base.declared.fault.Place.{Place}
+use Rattle.dsl_tree.specs.osc_base.declared.fault.Fault.{Fault}
+use Rattle.dsl_tree.specs.osc_base.declared.fault.FaultCode.{FaultCode}
+use Rattle.dsl_tree.specs.osc_base.declared.path.Path.{Path}
+use Rattle.dsl_tree.specs.osc_base.FaultRows.{row, first_fault}
+use Rattle.dsl_tree.specs.osc_base.Paths.{root, then_name}
 use Rattle.dsl_tree.specs.declared.parts.Ident.{Ident}
 use Rattle.expr_nodes.specs.type_heads.declared.kinds.FieldType.{FieldType}
 use Rattle.expr_nodes.specs.type_heads.Shown.{shown_field}

@@ -6,15 +6,15 @@ use Rattle.std.specs.Option.{SomeIff, MatchOption}
 use Rattle.std.proofs.lemmas.Bool.Decides.{nat_tests}
 use Rattle.std.proofs.lemmas.Int.{ints}
 use Rattle.std.proofs.lemmas.Nat.Gcd.{IsGcd-from_zero, IsGcd-from_mod, dvd_antisymm}
-use Rattle.osc_base.specs.declared.fraction.Fraction.{Fraction}
-use Rattle.osc_base.specs.Fraction.{OverCommon, AddsExactly, MultipliesExactly, RoundsExactly, value}
-use Rattle.osc_base.specs.Number.{Number, IsFloor, IsWithin, IsLeastCommonMultiple}
-use Rattle.osc_base.specs.Comparisons.{is_within}
-use Rattle.osc_base.specs.LowestTerms.{gcd_within, gcd, lcm, floor_over}
-use Rattle.osc_base.proofs.Integers.{le_cancel, lt_cancel}
-use Rattle.osc_base.proofs.Numbers.{floor_is}
-use Rattle.osc_base.proofs.Fractions.{widened_num, widened_same, den_above}
-use Rattle.osc_base.proofs.Multiples.{is_least_common_multiple, lowest_same}
+use Rattle.dsl_tree.specs.osc_base.declared.fraction.Fraction.{Fraction}
+use Rattle.dsl_tree.specs.osc_base.Fraction.{OverCommon, AddsExactly, MultipliesExactly, RoundsExactly, value}
+use Rattle.dsl_tree.specs.osc_base.Number.{Number, IsFloor, IsWithin, IsLeastCommonMultiple}
+use Rattle.dsl_tree.specs.osc_base.Comparisons.{is_within}
+use Rattle.dsl_tree.specs.osc_base.LowestTerms.{gcd_within, gcd, lcm, floor_over}
+use Rattle.dsl_tree.proofs.of_osc_base.Integers.{le_cancel, lt_cancel}
+use Rattle.dsl_tree.proofs.of_osc_base.Numbers.{floor_is}
+use Rattle.dsl_tree.proofs.of_osc_base.Fractions.{widened_num, widened_same, den_above}
+use Rattle.dsl_tree.proofs.of_osc_base.Multiples.{is_least_common_multiple, lowest_same}
 use Rattle.expr_nodes.specs.units_si.declared.units.Unit.{Unit}
 use Rattle.expr_nodes.specs.units_si.Units.{IsSlotValue, LiteralExactly}
 use Rattle.expr_nodes.specs.units_si.Literals.{times, add, nearest_thousandth, slot_value, literal_count}
@@ -71,7 +71,7 @@ gcd_within_is zero a (suc b) h = absurd (omega arith)
 gcd_within_is (suc n) a (suc b) h = IsGcd-from_mod a (suc b) (gcd_within (suc n) (suc b) (a % suc b)) (gcd_within_is n (suc b) (a % suc b) (omega arith))
 
 gcd_is : (a b : ℕ) → IsGcd a b (gcd a b)
-unfolding Rattle.osc_base.specs.LowestTerms.gcd
+unfolding Rattle.dsl_tree.specs.osc_base.LowestTerms.gcd
 gcd_is a b = gcd_within_is b a b (omega arith)
 
 lcm_common : (a b : ℕ) → 0 < a → IsLeastCommonMultiple a b (lcm a b)

@@ -1,7 +1,7 @@
 //! What stands after a point.
 
 ghost use Rattle.std.specs.Prelude.{◌≡◌, Some, IfOk};
-ghost use Rattle.osc_base.specs.FaultRows.{first_fault};
+ghost use Rattle.dsl_tree.specs.osc_base.FaultRows.{first_fault};
 ghost use Rattle.expr_nodes.specs.Names.{duration_if, member_of_object as object_member, member_made as made_member, member_of_phase as phase_member, member_of_whole as whole_member, after_point as meant_after, is_nothing as means_nothing, dot_rows, dot_typed};
 ghost use Rattle.expr_nodes.specs.Seen.{seen, seen_kind, seen_made, seen_part};
 ghost use Rattle.expr_typing.specs.Meanings.{seen_meaning};
@@ -9,12 +9,11 @@ ghost use Rattle.expr_typing.specs.Meanings.{seen_meaning};
 use crate::fields::with_name;
 use crate::meanings::{field_meant, typed_of};
 use crate::names::{Meaning, duration_at, is_behaviour, is_duration};
-use crate::parts::fault_if;
 use dsl_tree::Ident;
-use expr_nodes::{Checked, Made, Typed, ValueKind};
-use osc_base::{Boxed, FaultCode, Path, Place, Text};
+use dsl_tree::osc_base::FaultCode;
+use expr_nodes::{Boxed, Checked, Made, Path, Place, Text, TypeId, Typed, Types, ValueKind};
 use std::alloc::{AllocError, Global};
-use type_model::{TypeId, Types};
+use typed_parts::fault_if;
 
 /// The duration of what stands at a path, if it has one.
 fn timed(alloc: Global, place: Place, path: Path, has: bool) -> Result<Meaning, AllocError>

@@ -1,7 +1,7 @@
 //! What is read from fields.
 
 ghost use Rattle.std.specs.Prelude.{◌≡◌, ◌<◌, Some, IfOk};
-ghost use Rattle.osc_base.specs.Paths.{then_name, then_index};
+ghost use Rattle.dsl_tree.specs.osc_base.Paths.{then_name, then_index};
 ghost use Rattle.expr_nodes.specs.type_heads.Shown.{kind_form};
 ghost use Rattle.expr_nodes.specs.type_heads.Table.{has_members as of_compound};
 ghost use Rattle.expr_nodes.specs.Kinds.{kind_of};
@@ -11,23 +11,10 @@ ghost use Rattle.expr_nodes.specs.Names.{per_of as counted_over, single as field
 ghost use Rattle.expr_nodes.specs.Seen.{seen, seen_info, seen_kind};
 ghost use Rattle.expr_nodes.specs.SeenNames.{single_in};
 
-use expr_nodes::{Info, Size, Typed, ValueKind};
-use osc_base::{Path, Place, Step, Text};
+use dsl_tree::osc_base::Step;
+use expr_nodes::{Info, Path, Place, Size, Text, TypeId, TypeKind, Typed, Types, ValueKind};
 use std::alloc::{AllocError, Global};
-use type_model::{TypeId, TypeKind, Types};
-use units_si::Exponents;
-
-/// The exponents of a number without a unit.
-pub(crate) const NO_EXPONENTS: Exponents = Exponents {
-    kg: 0,
-    m: 0,
-    s: 0,
-    a: 0,
-    k: 0,
-    mol: 0,
-    cd: 0,
-    rad: 0,
-};
+use typed_parts::NO_EXPONENTS;
 
 /// The kind of what a field of the type holds.
 pub(crate) fn kind_value(kind: TypeKind, of: TypeId) -> ValueKind

@@ -9,10 +9,8 @@ ghost use Rattle.expr_nodes.specs.Seen.{seen, seen_info};
 ghost use Rattle.expr_nodes.specs.SeenNames.{list_in};
 
 use crate::fields::{element, kind_value, per_of, single};
-use expr_nodes::{Info, Size, Typed};
-use osc_base::{Boxed, Path, Place, Row};
+use expr_nodes::{Boxed, FieldType, Info, Path, Place, Row, Size, TypeId, TypeKind, Typed, Types};
 use std::alloc::{AllocError, Global};
-use type_model::{FieldType, TypeId, TypeKind, Types};
 
 /// The elements of a list field. `info` is what each holds of itself.
 fn elements(

@@ -2,21 +2,19 @@
 
 ghost use Rattle.std.specs.Prelude.{◌≡◌, Some, false, is_none, map, option_copied, option_map, option_and_then, slice_get, IfOk};
 ghost use Rattle.std.specs.Option.{option_map_or};
-ghost use Rattle.osc_base.specs.FaultRows.{first_fault};
+ghost use Rattle.dsl_tree.specs.osc_base.FaultRows.{first_fault};
 ghost use Rattle.dsl_tree.specs.Views.{expr_tree};
 ghost use Rattle.expr_nodes.specs.Typed.{row_of, place_of, begun_at};
 ghost use Rattle.expr_nodes.specs.Parts.{of_one};
 ghost use Rattle.expr_nodes.specs.Operators.{row_kind as kind_of_row, list_typed, index_of as number_in, element as element_in, index_rows, index_typed};
 ghost use Rattle.expr_nodes.specs.Seen.{seen, seen_kind, seen_part};
 
-use crate::fields::NO_EXPONENTS;
 use crate::held::listed;
-use crate::parts::{fault_if, least};
-use crate::spans::begun;
 use dsl_tree::Expr;
-use expr_nodes::{Checked, Info, Size, Typed, ValueKind};
-use osc_base::{Boxed, Fault, FaultCode, Place, Row};
+use dsl_tree::osc_base::FaultCode;
+use expr_nodes::{Boxed, Checked, Fault, Info, Place, Row, Size, Typed, ValueKind};
 use std::alloc::{AllocError, Global};
+use typed_parts::{NO_EXPONENTS, begun, fault_if, least};
 
 /// The kind of a list is that of its first item.
 fn row_kind(items: &[Typed]) -> ValueKind

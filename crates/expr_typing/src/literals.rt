@@ -1,21 +1,18 @@
 //! The typed form of literals.
 
 ghost use Rattle.std.specs.Prelude.{◌≡◌, ◌≤◌, ◌^◌, Some, IfOk, option_map, unsigned_abs};
-ghost use Rattle.osc_base.specs.LowestTerms.{decimal_number};
-ghost use Rattle.osc_base.specs.Fraction.{value};
-ghost use Rattle.osc_base.specs.FaultRows.{first_fault};
+ghost use Rattle.dsl_tree.specs.osc_base.LowestTerms.{decimal_number};
+ghost use Rattle.dsl_tree.specs.osc_base.Fraction.{value};
+ghost use Rattle.dsl_tree.specs.osc_base.FaultRows.{first_fault};
 ghost use Rattle.expr_nodes.specs.Operators.{constant_at as constant_node, is_long as long_number, number_rows, number_typed, text_typed, truth_typed};
 ghost use Rattle.expr_nodes.specs.Seen.{seen, seen_kind, seen_part};
 
-use crate::fields::NO_EXPONENTS;
-use crate::parts::fault_if;
-use crate::truths::truth_at;
 use dsl_tree::Digits;
+use dsl_tree::osc_base::FaultCode;
 use expr_nodes::size::gcd;
-use expr_nodes::{Checked, Info, Size, Typed, ValueKind};
-use osc_base::{Boxed, FaultCode, Fraction, Place};
+use expr_nodes::{Boxed, Checked, Fraction, Info, Place, Size, Typed, Types, ValueKind};
 use std::alloc::{AllocError, Global};
-use type_model::Types;
+use typed_parts::{NO_EXPONENTS, fault_if, truth_at};
 
 /// The most places that a number may have. A token of a source has at most 18 digits.
 const MOST_PLACES: u8 = 18;

@@ -2,8 +2,8 @@
 
 ghost use Rattle.std.specs.Prelude.{◌≡◌, ◌&&◌, ◌∷◌, [], false, IfOk};
 ghost use Rattle.std.specs.Option.{option_map_or};
-ghost use Rattle.osc_base.specs.FaultRows.{first_fault, row};
-ghost use Rattle.osc_base.specs.declared.fault.FaultCode.{FaultCode};
+ghost use Rattle.dsl_tree.specs.osc_base.FaultRows.{first_fault, row};
+ghost use Rattle.dsl_tree.specs.osc_base.declared.fault.FaultCode.{FaultCode};
 ghost use Rattle.expr_nodes.specs.type_heads.Table.{form, is_behaviour as of_behaviour};
 ghost use Rattle.expr_nodes.specs.Names as Names;
 ghost use Rattle.expr_nodes.specs.Names.{is_duration as named_duration, held_at as field_held, label_named, meaning_by_duration, meaning_by_label, meaning as meant, typed_meaning, is_nothing, is_several, is_hidden as label_hidden, name_rows, name_typed};
@@ -15,12 +15,11 @@ use crate::held::held_at;
 use crate::names::{
     Meaning, duration_at, is_behaviour, is_duration, label_at, label_of, member_meant, path_of,
 };
-use crate::parts::{fault_if, least};
 use dsl_tree::Ident;
-use expr_nodes::{Checked, Scope, Typed, leads_into};
-use osc_base::{Boxed, Fault, FaultCode, Path, Place};
+use dsl_tree::osc_base::FaultCode;
+use expr_nodes::{Boxed, Checked, Fault, FieldType, Path, Place, Scope, Typed, Types, leads_into};
 use std::alloc::{AllocError, Global};
-use type_model::{FieldType, Types};
+use typed_parts::{fault_if, least};
 
 /// A field at a path.
 pub(crate) fn field_meant(

@@ -2,8 +2,8 @@
 
 ghost use Rattle.std.specs.Prelude.{◌≡◌, [], false, true, option_copied, option_map, IfOk};
 ghost use Rattle.std.specs.Option.{option_map_or};
-ghost use Rattle.osc_base.specs.Number.{whole};
-ghost use Rattle.osc_base.specs.Paths.{root, then_name};
+ghost use Rattle.dsl_tree.specs.osc_base.Number.{whole};
+ghost use Rattle.dsl_tree.specs.osc_base.Paths.{root, then_name};
 ghost use Rattle.expr_nodes.specs.type_heads.Table.{enums_with, form, is_behaviour as of_behaviour, enum_number};
 ghost use Rattle.expr_nodes.specs.type_heads.Shown.{kind_form};
 ghost use Rattle.expr_nodes.specs.Kinds as Kinds;
@@ -16,11 +16,11 @@ ghost use Rattle.expr_typing.specs.Meanings.{seen_meaning};
 
 use crate::fields::with_name;
 use dsl_tree::Ident;
-use expr_nodes::{Info, Label, Scope, Size, Typed, ValueKind};
-use osc_base::{Boxed, Fraction, Path, Place, Row, Text};
+use expr_nodes::{
+    Boxed, EnumHit, Exponents, Fraction, Info, Label, Path, Place, Row, Scope, Size, Text, TypeId,
+    TypeKind, Typed, Types, ValueKind,
+};
 use std::alloc::{AllocError, Global};
-use type_model::{EnumHit, TypeId, TypeKind, Types};
-use units_si::Exponents;
 
 /// The kind of a duration.
 const SECONDS: Exponents = Exponents {

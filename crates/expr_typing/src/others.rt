@@ -2,7 +2,7 @@
 
 ghost use Rattle.std.specs.Prelude.{◌≡◌, false, is_none, option_map, IfOk};
 ghost use Rattle.std.specs.Option.{option_map_or};
-ghost use Rattle.osc_base.specs.FaultRows.{first_fault};
+ghost use Rattle.dsl_tree.specs.osc_base.FaultRows.{first_fault};
 ghost use Rattle.expr_nodes.specs.type_heads.Shown.{kind_form};
 ghost use Rattle.expr_nodes.specs.type_heads.Table.{enum_number, form, is_enum as of_enum};
 ghost use Rattle.expr_nodes.specs.Names.{it_rows, it_typed, it_at as it_node, actor_rows, actor_typed, member_at as member_node, enum_named as named_enum, enum_name_rows, enum_name_typed};
@@ -12,12 +12,13 @@ ghost use Rattle.expr_nodes.specs.SeenNames.{seen_it, seen_scope};
 use crate::fields::object_at;
 use crate::held::held_at;
 use crate::names::{member_at, path_of};
-use crate::parts::{fault_if, least};
 use dsl_tree::Ident;
-use expr_nodes::{Checked, It, Scope, Typed, ValueKind};
-use osc_base::{Boxed, Fault, FaultCode, Place};
+use dsl_tree::osc_base::FaultCode;
+use expr_nodes::{
+    Boxed, Checked, Fault, It, Place, Scope, TypeId, TypeKind, Typed, Types, ValueKind,
+};
 use std::alloc::{AllocError, Global};
-use type_model::{TypeId, TypeKind, Types};
+use typed_parts::{fault_if, least};
 
 /// What `it` stands for, at its path.
 fn it_at(

@@ -1,9 +1,9 @@
 //! Numbers with a unit.
 
 ghost use Rattle.std.specs.Prelude.{◌≡◌, ◌≤◌, ◌^◌, unsigned_abs, option_map, IfOk};
-ghost use Rattle.osc_base.specs.Fraction.{value};
-ghost use Rattle.osc_base.specs.FaultRows.{first_fault};
-ghost use Rattle.osc_base.specs.LowestTerms.{lowest};
+ghost use Rattle.dsl_tree.specs.osc_base.Fraction.{value};
+ghost use Rattle.dsl_tree.specs.osc_base.FaultRows.{first_fault};
+ghost use Rattle.dsl_tree.specs.osc_base.LowestTerms.{lowest};
 ghost use Rattle.expr_nodes.specs.units_si.Literals.{literal_count};
 ghost use Rattle.expr_nodes.specs.type_heads.Shown.{shown_unit};
 ghost use Rattle.expr_nodes.specs.Operators.{physical_rows, physical_typed};
@@ -11,14 +11,12 @@ ghost use Rattle.expr_nodes.specs.Seen.{seen, seen_part};
 ghost use Rattle.expr_nodes.specs.SeenNames.{count_of, physical_of};
 
 use crate::literals::{constant_at, decimal, is_long};
-use crate::parts::fault_if;
 use dsl_tree::Digits;
+use dsl_tree::osc_base::FaultCode;
 use expr_nodes::size::gcd;
-use expr_nodes::{Checked, Typed, ValueKind};
-use osc_base::{Boxed, FaultCode, Fraction};
+use expr_nodes::{Boxed, Checked, Fraction, Typed, Types, Unit, ValueKind, literal};
 use std::alloc::{AllocError, Global};
-use type_model::Types;
-use units_si::{Unit, literal};
+use typed_parts::fault_if;
 
 /// The slot value of a literal.
 fn slot_value(number: &Fraction, unit: &Unit) -> Option<i64>

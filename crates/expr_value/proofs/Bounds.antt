@@ -6,7 +6,7 @@ use Rattle.std.proofs.Math.Nat.{div-le_self}
 use Rattle.std.proofs.lemmas.Nat.{mul-le}
 use Rattle.std.proofs.lemmas.Bool.Decides.{nat_tests}
 use Rattle.std.proofs.lemmas.Int.{unsigned_abs-mul, fits_signed_mul, to_z_pos}
-use Rattle.osc_base.specs.LowestTerms.{lcm}
+use Rattle.expr_nodes.specs.osc_base.LowestTerms.{lcm}
 use Rattle.expr_nodes.specs.Sizes.{Size, is_wide, joined}
 
 -- a product is at most the product of what its factors are at most

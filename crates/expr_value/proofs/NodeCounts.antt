@@ -2,9 +2,9 @@
 use Rattle.std.proofs.Common.{◌≡◌, ◌∙◌, refl, sym, ap, ap₂, subst, ℕ, ◌+◌, ◌<◌, List, [], ◌∷◌, Bool, true, false, ◌&&◌, not, map, drop, length, get_or, ◌⊎◌, inl, inr}
 use Rattle.std.specs.Prelude.{◌||◌, ◌≤◌, ℤ, pos, neg_ℤ, Option, unsigned_abs}
 use Rattle.std.proofs.lemmas.List.{drop_more, drop_all}
-use Rattle.osc_base.specs.declared.path.Path.{Path}
-use Rattle.osc_base.specs.declared.fraction.Fraction.{Fraction}
-use Rattle.osc_base.specs.Fraction.{value}
+use Rattle.expr_nodes.specs.osc_base.declared.path.Path.{Path}
+use Rattle.expr_nodes.specs.osc_base.declared.fraction.Fraction.{Fraction}
+use Rattle.expr_nodes.specs.osc_base.Fraction.{value}
 use Rattle.expr_nodes.specs.declared.compare.Compare.{Compare}
 use Rattle.expr_nodes.specs.declared.node.Join.{Join}
 use Rattle.expr_nodes.specs.declared.node.Info.{Info}

@@ -1,7 +1,7 @@
 -- What is known of a row while its parts are walked.
 use Rattle.std.proofs.Common.{◌≡◌, List}
 use Rattle.std.specs.Prelude.{ℤ, Option}
-use Rattle.osc_base.specs.declared.path.Path.{Path}
+use Rattle.expr_nodes.specs.osc_base.declared.path.Path.{Path}
 use Rattle.expr_nodes.specs.declared.node.Join.{Join}
 use Rattle.expr_nodes.specs.Typed.{Typed, row_of}
 use Rattle.expr_nodes.specs.Seen.{Reached, grouped, seen_size}

@@ -6,12 +6,12 @@ use Rattle.std.proofs.Math.IntN.{pos-*ℤ-pos, zero-*ℤ, *ℤ_comm}
 use Rattle.std.proofs.Math.Nat.{mul-div_cancel'}
 use Rattle.std.proofs.lemmas.Int.{ints, by_lt_z}
 use Rattle.std.proofs.lemmas.Nat.Gcd.{IsGcd-from_zero, IsGcd-from_mod}
-use Rattle.osc_base.specs.Number.{Number, plus, product, IsLeastCommonMultiple}
-use Rattle.osc_base.specs.Comparisons.{is_at_most}
-use Rattle.osc_base.specs.LowestTerms.{gcd, lcm}
-use Rattle.osc_base.proofs.Integers.{assoc, spread, swap_last, le_times, lt_times, le_cancel, lt_cancel, product_above}
-use Rattle.osc_base.proofs.Multiples.{is_least_common_multiple, lowest_same}
-use Rattle.osc_base.proofs.Numbers.{over_more, sum_same}
+use Rattle.expr_nodes.specs.osc_base.Number.{Number, plus, product, IsLeastCommonMultiple}
+use Rattle.expr_nodes.specs.osc_base.Comparisons.{is_at_most}
+use Rattle.expr_nodes.specs.osc_base.LowestTerms.{gcd, lcm}
+use Rattle.expr_nodes.proofs.of_osc_base.Integers.{assoc, spread, swap_last, le_times, lt_times, le_cancel, lt_cancel, product_above}
+use Rattle.expr_nodes.proofs.of_osc_base.Multiples.{is_least_common_multiple, lowest_same}
+use Rattle.expr_nodes.proofs.of_osc_base.Numbers.{over_more, sum_same}
 use Rattle.expr_nodes.specs.declared.compare.Compare.{Compare}
 use Rattle.expr_nodes.specs.Value.{opposite, of_truth, is_one, compares}
 use Rattle.expr_nodes.proofs.Divisors.{gcd_step, gcd_end, lcm_is, lcm_above}

@@ -1,8 +1,8 @@
 -- What the nodes of typed expressions are seen as.
 use Rattle.std.proofs.Common.{◌≡◌, ℕ}
-use Rattle.osc_base.specs.declared.path.Path.{Path}
-use Rattle.osc_base.specs.declared.fraction.Fraction.{Fraction}
-use Rattle.osc_base.specs.Fraction.{value}
+use Rattle.expr_nodes.specs.osc_base.declared.path.Path.{Path}
+use Rattle.expr_nodes.specs.osc_base.declared.fraction.Fraction.{Fraction}
+use Rattle.expr_nodes.specs.osc_base.Fraction.{value}
 use Rattle.expr_nodes.specs.declared.compare.Compare.{Compare}
 use Rattle.expr_nodes.specs.declared.node.Info.{Info}
 use Rattle.expr_nodes.specs.declared.node.Typed.{Typed}

@@ -4,8 +4,8 @@ use Rattle.std.specs.Prelude.{◌≤◌, ℤ, pos, max, Option, Some, None, unsi
 use Rattle.std.specs.Option.{option_map_or}
 use Rattle.std.specs.List.{list_all}
 use Rattle.std.proofs.lemmas.Bool.Decides.{nat_tests}
-use Rattle.osc_base.specs.declared.path.Path.{Path}
-use Rattle.osc_base.specs.Number.{Number}
+use Rattle.expr_nodes.specs.osc_base.declared.path.Path.{Path}
+use Rattle.expr_nodes.specs.osc_base.Number.{Number}
 use Rattle.expr_nodes.specs.declared.compare.Compare.{Compare}
 use Rattle.expr_nodes.specs.declared.node.Join.{Join}
 use Rattle.expr_nodes.specs.Typed.{Typed, Info, Constant, Read, Span, Minus, Not, Implies, Relation, Within, row_of, items_of, kind, scale}

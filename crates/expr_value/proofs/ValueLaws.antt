@@ -1,10 +1,10 @@
 -- The value of an expression, of its count.
 use Rattle.std.proofs.Common.{◌≡◌, ◌∙◌, refl, sym, ap, subst, ℕ, ◌≤◌, Bool, true, false, ◌&&◌}
 use Rattle.std.specs.Prelude.{ℤ, pos, ◌*ℤ◌, Option, unsigned_abs}
-use Rattle.osc_base.specs.declared.path.Path.{Path}
-use Rattle.osc_base.specs.declared.fraction.Fraction.{Fraction}
-use Rattle.osc_base.specs.Number.{IsSame}
-use Rattle.osc_base.specs.Fraction.{value}
+use Rattle.expr_nodes.specs.osc_base.declared.path.Path.{Path}
+use Rattle.expr_nodes.specs.osc_base.declared.fraction.Fraction.{Fraction}
+use Rattle.expr_nodes.specs.osc_base.Number.{IsSame}
+use Rattle.expr_nodes.specs.osc_base.Fraction.{value}
 use Rattle.expr_nodes.specs.declared.node.Typed.{Typed}
 use Rattle.expr_nodes.specs.Typed as Nodes
 use Rattle.expr_nodes.specs.Typed.{TypedRow, scale, reach}

@@ -4,10 +4,10 @@ use Rattle.std.specs.Prelude.{ℤ, pos, ◌≤ℤ◌, ◌*ℤ◌, ◌||◌, int_
 use Rattle.std.specs.List.{list_all}
 use Rattle.std.proofs.lemmas.Bool.Decides.{nat_tests}
 use Rattle.std.proofs.lemmas.Int.{ints}
-use Rattle.osc_base.specs.declared.path.Path.{Path}
-use Rattle.osc_base.specs.Number.{Number}
-use Rattle.osc_base.specs.LowestTerms.{gcd, lcm}
-use Rattle.osc_base.proofs.Integers.{abs_above}
+use Rattle.expr_nodes.specs.osc_base.declared.path.Path.{Path}
+use Rattle.expr_nodes.specs.osc_base.Number.{Number}
+use Rattle.expr_nodes.specs.osc_base.LowestTerms.{gcd, lcm}
+use Rattle.expr_nodes.proofs.of_osc_base.Integers.{abs_above}
 use Rattle.expr_nodes.specs.declared.compare.Compare.{Compare}
 use Rattle.expr_nodes.specs.Kinds.{is_number, is_truth, same_units}
 use Rattle.expr_nodes.specs.Typed.{Typed, Info, Constant, Read, Whole, Listed, Span, Minus, Not, Sum, Times, And, Or, Implies, Relation, Within, TypedRow, End, Item, kind, scale}

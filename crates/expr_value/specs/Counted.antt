@@ -1,8 +1,8 @@
 -- What an expression is worth at its own scale: the value times the scale, a whole number.
 use Rattle.std.specs.Prelude.{ℕ, ℤ, pos, neg_ℤ, ◌+ℤ◌, ◌*ℤ◌, ◌/◌, ◌&&◌, ◌||◌, Bool, false, not, cond, int_le, int_lt}
-use Rattle.osc_base.specs.declared.path.Path.{Path}
-use Rattle.osc_base.specs.LowestTerms.{lcm}
-use Rattle.osc_base.specs.Comparisons.{same_number}
+use Rattle.expr_nodes.specs.osc_base.declared.path.Path.{Path}
+use Rattle.expr_nodes.specs.osc_base.LowestTerms.{lcm}
+use Rattle.expr_nodes.specs.osc_base.Comparisons.{same_number}
 use Rattle.expr_nodes.specs.declared.compare.Compare.{Compare}
 use Rattle.expr_nodes.specs.Typed.{Typed, Constant, Read, Whole, Listed, Span, Minus, Not, Sum, Times, And, Or, Implies, Relation, Within, TypedRow, End, Item, scale}
 

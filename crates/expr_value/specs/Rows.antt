@@ -1,6 +1,6 @@
 -- Rows of parts, and what is known of a count.
 use Rattle.std.specs.Prelude.{◌≡◌, ℕ, ℤ, ◌*ℤ◌, ◌&&◌, ◌||◌}
-use Rattle.osc_base.specs.declared.path.Path.{Path}
+use Rattle.expr_nodes.specs.osc_base.declared.path.Path.{Path}
 use Rattle.expr_nodes.specs.declared.node.Join.{Join}
 use Rattle.expr_nodes.specs.Typed.{Typed}
 use Rattle.expr_nodes.specs.Sizes.{Size, size, unit_size, joined, multiplied}

@@ -1,7 +1,7 @@
 -- What the walks ask and promise, as one word each. They are opaque, so that no search opens the tree of an expression.
 use Rattle.std.specs.Prelude.{◌≡◌, ℤ, Bool, true, not, List, map, Option}
 use Rattle.std.specs.List.{list_all}
-use Rattle.osc_base.specs.declared.path.Path.{Path}
+use Rattle.expr_nodes.specs.osc_base.declared.path.Path.{Path}
 use Rattle.expr_nodes.specs.declared.node.Join.{Join}
 use Rattle.expr_nodes.specs.declared.node.Earlier.{Earlier}
 use Rattle.expr_nodes.specs.declared.node.Typed.{Typed}

@@ -1,6 +1,6 @@
 -- What is known of values by the definitions alone.
 use Rattle.std.specs.Prelude.{◌≡◌, ℤ, pos, ◌≤ℤ◌, true}
-use Rattle.osc_base.specs.declared.path.Path.{Path}
+use Rattle.expr_nodes.specs.osc_base.declared.path.Path.{Path}
 use Rattle.expr_nodes.specs.Typed.{Typed}
 use Rattle.expr_nodes.specs.Value.{worth}
 use Rattle.expr_nodes.specs.Sound.{is_sound}

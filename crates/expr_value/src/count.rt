@@ -1,12 +1,11 @@
 //! Whole numbers at a scale, and how they are added, multiplied and compared.
 
 ghost use Rattle.std.specs.Prelude.{◌≡◌, ◌≤◌, ◌<◌, ◌*◌, ◌/◌, ◌^◌, ◌*ℤ◌, ◌&&◌, ◌||◌, neg_ℤ, pos, false, not, unsigned_abs, unwrap_or};
-ghost use Rattle.osc_base.specs.LowestTerms.{lcm};
+ghost use Rattle.expr_nodes.specs.osc_base.LowestTerms.{lcm};
 ghost use Rattle.expr_value.specs.Counted.{orders};
 
 use expr_nodes::size::gcd;
-use expr_nodes::{Compare, Join, Size};
-use osc_base::Fraction;
+use expr_nodes::{Compare, Fraction, Join, Size};
 
 /// A value times its scale. It is at most the reach in magnitude.
 #[derive(Clone, Copy)]

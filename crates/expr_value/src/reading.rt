@@ -1,9 +1,9 @@
 //! What the paths hold.
 
 ghost use Rattle.std.specs.Prelude.{◌≡◌, ℤ, pos, Option, Some};
-ghost use Rattle.osc_base.specs.declared.path.Path.{Path};
+ghost use Rattle.expr_nodes.specs.osc_base.declared.path.Path.{Path};
 
-use osc_base::Path;
+use expr_nodes::Path;
 
 /// The numbers that paths hold.
 pub trait Reading {

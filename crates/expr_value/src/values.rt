@@ -2,8 +2,8 @@
 
 ghost use Rattle.std.specs.Prelude.{◌≡◌, ◌≤◌, pos, true, is_some, unwrap_or, unsigned_abs, IfSome, map};
 ghost use Rattle.std.specs.List.{list_all};
-ghost use Rattle.osc_base.specs.Number.{IsSame};
-ghost use Rattle.osc_base.specs.Fraction.{value as number};
+ghost use Rattle.expr_nodes.specs.osc_base.Number.{IsSame};
+ghost use Rattle.expr_nodes.specs.osc_base.Fraction.{value as number};
 ghost use Rattle.expr_nodes.specs.Typed.{reads, scale, reach, row_of, reads_of};
 ghost use Rattle.expr_nodes.specs.Value.{worth};
 ghost use Rattle.expr_nodes.specs.Operators.{is_constant};
@@ -13,8 +13,7 @@ ghost use Rattle.expr_value.specs.Held.{in_reach, are_held};
 
 use crate::counts::count_of;
 use crate::reading::{Reading, Zeros};
-use expr_nodes::{Earlier, Typed};
-use osc_base::Fraction;
+use expr_nodes::{Earlier, Fraction, Typed};
 
 /// Each path that the expression reads holds a number. Exactly then `value` gives a value.
 #[cycle(reads)]

@@ -3,7 +3,7 @@
 ghost use Rattle.std.specs.Prelude.{◌≡◌};
 ghost use Rattle.fault_sets.specs.Passing.{is_after, is_past as is_past_first};
 
-use type_heads::osc_base::{Fault, Place};
+use type_heads::{Fault, Place};
 
 /// Whether a place is after that of a fault.
 fn is_past_fault(fault: Fault, place: Place) -> bool

@@ -4,8 +4,7 @@
 //! No contract says so. Whoever uses the ranks tests them.
 
 use std::alloc::{AllocError, Global};
-use type_heads::TypeId;
-use type_heads::osc_base::Row;
+use type_heads::{Row, TypeId};
 
 /// A type on the way, and how many of its steps were followed.
 #[derive(Clone, Copy)]

@@ -8,8 +8,7 @@ ghost use Rattle.fault_sets.specs.Ranking.{AreNext, HasLevels, IsShown, falls as
 use crate::ranks::ranks_of;
 use crate::reach::{Steps, leads_back};
 use std::alloc::{AllocError, Global};
-use type_heads::TypeId;
-use type_heads::osc_base::Row;
+use type_heads::{Row, TypeId};
 
 /// Where steps lead from each type, and a rank of each type. If no step leads to a higher rank, then steps that all
 /// lead to lower ranks never lead back.

@@ -14,11 +14,9 @@ ghost use Rattle.slot_ends.specs.scene_slots.SeenSlots.{layout_of, scene_of};
 
 use crate::marks::{next_number, targets_of};
 use box_eval::Rule;
-use composition::Occurrence;
 use keep_rules::Targets;
 use osc_base::{Row, Strength};
-use scene_rules::{default_rule, hard_rule};
-use scene_slots::SceneSlots;
+use scene_rules::{Occurrence, SceneSlots, default_rule, hard_rule};
 use std::alloc::{AllocError, Global};
 
 /// Puts the rule of a constraint at the end: none for a `remove_default`.

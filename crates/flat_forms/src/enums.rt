@@ -7,8 +7,7 @@ ghost use Rattle.scene_rules.specs.composition.Items.{OfTyped, typed_item};
 ghost use Rattle.scene_rules.specs.composition.Ranges.{has_gap as leaves_out};
 
 use box_eval::Pair;
-use composition::ValueRange;
-use slot_ends::number_ends;
+use slot_ends::{ValueRange, number_ends};
 
 /// They are one number.
 fn is_same(a: i128, b: i128) -> bool

@@ -7,8 +7,7 @@ ghost use Rattle.slot_ends.specs.field_flatten.Exactness.{IsExpanded, IsLimited,
 
 use crate::rules::rules_of;
 use box_eval::Flat;
-use composition::Scene;
-use slot_ends::bounds;
+use slot_ends::{Scene, bounds};
 use std::alloc::{AllocError, Global};
 
 /// The flat form of a scene: the ends of each slot, and a rule for each item. Its points are the instances of the scene.

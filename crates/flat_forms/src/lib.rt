@@ -10,3 +10,5 @@ mod rules;
 
 pub use form::flatten;
 pub use names::rule_names;
+pub use scene_rules::Run;
+pub use slot_ends::{Scene, bounds, slot_names};

@@ -9,9 +9,10 @@ ghost use Rattle.scene_rules.specs.composition.Scenes.{marks as all_marks};
 ghost use Rattle.scene_rules.specs.composition.SeenParts.{seen_occurrence};
 ghost use Rattle.scene_rules.specs.composition.SeenScenes.{seen_scene};
 
-use composition::{Occurrence, Scene};
 use keep_rules::Targets;
 use osc_base::{Mark, Row, Strength};
+use scene_rules::Occurrence;
+use slot_ends::Scene;
 use std::alloc::{AllocError, Global};
 
 /// An equal mark.

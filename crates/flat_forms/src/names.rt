@@ -11,8 +11,9 @@ ghost use Rattle.scene_rules.specs.composition.declared.spot.PhaseSpot.{PhaseSpo
 ghost use Rattle.osc_base.specs.declared.listing.RuleName.{RuleName};
 
 use crate::enums::gapped;
-use composition::{ModifierSpot, Occurrence, PhaseSpot, Scene, ValueSpot};
 use osc_base::{Path, Row, RuleName, Strength};
+use scene_rules::{ModifierSpot, Occurrence, PhaseSpot};
+use slot_ends::{Scene, ValueSpot};
 use std::alloc::{AllocError, Global};
 
 /// Puts the name of a constraint's rule at the end: none for a `remove_default`.

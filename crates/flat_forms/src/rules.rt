@@ -16,11 +16,11 @@ ghost use Rattle.slot_ends.specs.scene_slots.SeenSlots.{layout_of, scene_of};
 use crate::constraints::push_constraints;
 use crate::enums::gapped;
 use box_eval::Rule;
-use composition::{ModifierSpot, PhaseSpot, Scene, ValueSpot};
 use osc_base::{Path, Row};
-use scene_rules::{arranged_rule, enum_rule, modifier_rules, motion_rules};
-use scene_slots::SceneSlots;
+use scene_rules::{ModifierSpot, PhaseSpot, SceneSlots, arranged_rule, enum_rule};
+use slot_ends::{Scene, ValueSpot};
 use std::alloc::{AllocError, Global};
+use vehicle_rules::{modifier_rules, motion_rules};
 
 /// Puts the rule of a value at the end, if it is of an enum with numbers left out.
 fn push_enum(

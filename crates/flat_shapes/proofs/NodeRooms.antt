@@ -1,7 +1,7 @@
 -- What the parts of a node need, by what the node needs.
 use Rattle.std.proofs.Common.{◌≡◌, ℕ, refl, sym, ap, ap₂, ◌∙◌, subst, List, [], ◌∷◌, map, length, get_or, Bool, true, ◌&&◌, ◌<◌, zero, suc, arith}
 use Rattle.std.specs.List.{list_all}
-use Rattle.osc_base.specs.LowestTerms.{lcm}
+use Rattle.expr_nodes.specs.osc_base.LowestTerms.{lcm}
 use Rattle.expr_nodes.specs.declared.compare.Compare.{Compare}
 use Rattle.expr_nodes.specs.declared.node.Join.{Join}
 use Rattle.expr_nodes.specs.declared.node.Info.{Info}

@@ -3,9 +3,9 @@ use Rattle.std.proofs.Common.{◌≡◌, ℕ, zero, suc, ◌+◌, ◌*◌, ◌/�
 use Rattle.std.specs.Prelude.{nat_eq, nat_le, nat_lt, int_le, pos, unsigned_abs}
 use Rattle.std.specs.List.{list_all}
 use Rattle.std.proofs.Math.Nat.{mul_assoc, add-mul, mul-le-mul_right}
-use Rattle.osc_base.specs.Number.{Number}
-use Rattle.osc_base.specs.LowestTerms.{lcm}
-use Rattle.osc_base.specs.Comparisons.{greatest_part}
+use Rattle.expr_nodes.specs.osc_base.Number.{Number}
+use Rattle.expr_nodes.specs.osc_base.LowestTerms.{lcm}
+use Rattle.expr_nodes.specs.osc_base.Comparisons.{greatest_part}
 use Rattle.expr_nodes.specs.Kinds.{is_number, is_truth, same_units}
 use Rattle.expr_nodes.specs.Typed.{Typed, Info, Constant, Read, Whole, Listed, Span, Minus, Not, Sum, Times, And, Or, Implies, Relation, Within, TypedRow, End, Item, info, kind, scale, reach, items_of}
 use Rattle.expr_nodes.specs.Sizes.{Size, size, constant_size, field_size, duration_size, unit_size, joined, multiplied, is_wide}

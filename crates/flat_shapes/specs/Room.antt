@@ -1,7 +1,7 @@
 -- Whether the numbers that stand in an expression's flat form stay within the limit of scales and reaches.
 use Rattle.std.specs.Prelude.{ℕ, ◌*◌, ◌/◌, Bool, true, ◌&&◌, nat_le, nat_lt, unsigned_abs}
-use Rattle.osc_base.specs.Comparisons.{greatest_part}
-use Rattle.osc_base.specs.LowestTerms.{lcm}
+use Rattle.expr_nodes.specs.osc_base.Comparisons.{greatest_part}
+use Rattle.expr_nodes.specs.osc_base.LowestTerms.{lcm}
 use Rattle.expr_nodes.specs.Typed.{Typed, Constant, Read, Whole, Listed, Span, Minus, Not, Sum, Times, And, Or, Implies, Relation, Within, TypedRow, End, Item, scale}
 
 -- a number within the limit

@@ -5,7 +5,7 @@ ghost use Rattle.flat_terms.specs.field_flatten.Shapes.{Layout, read_term};
 ghost use Rattle.flat_shapes.specs.Founds.{found_term};
 ghost use Rattle.flat_shapes.specs.Room.{longest_tick};
 
-use osc_base::Path;
+use expr_nodes::Path;
 
 /// The slots in which stands what is read at a path.
 #[derive(Debug, Clone, Copy)]

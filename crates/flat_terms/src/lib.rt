@@ -4,3 +4,8 @@
 pub mod rows;
 pub mod scales;
 pub mod terms;
+
+pub use field_flatten::{
+    Choice, ChoiceSpot, Guard, Held, PhaseSpot, Run, Scene, Setting, Source, Span, Trace, Value,
+    ValueRange, ValueSpot,
+};

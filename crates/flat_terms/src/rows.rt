@@ -5,8 +5,8 @@ ghost use Rattle.box_eval.specs.FlatRules.{flat_rule, flat_term, all_of, any_of,
 ghost use Rattle.field_flatten.specs.Shapes.{sum_of, product_of};
 ghost use Rattle.flat_terms.specs.Joins.{term_join, no_terms, rule_join, no_rules};
 
+use box_eval::osc_base::Boxed;
 use box_eval::{Rule, Term};
-use osc_base::Boxed;
 use std::alloc::{AllocError, Global};
 
 /// How the terms of a row are joined.

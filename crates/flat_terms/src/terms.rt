@@ -8,9 +8,9 @@ ghost use Rattle.field_flatten.specs.Shapes.{compared as compared_by, constant_t
 ghost use Rattle.field_flatten.specs.osc_base.Fraction.{value};
 
 use crate::rows;
+use box_eval::osc_base::{Boxed, Fraction};
 use box_eval::{Rule, Term};
-use expr_nodes::Compare;
-use osc_base::{Boxed, Fraction};
+use field_flatten::Compare;
 use std::alloc::{AllocError, Global};
 
 /// A number of times a term.

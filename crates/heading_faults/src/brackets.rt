@@ -5,11 +5,11 @@ ghost use Rattle.type_members.specs.osc_base.FaultRows.{first_from, row};
 ghost use Rattle.type_members.specs.type_heads.HeadingFaults.{bracket_rows};
 ghost use Rattle.type_members.specs.type_heads.Units.{is_base_unit as is_base};
 
+use dsl_tree::BasePart;
 use fault_sets::TextSet;
+use name_scope::with_fault;
+use osc_base::{Fault, FaultCode};
 use std::alloc::{AllocError, Global};
-use type_members::dsl_tree::BasePart;
-use type_members::name_scope::with_fault;
-use type_members::osc_base::{Fault, FaultCode};
 
 /// Whether it is one of the eight base units.
 pub fn is_base_unit(name: &str) -> bool

@@ -12,10 +12,10 @@ ghost use Rattle.fault_sets.specs.Ranking.{IsShown};
 use crate::held_types::HeldTypes;
 use crate::levels::held_ranking;
 use fault_sets::{Ranking, Steps, is_past};
+use name_scope::with_fault;
+use osc_base::{Fault, FaultCode, Place};
 use std::alloc::{AllocError, Global};
-use type_members::name_scope::with_fault;
-use type_members::osc_base::{Fault, FaultCode, Place};
-use type_members::type_heads::{Body, Heads, TypeId};
+use type_heads::{Body, Heads, TypeId};
 
 /// Whether a type inherits from itself, or steps lead from it back to it.
 fn depends_on_itself<S: Steps>(

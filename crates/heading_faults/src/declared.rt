@@ -15,10 +15,10 @@ use crate::brackets::with_brackets;
 use crate::items::with_enum;
 use crate::names::with_names;
 use crate::uses::{with_compound, with_enum_extension, with_extension, with_unit};
+use dsl_tree::{Declaration, UnitDecl};
+use osc_base::Fault;
 use std::alloc::{AllocError, Global};
-use type_members::dsl_tree::{Declaration, UnitDecl};
-use type_members::osc_base::Fault;
-use type_members::type_heads::{Declarations, Heads, OwnType, PlacedDecl, TypeId, exponents};
+use type_heads::{Declarations, Heads, OwnType, PlacedDecl, TypeId, exponents};
 
 fn with_unit_declaration(
     alloc: Global,

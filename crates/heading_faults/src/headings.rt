@@ -13,10 +13,10 @@ ghost use Rattle.type_members.specs.Listed.{AreSubtypes};
 use crate::cycles::with_cycles;
 use crate::declared::first_name_fault;
 use crate::held_types::HeldTypes;
+use osc_base::Fault;
 use std::alloc::{AllocError, Global};
+use type_heads::{Body, Declarations, Heads};
 use type_members::Subtypes;
-use type_members::osc_base::Fault;
-use type_members::type_heads::{Body, Declarations, Heads};
 
 /// The first fault of the headings of a program: names that are declared twice or not at all, types that depend on
 /// themselves, and names of a wrong kind. The declarations, heads, bodies and conditional subtypes are those of the

@@ -9,10 +9,10 @@ ghost use Rattle.type_members.specs.type_heads.HeadingFaults.{fits_base as fits,
 
 use crate::names::compound;
 use crate::references::{last_place, meant, with_name, with_unknown};
-use type_members::dsl_tree::{CompoundDecl, ConditionValue, Heir, HeirCondition};
-use type_members::name_scope::with_fault;
-use type_members::osc_base::{Fault, FaultCode};
-use type_members::type_heads::{Heads, TypeId};
+use dsl_tree::{CompoundDecl, ConditionValue, Heir, HeirCondition};
+use name_scope::with_fault;
+use osc_base::{Fault, FaultCode};
+use type_heads::{Heads, TypeId};
 
 fn fits_owner(heads: &Heads, own: Option<TypeId>, other: Option<TypeId>) -> bool
     ensures { result ≡ fits_with heads.now own other }

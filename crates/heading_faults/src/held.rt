@@ -12,11 +12,11 @@ ghost use Rattle.heading_faults.specs.Holding.{fields_of};
 ghost use Rattle.fault_sets.specs.Reaching.{HasNumbers};
 ghost use Rattle.type_members.specs.Listed.{AreSubtypes};
 
+use dsl_tree::Member;
 use fault_sets::{NumberSet, Steps, all_fresh, push_types, reached};
 use std::alloc::{AllocError, Global};
+use type_heads::{Body, Heads, TypeId, WrittenMember, line};
 use type_members::Subtypes;
-use type_members::dsl_tree::Member;
-use type_members::type_heads::{Body, Heads, TypeId, WrittenMember, line};
 
 /// Steps from a type to its conditional subtypes.
 #[derive(Drop)]

@@ -8,8 +8,8 @@ ghost use Rattle.type_members.specs.Listed.{AreSubtypes};
 use crate::held::push_held;
 use fault_sets::Steps;
 use std::alloc::{AllocError, Global};
+use type_heads::{Body, Heads, TypeId};
 use type_members::Subtypes;
-use type_members::type_heads::{Body, Heads, TypeId};
 
 /// Steps from a type to the types that it holds, with the conditional subtypes of all types.
 #[derive(Drop)]

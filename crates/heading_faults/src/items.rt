@@ -9,12 +9,12 @@ ghost use Rattle.heading_faults.specs.ItemSets.{has_item, HasItems, ContinuesIte
 ghost use Rattle.type_members.specs.dsl_tree.Views.{declaration_tree};
 ghost use Rattle.heading_faults.specs.Trees.{trees};
 
+use dsl_tree::{Declaration, EnumItem};
 use fault_sets::{NumberSet, TextSet};
+use name_scope::with_fault;
+use osc_base::{Fault, FaultCode, Place};
 use std::alloc::{AllocError, Global};
-use type_members::dsl_tree::{Declaration, EnumItem};
-use type_members::name_scope::with_fault;
-use type_members::osc_base::{Fault, FaultCode, Place};
-use type_members::type_heads::PlacedDecl;
+use type_heads::PlacedDecl;
 
 /// The members of an enum that were met, and the number that the next one has if none is written.
 #[derive(Drop)]

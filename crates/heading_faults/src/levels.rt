@@ -14,9 +14,9 @@ ghost use Rattle.fault_sets.specs.Ranking.{IsShown};
 use crate::held::push_own;
 use crate::held_types::HeldTypes;
 use fault_sets::{Ranking, falls, rank_of, ranks_of};
+use osc_base::Row;
 use std::alloc::{AllocError, Global};
-use type_members::osc_base::Row;
-use type_members::type_heads::{Body, Heads, TypeId};
+use type_heads::{Body, Heads, TypeId};
 use type_members::{Subtypes, heir_condition};
 
 /// The types that a type inherits from or holds by its own fields, and its conditional subtypes.

@@ -9,10 +9,10 @@ ghost use Rattle.type_members.specs.type_heads.Table.{form, named};
 ghost use Rattle.type_members.specs.type_heads.HeadingFaults.{can_hold as holds, kind_row, member_rows, unknown_row};
 
 use crate::references::with_unknown;
-use type_members::dsl_tree::{FieldDecl, Member};
-use type_members::name_scope::with_fault;
-use type_members::osc_base::{Fault, FaultCode};
-use type_members::type_heads::{Form, Heads};
+use dsl_tree::{FieldDecl, Member};
+use name_scope::with_fault;
+use osc_base::{Fault, FaultCode};
+use type_heads::{Form, Heads};
 
 fn can_hold(field: &FieldDecl, form: Form<'_>) -> bool
     ensures { result ≡ holds (field_tree field.now) (seen_form form.entry) }

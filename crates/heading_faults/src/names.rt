@@ -11,12 +11,12 @@ ghost use Rattle.type_members.specs.type_heads.HeadingFaults.{basic_names, name_
 ghost use Rattle.heading_faults.specs.SeenNames.{seen_name, key_of, basic_name, shares_key, HasNames};
 ghost use Rattle.heading_faults.specs.Trees.{trees};
 
+use dsl_tree::{CompoundKind, Declaration, Ident, QName};
 use indexmap::IndexSet;
+use name_scope::{NameKind, with_fault};
+use osc_base::{Fault, FaultCode, Place};
 use std::alloc::{AllocError, Global};
-use type_members::dsl_tree::{CompoundKind, Declaration, Ident, QName};
-use type_members::name_scope::{NameKind, with_fault};
-use type_members::osc_base::{Fault, FaultCode, Place};
-use type_members::type_heads::PlacedDecl;
+use type_heads::PlacedDecl;
 
 /// The place of a name that no file declares.
 const NOWHERE: Place = Place {

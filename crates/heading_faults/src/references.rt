@@ -8,10 +8,10 @@ ghost use Rattle.type_members.specs.type_heads.DeclaredTypes.{meant as meaning};
 ghost use Rattle.type_members.specs.type_heads.HeadingFaults.{unknown_row, owner_rows, name_rows, last_name};
 ghost use Rattle.type_members.specs.type_heads.Table.{is_actor};
 
-use type_members::dsl_tree::{Ident, QName};
-use type_members::name_scope::with_fault;
-use type_members::osc_base::{Fault, FaultCode, Place};
-use type_members::type_heads::{Heads, TypeId};
+use dsl_tree::{Ident, QName};
+use name_scope::with_fault;
+use osc_base::{Fault, FaultCode, Place};
+use type_heads::{Heads, TypeId};
 
 /// A fault of the name of a type or of a behaviour without an owner.
 pub fn with_unknown(first: Option<Fault>, heads: &Heads, name: &Ident) -> Option<Fault>

@@ -14,13 +14,11 @@ ghost use Rattle.type_members.specs.type_heads.HeadingFaults.{compound_rows, dif
 use crate::heirs::with_heir;
 use crate::members::with_members;
 use crate::references::{last_place, meant, with_name, with_owner, with_unknown};
-use type_members::dsl_tree::{
-    CompoundDecl, EnumExtension, Ident, MemberExtension, QName, UnitDecl,
-};
-use type_members::name_scope::with_fault;
-use type_members::osc_base::{Fault, FaultCode};
-use type_members::type_heads::{Form, Heads};
-use type_members::units_si::Exponents;
+use dsl_tree::{CompoundDecl, EnumExtension, Ident, MemberExtension, QName, UnitDecl};
+use name_scope::with_fault;
+use osc_base::{Fault, FaultCode};
+use type_heads::{Form, Heads};
+use units_si::Exponents;
 
 /// Faults of the owner of a declared behaviour.
 fn with_own_owner(first: Option<Fault>, heads: &Heads, name: &QName) -> Option<Fault>

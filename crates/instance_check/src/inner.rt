@@ -9,12 +9,10 @@ ghost use Rattle.run_constraints.specs.run_values.SeenNumbers.{scene_in, run_in}
 ghost use Rattle.instance_check.specs.FirstWrong as firsts;
 
 use crate::wrongs::{wrong, wrong_at};
-use composition::{Clause, Scene};
-use run_check::Wrong;
-use run_clauses::first_disarranged;
-use run_constraints::{first_default, first_hard, first_modifier};
-use run_entries::Entries;
-use run_values::Numbers;
+use run_check::{Clause, Scene, Wrong};
+use run_constraints::{
+    Entries, Numbers, first_default, first_disarranged, first_hard, first_modifier,
+};
 use std::alloc::{AllocError, Global};
 
 /// What the first hard constraint that fails tells.

@@ -8,5 +8,5 @@ mod whole;
 mod wrongs;
 
 pub use laws::instances_alone_are_right;
-pub use run_check::Wrong;
+pub use run_check::{Clause, Run, Scene, Wrong, write_run};
 pub use whole::check;

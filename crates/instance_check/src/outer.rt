@@ -7,14 +7,12 @@ ghost use Rattle.run_constraints.specs.run_entries.SeenRuns.{seen_run};
 ghost use Rattle.instance_check.specs.FirstWrong as firsts;
 
 use crate::wrongs::{either, wrong_at};
-use composition::{Clause, Scene};
 use osc_base::{Path, Row, Step, Text};
-use run_check::Wrong;
-use run_clauses::{
-    ends_right, first_choice_out, first_span_out, first_trace_out, first_uneven, first_unlisted,
-    first_value_out, has_root_do,
+use run_check::{Clause, Scene, Wrong};
+use run_constraints::{
+    Entries, ends_right, first_choice_out, first_span_out, first_trace_out, first_uneven,
+    first_unlisted, first_value_out, has_root_do,
 };
-use run_entries::Entries;
 use std::alloc::{AllocError, Global};
 
 /// The path of the first trace that is too long or too short.

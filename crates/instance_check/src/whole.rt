@@ -12,9 +12,8 @@ ghost use Rattle.instance_check.specs.FirstWrong as firsts;
 
 use crate::inner::inner_wrong;
 use crate::outer::outer_wrong;
-use composition::{Run, Scene};
-use run_check::Wrong;
-use run_entries::Entries;
+use run_check::{Run, Scene, Wrong};
+use run_constraints::Entries;
 use std::alloc::{AllocError, Global};
 
 /// Why a run, whose ticks are `tick` milliseconds long, is no instance of the scene: the first clause that fails, with

@@ -4,9 +4,8 @@ ghost use Rattle.std.specs.Prelude.{◌≡◌, Some, option_copied, option_map, 
 ghost use Rattle.std.specs.Option.{option_or};
 ghost use Rattle.instance_check.specs.FirstWrong.{wrong_at as told_at};
 
-use composition::Clause;
 use osc_base::{Path, Place};
-use run_check::Wrong;
+use run_check::{Clause, Wrong};
 use std::alloc::{AllocError, Global};
 
 /// A clause fails at a path, at a place of the source if it is about one.

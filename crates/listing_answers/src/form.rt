@@ -4,12 +4,9 @@ ghost use Rattle.flat_forms.specs.field_flatten.Exactness.{IsExpanded};
 ghost use Rattle.listing_answers.specs.Lists.{Lists};
 
 use command_replies::{Reply, done};
-use composition::Scene;
-use flat_forms::rule_names;
+use flat_forms::{Scene, bounds, rule_names, slot_names};
 use flat_listing::listing;
 use name_scope::Program;
-use scene_slots::slot_names;
-use slot_ends::bounds;
 use std::alloc::{AllocError, Global};
 
 /// Lists the flat form of a scene of a program: each slot with its ends, and each rule by its name. No rule is made. Out of

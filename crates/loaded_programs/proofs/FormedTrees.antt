@@ -5,24 +5,24 @@ use Rattle.std.specs.List.{list_all}
 use Rattle.std.proofs.lemmas.Bool.{false≢true, and_parts}
 use Rattle.std.proofs.lemmas.List.{length-append}
 use Rattle.std.proofs.lemmas.Slice.Eq.{bytes_eq-Decides}
-use Rattle.dsl_tree.specs.declared.parts.Ident.{Ident}
-use Rattle.dsl_tree.specs.declared.enums.EnumItem.{EnumItem}
-use Rattle.dsl_tree.specs.declared.token.Token.{Token}
-use Rattle.dsl_tree.specs.declared.token.TokenKind.{TokenKind}
-use Rattle.dsl_tree.specs.ExprTree.{ExprTree, Implies, Or, And, Not, Relation, Sum, Product, Minus, Dot, Index, Number, Physical, Chars, Truth, It, Actor, Name, EnumName, Group, Span, Listed, RangeCall, Start, ExprRow, End, Item}
-use Rattle.dsl_tree.specs.PhaseTree as Phases
-use Rattle.dsl_tree.specs.PhaseTree.{PhaseTree, PhaseRow}
-use Rattle.dsl_tree.specs.FileTree.{MemberTree, DeclarationTree, FileTree}
-use Rattle.dsl_tree.specs.Grammar.{Part}
-use Rattle.dsl_tree.specs.Language.{Spelled}
-use Rattle.dsl_tree.specs.WrittenPhases.{composition_arguments, composition, phase, block_phases, phases_tail}
-use Rattle.dsl_tree.specs.WrittenFile.{imports, qualified_name, optional_heir, enum_items, member, members_tail, block, body, declaration, declarations, file}
-use Rattle.dsl_tree.proofs.Tests.{is_whole, left_of, right_of}
-use Rattle.dsl_tree.proofs.WholeForests.{label_whole}
-use Rattle.dsl_tree.proofs.FileValues.{heading_whole}
-use Rattle.dsl_tree.proofs.OneTrees.{is_is_whole}
+use Rattle.name_scope.specs.dsl_tree.declared.parts.Ident.{Ident}
+use Rattle.name_scope.specs.dsl_tree.declared.enums.EnumItem.{EnumItem}
+use Rattle.name_scope.specs.dsl_tree.declared.token.Token.{Token}
+use Rattle.name_scope.specs.dsl_tree.declared.token.TokenKind.{TokenKind}
+use Rattle.name_scope.specs.dsl_tree.ExprTree.{ExprTree, Implies, Or, And, Not, Relation, Sum, Product, Minus, Dot, Index, Number, Physical, Chars, Truth, It, Actor, Name, EnumName, Group, Span, Listed, RangeCall, Start, ExprRow, End, Item}
+use Rattle.name_scope.specs.dsl_tree.PhaseTree as Phases
+use Rattle.name_scope.specs.dsl_tree.PhaseTree.{PhaseTree, PhaseRow}
+use Rattle.name_scope.specs.dsl_tree.FileTree.{MemberTree, DeclarationTree, FileTree}
+use Rattle.name_scope.specs.dsl_tree.Grammar.{Part}
+use Rattle.name_scope.specs.dsl_tree.Language.{Spelled}
+use Rattle.name_scope.specs.dsl_tree.WrittenPhases.{composition_arguments, composition, phase, block_phases, phases_tail}
+use Rattle.name_scope.specs.dsl_tree.WrittenFile.{imports, qualified_name, optional_heir, enum_items, member, members_tail, block, body, declaration, declarations, file}
+use Rattle.name_scope.proofs.of_dsl_tree.Tests.{is_whole, left_of, right_of}
+use Rattle.name_scope.proofs.of_dsl_tree.WholeForests.{label_whole}
+use Rattle.name_scope.proofs.of_dsl_tree.FileValues.{heading_whole}
+use Rattle.name_scope.proofs.of_dsl_tree.OneTrees.{is_is_whole}
 use Rattle.dsl_lexer.specs.Kinds.{is_word}
-use Rattle.type_heads.specs.Texts.{texts_in, texts_among, member_exprs, declaration_exprs}
+use Rattle.checkable_scenes.specs.type_heads.Texts.{texts_in, texts_among, member_exprs, declaration_exprs}
 use Rattle.checkable_scenes.specs.scene_laws.Premises.{is_short, are_short, row_is_short, is_free, is_full, row_is_full, is_formed, is_written, is_spelled}
 use Rattle.loaded_programs.specs.TokenLaws.{has_few_digits, is_no_word, is_string, all_kinds, count_strings}
 use Rattle.loaded_programs.specs.TreeLaws.{have_short_numbers, TreesAreShort, TreesAreFormed, TextsAreFew}

@@ -16,3 +16,4 @@ pub use Rattle.checkable_scenes.proofs as of_checkable_scenes
 pub use Rattle.checkable_scenes.proofs.of_field_flatten as of_field_flatten
 pub use Rattle.program_load.proofs as of_program_load
 pub use Rattle.checkable_scenes.proofs.of_scene_laws as of_scene_laws
+pub use Rattle.dsl_lexer.proofs as of_dsl_lexer

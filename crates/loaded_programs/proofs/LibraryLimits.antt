@@ -8,17 +8,17 @@ use Rattle.std.proofs.lemmas.List.Elements.{filter_map-append}
 use Rattle.std.proofs.lemmas.List.Folds.{list_any-append}
 use Rattle.std.proofs.lemmas.Slice.Eq.{bytes_eq-Decides}
 use Rattle.osc_base.specs.declared.fault.Place.{Place}
-use Rattle.dsl_tree.specs.declared.parts.Ident.{Ident}
-use Rattle.dsl_tree.specs.declared.parts.QName.{QName}
-use Rattle.dsl_tree.specs.declared.compounds.CompoundKind.{CompoundKind}
-use Rattle.dsl_tree.specs.FileTree.{DeclarationTree, FileTree}
+use Rattle.name_scope.specs.dsl_tree.declared.parts.Ident.{Ident}
+use Rattle.name_scope.specs.dsl_tree.declared.parts.QName.{QName}
+use Rattle.name_scope.specs.dsl_tree.declared.compounds.CompoundKind.{CompoundKind}
+use Rattle.name_scope.specs.dsl_tree.FileTree.{DeclarationTree, FileTree}
 use Rattle.name_scope.specs.declared.ids.NameKind.{NameKind}
 use Rattle.name_scope.specs.Declaring.{DeclaredName, compound_name, behaviour_name, same_owner, first_place}
-use Rattle.type_heads.specs.Table.{TypeHead, int_head, form, named}
-use Rattle.type_heads.specs.Types.{Program, Written, TypeBody}
-use Rattle.type_heads.specs.Members.{no_body, body}
-use Rattle.type_heads.specs.HeadingFaults.{name_declared, shares_name, basic_names, twice_rows}
-use Rattle.type_heads.specs.DeclaredTypes.{Placed, placed, placed_in, placed_from, Declared, basic_types, type_declared, all_declared, heads_from, bodies_from, declared_heads, types_of}
+use Rattle.checkable_scenes.specs.type_heads.Table.{TypeHead, int_head, form, named}
+use Rattle.checkable_scenes.specs.type_heads.Types.{Program, Written, TypeBody}
+use Rattle.checkable_scenes.specs.type_heads.Members.{no_body, body}
+use Rattle.checkable_scenes.specs.type_heads.HeadingFaults.{name_declared, shares_name, basic_names, twice_rows}
+use Rattle.checkable_scenes.specs.type_heads.DeclaredTypes.{Placed, placed, placed_in, placed_from, Declared, basic_types, type_declared, all_declared, heads_from, bodies_from, declared_heads, types_of}
 use Rattle.checkable_scenes.specs.expr_nodes.Parts.{any_holds}
 use Rattle.checkable_scenes.specs.Premises.{holds_number, is_number_field, has_limits}
 use Rattle.loaded_programs.proofs.Booleans.{both, either, or_else, neither, no_left, no_right}

@@ -2,8 +2,8 @@
 use Rattle.std.proofs.Common.{◌≡◌, ◌∙◌, inl, inr, refl, sym, ap, subst, ℕ, zero, suc, ◌+◌, ◌<◌, ◌≤◌, Bool, true, false, cond, List, [], ◌∷◌, ◌++◌, length, slice_get, Option, Some, None, arith, true≢false, length-append}
 use Rattle.std.proofs.lemmas.Bool.{cases_eq}
 use Rattle.std.proofs.lemmas.List.{append_assoc, map-append}
-use Rattle.dsl_tree.specs.FileTree.{FileTree}
-use Rattle.dsl_tree.specs.Views.{file_tree}
+use Rattle.name_scope.specs.dsl_tree.FileTree.{FileTree}
+use Rattle.name_scope.specs.dsl_tree.Views.{file_tree}
 use Rattle.outside_io.specs.declared.shelf.NamedBytes.{NamedBytes}
 use Rattle.name_scope.specs.declared.names.FileName.{FileName}
 use Rattle.name_scope.specs.FileNumbers.{AddedFile, name_text, with_imports, with_files, numbered_names, is_library}

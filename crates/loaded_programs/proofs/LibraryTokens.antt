@@ -1,11 +1,11 @@
 -- The tokens of the library.
 use Rattle.std.proofs.Common.{ℕ, List, [], ◌∷◌, refl}
 use Rattle.std.specs.Prelude.{codes}
-use Rattle.dsl_tree.specs.declared.token.Token.{Token}
-use Rattle.dsl_tree.specs.declared.token.TokenKind.{TokenKind}
-use Rattle.dsl_tree.specs.declared.token.TokenKind.TheVariants.{Newline, Indent, Dedent, End, Mark, Word, Name, Number, Physical}
-use Rattle.dsl_tree.specs.declared.token.MarkKind.TheVariants.{OpenRound, CloseRound, OpenSquare, CloseSquare, Colon, Comma, Dot, TwoDots, Assign, Dash}
-use Rattle.dsl_tree.specs.declared.token.WordKind.TheVariants.{TypeWord, UnitWord, IsWord, OfWord, ActorWord, ActionWord, KeepWord, WithWord, ItWord, InWord}
+use Rattle.name_scope.specs.dsl_tree.declared.token.Token.{Token}
+use Rattle.name_scope.specs.dsl_tree.declared.token.TokenKind.{TokenKind}
+use Rattle.name_scope.specs.dsl_tree.declared.token.TokenKind.TheVariants.{Newline, Indent, Dedent, End, Mark, Word, Name, Number, Physical}
+use Rattle.name_scope.specs.dsl_tree.declared.token.MarkKind.TheVariants.{OpenRound, CloseRound, OpenSquare, CloseSquare, Colon, Comma, Dot, TwoDots, Assign, Dash}
+use Rattle.name_scope.specs.dsl_tree.declared.token.WordKind.TheVariants.{TypeWord, UnitWord, IsWord, OfWord, ActorWord, ActionWord, KeepWord, WithWord, ItWord, InWord}
 use Rattle.dsl_lexer.specs.SourceTokens.{TokensCut}
 use Rattle.dsl_lexer.specs.Scan.{number_len, closing, mark_len, line_end_len, control_at}
 use Rattle.dsl_lexer.proofs.Running.{ran_ascii}

@@ -3,24 +3,24 @@ use Rattle.std.proofs.Common.{◌≡◌, ℕ, ◌+◌, true, false, List, [], �
 use Rattle.std.proofs.lemmas.Bool.Decides.{nat_tests}
 use Rattle.std.specs.Prelude.{codes, ◌==◌, slice_index_or}
 use Rattle.osc_base.specs.declared.fault.Place.{Place}
-use Rattle.dsl_tree.specs.declared.parts.Ident.{Ident}
-use Rattle.dsl_tree.specs.declared.parts.Digits.{Digits}
-use Rattle.dsl_tree.specs.declared.parts.Signed.{Signed}
-use Rattle.dsl_tree.specs.declared.units.BasePart.{BasePart}
-use Rattle.dsl_tree.specs.declared.rules.KeepKind.{KeepKind}
-use Rattle.dsl_tree.specs.declared.compounds.CompoundKind.{CompoundKind}
-use Rattle.dsl_tree.specs.declared.expr.RelationSign.{RelationSign}
-use Rattle.dsl_tree.specs.declared.token.Token.{Token}
-use Rattle.dsl_tree.specs.declared.token.TokenKind.{TokenKind}
-use Rattle.dsl_tree.specs.ExprTree.{ExprTree}
-use Rattle.dsl_tree.specs.PhaseTree.{RuleTree}
-use Rattle.dsl_tree.specs.FileTree.{MemberTree, DeclarationTree, FileTree}
-use Rattle.dsl_tree.specs.Grammar.{Part, rules}
-use Rattle.dsl_tree.specs.Forest.{Spells}
-use Rattle.dsl_tree.specs.Language.{Spelled}
-use Rattle.dsl_tree.specs.WrittenFile.{file}
-use Rattle.dsl_tree.proofs.Tests.{any_rule, follows, is_whole, tokens_of, Is-follows, Spells-tokens_of}
-use Rattle.dsl_tree.proofs.OneTrees.{spelled_once}
+use Rattle.name_scope.specs.dsl_tree.declared.parts.Ident.{Ident}
+use Rattle.name_scope.specs.dsl_tree.declared.parts.Digits.{Digits}
+use Rattle.name_scope.specs.dsl_tree.declared.parts.Signed.{Signed}
+use Rattle.name_scope.specs.dsl_tree.declared.units.BasePart.{BasePart}
+use Rattle.name_scope.specs.dsl_tree.declared.rules.KeepKind.{KeepKind}
+use Rattle.name_scope.specs.dsl_tree.declared.compounds.CompoundKind.{CompoundKind}
+use Rattle.name_scope.specs.dsl_tree.declared.expr.RelationSign.{RelationSign}
+use Rattle.name_scope.specs.dsl_tree.declared.token.Token.{Token}
+use Rattle.name_scope.specs.dsl_tree.declared.token.TokenKind.{TokenKind}
+use Rattle.name_scope.specs.dsl_tree.ExprTree.{ExprTree}
+use Rattle.name_scope.specs.dsl_tree.PhaseTree.{RuleTree}
+use Rattle.name_scope.specs.dsl_tree.FileTree.{MemberTree, DeclarationTree, FileTree}
+use Rattle.name_scope.specs.dsl_tree.Grammar.{Part, rules}
+use Rattle.name_scope.specs.dsl_tree.Forest.{Spells}
+use Rattle.name_scope.specs.dsl_tree.Language.{Spelled}
+use Rattle.name_scope.specs.dsl_tree.WrittenFile.{file}
+use Rattle.name_scope.proofs.of_dsl_tree.Tests.{any_rule, follows, is_whole, tokens_of, Is-follows, Spells-tokens_of}
+use Rattle.name_scope.proofs.of_dsl_tree.OneTrees.{spelled_once}
 use Rattle.dsl_lexer.specs.SourceTokens.{TokensCut}
 use Rattle.dsl_lexer.proofs.LawProofs.{one_list}
 use Rattle.name_scope.specs.Library.{library_source}

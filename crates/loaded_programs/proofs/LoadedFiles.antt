@@ -10,17 +10,17 @@ use Rattle.std.proofs.lemmas.List.Folds.{list_all-append}
 use Rattle.osc_base.specs.declared.fault.Place.{Place}
 use Rattle.osc_base.specs.declared.fault.FaultCode.{FaultCode}
 use Rattle.osc_base.specs.declared.fault.Fault.{Fault}
-use Rattle.dsl_tree.specs.declared.file.Import.{Import}
-use Rattle.dsl_tree.specs.FileTree.{DeclarationTree, FileTree}
-use Rattle.dsl_tree.specs.Views.{file_tree}
+use Rattle.name_scope.specs.dsl_tree.declared.file.Import.{Import}
+use Rattle.name_scope.specs.dsl_tree.FileTree.{DeclarationTree, FileTree}
+use Rattle.name_scope.specs.dsl_tree.Views.{file_tree}
 use Rattle.outside_io.specs.declared.shelf.NamedBytes.{NamedBytes}
 use Rattle.name_scope.specs.declared.names.FileName.{FileName}
 use Rattle.name_scope.specs.FileNumbers.{AddedFile, meant_name, import_place, is_numbered, with_name, with_imports, numbered_names, names_before, fault_at, import_fault, first_import_fault, adding_fault}
 use Rattle.name_scope.proofs.Numbering.{below, numbered_more}
 use Rattle.name_scope.proofs.Mentions.{there}
 use Rattle.program_load.specs.Loading.{IsTaken, AreTakenAfter, next_name}
-use Rattle.type_heads.specs.Texts.{with_text, texts_of}
-use Rattle.type_heads.specs.DeclaredTypes.{Placed, placed_in, placed_from}
+use Rattle.checkable_scenes.specs.type_heads.Texts.{with_text, texts_of}
+use Rattle.checkable_scenes.specs.type_heads.DeclaredTypes.{Placed, placed_in, placed_from}
 use Rattle.checkable_scenes.specs.scene_laws.Premises.{is_spelled}
 use Rattle.loaded_programs.specs.TreeLaws.{texts_among}
 use Rattle.loaded_programs.proofs.Booleans.{both}

@@ -4,11 +4,11 @@ use Rattle.std.specs.Prelude.{filter_map, flat_map, is_some, nat_le}
 use Rattle.std.proofs.lemmas.Bool.Decides.{nat_tests}
 use Rattle.name_scope.specs.FileNumbers.{numbered_names, is_library}
 use Rattle.name_scope.specs.Declaring.{first_place}
-use Rattle.type_heads.specs.Table.{all_types}
-use Rattle.type_heads.specs.Types.{Program}
-use Rattle.type_heads.specs.Texts.{texts_of}
-use Rattle.type_heads.specs.HeadingFaults.{name_declared, basic_names, twice_rows, declaration_rows, enum_rows_from, cycle_row, heading_rows}
-use Rattle.type_heads.specs.DeclaredTypes.{Placed, placed, all_declared, program_of, types_of}
+use Rattle.checkable_scenes.specs.type_heads.Table.{all_types}
+use Rattle.checkable_scenes.specs.type_heads.Types.{Program}
+use Rattle.checkable_scenes.specs.type_heads.Texts.{texts_of}
+use Rattle.checkable_scenes.specs.type_heads.HeadingFaults.{name_declared, basic_names, twice_rows, declaration_rows, enum_rows_from, cycle_row, heading_rows}
+use Rattle.checkable_scenes.specs.type_heads.DeclaredTypes.{Placed, placed, all_declared, program_of, types_of}
 use Rattle.checkable_scenes.specs.expr_nodes.Parts.{any_holds}
 use Rattle.checkable_scenes.proofs.of_scene_laws.FaultRows.{rows_left, no_faults}
 use Rattle.checkable_scenes.specs.Premises.{has_limits}

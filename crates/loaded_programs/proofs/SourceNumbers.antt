@@ -9,7 +9,7 @@ use Rattle.std.proofs.lemmas.Bool.{and_parts, cond_both}
 use Rattle.std.proofs.lemmas.Bool.Decides.{nat_tests}
 use Rattle.std.proofs.lemmas.List.Folds.{list_all-append}
 use Rattle.std.proofs.lemmas.List.{length-append}
-use Rattle.dsl_tree.specs.declared.token.TokenKind.{TokenKind}
+use Rattle.name_scope.specs.dsl_tree.declared.token.TokenKind.{TokenKind}
 use Rattle.dsl_lexer.specs.Bytes.{is_digit, is_hexadecimal_digit}
 use Rattle.dsl_lexer.specs.Values.{value_from}
 use Rattle.dsl_lexer.specs.Kinds.{fraction, unit_name, number_kind, hexadecimal_kind, decimal_kind, is_word}

@@ -8,10 +8,10 @@ use Rattle.std.proofs.lemmas.Bool.{cond_both, and_parts, true≢false}
 use Rattle.std.proofs.lemmas.List.{length-append}
 use Rattle.std.proofs.lemmas.List.Elements.{filter-append}
 use Rattle.std.proofs.lemmas.List.Folds.{list_all-append}
-use Rattle.dsl_tree.specs.declared.token.Token.{Token}
-use Rattle.dsl_tree.specs.declared.token.TokenKind.{TokenKind}
-use Rattle.dsl_tree.specs.declared.token.TokenKind.TheVariants.{Newline, Indent, Dedent, End, Mark}
-use Rattle.dsl_tree.specs.declared.token.MarkKind.{MarkKind}
+use Rattle.name_scope.specs.dsl_tree.declared.token.Token.{Token}
+use Rattle.name_scope.specs.dsl_tree.declared.token.TokenKind.{TokenKind}
+use Rattle.name_scope.specs.dsl_tree.declared.token.TokenKind.TheVariants.{Newline, Indent, Dedent, End, Mark}
+use Rattle.name_scope.specs.dsl_tree.declared.token.MarkKind.{MarkKind}
 use Rattle.dsl_lexer.specs.declared.shape.Shape.{Shape}
 use Rattle.dsl_lexer.specs.declared.words.LanguageWord.{LanguageWord}
 use Rattle.dsl_lexer.specs.declared.words.LanguageWord.TheVariants.{LeftOut, Reserved}

@@ -2,21 +2,21 @@
 use Rattle.std.proofs.Common.{◌≡◌, ℕ, ◌+◌, ◌≤◌, true, Option, Some, None, List, [], ◌∷◌, ◌++◌, ◌&&◌, arith}
 use Rattle.std.specs.Prelude.{flat_map, option_to_list}
 use Rattle.std.proofs.lemmas.Bool.{false≢true}
-use Rattle.dsl_tree.specs.declared.parts.Ident.{Ident}
-use Rattle.dsl_tree.specs.declared.phases.InvokeHead.{InvokeHead}
-use Rattle.dsl_tree.specs.declared.compounds.CompoundKind.{CompoundKind}
-use Rattle.dsl_tree.specs.declared.token.MarkKind.{MarkKind}
-use Rattle.dsl_tree.specs.ExprTree.{ExprTree}
-use Rattle.dsl_tree.specs.PhaseTree.{RuleTree, ArgumentTree, PartTree, PhaseTree, PhaseRow}
-use Rattle.dsl_tree.specs.FileTree.{FieldTree, MemberTree, CompoundTree, DeclarationTree, FileTree}
-use Rattle.dsl_tree.specs.Forest.{Forest, nil, sub, wrong}
-use Rattle.dsl_tree.specs.Written.{mark, ident, expr}
-use Rattle.dsl_tree.specs.WrittenPhases.{keep_kind, rule, rules_tail, by_option, named_argument, named_tail, arguments_tail, arguments, dotted_names, invocation_arguments, invocation_part, parts_tail, invocation_end, invocation_rest, invocation, labelled_invocation, labelled, composition_arguments, composition, wait, phase, block_phases, phases_tail}
-use Rattle.dsl_tree.specs.WrittenFile.{imports, qualified_name, optional_heir, names_tail, field_type, initial, field_end, field, member, members_tail, block, body, heading_rest, compound_heading, declaration, declarations, file}
-use Rattle.dsl_tree.proofs.Tests.{is_whole, left_of, right_of}
-use Rattle.dsl_tree.proofs.WholeForests.{label_whole, head_whole}
-use Rattle.dsl_tree.proofs.FileValues.{named_parts, heading_whole}
-use Rattle.type_heads.specs.Texts.{rule_exprs, argument_exprs, part_exprs, phase_exprs, row_exprs, member_exprs}
+use Rattle.name_scope.specs.dsl_tree.declared.parts.Ident.{Ident}
+use Rattle.name_scope.specs.dsl_tree.declared.phases.InvokeHead.{InvokeHead}
+use Rattle.name_scope.specs.dsl_tree.declared.compounds.CompoundKind.{CompoundKind}
+use Rattle.name_scope.specs.dsl_tree.declared.token.MarkKind.{MarkKind}
+use Rattle.name_scope.specs.dsl_tree.ExprTree.{ExprTree}
+use Rattle.name_scope.specs.dsl_tree.PhaseTree.{RuleTree, ArgumentTree, PartTree, PhaseTree, PhaseRow}
+use Rattle.name_scope.specs.dsl_tree.FileTree.{FieldTree, MemberTree, CompoundTree, DeclarationTree, FileTree}
+use Rattle.name_scope.specs.dsl_tree.Forest.{Forest, nil, sub, wrong}
+use Rattle.name_scope.specs.dsl_tree.Written.{mark, ident, expr}
+use Rattle.name_scope.specs.dsl_tree.WrittenPhases.{keep_kind, rule, rules_tail, by_option, named_argument, named_tail, arguments_tail, arguments, dotted_names, invocation_arguments, invocation_part, parts_tail, invocation_end, invocation_rest, invocation, labelled_invocation, labelled, composition_arguments, composition, wait, phase, block_phases, phases_tail}
+use Rattle.name_scope.specs.dsl_tree.WrittenFile.{imports, qualified_name, optional_heir, names_tail, field_type, initial, field_end, field, member, members_tail, block, body, heading_rest, compound_heading, declaration, declarations, file}
+use Rattle.name_scope.proofs.of_dsl_tree.Tests.{is_whole, left_of, right_of}
+use Rattle.name_scope.proofs.of_dsl_tree.WholeForests.{label_whole, head_whole}
+use Rattle.name_scope.proofs.of_dsl_tree.FileValues.{named_parts, heading_whole}
+use Rattle.checkable_scenes.specs.type_heads.Texts.{rule_exprs, argument_exprs, part_exprs, phase_exprs, row_exprs, member_exprs}
 use Rattle.loaded_programs.proofs.LeafCounts.{Measure, count, leaves, expr_count, path_count}
 
 -- the weight of expressions, of names, and of members

@@ -1,10 +1,10 @@
 -- What all tokens pass is passed by all that the tree is written as.
 use Rattle.std.proofs.Common.{◌≡◌, Bool, true, List, [], ◌∷◌, refl, ap, sym, ◌∙◌}
 use Rattle.std.proofs.lemmas.Bool.{and_parts}
-use Rattle.dsl_tree.specs.declared.token.Token.{Token}
-use Rattle.dsl_tree.specs.declared.token.TokenKind.{TokenKind}
-use Rattle.dsl_tree.specs.Forest.{Forest, nil, seen, bare, sub, wrong, Spells}
-use Rattle.dsl_tree.specs.WrittenFile.{file}
+use Rattle.name_scope.specs.dsl_tree.declared.token.Token.{Token}
+use Rattle.name_scope.specs.dsl_tree.declared.token.TokenKind.{TokenKind}
+use Rattle.name_scope.specs.dsl_tree.Forest.{Forest, nil, seen, bare, sub, wrong, Spells}
+use Rattle.name_scope.specs.dsl_tree.WrittenFile.{file}
 use Rattle.loaded_programs.specs.TokenLaws.{all_kinds}
 use Rattle.loaded_programs.specs.TreeLaws.{each_written, TreesPassTests}
 use Rattle.loaded_programs.proofs.Booleans.{both}

@@ -3,7 +3,7 @@ use Rattle.std.specs.Prelude.{◌≡◌, ℕ, List, None}
 use Rattle.outside_io.specs.declared.shelf.NamedBytes.{NamedBytes}
 use Rattle.name_scope.specs.FileNumbers.{AddedFile}
 use Rattle.program_load.specs.Loading.{IsLoaded}
-use Rattle.type_heads.specs.DeclaredTypes.{program_of, types_of}
+use Rattle.checkable_scenes.specs.type_heads.DeclaredTypes.{program_of, types_of}
 use Rattle.checkable_scenes.specs.composition.StaticFaults.{declaration_fault}
 use Rattle.checkable_scenes.specs.Premises.{IsLoadedProgram}
 

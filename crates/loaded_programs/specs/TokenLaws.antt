@@ -1,8 +1,8 @@
 -- What the tokens of each source are like: numbers have at most 18 digits, no name is a word, and strings are few.
 use Rattle.std.specs.Prelude.{◌≡◌, ℕ, ◌≤◌, ◌^◌, ◌&&◌, Bool, true, false, not, List, length, filter, nat_lt, nat_le}
 use Rattle.std.specs.List.{list_all}
-use Rattle.dsl_tree.specs.declared.token.Token.{Token}
-use Rattle.dsl_tree.specs.declared.token.TokenKind.{TokenKind}
+use Rattle.name_scope.specs.dsl_tree.declared.token.Token.{Token}
+use Rattle.name_scope.specs.dsl_tree.declared.token.TokenKind.{TokenKind}
 use Rattle.dsl_lexer.specs.Kinds.{is_word}
 use Rattle.dsl_lexer.specs.SourceTokens.{TokensCut}
 

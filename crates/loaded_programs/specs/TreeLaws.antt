@@ -1,13 +1,13 @@
 -- What each tree is like that is spelled by such tokens.
 use Rattle.std.specs.Prelude.{◌≡◌, ℕ, ◌≤◌, ◌&&◌, Bool, true, List, length, flat_map}
 use Rattle.std.specs.List.{list_all}
-use Rattle.dsl_tree.specs.declared.token.Token.{Token}
-use Rattle.dsl_tree.specs.declared.token.TokenKind.{TokenKind}
-use Rattle.dsl_tree.specs.FileTree.{DeclarationTree, FileTree}
-use Rattle.dsl_tree.specs.Forest.{Forest, nil, seen, bare, sub, wrong}
-use Rattle.dsl_tree.specs.WrittenFile.{file}
-use Rattle.dsl_tree.specs.Language.{Spelled}
-use Rattle.type_heads.specs.Texts.{texts_in, declaration_exprs}
+use Rattle.name_scope.specs.dsl_tree.declared.token.Token.{Token}
+use Rattle.name_scope.specs.dsl_tree.declared.token.TokenKind.{TokenKind}
+use Rattle.name_scope.specs.dsl_tree.FileTree.{DeclarationTree, FileTree}
+use Rattle.name_scope.specs.dsl_tree.Forest.{Forest, nil, seen, bare, sub, wrong}
+use Rattle.name_scope.specs.dsl_tree.WrittenFile.{file}
+use Rattle.name_scope.specs.dsl_tree.Language.{Spelled}
+use Rattle.checkable_scenes.specs.type_heads.Texts.{texts_in, declaration_exprs}
 use Rattle.checkable_scenes.specs.scene_laws.Premises.{are_short, is_spelled}
 use Rattle.loaded_programs.specs.TokenLaws.{has_few_digits, is_no_word, all_kinds, count_strings}
 

@@ -10,4 +10,4 @@ pub use program::{MadeLoad, made_program};
 pub use text::{made_line, made_text};
 
 // Crates below, for the crates above.
-pub use program_load;
+pub use program_load::load;

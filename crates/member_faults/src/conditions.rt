@@ -9,9 +9,9 @@ ghost use Rattle.type_members.specs.type_heads.Table.{enum_members, enum_number,
 ghost use Rattle.type_members.specs.type_heads.MemberFaults.{can_decide as decides, held_rows};
 
 use dsl_tree::{ConditionValue, FieldDecl, HeirCondition, Ident};
-use type_members::name_scope::with_fault;
-use type_members::osc_base::{Fault, FaultCode};
-use type_members::type_heads::{Form, Heads, TypeId};
+use name_scope::with_fault;
+use osc_base::{Fault, FaultCode};
+use type_heads::{Form, Heads, TypeId};
 
 /// Whether a condition can look at a field of this type.
 pub fn can_decide(form: Form<'_>) -> bool

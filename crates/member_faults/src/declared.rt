@@ -24,10 +24,10 @@ use crate::near_depended::near_ranking;
 use crate::row_facts::{RowFacts, facts_at, is_plain, row_facts};
 use dsl_tree::HeirCondition;
 use fault_sets::{Ranking, Steps, is_past};
+use name_scope::with_fault;
+use osc_base::{Fault, FaultCode, Place};
 use std::alloc::{AllocError, Global};
-use type_members::name_scope::with_fault;
-use type_members::osc_base::{Fault, FaultCode, Place};
-use type_members::type_heads::{Heads, TypeId};
+use type_heads::{Heads, TypeId};
 use type_members::{Span, heir_condition};
 
 /// A fault at this place, if steps lead from a type back to it. There are `count` types.

@@ -15,7 +15,7 @@ use crate::name_places::NamePlaces;
 use dsl_tree::HeirCondition;
 use fault_sets::push_types;
 use std::alloc::{AllocError, Global};
-use type_members::type_heads::{Body, Heads, TypeId, line};
+use type_heads::{Body, Heads, TypeId, line};
 use type_members::{MemberLists, heir_condition};
 
 /// Puts the conditional subtypes that a field is under at the end.

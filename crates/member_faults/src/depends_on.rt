@@ -11,8 +11,8 @@ use crate::depends::push_depended;
 use crate::name_places::NamePlaces;
 use fault_sets::Steps;
 use std::alloc::{AllocError, Global};
+use type_heads::{Body, Heads, TypeId};
 use type_members::MemberLists;
-use type_members::type_heads::{Body, Heads, TypeId};
 
 /// The types of a program, with steps from a conditional subtype to those on which it depends.
 #[derive(Drop)]

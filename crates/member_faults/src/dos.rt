@@ -13,9 +13,9 @@ ghost use Rattle.type_members.specs.Shared.{fronts_in, members_at, members_in_pa
 ghost use Rattle.member_faults.specs.RowFacts.{dos_among};
 
 use dsl_tree::Member;
-use type_members::name_scope::with_fault;
-use type_members::osc_base::{Fault, FaultCode, Place};
-use type_members::type_heads::Form;
+use name_scope::with_fault;
+use osc_base::{Fault, FaultCode, Place};
+use type_heads::Form;
 use type_members::{ListedMember, MemberLists, Part, Span};
 
 /// Faults of a `do`, under a conditional subtype or not, that is the first or a later one.

@@ -12,7 +12,7 @@ ghost use Rattle.member_faults.specs.NamePlaces.{ArePlaces, AreRowPlaces};
 
 use crate::name_places::NamePlaces;
 use dsl_tree::{FieldDecl, HeirCondition, Ident, Member};
-use type_members::type_heads::{Heads, TypeId};
+use type_heads::{Heads, TypeId};
 use type_members::{ListedMember, MemberLists, Part};
 
 /// A field, and the conditional subtypes that it is under.

@@ -11,9 +11,9 @@ ghost use Rattle.type_members.specs.type_heads.MemberFaults.{first_name_place as
 ghost use Rattle.member_faults.specs.RowFacts.{initials_among};
 
 use dsl_tree::{Expr, FieldDecl, Ident, Member};
-use type_members::name_scope::with_fault;
-use type_members::osc_base::{Fault, FaultCode, Place};
-use type_members::type_heads::Heads;
+use name_scope::with_fault;
+use osc_base::{Fault, FaultCode, Place};
+use type_heads::Heads;
 use type_members::{ListedMember, MemberLists, Part, Span};
 
 /// The most elements of a list.

@@ -12,10 +12,10 @@ ghost use Rattle.member_faults.specs.NamePlaces.{AreRowPlaces};
 use crate::declared::with_types;
 use crate::depends_on::DependsOn;
 use crate::name_places::{NamePlaces, row_places};
+use osc_base::Fault;
 use std::alloc::{AllocError, Global};
+use type_heads::{Body, Heads};
 use type_members::MemberLists;
-use type_members::osc_base::Fault;
-use type_members::type_heads::{Body, Heads};
 
 /// The first fault of the members of all types, given the places of the names in each row.
 fn first_by_places(

@@ -12,10 +12,10 @@ ghost use Rattle.fault_sets.specs.NameRows.{ContinuesNames, HasTexts};
 use crate::labels::names_among;
 use dsl_tree::Ident;
 use fault_sets::TextSet;
+use name_scope::with_fault;
+use osc_base::{Fault, FaultCode};
 use std::alloc::{AllocError, Global};
-use type_members::name_scope::with_fault;
-use type_members::osc_base::{Fault, FaultCode};
-use type_members::type_heads::Form;
+use type_heads::Form;
 use type_members::{ListedMember, MemberLists, Part, Span};
 
 /// A fault of one name more.

@@ -13,7 +13,7 @@ use crate::depends::push_near;
 use crate::depends_on::DependsOn;
 use fault_sets::{Ranking, Steps};
 use std::alloc::{AllocError, Global};
-use type_members::type_heads::TypeId;
+use type_heads::TypeId;
 
 /// The types of a program, with steps from a type to its base, and to the conditional subtypes that the field of its
 /// condition is under.

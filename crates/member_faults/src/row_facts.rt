@@ -17,7 +17,7 @@ use crate::labels::names_among;
 use crate::name_places::{NamePlaces, may_meet};
 use dsl_tree::{CompoundKind, Ident, Member};
 use std::alloc::{AllocError, Global};
-use type_members::type_heads::{Form, Heads};
+use type_heads::{Form, Heads};
 use type_members::{ListedMember, MemberRow, Start};
 
 /// What is known of members. What isn't known may hold all the same.

@@ -78,10 +78,9 @@ fn each_example_has_its_message(rt: HostRuntime) -> Result<(), Fail> {
         let title = said.title;
         let head = format!(in alloc; "error[{number}]: {title}\n")?;
         let explain = format!(in alloc; "= help: `osc explain {number}` tells more\n")?;
-        let first = said.mending.lines().next().unwrap_or("");
         assert!(rt; message.as_str().starts_with(head.as_str()), "{number}");
         assert!(rt; message.as_str().ends_with(explain.as_str()), "{number}");
-        for part in [" --> main.osc:", " | ", "^", first] {
+        for part in [" --> main.osc:", " | ", "^", "  = help: "] {
             assert!(rt; message.as_str().contains(part), "{number}: {part}");
         }
     }

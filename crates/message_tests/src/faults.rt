@@ -130,7 +130,7 @@ fn single_places_in_messages(rt: HostRuntime) -> Result<(), Fail> {
                 " 2 |\n",
                 "   | ^\n",
                 "   |\n",
-                "   = help: a name near `top` is `tops`\n",
+                "   = help: A name near `top` is `tops`.\n",
             ),
         ),
     ];
@@ -151,11 +151,11 @@ fn names_that_are_near(rt: HostRuntime) -> Result<(), Fail> {
     let rows = [
         (
             "fault 312 main.osc:4:10\n",
-            "   = help: a name near `sped` is `speed`\n",
+            "   = help: A name near `sped` is `speed`.\n",
         ),
         (
             "fault 312 main.osc:3:12\n",
-            "   = help: a name near `flot` is `float`\n",
+            "   = help: A name near `flot` is `float`.\n",
         ),
     ];
     for (line, want) in rows {
@@ -163,7 +163,7 @@ fn names_that_are_near(rt: HostRuntime) -> Result<(), Fail> {
         assert!(rt; message.as_str().contains(want), "{line}");
     }
     let none = message_for(rt.alloc(), "fault 312 main.osc:4:23\n", &files)?;
-    assert!(rt; !none.as_str().contains("a name near"));
+    assert!(rt; !none.as_str().contains("A name near"));
     Ok(())
 }
 
@@ -190,7 +190,7 @@ fn long_names(rt: HostRuntime) -> Result<(), Fail> {
         let message = message_of_lengths(rt.alloc(), asked, declared)?;
         assert!(rt; message.as_str().starts_with("error[312]: "), "{asked}");
         assert!(rt;
-            message.as_str().contains("a name near") == is_near,
+            message.as_str().contains("A name near") == is_near,
             "{asked}"
         );
     }

@@ -17,11 +17,11 @@ fn files_that_are_given_once(rt: HostRuntime) -> Result<(), Fail> {
         ),
         (
             "import \"part.osc\"\nscenario tops\n",
-            "a name near `top` is `tops`\n",
+            "A name near `top` is `tops`.\n",
         ),
         (
             "import \"part.osc\"\nscenario top:\n    x: inr\n",
-            "a name near `inr` is `int`\n",
+            "A name near `inr` is `int`.\n",
         ),
     ];
     for (source, want) in rows {
@@ -53,7 +53,7 @@ fn files_of_small_pieces(rt: HostRuntime) -> Result<(), Fail> {
             called
                 .message
                 .as_str()
-                .contains("a name near `top` is `tops`\n")
+                .contains("A name near `top` is `tops`.\n")
         );
     }
     Ok(())

@@ -25,7 +25,7 @@ fn words_after_a_command(rt: HostRuntime) -> Result<(), Fail> {
         ),
         (
             &["a.osc", "--tick", "5", "top"],
-            "error: `osc generate` doesn't take the word `--tick` here\n",
+            "error: `osc generate` has no option `--tick`\n  = help: an option near it is `--ticks`\n",
         ),
         (
             &["a.osc", "--ticks", "0", "top"],
@@ -37,11 +37,11 @@ fn words_after_a_command(rt: HostRuntime) -> Result<(), Fail> {
         ),
         (
             &["a.osc", "top", "--road=ten"],
-            "error: `osc generate` doesn't take the word `--road=ten` here\n",
+            "error: `--road` doesn't take the value `ten`\n  = help: --road N ",
         ),
         (
             &["a.osc", "top", "--lanes", "2", "--lanes", "2"],
-            "error: `osc generate` doesn't take the word `--lanes` here\n",
+            "error: `--lanes` stands twice\n",
         ),
     ];
     for (rest, want) in rows {
@@ -63,7 +63,7 @@ fn first_words(rt: HostRuntime) -> Result<(), Fail> {
         ),
         (
             &["simulate", "a.osc"],
-            "error: `simulate` is no command\n  = help: `osc help` lists the commands.",
+            "error: `simulate` is no command\n  = help: `osc help` lists the commands\n",
         ),
         (
             &["check", "a.osc"],

@@ -15,11 +15,11 @@ use Rattle.name_scope.specs.declared.ids.DeclId.{DeclId}
 use Rattle.name_scope.specs.declared.ids.NameKind.{NameKind}
 use Rattle.name_scope.specs.FileNumbers.{AddedFile}
 use Rattle.name_scope.specs.Declaring.{DeclaredName, behaviour_name, compound_name, declares, is_name, first_place, found, found_from, same_owner}
-use Rattle.type_heads.specs.Form.{Form}
-use Rattle.type_heads.specs.Table.{TypeHead, head, form, is_scenario, named}
-use Rattle.type_heads.specs.Types.{Written, TypeBody, Types}
-use Rattle.type_heads.specs.Members.{body, nowhere}
-use Rattle.type_heads.specs.DeclaredTypes.{Placed, Declared, declared, basic_types, type_declared, all_declared, bodies_from, body_with, compound, declared_heads, form_with, head_with, heads_from, items_with, placed, placed_from, placed_in, program_of, types_from, types_of, written_from}
+use Rattle.program_uses.specs.type_heads.Form.{Form}
+use Rattle.program_uses.specs.type_heads.Table.{TypeHead, head, form, is_scenario, named}
+use Rattle.program_uses.specs.type_heads.Types.{Written, TypeBody, Types}
+use Rattle.program_uses.specs.type_heads.Members.{body, nowhere}
+use Rattle.program_uses.specs.type_heads.DeclaredTypes.{Placed, Declared, declared, basic_types, type_declared, all_declared, bodies_from, body_with, compound, declared_heads, form_with, head_with, heads_from, items_with, placed, placed_from, placed_in, program_of, types_from, types_of, written_from}
 use Rattle.named_scenario.specs.Declarations.{IsDeclaredBy, as_scenario, if_scenario, declaration_at, scenario_declared}
 
 none_some : {A : Type 0} (x : A) → None ≡ Some x → ⊥

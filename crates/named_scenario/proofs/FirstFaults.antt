@@ -1,18 +1,17 @@
 -- The first fault of declarations, from the first fault of each group.
 use Rattle.std.proofs.Common.{◌≡◌, ◌∙◌, refl, sym, ap, subst, ℕ, List, Option, Some, None, Bool, true, false, cond, Result, Ok, Err, IfErr}
-use Rattle.std.specs.Prelude.{IsErrAnd}
+use Rattle.std.specs.Prelude.{IsErrAnd, option_and_then}
 use Rattle.osc_base.specs.declared.stop.Stop.{Stop}
-use Rattle.std.specs.Prelude.{option_and_then}
 use Rattle.std.specs.Option.{option_or}
 use Rattle.osc_base.specs.declared.fault.Fault.{Fault}
 use Rattle.osc_base.specs.FaultRows.{first_fault}
 use Rattle.dsl_tree.specs.FileTree.{CompoundTree}
 use Rattle.name_scope.specs.FileNumbers.{AddedFile}
-use Rattle.type_heads.specs.Table.{form, is_scenario, named}
-use Rattle.type_heads.specs.Told.{Told, told}
-use Rattle.type_heads.specs.HeadingFaults.{heading_rows}
-use Rattle.type_heads.specs.MemberFaults.{member_fault_rows}
-use Rattle.type_heads.specs.DeclaredTypes.{program_of}
+use Rattle.program_uses.specs.type_heads.Table.{form, is_scenario, named}
+use Rattle.program_uses.specs.type_heads.Told.{Told, told}
+use Rattle.program_uses.specs.type_heads.HeadingFaults.{heading_rows}
+use Rattle.program_uses.specs.type_heads.MemberFaults.{member_fault_rows}
+use Rattle.program_uses.specs.type_heads.DeclaredTypes.{program_of}
 use Rattle.program_uses.specs.composition.Uses.{use_rows}
 use Rattle.named_scenario.specs.Declarations.{IsDeclaredBy, scenario_declared}
 use Rattle.named_scenario.specs.Naming.{fault_in, scenario_in, types_in}

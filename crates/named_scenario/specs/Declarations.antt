@@ -7,9 +7,9 @@ use Rattle.name_scope.specs.declared.ids.DeclId.{DeclId}
 use Rattle.name_scope.specs.declared.ids.NameKind.{NameKind}
 use Rattle.name_scope.specs.FileNumbers.{AddedFile}
 use Rattle.name_scope.specs.Declaring.{behaviour_name, found}
-use Rattle.type_heads.specs.Table.{head}
-use Rattle.type_heads.specs.Types.{Types}
-use Rattle.type_heads.specs.Members.{body}
+use Rattle.program_uses.specs.type_heads.Table.{head}
+use Rattle.program_uses.specs.type_heads.Types.{Types}
+use Rattle.program_uses.specs.type_heads.Members.{body}
 use Rattle.named_scenario.specs.Own.{own_members}
 
 -- the declaration of that number in its file

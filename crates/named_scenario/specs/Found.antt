@@ -2,7 +2,7 @@
 use Rattle.std.specs.Prelude.{◌≡◌, ℕ, List, Option, Some, None}
 use Rattle.dsl_tree.specs.Views.{compound_tree}
 use Rattle.name_scope.specs.FileNumbers.{AddedFile}
-use Rattle.type_heads.specs.Told.{told}
+use Rattle.program_uses.specs.type_heads.Told.{told}
 use Rattle.named_scenario.specs.declared.named.NamedScenario.{NamedScenario}
 use Rattle.named_scenario.specs.declared.named.NameStop.{NameStop}
 use Rattle.named_scenario.specs.Declarations.{IsDeclaredBy}

@@ -2,8 +2,8 @@
 use Rattle.std.specs.Prelude.{ℕ, List, Option}
 use Rattle.osc_base.specs.declared.fault.Fault.{Fault}
 use Rattle.name_scope.specs.FileNumbers.{AddedFile}
-use Rattle.type_heads.specs.Types.{Types}
-use Rattle.type_heads.specs.DeclaredTypes.{program_of, types_of}
+use Rattle.program_uses.specs.type_heads.Types.{Types}
+use Rattle.program_uses.specs.type_heads.DeclaredTypes.{program_of, types_of}
 use Rattle.program_uses.specs.composition.SceneFaults.{named_scenario}
 use Rattle.program_uses.specs.composition.StaticFaults.{declaration_fault}
 

@@ -6,3 +6,4 @@ mod named;
 mod sound;
 
 pub use named::{NameStop, NamedScenario, find_scenario};
+pub use program_uses::{ProgramMembers, Setting, Spot, TypeId, Types};

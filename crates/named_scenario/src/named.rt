@@ -2,8 +2,8 @@
 
 ghost use Rattle.std.specs.Prelude.{◌≡◌, cond, IfOk, IfErr, Some, None, option_and_then, option_copied};
 ghost use Rattle.name_scope.specs.FileNumbers.{wanted_name};
-ghost use Rattle.type_heads.specs.Table.{form, is_scenario, named};
-ghost use Rattle.type_heads.specs.Told.{told};
+ghost use Rattle.program_uses.specs.type_heads.Table.{form, is_scenario, named};
+ghost use Rattle.program_uses.specs.type_heads.Told.{told};
 ghost use Rattle.named_scenario.specs.Found.{IsNamed, IsNoName};
 ghost use Rattle.named_scenario.specs.Naming.{fault_in, types_in};
 
@@ -12,8 +12,8 @@ use crate::sound::sound_types;
 use dsl_tree::CompoundDecl;
 use name_scope::Program;
 use osc_base::{Fault, Stop};
+use program_uses::{TypeId, TypeKind, Types};
 use std::alloc::Global;
-use type_model::{TypeId, TypeKind, Types};
 
 /// A scenario of a program whose declarations have no fault, with the program's types.
 #[derive(Drop)]

@@ -4,15 +4,14 @@ ghost use Rattle.std.specs.Prelude.{◌≡◌, IfOk, IfErr, Some, None};
 ghost use Rattle.name_scope.specs.FileNumbers.{wanted_name};
 ghost use Rattle.osc_base.specs.declared.fault.Fault.{Fault};
 ghost use Rattle.osc_base.specs.declared.stop.Stop.{Stop};
-ghost use Rattle.type_heads.specs.Told.{told};
+ghost use Rattle.program_uses.specs.type_heads.Told.{told};
 ghost use Rattle.named_scenario.specs.Naming.{fault_in, types_in};
 
 use name_scope::Program;
 use osc_base::{Fault, Stop};
-use program_uses::uses;
+use program_uses::{Types, uses};
 use std::alloc::Global;
 use type_build::build_types;
-use type_model::Types;
 
 /// The types of a program all of whose files were added, or the first fault of its declarations: of headings, else of members,
 /// else of uses.

@@ -6,8 +6,8 @@ use Rattle.osc_base.specs.declared.path.Path.{Path}
 use Rattle.dsl_tree.specs.declared.parts.Ident.{Ident}
 use Rattle.dsl_tree.specs.ExprTree.{ExprTree}
 use Rattle.dsl_tree.specs.PhaseTree.{ArgumentTree}
-use Rattle.type_heads.specs.Types.{Field, Types}
-use Rattle.type_heads.specs.Members.{fields}
+use Rattle.expr_nodes.specs.type_heads.Types.{Field, Types}
+use Rattle.expr_nodes.specs.type_heads.Members.{fields}
 use Rattle.scene_expansion.specs.composition.Calls.{Assigned, assigned}
 use Rattle.scene_expansion.specs.composition.Expansion.{Calling, argument_named, given_argument, given_duration, here_in, of_arguments}
 use Rattle.scene_expansion.specs.composition.Givens.{Given, Here, from_root, given_required, read_at}

@@ -3,8 +3,8 @@ use Rattle.std.proofs.Common.{◌≡◌, ◌∙◌, sym, ap, ℕ, ◌+◌, ◌<�
 use Rattle.std.proofs.lemmas.List.{drop_more}
 use Rattle.dsl_tree.specs.declared.phases.Argument.{Argument}
 use Rattle.dsl_tree.specs.Views.{argument_tree}
-use Rattle.type_heads.specs.Table.{Table}
-use Rattle.type_heads.specs.Types.{Field}
+use Rattle.expr_nodes.specs.type_heads.Table.{Table}
+use Rattle.expr_nodes.specs.type_heads.Types.{Field}
 use Rattle.work_counts.specs.declared.tally.Tally.{Tally}
 use Rattle.work_counts.specs.Amounts.{kept}
 use Rattle.work_counts.proofs.Sums.{joined, kept_plus}

@@ -4,7 +4,7 @@ use Rattle.std.specs.Prelude.{fold}
 use Rattle.std.specs.Int.{int_min, int_max}
 use Rattle.std.proofs.lemmas.Int.{ints, int_min_is, int_max_is}
 use Rattle.osc_base.specs.Comparisons.{same_number}
-use Rattle.type_heads.specs.Bounds.{least_of, greatest_of}
+use Rattle.expr_nodes.specs.type_heads.Bounds.{least_of, greatest_of}
 use Rattle.scene_expansion.specs.composition.Ranges.{has_gap}
 
 min_assoc : (a b c : ℤ) → int_min a (int_min b c) ≡ int_min (int_min a b) c

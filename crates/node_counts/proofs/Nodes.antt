@@ -13,7 +13,7 @@ use Rattle.scene_expansion.specs.expansion_laws.Works as Works
 use Rattle.scene_expansion.specs.AllCounts.{counts_of}
 use Rattle.scene_expansion.specs.scene_texts.Capped.{capped}
 use Rattle.scene_expansion.proofs.of_scene_texts.Caps.{capped_right, capped_small}
-use Rattle.type_heads.specs.Types.{Types}
+use Rattle.expr_nodes.specs.type_heads.Types.{Types}
 use Rattle.work_counts.specs.declared.tally.Tally.{Tally}
 use Rattle.work_counts.specs.Amounts.{Amount, amount_of, kept, no_amount}
 use Rattle.node_counts.specs.OwnCounts.{counts_with}

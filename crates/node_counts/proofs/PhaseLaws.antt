@@ -7,8 +7,8 @@ use Rattle.dsl_tree.specs.declared.phases.CompKind.{CompKind}
 use Rattle.dsl_tree.specs.declared.phases.InvokeHead.{InvokeHead}
 use Rattle.dsl_tree.specs.ExprTree.{ExprTree}
 use Rattle.dsl_tree.specs.PhaseTree.{ArgumentTree, ModifierTree, PartTree}
-use Rattle.type_heads.specs.Types.{Types}
-use Rattle.type_heads.specs.Members.{fields, the_do}
+use Rattle.expr_nodes.specs.type_heads.Types.{Types}
+use Rattle.expr_nodes.specs.type_heads.Members.{fields, the_do}
 use Rattle.scene_expansion.specs.composition.declared.spot.PhaseKind.{PhaseKind}
 use Rattle.scene_expansion.specs.composition.Expansion.{Calling, GivenModifier, argument_named, composition_kind, given_argument, given_duration, given_modifier, here_in, of_arguments, overlap_kind, part_modifier, part_rule}
 use Rattle.scene_expansion.specs.composition.Givens.{Given, Here}

@@ -6,7 +6,7 @@ use Rattle.dsl_tree.specs.declared.phases.CompNode.{CompNode}
 use Rattle.dsl_tree.specs.declared.phases.InvokeNode.{InvokeNode}
 use Rattle.dsl_tree.specs.declared.phases.WaitNode.{WaitNode}
 use Rattle.dsl_tree.specs.Views.{argument_tree, expr_tree, part_tree}
-use Rattle.type_heads.specs.Types.{Types}
+use Rattle.expr_nodes.specs.type_heads.Types.{Types}
 use Rattle.scene_expansion.specs.composition.declared.guard.Guard.{Guard}
 use Rattle.scene_expansion.specs.composition.declared.part.Binding.{Binding as OwnBinding}
 use Rattle.scene_expansion.specs.composition.declared.spot.ValueRange.{ValueRange}

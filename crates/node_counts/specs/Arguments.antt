@@ -5,8 +5,8 @@ use Rattle.osc_base.specs.declared.fault.Place.{Place}
 use Rattle.dsl_tree.specs.declared.parts.Ident.{Ident}
 use Rattle.dsl_tree.specs.ExprTree.{ExprTree}
 use Rattle.dsl_tree.specs.PhaseTree.{ArgumentTree}
-use Rattle.type_heads.specs.Table.{Table}
-use Rattle.type_heads.specs.Types.{Field}
+use Rattle.expr_nodes.specs.type_heads.Table.{Table}
+use Rattle.expr_nodes.specs.type_heads.Types.{Field}
 use Rattle.expr_nodes.specs.Fits.{is_read}
 use Rattle.expr_nodes.specs.Names.{is_duration}
 use Rattle.expr_nodes.specs.Scope.{It, Scope}

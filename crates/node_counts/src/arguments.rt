@@ -5,22 +5,17 @@ ghost use Rattle.dsl_tree.specs.Views.{argument_tree, expr_tree};
 ghost use Rattle.work_counts.specs.program_fields.SeenFields.{seen_field};
 ghost use Rattle.work_counts.specs.program_fields.Tables.{fields_in};
 ghost use Rattle.work_counts.specs.program_texts.SeenTexts.{types_in};
-ghost use Rattle.type_heads.specs.Members.{fields as fields_of};
+ghost use Rattle.expr_nodes.specs.type_heads.Members.{fields as fields_of};
 ghost use Rattle.work_counts.specs.Amounts.{kept};
 ghost use Rattle.expr_nodes.specs.Seen.{seen_part};
 ghost use Rattle.node_counts.specs.Arguments.{argument_amount, arguments_amount, duration_amount, field_amount, is_duration_argument, is_parameter as takes_value, named_amount, reads_one};
 
 use dsl_tree::{Argument, Expr, Ident};
-use expr_nodes::{It, Scope, Typed};
-use expr_typing::others::it;
-use expr_typing::steps::pointed;
+use expr_nodes::{FieldType, It, Scope, TypeId, Typed, Types};
 use osc_base::{Boxed, Place};
-use program_calls::first_place;
-use program_fields::{FieldsOf, TypeField};
-use program_texts::ProgramTexts;
+use scene_expansion::{first_place, it, pointed};
 use std::alloc::{AllocError, Global};
-use type_model::{FieldType, TypeId, Types};
-use work_counts::{Tally, value_tally};
+use work_counts::{FieldsOf, ProgramTexts, Tally, TypeField, value_tally};
 
 /// Whether one value is read.
 fn is_read(typed: &Option<Boxed<Typed>>) -> bool

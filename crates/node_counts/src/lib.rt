@@ -8,4 +8,5 @@ mod ranges;
 mod with_own;
 mod works;
 
+pub use scene_expansion::{Layout, Work, WorkLayout, is_too_large, scene_of};
 pub use works::counts;

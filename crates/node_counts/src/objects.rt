@@ -9,15 +9,13 @@ ghost use Rattle.scene_expansion.specs.expansion_laws.WorkNodes.{node_of};
 ghost use Rattle.scene_expansion.specs.expansion_laws.Works as Works;
 ghost use Rattle.work_counts.specs.program_texts.SeenTexts.{types_in};
 ghost use Rattle.scene_expansion.specs.AllCounts.{counts_of};
-ghost use Rattle.type_heads.specs.Types.{Types};
+ghost use Rattle.expr_nodes.specs.type_heads.Types.{Types};
 
 use crate::ranges::has_gap;
 use crate::with_own::{ticks_to, with_own};
-use composition::ValueRange;
-use program_texts::ProgramTexts;
-use scene_expansion::Counts;
-use type_model::TypeId;
-use work_counts::{Tally, object_tally};
+use expr_nodes::TypeId;
+use scene_expansion::{Counts, ValueRange};
+use work_counts::{ProgramTexts, Tally, object_tally};
 
 /// An object of a type with so many steps left. A vehicle has three slots and a rule at each tick.
 pub(crate) fn object_counts(texts: &ProgramTexts<'_>, steps: u32, of: TypeId, last: u32) -> Counts

@@ -8,20 +8,17 @@ ghost use Rattle.scene_expansion.specs.expansion_laws.WorkNodes.{node_of};
 ghost use Rattle.scene_expansion.specs.expansion_laws.Works as Works;
 ghost use Rattle.work_counts.specs.program_texts.SeenTexts.{types_in};
 ghost use Rattle.scene_expansion.specs.AllCounts.{counts_of};
-ghost use Rattle.type_heads.specs.Types.{Types};
+ghost use Rattle.expr_nodes.specs.type_heads.Types.{Types};
 ghost use Rattle.work_counts.specs.Amounts.{kept, sum_of};
 ghost use Rattle.node_counts.specs.Parts.{composition_slots as slots_of, modifier_amount, part_amount};
 
 use crate::arguments::{arguments_tally, duration_tally};
 use crate::with_own::{ticks_to, with_own};
 use dsl_tree::{CompKind, CompNode, InvokeNode, InvokePart, ModifierNode, WaitNode};
-use program_calls::modifier_form;
-use program_texts::ProgramTexts;
-use scene_expansion::Counts;
-use scene_texts::arguments_tokens;
+use expr_nodes::TypeId;
+use scene_expansion::{Counts, arguments_tokens, modifier_form};
 use std::alloc::{AllocError, Global};
-use type_model::TypeId;
-use work_counts::{Tally, rule_tally, value_tally};
+use work_counts::{ProgramTexts, Tally, rule_tally, value_tally};
 
 /// The slots of a composition: a `one_of` has a further one.
 fn composition_slots(kind: CompKind) -> u64

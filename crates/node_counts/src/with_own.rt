@@ -3,8 +3,7 @@
 ghost use Rattle.std.specs.Prelude.{◌≡◌, ◌+◌};
 ghost use Rattle.node_counts.specs.OwnCounts.{counts_with};
 
-use scene_expansion::Counts;
-use scene_texts::add;
+use scene_expansion::{Counts, add};
 use work_counts::Tally;
 
 /// The number of ticks from 0 to the last.

@@ -8,9 +8,9 @@ ghost use Rattle.scene_expansion.specs.SeenWorks.{seen_work};
 
 use crate::objects::{object_counts, value_counts};
 use crate::phases::{composition_counts, invocation_counts, wait_counts};
-use program_texts::ProgramTexts;
 use scene_expansion::{Counts, Work};
 use std::alloc::{AllocError, Global};
+use work_counts::ProgramTexts;
 
 /// How many objects, slots, rules and tokens a work has by itself, given the last tick. Each count stops at the greatest
 /// number of 64 bits.

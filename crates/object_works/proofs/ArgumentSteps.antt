@@ -3,12 +3,12 @@ use Rattle.std.proofs.Common.{◌≡◌, ◌∙◌, refl, sym, ap, ap₂, ℕ, �
 use Rattle.std.specs.Prelude.{bytes_eq, codes}
 use Rattle.std.specs.Option.{option_map_or}
 use Rattle.osc_base.specs.declared.path.Path.{Path}
-use Rattle.osc_base.specs.Paths.{then_name}
+use Rattle.osc_base.specs.Paths.{then_name, path_of}
 use Rattle.dsl_tree.specs.declared.parts.Ident.{Ident}
 use Rattle.dsl_tree.specs.ExprTree.{ExprTree}
 use Rattle.dsl_tree.specs.PhaseTree.{ArgumentTree}
-use Rattle.type_heads.specs.Types.{Field, Types}
-use Rattle.type_heads.specs.Members.{fields}
+use Rattle.expr_nodes.specs.type_heads.Types.{Field, Types}
+use Rattle.expr_nodes.specs.type_heads.Members.{fields}
 use Rattle.scene_expansion.specs.composition.Calls.{Assigned, Callee, assigned, without_labels}
 use Rattle.scene_expansion.specs.composition.Expansion.{Calling, actor_binding, argument_binding, binding, here_in, object_at, of_arguments}
 use Rattle.scene_expansion.specs.composition.Givens.{Here, from_root, steps_from}
@@ -20,7 +20,6 @@ use Rattle.expr_nodes.specs.Typed as Nodes
 use Rattle.expr_nodes.specs.Typed.{Typed, moved}
 use Rattle.expr_nodes.specs.Typing.{typed}
 use Rattle.osc_base.specs.declared.path.Step.{Step}
-use Rattle.osc_base.specs.Paths.{path_of}
 use Rattle.scene_expansion.specs.scene_texts.Moving.{path_under, steps_under}
 use Rattle.object_works.specs.Arguments.{arguments_bound, actor_bound, assigned_field, binding_at, bindings_to, field_given}
 

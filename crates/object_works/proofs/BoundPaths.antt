@@ -5,7 +5,7 @@ use Rattle.osc_base.specs.Paths.{same_path}
 use Rattle.scene_expansion.specs.composition.declared.part.Binding.{Binding}
 use Rattle.scene_expansion.specs.composition.Homes.{is_bound}
 use Rattle.scene_expansion.specs.composition.SeenParts.{seen_binding}
-use Rattle.path_index.specs.Places.{first_place}
+use Rattle.scene_expansion.specs.path_index.Places.{first_place}
 
 first_bound : (path : Path) (n : ℕ) (bs : List Binding) → is_some (first_place (λ (b : Binding). same_path b.at path) n bs) ≡ is_bound (map seen_binding bs) path
 first_bound path n [] = refl

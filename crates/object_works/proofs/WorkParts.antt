@@ -13,9 +13,9 @@ use Rattle.dsl_tree.specs.declared.phases.Phase.TheViews
 use Rattle.dsl_tree.specs.PhaseTree.{PhaseTree, phases_of, row_of}
 use Rattle.dsl_tree.specs.Views.{argument_tree, expr_tree, part_tree, phase_tree}
 use Rattle.dsl_tree.proofs.SeenPhases.{seen_comp, seen_invoke, seen_wait}
-use Rattle.type_heads.specs.Table.{form, is_object}
-use Rattle.type_heads.specs.Types.{Field, Types}
-use Rattle.type_heads.specs.Members.{field_type, list_length}
+use Rattle.expr_nodes.specs.type_heads.Table.{form, is_object}
+use Rattle.expr_nodes.specs.type_heads.Types.{Field, Types}
+use Rattle.expr_nodes.specs.type_heads.Members.{field_type, list_length}
 use Rattle.scene_expansion.specs.composition.declared.guard.Guard.{Guard}
 use Rattle.scene_expansion.specs.composition.declared.spot.ValueRange.{ValueRange}
 use Rattle.scene_expansion.specs.composition.Expansion.{Calling}

@@ -4,8 +4,8 @@ use Rattle.osc_base.specs.declared.path.Path.{Path}
 use Rattle.osc_base.specs.Paths.{then_name}
 use Rattle.dsl_tree.specs.declared.parts.Ident.{Ident}
 use Rattle.dsl_tree.specs.PhaseTree.{ArgumentTree}
-use Rattle.type_heads.specs.Table.{Table}
-use Rattle.type_heads.specs.Types.{Field}
+use Rattle.expr_nodes.specs.type_heads.Table.{Table}
+use Rattle.expr_nodes.specs.type_heads.Types.{Field}
 use Rattle.scene_expansion.specs.composition.Calls.{Assigned, Callee, without_labels}
 use Rattle.scene_expansion.specs.composition.Expansion.{Calling, object_at}
 use Rattle.scene_expansion.specs.composition.Homes.{home}

@@ -2,9 +2,9 @@
 use Rattle.std.specs.Prelude.{ℕ, ◌&&◌, not, List, [], ◌++◌, ◌∷◌, cond, flat_map, option_to_list}
 use Rattle.osc_base.specs.declared.path.Path.{Path}
 use Rattle.dsl_tree.specs.FileTree.{FieldTree}
-use Rattle.type_heads.specs.Table.{form, is_object}
-use Rattle.type_heads.specs.Types.{Types}
-use Rattle.type_heads.specs.Members.{list_length}
+use Rattle.expr_nodes.specs.type_heads.Table.{form, is_object}
+use Rattle.expr_nodes.specs.type_heads.Types.{Types}
+use Rattle.expr_nodes.specs.type_heads.Members.{list_length}
 use Rattle.scene_expansion.specs.composition.declared.guard.Guard.{Guard}
 use Rattle.scene_expansion.specs.composition.Homes.{is_bound}
 use Rattle.scene_expansion.specs.composition.Ranges.{range_of}

@@ -8,4 +8,4 @@ pub use Rattle.expr_nodes.specs as expr_nodes
 pub use Rattle.scene_expansion.specs.program_calls as program_calls
 pub use Rattle.program_texts.specs as program_texts
 pub use Rattle.scene_expansion.specs as scene_expansion
-pub use Rattle.type_heads.specs as type_heads
+pub use Rattle.expr_nodes.specs.type_heads as type_heads

@@ -3,7 +3,7 @@ use Rattle.std.specs.Prelude.{ℕ, List, map, option_to_list}
 use Rattle.osc_base.specs.declared.path.Path.{Path}
 use Rattle.dsl_tree.specs.declared.phases.InvokeNode.{InvokeNode}
 use Rattle.dsl_tree.specs.Views.{argument_tree, part_tree}
-use Rattle.type_heads.specs.Types.{Do, Types}
+use Rattle.expr_nodes.specs.type_heads.Types.{Do, Types}
 use Rattle.scene_expansion.specs.composition.declared.guard.Guard.{Guard}
 use Rattle.scene_expansion.specs.composition.Calls.{PhaseHere, Turn, invoked}
 use Rattle.scene_expansion.specs.composition.Expansion.{Calling, calling, from_object}

@@ -12,7 +12,7 @@ ghost use Rattle.expr_nodes.specs.SeenNames.{seen_scope};
 ghost use Rattle.expr_nodes.specs.Typing.{typed as typed_in};
 ghost use Rattle.scene_expansion.specs.program_calls.SeenCallees.{seen_callee};
 ghost use Rattle.scene_expansion.specs.program_calls.SeenLabels.{do_labels, seen_labels};
-ghost use Rattle.type_heads.specs.Types.{Types};
+ghost use Rattle.expr_nodes.specs.type_heads.Types.{Types};
 ghost use Rattle.scene_expansion.specs.SeenWorks.{seen_call};
 ghost use Rattle.scene_expansion.specs.scene_texts.Moving.{seen_bound};
 ghost use Rattle.program_texts.specs.program_fields.SeenFields.{seen_field};
@@ -21,18 +21,13 @@ ghost use Rattle.program_texts.specs.SeenTexts.{types_in};
 ghost use Rattle.object_works.specs.Arguments.{actor_bound, arguments_bound, assigned_field, binding_at, bindings_to};
 ghost use Rattle.object_works.specs.Arguments as arguments_of;
 
-use composition::Binding;
 use dsl_tree::{Argument, Ident, InvokeNode};
 use expr_eval::checked;
-use expr_nodes::{It, LabelTable, Scope, Typed};
+use expr_nodes::{FieldType, It, LabelTable, Scope, Typed};
 use osc_base::{Boxed, Path, Row};
-use program_calls::{Callee, actor_checked, callee_of, scope_at};
-use program_fields::{FieldsOf, TypeField};
-use program_texts::ProgramTexts;
-use scene_expansion::Call;
-use scene_texts::{Bound, Moves, then_name};
+use program_texts::{FieldsOf, ProgramTexts, TypeField, TypeId, then_name};
+use scene_expansion::{Binding, Bound, Call, Callee, Moves, actor_checked, callee_of, scope_at};
 use std::alloc::{AllocError, Global};
-use type_model::{FieldType, TypeId};
 
 /// The scope of the arguments of a call, in which `it` is the object that the call makes. The labels are those of the
 /// `do` in which the call stands.

@@ -7,7 +7,7 @@ ghost use Rattle.scene_expansion.specs.composition.Expansion.{calling as calling
 ghost use Rattle.scene_expansion.specs.composition.SeenParts.{seen_binding};
 ghost use Rattle.scene_expansion.specs.expansion_laws.Works.{bindings_made as bindings_of, do_works, object_works, phase_works};
 ghost use Rattle.scene_expansion.specs.program_calls.PlacedPhases.{seen_phase, seen_turn};
-ghost use Rattle.type_heads.specs.Members.{the_do};
+ghost use Rattle.expr_nodes.specs.type_heads.Members.{the_do};
 ghost use Rattle.scene_expansion.specs.SeenWorks.{seen_call, seen_work};
 ghost use Rattle.program_texts.specs.program_fields.SeenFields.{seen_do};
 ghost use Rattle.program_texts.specs.SeenTexts.{types_in};
@@ -16,17 +16,12 @@ ghost use Rattle.object_works.specs.Phases.{choice_of, invocation_works, phase_h
 use crate::bindings::bindings_made;
 use crate::copies::{copy_bindings, copy_guards, copy_way};
 use crate::within::Within;
-use composition::Guard;
 use dsl_tree::{InvokeNode, Phase};
 use expr_nodes::Turn;
 use osc_base::{Path, Row};
-use program_calls::{PlacedPhase, invoked, phases_in};
-use program_fields::TypeDo;
-use program_texts::ProgramTexts;
-use scene_expansion::{Call, Work};
-use scene_texts::from_object;
+use program_texts::{Guard, ProgramTexts, TypeDo, TypeId};
+use scene_expansion::{Call, PlacedPhase, Work, from_object, invoked, phases_in};
 use std::alloc::{AllocError, Global};
-use type_model::TypeId;
 
 /// Puts the choices of a way at the end.
 fn push_choices(

@@ -2,9 +2,10 @@
 
 ghost use Rattle.std.specs.Prelude.{◌≡◌, IfOk};
 
-use composition::{Binding, Guard, ValueRange};
 use expr_nodes::Turn;
 use osc_base::Row;
+use program_texts::{Guard, ValueRange};
+use scene_expansion::Binding;
 use std::alloc::{AllocError, Global};
 
 /// An equal condition.

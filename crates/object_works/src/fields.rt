@@ -7,7 +7,7 @@ ghost use Rattle.scene_expansion.specs.composition.SeenParts.{seen_binding};
 ghost use Rattle.dsl_tree.specs.Views.{field_tree};
 ghost use Rattle.scene_expansion.specs.expansion_laws.Works.{field_works, value_works};
 ghost use Rattle.scene_expansion.specs.expansion_laws.Works as works;
-ghost use Rattle.type_heads.specs.Members.{fields};
+ghost use Rattle.expr_nodes.specs.type_heads.Members.{fields};
 ghost use Rattle.scene_expansion.specs.SeenWorks.{seen_work};
 ghost use Rattle.program_texts.specs.program_fields.SeenFields.{seen_field};
 ghost use Rattle.program_texts.specs.SeenTexts.{types_in};
@@ -15,15 +15,13 @@ ghost use Rattle.object_works.specs.Held.{held_objects, held_values, held_works}
 
 use crate::copies::{copy_guard, copy_guards, copy_range};
 use crate::within::Within;
-use composition::{Guard, ValueRange};
 use dsl_tree::FieldDecl;
 use osc_base::{Path, Row};
-use program_fields::TypeField;
-use program_texts::{ProgramTexts, list_length, range_of};
-use scene_expansion::Work;
-use scene_texts::{then_index, then_name};
+use program_texts::{
+    Guard, ProgramTexts, TypeField, TypeId, ValueRange, list_length, range_of, then_name,
+};
+use scene_expansion::{Work, then_index};
 use std::alloc::{AllocError, Global};
-use type_model::TypeId;
 
 impl Within<'_> {
     /// Whether a parameter is another name of its argument.

@@ -10,4 +10,11 @@ mod works_in;
 
 pub use bindings::{call_scope, object_at};
 pub use copies::{copy_binding, copy_bindings, copy_guards, copy_range};
+pub use expr_eval::checked;
+pub use expr_nodes::TextTable;
+pub use program_texts::{Guard, ProgramTexts, TypeId, ValueRange, then_name};
+pub use scene_expansion::{
+    Binding, Call, Content, ModifierForm, ModifierSpot, PhaseKind, Spot, Work, argument_named,
+    modifier_form, name_of, then_do, then_member,
+};
 pub use works_in::{parts, root, root_parts};

@@ -1,11 +1,10 @@
 //! The object whose parts are laid out.
 
-ghost use Rattle.path_index.specs.Places.{Places};
+ghost use Rattle.scene_expansion.specs.path_index.Places.{Places};
 
-use composition::{Binding, Guard};
 use osc_base::Path;
-use path_index::PathIndex;
-use type_model::TypeId;
+use program_texts::{Guard, TypeId};
+use scene_expansion::{Binding, PathIndex};
 
 /// An object of a type at a path, its conditions and the bindings of its parameters, and how many objects may stand in one
 /// another in it. `bound` has the place of each parameter among the bindings.

@@ -13,14 +13,10 @@ use crate::calls::push_dos;
 use crate::copies::{copy_bindings, copy_guards};
 use crate::fields::push_fields;
 use crate::within::Within;
-use composition::Binding;
 use osc_base::{Path, Row};
-use path_index::PathIndex;
-use program_texts::ProgramTexts;
-use scene_expansion::{Call, Work};
-use scene_texts::then_name;
+use program_texts::{ProgramTexts, TypeId, then_name};
+use scene_expansion::{Binding, Call, PathIndex, Work};
 use std::alloc::{AllocError, Global};
-use type_model::TypeId;
 
 /// Puts what an object holds beside an actor of its own at the end.
 fn push_parts<'p>(

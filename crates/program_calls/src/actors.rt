@@ -11,13 +11,12 @@ ghost use Rattle.program_calls.specs.SeenCallees.{actor_tree, called_in, head_tr
 use crate::callees::{Callee, actor_of, behaviour_named};
 use crate::owned::owned_behaviour;
 use dsl_tree::{Ident, InvokeHead};
-use expr_nodes::{Checked, Scope, Typed};
+use expr_nodes::{Checked, Scope, TypeId, Typed, Types};
 use expr_typing::meanings::name;
 use expr_typing::others::actor;
 use expr_typing::steps::pointed;
 use osc_base::{Boxed, Place};
 use std::alloc::{AllocError, Global};
-use type_model::{TypeId, Types};
 
 /// The head of an invocation, as an expression.
 fn head_checked(

@@ -7,8 +7,8 @@ ghost use Rattle.composition.specs.Calls.{behaviour_named as behaviour_of, calle
 ghost use Rattle.program_calls.specs.SeenCallees.{seen_callee};
 
 use dsl_tree::{Ident, InvokeHead};
+use expr_nodes::{TypeId, TypeKind, Types};
 use osc_base::Place;
-use type_model::{TypeId, TypeKind, Types};
 
 /// What is written before the brackets of an invocation: a behaviour's name alone, the path to an actor and the name of
 /// one of its behaviours, or the word `actor` alone, which names nothing.

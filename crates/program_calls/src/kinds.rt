@@ -5,7 +5,7 @@ ghost use Rattle.std.specs.Option.{option_map_or};
 ghost use Rattle.composition.specs.type_heads.Table.{is_kind_of as kind_of};
 ghost use Rattle.program_calls.specs.LibraryTypes.{is_library_drive, is_library_vehicle};
 
-use type_model::{TypeId, Types};
+use expr_nodes::{TypeId, Types};
 
 /// Whether a type is the one found or inherits from it.
 fn is_kind_of_found(types: &Types, found: Option<TypeId>, of: TypeId) -> bool

@@ -9,9 +9,8 @@ ghost use Rattle.program_calls.specs.SeenCallees.{head_tree};
 
 use crate::name_exprs::head_name;
 use dsl_tree::{Expr, InvokeHead};
-use expr_nodes::Scope;
+use expr_nodes::{Scope, Types};
 use expr_typing::has_label;
-use type_model::Types;
 
 /// Whether a name is that of a label, and of no field.
 fn is_label(types: &Types, scope: &Scope<'_>, name: &str) -> bool

@@ -12,10 +12,9 @@ use crate::actors::called;
 use crate::callees::callee_of;
 use crate::phases::{PlacedPhase, copy_way, phases_in};
 use dsl_tree::{Ident, InvokeNode, Phase};
-use expr_nodes::{Label, LabelTable, Made};
+use expr_nodes::{Label, LabelTable, Made, TypeId, Types};
 use osc_base::Text;
 use std::alloc::{AllocError, Global};
-use type_model::{TypeId, Types};
 
 /// The action or scenario that an invocation in the text of a type invokes.
 pub fn invoked(

@@ -19,6 +19,13 @@ mod scopes;
 pub use actors::{actor_checked, actor_type, called, head_place, resolved_actor};
 pub use arguments::argument_named;
 pub use callees::{Callee, actor_of, behaviour_named, callee_of};
+pub use composition::{
+    Binding, Condition, Content, Guard, ModifierSpot, Occurrence, PhaseKind, Scene, Setting, Spot,
+    ValueRange,
+};
+pub use expr_nodes::{LabelTable, TextTable, Turn, TypeId, TypeKind, Types};
+pub use expr_typing::others::it;
+pub use expr_typing::steps::pointed;
 pub use first_tokens::first_place;
 pub use kinds::{is_drive, is_vehicle};
 pub use label_paths::{begins_with_label, begins_with_label_at};

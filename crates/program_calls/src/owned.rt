@@ -5,7 +5,7 @@ ghost use Rattle.composition.specs.type_heads.Table.{line_within};
 ghost use Rattle.composition.specs.Calls.{owned_behaviour as owned_by};
 ghost use Rattle.program_calls.specs.SeenCallees.{owned_along, owned_at};
 
-use type_model::{TypeId, Types};
+use expr_nodes::{TypeId, Types};
 
 /// The behaviour of that name that a type owns.
 fn owned_here(types: &Types, name: &str, owner: TypeId) -> Option<TypeId>

@@ -7,8 +7,7 @@ ghost use Rattle.expr_nodes.specs.SeenNames.{seen_it, seen_scope};
 ghost use Rattle.program_calls.specs.PlacedPhases.{seen_turn};
 ghost use Rattle.program_calls.specs.SeenLabels.{do_labels, seen_labels};
 
-use expr_nodes::{It, LabelTable, Scope, Turn};
-use type_model::TypeId;
+use expr_nodes::{It, LabelTable, Scope, Turn, TypeId};
 
 /// The scope of an expression in the text of a type, as it is seen from a way. The labels are those of the type's
 /// `do`.

@@ -13,8 +13,5 @@ mod views;
 
 pub use fields::{TypeDo, TypeField};
 pub use tables::ProgramFields;
+pub use type_members::{ListedMember, MemberLists, heir_condition};
 pub use views::FieldsOf;
-
-// Crates below, for the crates above.
-pub use type_members;
-pub use type_tables;

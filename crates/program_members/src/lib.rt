@@ -5,3 +5,4 @@ mod library;
 mod members;
 
 pub use members::ProgramMembers;
+pub use type_heads::Body;

@@ -4,7 +4,7 @@ ghost use Rattle.std.specs.Prelude.{◌≡◌, None};
 ghost use Rattle.type_members.specs.name_scope.Declaring.{first_place};
 ghost use Rattle.type_members.specs.name_scope.FileNumbers.{is_library as is_library_name, numbered_names, wanted_name};
 
-use type_members::name_scope::Program;
+use type_heads::Program;
 
 /// The number of the library's file, if it is one of the program's.
 pub(crate) fn library_of(program: &Program) -> Option<u32>

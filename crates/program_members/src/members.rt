@@ -12,8 +12,7 @@ ghost use Rattle.program_members.specs.MembersOf.{AreDeclaredMembers, AreMembers
 
 use crate::library::library_of;
 use std::alloc::{AllocError, Global};
-use type_members::name_scope::Program;
-use type_members::type_heads::{Body, Declarations, Heads, bodies};
+use type_heads::{Body, Declarations, Heads, Program, bodies};
 use type_members::{MemberLists, Subtypes};
 
 /// The bodies and the members of the types of a program, and the number of the library's file.

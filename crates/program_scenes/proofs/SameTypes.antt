@@ -3,8 +3,8 @@ use Rattle.std.proofs.Common.{◌≡◌, ◌∙◌, sym, ap}
 use Rattle.named_scenario.specs.program_members.declared.members.ProgramMembers.{ProgramMembers}
 use Rattle.named_scenario.specs.program_members.MembersOf.{AreMembersOf}
 use Rattle.node_counts.specs.program_texts.SeenTexts.{types_with}
-use Rattle.type_heads.specs.Told.{Told, told}
-use Rattle.type_heads.specs.Types.{Types}
+use Rattle.named_scenario.specs.type_heads.Told.{Told, told}
+use Rattle.named_scenario.specs.type_heads.Types.{Types}
 
 -- what is told of the types, and their members
 module _ (ts : Types) (m : ProgramMembers) (t : Told) (members : AreMembersOf ts m) (same : t ≡ told ts) where

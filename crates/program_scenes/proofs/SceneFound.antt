@@ -1,7 +1,7 @@
 -- What is found for a scenario.
 use Rattle.std.proofs.Common.{◌≡◌, ℕ, true, false, Option, Some, None, subst}
 use Rattle.std.specs.Prelude.{MatchOption}
-use Rattle.type_heads.specs.Types.{Types}
+use Rattle.named_scenario.specs.type_heads.Types.{Types}
 use Rattle.named_scenario.specs.composition.declared.scene.Scene.{Scene}
 use Rattle.named_scenario.specs.composition.declared.setting.Setting.{Setting}
 use Rattle.named_scenario.specs.composition.Expanded.{scene}

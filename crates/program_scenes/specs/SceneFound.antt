@@ -1,6 +1,6 @@
 -- What is found for a scenario of a program: its scene, or none.
 use Rattle.std.specs.Prelude.{◌≡◌, ℕ, true, false, Option, Some, None}
-use Rattle.type_heads.specs.Types.{Types}
+use Rattle.named_scenario.specs.type_heads.Types.{Types}
 use Rattle.named_scenario.specs.composition.declared.scene.Scene.{Scene}
 use Rattle.named_scenario.specs.composition.declared.setting.Setting.{Setting}
 use Rattle.named_scenario.specs.composition.Expanded.{scene}

@@ -5,15 +5,12 @@ ghost use Rattle.named_scenario.specs.composition.SceneFaults.{is_too_large as t
 ghost use Rattle.name_scope.specs.FileNumbers.{wanted_name};
 ghost use Rattle.named_scenario.specs.Naming.{types_in};
 ghost use Rattle.node_counts.specs.program_texts.SeenTexts.{types_with};
-ghost use Rattle.type_heads.specs.Told.{told};
+ghost use Rattle.named_scenario.specs.type_heads.Told.{told};
 
 use crate::layout::ProgramLayout;
-use composition::Setting;
 use name_scope::Program;
-use named_scenario::NamedScenario;
-use program_members::ProgramMembers;
+use named_scenario::{NamedScenario, ProgramMembers, Setting, TypeId, Types};
 use std::alloc::{AllocError, Global};
-use type_model::{TypeId, Types};
 
 /// Whether a scenario that was found in a program has more objects, slots, rules or copied tokens than a scene can have, in
 /// runs as long as the setting says. It makes no part of the scene.
@@ -44,6 +41,6 @@ fn is_large_among(
     ensures { IfOk result (λ past. past ≡ too_large (types_with members.now types.now.table) of setting) }
 {
     let layout = ProgramLayout::of(alloc, types, members)?;
-    let past = scene_expansion::is_too_large(alloc, &layout, of, setting)?;
+    let past = node_counts::is_too_large(alloc, &layout, of, setting)?;
     Ok(past)
 }

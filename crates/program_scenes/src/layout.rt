@@ -2,21 +2,17 @@
 
 ghost use Rattle.std.specs.Prelude.{◌≡◌, IfOk};
 ghost use Rattle.node_counts.specs.program_texts.SeenTexts.{types_in, types_with};
-ghost use Rattle.type_heads.specs.Told.{told};
+ghost use Rattle.named_scenario.specs.type_heads.Told.{told};
 
-use composition::{Binding, ModifierSpot, Occurrence, Scene, Spot};
-use node_counts::counts;
-use object_works::{parts, root, root_parts};
+use named_scenario::{ProgramMembers, Spot, TypeId, Types};
+use node_counts::{Layout, Work, WorkLayout, counts};
 use osc_base::{Place, Row};
-use program_members::ProgramMembers;
-use program_texts::ProgramTexts;
-use scene_expansion::{Counts, Layout, Work, WorkLayout};
 use std::alloc::{AllocError, Global};
-use type_model::{TypeId, Types};
-use type_tables::TextTable;
-use work_constraints::push_occurrences;
-use work_modifiers::push_modifiers;
-use work_spots::{push_bindings, spot, texts};
+use work_constraints::{Counts, Occurrence, push_occurrences};
+use work_modifiers::{ModifierSpot, Scene, push_modifiers};
+use work_spots::{
+    Binding, ProgramTexts, TextTable, parts, push_bindings, root, root_parts, spot, texts,
+};
 
 /// The works of the scenarios of a program, read from its texts.
 #[derive(Drop)]

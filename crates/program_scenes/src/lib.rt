@@ -7,4 +7,6 @@ mod scenes;
 
 pub use large::is_too_large;
 pub use layout::ProgramLayout;
+pub use named_scenario::{NameStop, NamedScenario, Setting, find_scenario};
 pub use scenes::scene_of;
+pub use work_modifiers::Scene;

@@ -5,15 +5,13 @@ ghost use Rattle.name_scope.specs.FileNumbers.{wanted_name};
 ghost use Rattle.named_scenario.specs.Naming.{types_in};
 ghost use Rattle.program_scenes.specs.SceneFound.{IsSceneFound};
 ghost use Rattle.node_counts.specs.program_texts.SeenTexts.{types_with};
-ghost use Rattle.type_heads.specs.Told.{told};
+ghost use Rattle.named_scenario.specs.type_heads.Told.{told};
 
 use crate::layout::ProgramLayout;
-use composition::{Scene, Setting};
 use name_scope::Program;
-use named_scenario::NamedScenario;
-use program_members::ProgramMembers;
+use named_scenario::{NamedScenario, ProgramMembers, Setting, TypeId, Types};
 use std::alloc::{AllocError, Global};
-use type_model::{TypeId, Types};
+use work_modifiers::Scene;
 
 /// The scene of a scenario that was found in a program, in a setting. `None` exactly if it has more objects, slots, rules or
 /// copied tokens than a scene can have. This is found before anything of that size is made.
@@ -44,6 +42,6 @@ fn scene_among(
     ensures { IfOk result (IsSceneFound (types_with members.now types.now.table) of setting) }
 {
     let layout = ProgramLayout::of(alloc, types, members)?;
-    let found = scene_expansion::scene_of(alloc, &layout, of, setting)?;
+    let found = node_counts::scene_of(alloc, &layout, of, setting)?;
     Ok(found)
 }

@@ -6,9 +6,9 @@ use Rattle.std.proofs.lemmas.List.{take_all, take_more}
 use Rattle.std.proofs.lemmas.List.Folds.{list_all-append, list_any-append}
 use Rattle.std.proofs.lemmas.Slice.Eq.{bytes_eq-Decides}
 use Rattle.std.proofs.lemmas.Bool.Decides.{Decides-int_eq}
-use Rattle.type_heads.specs.Conditions.{Condition, condition}
-use Rattle.type_heads.specs.Members.{field}
-use Rattle.type_heads.specs.Types.{Field, Types}
+use Rattle.program_calls.specs.type_heads.Conditions.{Condition, condition}
+use Rattle.program_calls.specs.type_heads.Members.{field}
+use Rattle.program_calls.specs.type_heads.Types.{Field, Types}
 use Rattle.program_calls.specs.cond_inherit.Conditions.{conditions_within, once_after, same_condition}
 use Rattle.program_texts.specs.Asked.{adds, asks, is_done, once_more, seen_kept, steps_done, Covers, IsGathered}
 use Rattle.program_texts.specs.SeenConditions.{conditions_after, conditions_of_field, with_earlier}

@@ -2,8 +2,8 @@
 use Rattle.std.proofs.Common.{◌≡◌, ◌∙◌, refl, sym, ap, ℕ, zero, suc, ◌+◌, ◌-◌, ◌<◌, ◌≤◌, ◌||◌, Bool, true, false, cond, List, [], ◌∷◌, ◌++◌, Option, Some, None, map, filter_map, flat_map, option_to_list, length, drop, get_or, arith, append-nil, append_assoc}
 use Rattle.std.specs.List.{cons_option, list_any}
 use Rattle.std.proofs.lemmas.List.{drop_all, drop_more}
-use Rattle.type_heads.specs.Conditions.{Condition, condition}
-use Rattle.type_heads.specs.Types.{Types}
+use Rattle.program_calls.specs.type_heads.Conditions.{Condition, condition}
+use Rattle.program_calls.specs.type_heads.Types.{Types}
 use Rattle.program_calls.specs.cond_inherit.Conditions.{conditions_within, once_after, same_condition}
 use Rattle.program_calls.specs.cond_inherit.SubtypeConditions.{seen_condition}
 use Rattle.program_calls.specs.cond_inherit.declared.condition.Condition.{Condition as OwnCondition}

@@ -3,8 +3,8 @@ use Rattle.std.proofs.Common.{◌≡◌, ◌∙◌, refl, sym, ap, ℕ, zero, su
 use Rattle.std.specs.Prelude.{slice_get, IfSome}
 use Rattle.std.specs.Slice.{IsItemAt}
 use Rattle.std.proofs.lemmas.Option.{slice_get-get_or}
-use Rattle.type_heads.specs.Table.{Table}
-use Rattle.type_heads.specs.Types.{Do, Member, Types}
+use Rattle.program_calls.specs.type_heads.Table.{Table}
+use Rattle.program_calls.specs.type_heads.Types.{Do, Member, Types}
 use Rattle.program_calls.specs.composition.Calls.{phases_in}
 use Rattle.program_calls.specs.expr_nodes.declared.labels.LabelTable.{LabelTable}
 use Rattle.program_calls.specs.SeenLabels.{LabelHere, do_labels, labels_here, seen_labels}

@@ -3,15 +3,15 @@ use Rattle.std.proofs.Common.{◌≡◌, ◌∙◌, refl, sym, ap, ℕ, zero, su
 use Rattle.std.proofs.lemmas.Bool.{cases_lt}
 use Rattle.std.specs.Prelude.{ℤ, option_and_then}
 use Rattle.dsl_tree.specs.declared.compounds.HeirCondition.{HeirCondition}
-use Rattle.type_heads.specs.Form.{Form}
-use Rattle.type_heads.specs.Bounds.{numbers_of}
-use Rattle.type_heads.specs.Shown.{bare, kind_form}
-use Rattle.type_heads.specs.Table.{TypeHead, base, enum_members, is_object, is_scenario, numbers_from}
-use Rattle.type_heads.specs.Types.{Types}
-use Rattle.type_heads.specs.Conditions.{Condition, condition, condition_on, condition_value, field_form}
-use Rattle.type_heads.specs.Members.{heir_condition}
-use Rattle.type_heads.specs.Told.{told}
-use Rattle.type_heads.specs.declared.kinds.TypeKind.{TypeKind}
+use Rattle.program_calls.specs.type_heads.Form.{Form}
+use Rattle.program_calls.specs.type_heads.Bounds.{numbers_of}
+use Rattle.program_calls.specs.type_heads.Shown.{bare, kind_form}
+use Rattle.program_calls.specs.type_heads.Table.{TypeHead, base, enum_members, is_object, is_scenario, numbers_from}
+use Rattle.program_calls.specs.type_heads.Types.{Types}
+use Rattle.program_calls.specs.type_heads.Conditions.{Condition, condition, condition_on, condition_value, field_form}
+use Rattle.program_calls.specs.type_heads.Members.{heir_condition}
+use Rattle.program_calls.specs.type_heads.Told.{told}
+use Rattle.program_calls.specs.type_heads.declared.kinds.TypeKind.{TypeKind}
 use Rattle.program_calls.specs.cond_inherit.SubtypeConditions.{condition_at}
 use Rattle.program_calls.specs.composition.declared.spot.ValueRange.{ValueRange}
 use Rattle.program_calls.specs.composition.Ranges.{range_of}

@@ -3,8 +3,8 @@ use Rattle.std.specs.Prelude.{◌≡◌, ℕ, ◌≤◌, Bool, true, false, cond
 use Rattle.std.specs.Option.{option_map_or}
 use Rattle.std.specs.List.{list_all, list_any}
 use Rattle.indexmap.specs.IndexMap.{get}
-use Rattle.type_heads.specs.Conditions.{Condition}
-use Rattle.type_heads.specs.Types.{Types}
+use Rattle.program_calls.specs.type_heads.Conditions.{Condition}
+use Rattle.program_calls.specs.type_heads.Types.{Types}
 use Rattle.program_calls.specs.cond_inherit.Conditions.{same_condition}
 use Rattle.program_calls.specs.cond_inherit.SubtypeConditions.{seen_condition}
 use Rattle.program_texts.specs.SeenConditions.{conditions_after}

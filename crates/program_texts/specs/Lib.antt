@@ -11,3 +11,5 @@ pub use Rattle.program_calls.specs.expr_nodes as expr_nodes
 pub use Rattle.program_calls.specs as program_calls
 pub use Rattle.program_fields.specs as program_fields
 pub use Rattle.scene_texts.specs as scene_texts
+pub use Rattle.program_calls.specs.type_heads as type_heads
+pub use Rattle.program_fields.specs.type_members as type_members

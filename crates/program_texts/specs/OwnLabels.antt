@@ -1,7 +1,7 @@
 -- The labels that the texts of types have.
 use Rattle.std.specs.Prelude.{ℕ, ◌+◌, nat_eq, cond, List, [], ◌∷◌, Option, Some, None}
-use Rattle.type_heads.specs.Table.{Table}
-use Rattle.type_heads.specs.Types.{Do, Member}
+use Rattle.program_calls.specs.type_heads.Table.{Table}
+use Rattle.program_calls.specs.type_heads.Types.{Do, Member}
 use Rattle.program_calls.specs.composition.Calls.{phases_in}
 use Rattle.program_calls.specs.SeenLabels.{LabelHere, labels_here, seen_labels}
 use Rattle.program_fields.specs.SeenFields.{first_do_in}

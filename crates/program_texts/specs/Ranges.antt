@@ -1,11 +1,10 @@
 -- What a field of a type may hold, by the type's kind.
-use Rattle.std.specs.Prelude.{List, Option, Some, None, Bool, true, false, pos, ℤ}
-use Rattle.std.specs.Prelude.{map}
+use Rattle.std.specs.Prelude.{List, Option, Some, None, Bool, true, false, pos, ℤ, map}
 use Rattle.std.specs.Borrow.{Bor}
 use Rattle.dsl_tree.specs.declared.expr.Expr.{Expr}
 use Rattle.dsl_tree.specs.ExprTree.{ExprTree, items_of}
 use Rattle.dsl_tree.specs.Views.{expr_tree}
-use Rattle.type_heads.specs.declared.kinds.TypeKind.{TypeKind}
+use Rattle.program_calls.specs.type_heads.declared.kinds.TypeKind.{TypeKind}
 use Rattle.program_calls.specs.expr_nodes.Sizes.{field_reach}
 use Rattle.program_calls.specs.composition.declared.spot.ValueRange.{ValueRange}
 use Rattle.program_calls.specs.composition.Ranges.{signed_range}

@@ -2,9 +2,9 @@
 use Rattle.std.specs.Prelude.{ℕ, ◌∷◌, [], ◌++◌, List, flat_map, option_to_list}
 use Rattle.osc_base.specs.declared.path.Path.{Path}
 use Rattle.osc_base.specs.Paths.{then_name}
-use Rattle.type_heads.specs.Conditions.{Condition, condition}
-use Rattle.type_heads.specs.Members.{field}
-use Rattle.type_heads.specs.Types.{Field, Types}
+use Rattle.program_calls.specs.type_heads.Conditions.{Condition, condition}
+use Rattle.program_calls.specs.type_heads.Members.{field}
+use Rattle.program_calls.specs.type_heads.Types.{Field, Types}
 use Rattle.program_calls.specs.cond_inherit.Conditions.{conditions_within}
 use Rattle.program_calls.specs.composition.declared.guard.Guard.{Guard}
 

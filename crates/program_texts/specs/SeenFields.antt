@@ -1,9 +1,9 @@
 -- What the program's own bodies and fields of types are seen as.
 use Rattle.std.specs.Prelude.{ℕ, List, Option, map}
-use Rattle.type_heads.specs.Bodied.{seen_body}
-use Rattle.type_heads.specs.Table.{Table}
-use Rattle.type_heads.specs.Types.{Types}
-use Rattle.type_heads.specs.declared.body.Body.{Body}
+use Rattle.program_calls.specs.type_heads.Bodied.{seen_body}
+use Rattle.program_calls.specs.type_heads.Table.{Table}
+use Rattle.program_calls.specs.type_heads.Types.{Types}
+use Rattle.program_calls.specs.type_heads.declared.body.Body.{Body}
 use Rattle.program_fields.specs.Tables.{lists_in}
 use Rattle.program_fields.specs.declared.tables.ProgramFields.{ProgramFields}
 

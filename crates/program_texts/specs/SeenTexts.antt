@@ -1,7 +1,7 @@
 -- What the program's own texts of types are seen as.
-use Rattle.type_heads.specs.Bodied.{seen_body}
-use Rattle.type_heads.specs.Table.{Table}
-use Rattle.type_heads.specs.Types.{Types}
+use Rattle.program_calls.specs.type_heads.Bodied.{seen_body}
+use Rattle.program_calls.specs.type_heads.Table.{Table}
+use Rattle.program_calls.specs.type_heads.Types.{Types}
 use Rattle.program_fields.specs.type_members.Listed.{lists_of}
 use Rattle.std.specs.Prelude.{map}
 use Rattle.program_members.specs.declared.members.ProgramMembers.{ProgramMembers}

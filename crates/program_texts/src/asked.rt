@@ -7,10 +7,9 @@ ghost use Rattle.program_calls.specs.cond_inherit.SubtypeConditions.{seen_condit
 ghost use Rattle.program_texts.specs.Asked as asked;
 ghost use Rattle.program_texts.specs.Asked.{once_more, seen_kept, steps_done};
 
-use cond_inherit::Condition;
 use indexmap::IndexMap;
+use program_calls::{Condition, TypeId};
 use std::alloc::{AllocError, Global};
-use type_model::TypeId;
 
 /// Conditions that are gathered, each once, and the conditional subtypes that are done: each has the number of steps that
 /// were left for it.

@@ -1,7 +1,7 @@
 //! Under which conditions the members of an object are there.
 
 ghost use Rattle.std.specs.Prelude.{◌≡◌, map, option_map, IfOk, OnOk};
-ghost use Rattle.type_heads.specs.Conditions.{condition};
+ghost use Rattle.program_calls.specs.type_heads.Conditions.{condition};
 ghost use Rattle.program_calls.specs.cond_inherit.Conditions as conds;
 ghost use Rattle.program_calls.specs.cond_inherit.SubtypeConditions.{condition_at, seen_condition};
 ghost use Rattle.program_calls.specs.composition.Givens.{guards_under};
@@ -11,12 +11,10 @@ ghost use Rattle.program_texts.specs.SeenTexts.{types_in};
 
 use crate::asked::AskedConditions;
 use crate::texts::ProgramTexts;
-use composition::Guard;
-use cond_inherit::Condition;
 use osc_base::{Path, Row, Text};
+use program_calls::{Condition, Guard, TypeId, Types};
 use scene_texts::then_name;
 use std::alloc::{AllocError, Global};
-use type_model::{TypeId, Types};
 
 impl<'a> ProgramTexts<'a> {
     /// The condition of a type, if it is a conditional subtype.

@@ -2,16 +2,15 @@
 
 ghost use Rattle.std.specs.Prelude.{◌≡◌, map, option_map, IfOk};
 ghost use Rattle.dsl_tree.specs.Views.{expr_tree, field_tree};
-ghost use Rattle.type_heads.specs.Members.{items_in, list_length as length_of};
-ghost use Rattle.type_heads.specs.Table.{form};
+ghost use Rattle.program_calls.specs.type_heads.Members.{items_in, list_length as length_of};
+ghost use Rattle.program_calls.specs.type_heads.Table.{form};
 ghost use Rattle.program_calls.specs.composition.Ranges.{range_of as range_in};
 ghost use Rattle.program_texts.specs.Ranges.{listed_items, range_by, seen_exprs};
 
-use composition::ValueRange;
 use dsl_tree::{Expr, FieldDecl};
 use osc_base::Row;
+use program_calls::{TypeId, TypeKind, Types, ValueRange};
 use std::alloc::{AllocError, Global};
-use type_model::{TypeId, TypeKind, Types};
 
 /// The greatest magnitude of what a field holds.
 const GREATEST_VALUE: i64 = 1_000_000_000;

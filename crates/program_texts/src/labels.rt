@@ -6,11 +6,9 @@ ghost use Rattle.program_texts.specs.OwnLabels.{labels_from, own_labels as label
 ghost use Rattle.program_fields.specs.SeenFields.{seen_do};
 ghost use Rattle.program_fields.specs.Tables.{lists_in};
 
-use expr_nodes::LabelTable;
-use program_calls::do_labels;
+use program_calls::{LabelTable, TypeId, Types, do_labels};
 use program_fields::{ProgramFields, TypeDo};
 use std::alloc::{AllocError, Global};
-use type_model::{TypeId, Types};
 
 /// The labels of the `do` of a type: those that the texts of types have, or those that were made of a `do` which the
 /// type inherits.

@@ -4,11 +4,11 @@ ghost use Rattle.std.specs.Prelude.{◌≡◌, map, option_copied, option_map, I
 ghost use Rattle.program_calls.specs.composition.SceneFaults.{named_scenario};
 ghost use Rattle.program_calls.specs.composition.Expanded as expanded;
 ghost use Rattle.dsl_tree.specs.Views.{field_tree};
-ghost use Rattle.type_heads.specs.Members.{body, declared_type};
-ghost use Rattle.type_heads.specs.Members as told;
-ghost use Rattle.type_heads.specs.Told.{told as all_told};
-ghost use Rattle.type_heads.specs.Table.{form};
-ghost use Rattle.type_heads.specs.Table as table;
+ghost use Rattle.program_calls.specs.type_heads.Members.{body, declared_type};
+ghost use Rattle.program_calls.specs.type_heads.Members as told;
+ghost use Rattle.program_calls.specs.type_heads.Told.{told as all_told};
+ghost use Rattle.program_calls.specs.type_heads.Table.{form};
+ghost use Rattle.program_calls.specs.type_heads.Table as table;
 ghost use Rattle.program_fields.specs.type_members.Listed.{lists_of};
 ghost use Rattle.program_calls.specs.SeenLabels.{do_labels as do_labels_of, seen_labels};
 ghost use Rattle.program_texts.specs.OwnLabels.{seen_type_labels};
@@ -20,14 +20,11 @@ ghost use Rattle.program_texts.specs.SeenTexts.{types_in, types_with};
 use crate::labels::{TypeLabels, own_labels};
 use crate::texts::ProgramTexts;
 use dsl_tree::{FieldDecl, HeirCondition};
-use expr_nodes::LabelTable;
 use osc_base::{Place, Row};
-use program_calls::{do_labels, no_labels};
-use program_fields::{FieldsOf, ProgramFields, TypeDo, TypeField};
+use program_calls::{LabelTable, TypeId, TypeKind, Types, do_labels, no_labels};
+use program_fields::{FieldsOf, MemberLists, ProgramFields, TypeDo, TypeField, heir_condition};
 use program_members::ProgramMembers;
 use std::alloc::{AllocError, Global};
-use type_members::{MemberLists, heir_condition};
-use type_model::{TypeId, TypeKind, Types};
 
 /// The place of what no file declares.
 const NOWHERE: Place = Place {

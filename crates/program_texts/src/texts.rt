@@ -1,16 +1,15 @@
 //! What a program declares, type by type, with its trees.
 
 ghost use Rattle.std.specs.Prelude.{◌≡◌, map, option_map};
-ghost use Rattle.type_heads.specs.Told.{told};
+ghost use Rattle.program_calls.specs.type_heads.Told.{told};
 ghost use Rattle.program_calls.specs.SeenLabels.{seen_labels};
 ghost use Rattle.program_fields.specs.Tables.{lists_in};
 ghost use Rattle.program_texts.specs.OwnLabels.{labels_from};
 ghost use Rattle.program_texts.specs.SeenFields.{types_of_parts};
 
-use expr_nodes::LabelTable;
+use program_calls::{LabelTable, Types};
 use program_fields::ProgramFields;
-use type_heads::Body;
-use type_model::Types;
+use program_members::Body;
 
 /// The types of a program with their texts: the fields and the body of each, and the labels of each `do` that stands
 /// in the text of its own type.

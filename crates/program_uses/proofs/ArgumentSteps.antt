@@ -9,13 +9,13 @@ use Rattle.osc_base.proofs.FaultRows.{first_from_joined}
 use Rattle.dsl_tree.specs.declared.parts.Ident.{Ident}
 use Rattle.dsl_tree.specs.PhaseTree.{ArgumentTree}
 use Rattle.fault_sets.specs.NameRows.{HasTexts}
-use Rattle.type_heads.specs.Table.{Table}
-use Rattle.type_heads.specs.Types.{Field}
+use Rattle.expr_nodes.specs.type_heads.Table.{Table}
+use Rattle.expr_nodes.specs.type_heads.Types.{Field}
 use Rattle.expr_nodes.specs.Fits.{duration_fit_rows}
 use Rattle.expr_nodes.specs.Scope.{Scope}
 use Rattle.expr_nodes.specs.Typing.{typed, expr_rows, first as begins}
-use Rattle.composition.specs.Calls.{Assigned}
-use Rattle.composition.specs.Uses.{among, argument_place, assigned_rows, name_assigned}
+use Rattle.program_calls.specs.composition.Calls.{Assigned}
+use Rattle.program_calls.specs.composition.Uses.{among, argument_place, assigned_rows, name_assigned}
 use Rattle.program_uses.specs.ArgumentRows.{Continues, arguments_in, assigned_in, field_value_rows}
 use Rattle.program_uses.specs.TableTypes.{of_table}
 

@@ -1,8 +1,8 @@
 -- What a type holds is told without the members of an enum.
 use Rattle.std.proofs.Common.{◌≡◌, refl, ℕ}
-use Rattle.type_heads.specs.Form.{Form}
-use Rattle.type_heads.specs.Shown.{bare}
-use Rattle.type_heads.specs.Table.{is_object}
+use Rattle.expr_nodes.specs.type_heads.Form.{Form}
+use Rattle.expr_nodes.specs.type_heads.Shown.{bare}
+use Rattle.expr_nodes.specs.type_heads.Table.{is_object}
 use Rattle.expr_nodes.specs.Kinds.{kind_of}
 use Rattle.expr_nodes.specs.Names.{per_of}
 

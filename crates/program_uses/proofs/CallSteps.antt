@@ -8,7 +8,7 @@ use Rattle.osc_base.specs.FaultRows.{row, row_fault, first_of, first_from}
 use Rattle.dsl_tree.specs.declared.parts.Ident.{Ident}
 use Rattle.dsl_tree.specs.declared.phases.InvokeHead.{InvokeHead}
 use Rattle.dsl_tree.specs.ExprTree.{ExprTree}
-use Rattle.type_heads.specs.Table.{Table}
+use Rattle.expr_nodes.specs.type_heads.Table.{Table}
 use Rattle.expr_nodes.specs.Checks.{IsChecked}
 use Rattle.expr_nodes.specs.Parts.{of_one}
 use Rattle.expr_nodes.specs.Scope.{Scope}
@@ -16,8 +16,8 @@ use Rattle.expr_nodes.specs.Seen.{seen_part}
 use Rattle.expr_nodes.specs.Typed.{Typed}
 use Rattle.expr_nodes.specs.Typing.{expr_rows, first, typed}
 use Rattle.expr_nodes.specs.declared.parts.Checked.{Checked}
-use Rattle.composition.specs.Calls.{Callee, actor_type, owned_behaviour, without_labels}
-use Rattle.composition.specs.Uses.{begins_with_label, callee_rows}
+use Rattle.program_calls.specs.composition.Calls.{Callee, actor_type, owned_behaviour, without_labels}
+use Rattle.program_calls.specs.composition.Uses.{begins_with_label, callee_rows}
 use Rattle.program_calls.specs.SeenCallees.{actor_tree, head_tree, with_names}
 use Rattle.program_uses.specs.TableTypes.{of_table}
 

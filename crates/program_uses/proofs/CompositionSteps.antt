@@ -11,10 +11,10 @@ use Rattle.dsl_tree.specs.declared.phases.CompKind.{CompKind}
 use Rattle.dsl_tree.specs.ExprTree.{ExprTree}
 use Rattle.dsl_tree.specs.PhaseTree.{ArgumentTree}
 use Rattle.fault_sets.specs.NameRows.{HasTexts}
-use Rattle.type_heads.specs.Table.{Table}
+use Rattle.expr_nodes.specs.type_heads.Table.{Table}
 use Rattle.expr_nodes.specs.Scope.{Scope}
 use Rattle.expr_nodes.specs.Typing.{expr_rows, first as begins}
-use Rattle.composition.specs.Uses.{among, composition_rows, is_overlap, named_rows}
+use Rattle.program_calls.specs.composition.Uses.{among, composition_rows, is_overlap, named_rows}
 use Rattle.program_calls.specs.NameExprs.{name_in}
 use Rattle.program_uses.specs.CompositionRows.{ContinuesComposition, ContinuesNamed, composed_rows, name_given, overlap_words, valued_rows}
 use Rattle.program_uses.proofs.ArgumentSteps.{one_text_more}

@@ -4,13 +4,13 @@ use Rattle.std.specs.Option.{option_map_or}
 use Rattle.osc_base.specs.FaultRows.{FaultRow}
 use Rattle.dsl_tree.specs.ExprTree.{ExprTree}
 use Rattle.dsl_tree.specs.FileTree.{FieldTree}
-use Rattle.type_heads.specs.Table.{Table, form, named}
-use Rattle.type_heads.specs.Members.{list_length}
+use Rattle.expr_nodes.specs.type_heads.Table.{Table, form, named}
+use Rattle.expr_nodes.specs.type_heads.Members.{list_length}
 use Rattle.expr_nodes.specs.Kinds.{ValueKind, kind_of}
 use Rattle.expr_nodes.specs.Names.{per_of}
 use Rattle.expr_nodes.specs.Scope.{It, Scope}
 use Rattle.expr_nodes.specs.Sizes.{Size, field_size}
-use Rattle.composition.specs.Uses.{values_given, values_rows, with_kind}
+use Rattle.program_calls.specs.composition.Uses.{values_given, values_rows, with_kind}
 use Rattle.program_uses.specs.ExprParts.{listed_items}
 use Rattle.program_uses.specs.FieldRows.{field_it, fitted_rows}
 use Rattle.program_uses.specs.TableTypes.{of_table}

@@ -2,12 +2,12 @@
 use Rattle.std.proofs.Common.{◌≡◌, ◌∙◌, refl, sym, ap, ap₂, ℕ, zero, suc, ◌+◌, ◌<◌, ◌≤◌, List, [], ◌∷◌, ◌++◌, Option, Some, None, append-nil, arith, drop, flat_map, length, map, option_map, option_to_list, slice_index_or}
 use Rattle.std.specs.List.{cons_option}
 use Rattle.dsl_tree.specs.PhaseTree.{PhaseTree, Comp, Invoke, Wait}
-use Rattle.type_heads.specs.Cycles.{fresh, reached, returns}
-use Rattle.type_heads.specs.Members.{has, the_do}
-use Rattle.type_heads.specs.Table.{Table, numbers_from}
-use Rattle.type_heads.specs.Types.{Do, Types}
-use Rattle.composition.specs.Calls.{PhaseHere, callee, phases_in}
-use Rattle.composition.specs.Uses.{invocations, invoked_by}
+use Rattle.expr_nodes.specs.type_heads.Cycles.{fresh, reached, returns}
+use Rattle.expr_nodes.specs.type_heads.Members.{has, the_do}
+use Rattle.expr_nodes.specs.type_heads.Table.{Table, numbers_from}
+use Rattle.expr_nodes.specs.type_heads.Types.{Do, Types}
+use Rattle.program_calls.specs.composition.Calls.{PhaseHere, callee, phases_in}
+use Rattle.program_calls.specs.composition.Uses.{invocations, invoked_by}
 use Rattle.program_uses.specs.InvokedTypes.{invoked_at, invoked_do, invoked_in}
 use Rattle.program_fields.specs.SeenFields.{seen_do}
 use Rattle.program_fields.specs.declared.fields.TypeDo.{TypeDo}

@@ -10,14 +10,14 @@ use Rattle.dsl_tree.specs.declared.phases.Phase.TheViews
 use Rattle.dsl_tree.specs.PhaseTree.{ArgumentTree, PhaseTree}
 use Rattle.dsl_tree.specs.Views.{argument_tree, expr_tree, part_tree, phase_tree}
 use Rattle.dsl_tree.proofs.SeenPhases.{seen_comp, seen_invoke, seen_wait}
-use Rattle.type_heads.specs.Members.{fields}
-use Rattle.type_heads.specs.Table.{Table}
-use Rattle.type_heads.specs.Types.{Field, Types}
+use Rattle.expr_nodes.specs.type_heads.Members.{fields}
+use Rattle.expr_nodes.specs.type_heads.Table.{Table}
+use Rattle.expr_nodes.specs.type_heads.Types.{Field, Types}
 use Rattle.expr_nodes.specs.Fits.{duration_fit_rows}
 use Rattle.expr_nodes.specs.Scope.{Scope}
 use Rattle.expr_nodes.specs.Typing.{typed, expr_rows, first}
-use Rattle.composition.specs.Calls.{Turn, callee, invoked, scope_at}
-use Rattle.composition.specs.Uses.{call_rows, callee_rows, composition_rows, it_made, part_rows, phase_rows}
+use Rattle.program_calls.specs.composition.Calls.{Turn, callee, invoked, scope_at}
+use Rattle.program_calls.specs.composition.Uses.{call_rows, callee_rows, composition_rows, it_made, part_rows, phase_rows}
 use Rattle.program_calls.specs.SeenCallees.{called_in}
 use Rattle.program_uses.specs.ArgumentRows.{arguments_in}
 use Rattle.program_uses.specs.PhaseRows.{phase_in}

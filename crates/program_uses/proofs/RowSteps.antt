@@ -7,7 +7,7 @@ use Rattle.osc_base.specs.FaultRows.{FaultRow, row_fault, first_of, first_from, 
 use Rattle.osc_base.proofs.FaultRows.{first_from_joined}
 use Rattle.expr_eval.proofs.of_expr_typing.Firsts.{first_assoc}
 use Rattle.dsl_tree.specs.ExprTree.{ExprTree}
-use Rattle.type_heads.specs.Table.{Table}
+use Rattle.expr_nodes.specs.type_heads.Table.{Table}
 use Rattle.expr_nodes.specs.Scope.{Scope}
 use Rattle.expr_nodes.specs.Checks.{IsChecked}
 use Rattle.expr_nodes.specs.Typed.{Typed}

@@ -9,16 +9,16 @@ use Rattle.osc_base.proofs.FaultRows.{first_from_joined}
 use Rattle.dsl_tree.specs.FileTree.{FieldTree, MemberTree}
 use Rattle.dsl_tree.specs.PhaseTree.{RuleTree}
 use Rattle.dsl_tree.specs.Views.{phase_tree}
-use Rattle.type_heads.specs.Bodied.{seen_body, seen_written}
-use Rattle.type_heads.specs.declared.body.Body.{Body}
-use Rattle.type_heads.specs.declared.body.WrittenMember.{WrittenMember}
-use Rattle.type_heads.specs.Cycles.{returns}
-use Rattle.type_heads.specs.Members.{body, the_do}
-use Rattle.type_heads.specs.Table.{Table, form, is_scenario}
-use Rattle.type_heads.specs.Types.{Do, Types}
+use Rattle.expr_nodes.specs.type_heads.Bodied.{seen_body, seen_written}
+use Rattle.expr_nodes.specs.type_heads.declared.body.Body.{Body}
+use Rattle.expr_nodes.specs.type_heads.declared.body.WrittenMember.{WrittenMember}
+use Rattle.expr_nodes.specs.type_heads.Cycles.{returns}
+use Rattle.expr_nodes.specs.type_heads.Members.{body, the_do}
+use Rattle.expr_nodes.specs.type_heads.Table.{Table, form, is_scenario}
+use Rattle.expr_nodes.specs.type_heads.Types.{Do, Types}
 use Rattle.expr_nodes.specs.Scope.{Scope}
-use Rattle.composition.specs.Calls.{PhaseHere, phases_in, scope_at}
-use Rattle.composition.specs.Uses.{invocation_row, invocations, member_use_rows, rule_rows, text_rows}
+use Rattle.program_calls.specs.composition.Calls.{PhaseHere, phases_in, scope_at}
+use Rattle.program_calls.specs.composition.Uses.{invocation_row, invocations, member_use_rows, rule_rows, text_rows}
 use Rattle.program_calls.specs.SeenLabels.{LabelHere, do_labels, labels_here}
 use Rattle.program_uses.specs.FieldRows.{field_in}
 use Rattle.program_uses.specs.SeenTexts.{bare_body, written_rows}

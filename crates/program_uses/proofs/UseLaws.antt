@@ -3,12 +3,12 @@ use Rattle.std.proofs.Common.{◌≡◌, ◌∙◌, refl, ap, ap₂, ℕ, ◌+�
 use Rattle.dsl_tree.specs.declared.parts.Ident.{Ident}
 use Rattle.dsl_tree.specs.FileTree.{FieldTree}
 use Rattle.dsl_tree.specs.PhaseTree.{ArgumentTree, PartTree, PhaseTree, Comp, Invoke, Wait}
-use Rattle.type_heads.specs.Members.{fields}
-use Rattle.type_heads.specs.Types.{Types}
+use Rattle.expr_nodes.specs.type_heads.Members.{fields}
+use Rattle.expr_nodes.specs.type_heads.Types.{Types}
 use Rattle.expr_nodes.specs.Scope.{Scope}
 use Rattle.expr_nodes.specs.Typing.{expr_rows}
-use Rattle.composition.specs.Calls.{Assigned, Callee, Turn, assigned, called, scope_at}
-use Rattle.composition.specs.Uses.{arguments_rows, assigned_rows, callee_rows, field_use_rows, name_assigned, part_rows, phase_rows}
+use Rattle.program_calls.specs.composition.Calls.{Assigned, Callee, Turn, assigned, called, scope_at}
+use Rattle.program_calls.specs.composition.Uses.{arguments_rows, assigned_rows, callee_rows, field_use_rows, name_assigned, part_rows, phase_rows}
 use Rattle.program_calls.specs.SeenCallees.{called_in}
 use Rattle.program_uses.specs.ArgumentRows.{arguments_in, assigned_in}
 use Rattle.program_uses.specs.FieldRows.{field_in}

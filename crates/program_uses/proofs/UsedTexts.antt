@@ -1,7 +1,7 @@
 -- The `do` of each type, by its number.
 use Rattle.std.proofs.Common.{◌≡◌, ◌∙◌, sym, ap, [], None, map, option_map, slice_index_or}
-use Rattle.type_heads.specs.Bodied.{seen_body}
-use Rattle.type_heads.specs.Types.{Types}
+use Rattle.expr_nodes.specs.type_heads.Bodied.{seen_body}
+use Rattle.expr_nodes.specs.type_heads.Types.{Types}
 use Rattle.program_fields.specs.SeenFields.{first_do_in, seen_do}
 use Rattle.program_fields.specs.Tables.{lists_in}
 use Rattle.program_uses.specs.SeenTexts.{HasTextsOf}

@@ -8,14 +8,14 @@ use Rattle.dsl_tree.specs.ExprTree.{ExprTree}
 use Rattle.dsl_tree.specs.FileTree.{FieldTree}
 use Rattle.dsl_tree.specs.PhaseTree.{ArgumentTree}
 use Rattle.fault_sets.specs.NameRows.{HasTexts}
-use Rattle.type_heads.specs.Table.{Table, named}
-use Rattle.type_heads.specs.Types.{Field}
+use Rattle.expr_nodes.specs.type_heads.Table.{Table, named}
+use Rattle.expr_nodes.specs.type_heads.Types.{Field}
 use Rattle.expr_nodes.specs.Fits.{argument_fit_rows}
 use Rattle.expr_nodes.specs.Names.{is_duration}
 use Rattle.expr_nodes.specs.Scope.{Scope}
 use Rattle.expr_nodes.specs.Typing.{typed, expr_rows, first}
-use Rattle.composition.specs.Calls.{Assigned}
-use Rattle.composition.specs.Uses.{assigned_rows, given_rows, name_assigned, with_kind}
+use Rattle.program_calls.specs.composition.Calls.{Assigned}
+use Rattle.program_calls.specs.composition.Uses.{assigned_rows, given_rows, name_assigned, with_kind}
 use Rattle.program_uses.specs.declared.arguments.Assigned.{Assigned as OwnAssigned}
 use Rattle.program_fields.specs.SeenFields.{seen_field}
 use Rattle.program_uses.specs.TableTypes.{of_table}

@@ -9,12 +9,12 @@ use Rattle.dsl_tree.specs.declared.phases.CompKind.{CompKind}
 use Rattle.dsl_tree.specs.ExprTree.{ExprTree}
 use Rattle.dsl_tree.specs.PhaseTree.{ArgumentTree}
 use Rattle.fault_sets.specs.NameRows.{HasTexts}
-use Rattle.type_heads.specs.Table.{Table}
+use Rattle.expr_nodes.specs.type_heads.Table.{Table}
 use Rattle.expr_nodes.specs.Fits.{duration_fit_rows}
 use Rattle.expr_nodes.specs.Names.{is_duration}
 use Rattle.expr_nodes.specs.Scope.{Scope}
 use Rattle.expr_nodes.specs.Typing.{typed, expr_rows, first}
-use Rattle.composition.specs.Uses.{is_overlap, named_rows, takes_overlap}
+use Rattle.program_calls.specs.composition.Uses.{is_overlap, named_rows, takes_overlap}
 
 -- the words after `overlap:`
 abbrev pub overlap_words : List (List ℕ)

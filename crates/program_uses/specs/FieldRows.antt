@@ -4,11 +4,11 @@ use Rattle.std.specs.Option.{option_map_or}
 use Rattle.osc_base.specs.FaultRows.{FaultRow}
 use Rattle.dsl_tree.specs.ExprTree.{ExprTree}
 use Rattle.dsl_tree.specs.FileTree.{FieldTree}
-use Rattle.type_heads.specs.Table.{Table, named}
-use Rattle.type_heads.specs.Members.{list_length}
+use Rattle.expr_nodes.specs.type_heads.Table.{Table, named}
+use Rattle.expr_nodes.specs.type_heads.Members.{list_length}
 use Rattle.expr_nodes.specs.Scope.{It, Scope}
 use Rattle.expr_nodes.specs.Typing.{expr_rows}
-use Rattle.composition.specs.Uses.{rule_rows, values_given, values_rows, with_kind}
+use Rattle.program_calls.specs.composition.Uses.{rule_rows, values_given, values_rows, with_kind}
 use Rattle.program_uses.specs.TableTypes.{of_table}
 
 -- what a field holds, for what is given to it

@@ -1,10 +1,10 @@
 -- The actions and scenarios that the `do` of each type invokes, by what expressions look up.
 use Rattle.std.specs.Prelude.{◌≡◌, ℕ, List, [], Option, Some, None, filter_map, slice_index_or}
 use Rattle.dsl_tree.specs.PhaseTree.{PhaseTree, Comp, Invoke, Wait}
-use Rattle.type_heads.specs.Table.{Table}
-use Rattle.type_heads.specs.Types.{Do, Types}
-use Rattle.composition.specs.Calls.{PhaseHere, callee, phases_in}
-use Rattle.composition.specs.Uses.{invocations}
+use Rattle.expr_nodes.specs.type_heads.Table.{Table}
+use Rattle.expr_nodes.specs.type_heads.Types.{Do, Types}
+use Rattle.program_calls.specs.composition.Calls.{PhaseHere, callee, phases_in}
+use Rattle.program_calls.specs.composition.Uses.{invocations}
 use Rattle.program_calls.specs.SeenCallees.{called_in}
 use Rattle.program_uses.specs.declared.invocations.Invoked.{Invoked}
 

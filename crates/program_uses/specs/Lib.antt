@@ -9,5 +9,6 @@ pub mod ModifierRows
 pub mod PhaseRows
 pub mod InvokedTypes
 -- Crates below, for the crates above.
-pub use Rattle.composition.specs as composition
+pub use Rattle.program_calls.specs.composition as composition
 pub use Rattle.program_members.specs as program_members
+pub use Rattle.expr_nodes.specs.type_heads as type_heads

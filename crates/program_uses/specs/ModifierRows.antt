@@ -6,12 +6,12 @@ use Rattle.osc_base.specs.declared.modifier.Kind.{Kind}
 use Rattle.osc_base.specs.FaultRows.{FaultRow, row}
 use Rattle.dsl_tree.specs.ExprTree.{ExprTree}
 use Rattle.dsl_tree.specs.PhaseTree.{ArgumentTree, ModifierTree}
-use Rattle.type_heads.specs.Table.{Table}
+use Rattle.expr_nodes.specs.type_heads.Table.{Table}
 use Rattle.expr_nodes.specs.Fits.{modifier_fit_rows}
 use Rattle.expr_nodes.specs.Scope.{Scope}
 use Rattle.expr_nodes.specs.Typing.{expr_rows, typed, first}
-use Rattle.composition.specs.ModifierLines.{is_modifier, modifier_form}
-use Rattle.composition.specs.Uses.{compared_exprs, compared_kind, is_drive, is_vehicle_object, isnt_path_to}
+use Rattle.program_calls.specs.composition.ModifierLines.{is_modifier, modifier_form}
+use Rattle.program_calls.specs.composition.Uses.{compared_exprs, compared_kind, is_drive, is_vehicle_object, isnt_path_to}
 use Rattle.program_uses.specs.TableTypes.{of_table}
 
 -- its value or range

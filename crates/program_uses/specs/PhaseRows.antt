@@ -2,12 +2,12 @@
 use Rattle.std.specs.Prelude.{ℕ, Some, List, [], ◌++◌, flat_map}
 use Rattle.osc_base.specs.FaultRows.{FaultRow}
 use Rattle.dsl_tree.specs.PhaseTree.{PhaseTree, Comp, Invoke, Wait}
-use Rattle.type_heads.specs.Types.{Types}
+use Rattle.expr_nodes.specs.type_heads.Types.{Types}
 use Rattle.expr_nodes.specs.Fits.{duration_fit_rows}
 use Rattle.expr_nodes.specs.Scope.{Scope}
 use Rattle.expr_nodes.specs.Typing.{typed, expr_rows, first}
-use Rattle.composition.specs.Calls.{PhaseHere, callee, invoked}
-use Rattle.composition.specs.Uses.{call_rows, callee_rows, composition_rows, it_made, part_rows, phase_rows}
+use Rattle.program_calls.specs.composition.Calls.{PhaseHere, callee, invoked}
+use Rattle.program_calls.specs.composition.Uses.{call_rows, callee_rows, composition_rows, it_made, part_rows, phase_rows}
 
 -- a phase without the phases in it; in its `with:`, `it` is the object that it makes
 abbrev pub phase_in : Types → Scope → PhaseTree → List FaultRow

@@ -4,11 +4,11 @@ use Rattle.osc_base.specs.declared.fault.FaultCode.{FaultCode}
 use Rattle.osc_base.specs.FaultRows.{FaultRow, row}
 use Rattle.dsl_tree.specs.declared.rules.KeepKind.{KeepKind}
 use Rattle.dsl_tree.specs.ExprTree.{ExprTree}
-use Rattle.type_heads.specs.Table.{Table}
+use Rattle.expr_nodes.specs.type_heads.Table.{Table}
 use Rattle.expr_nodes.specs.Scope.{Scope}
 use Rattle.expr_nodes.specs.Fits.{constraint_rows, is_read}
 use Rattle.expr_nodes.specs.Typing.{typed, expr_rows, first}
-use Rattle.composition.specs.Uses.{default_rows, isnt_path_to}
+use Rattle.program_calls.specs.composition.Uses.{default_rows, isnt_path_to}
 
 -- those of a constraint
 abbrev pub keep_rows : Table → Scope → KeepKind → ExprTree → List FaultRow

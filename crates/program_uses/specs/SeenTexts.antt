@@ -1,14 +1,14 @@
 -- What the program's own texts of types are seen as.
 use Rattle.std.specs.Prelude.{◌≡◌, ℕ, List, [], None, map, option_map, slice_index_or}
 use Rattle.osc_base.specs.FaultRows.{FaultRow}
-use Rattle.type_heads.specs.Bodied.{seen_body}
-use Rattle.type_heads.specs.Members.{nowhere, the_do}
-use Rattle.type_heads.specs.Told.{Told}
-use Rattle.type_heads.specs.Types.{Types, Written}
-use Rattle.type_heads.specs.declared.body.Body.{Body}
+use Rattle.expr_nodes.specs.type_heads.Bodied.{seen_body}
+use Rattle.expr_nodes.specs.type_heads.Members.{nowhere, the_do}
+use Rattle.expr_nodes.specs.type_heads.Told.{Told}
+use Rattle.expr_nodes.specs.type_heads.Types.{Types, Written}
+use Rattle.expr_nodes.specs.type_heads.declared.body.Body.{Body}
 use Rattle.program_fields.specs.SeenFields.{seen_do}
 use Rattle.program_fields.specs.Tables.{lists_in}
-use Rattle.composition.specs.Uses.{member_use_rows}
+use Rattle.program_calls.specs.composition.Uses.{member_use_rows}
 use Rattle.program_uses.specs.declared.program_texts.ProgramTexts.{ProgramTexts}
 
 -- the body of a type without text

@@ -8,8 +8,8 @@ ghost use Rattle.expr_nodes.specs.Parts.{of_one};
 ghost use Rattle.expr_nodes.specs.Seen.{seen_part};
 ghost use Rattle.expr_nodes.specs.SeenNames.{seen_scope};
 ghost use Rattle.expr_nodes.specs.Typing.{first as first_in, typed};
-ghost use Rattle.composition.specs.Calls.{Assigned as AssignedTo};
-ghost use Rattle.composition.specs.Uses.{argument_place as place_of_argument, given_rows, is_object_of, object_rows};
+ghost use Rattle.program_calls.specs.composition.Calls.{Assigned as AssignedTo};
+ghost use Rattle.program_calls.specs.composition.Uses.{argument_place as place_of_argument, given_rows, is_object_of, object_rows};
 ghost use Rattle.program_uses.specs.ArgumentRows.{Continues, arguments_in, assigned_in, field_value_rows, seen_assigned, value_rows};
 ghost use Rattle.program_fields.specs.SeenFields.{seen_field};
 ghost use Rattle.program_fields.specs.Tables.{fields_in};
@@ -19,14 +19,13 @@ use crate::held::{held_in, holds_object};
 use crate::rules::with_expr;
 use dsl_tree::{Argument, Expr, FieldDecl, Ident};
 use expr_eval::checked;
-use expr_nodes::{Scope, Typed};
+use expr_nodes::{Scope, TypeId, Typed, Types};
 use fault_sets::TextSet;
 use name_scope::with_fault;
 use osc_base::{Boxed, Fault, FaultCode, Place};
 use program_calls::{begins_with_label, first_place, is_path};
 use program_fields::{FieldsOf, TypeField};
 use std::alloc::{AllocError, Global};
-use type_model::{TypeId, Types};
 use value_fits::{with_argument, with_duration};
 
 /// Where an argument goes: to no field, as there are more of them than fields; to the duration; to nothing that the

@@ -5,15 +5,15 @@ ghost use Rattle.std.specs.Option.{option_map_or};
 ghost use Rattle.osc_base.specs.FaultRows.{first_from};
 ghost use Rattle.dsl_tree.specs.PhaseTree.{ArgumentTree};
 ghost use Rattle.dsl_tree.specs.Views.{argument_tree, part_tree};
-ghost use Rattle.type_heads.specs.Members.{fields_among};
-ghost use Rattle.type_heads.specs.Types.{Types as TypesOf};
+ghost use Rattle.expr_nodes.specs.type_heads.Members.{fields_among};
+ghost use Rattle.expr_nodes.specs.type_heads.Types.{Types as TypesOf};
 ghost use Rattle.program_fields.specs.Tables.{lists_in};
 ghost use Rattle.expr_nodes.specs.Parts.{of_one};
 ghost use Rattle.expr_nodes.specs.Seen.{seen_part};
 ghost use Rattle.expr_nodes.specs.SeenNames.{seen_it, seen_scope};
 ghost use Rattle.expr_nodes.specs.Typing.{expr_rows, typed};
-ghost use Rattle.composition.specs.Calls.{Callee as CalleeOf, actor_type as actor_in, callee, owned_behaviour as owned_in, without_labels};
-ghost use Rattle.composition.specs.Uses.{begins_with_label as begins_so, call_rows, callee_rows, it_made as made_it, part_rows};
+ghost use Rattle.program_calls.specs.composition.Calls.{Callee as CalleeOf, actor_type as actor_in, callee, owned_behaviour as owned_in, without_labels};
+ghost use Rattle.program_calls.specs.composition.Uses.{begins_with_label as begins_so, call_rows, callee_rows, it_made as made_it, part_rows};
 ghost use Rattle.program_calls.specs.SeenCallees.{actor_tree, head_tree};
 ghost use Rattle.program_uses.specs.ArgumentRows.{arguments_in};
 ghost use Rattle.program_uses.specs.SeenTexts.{Tells};
@@ -24,7 +24,7 @@ use crate::modifiers::with_modifier;
 use crate::program_texts::ProgramTexts;
 use crate::rules::{with_expr, with_known, with_rule};
 use dsl_tree::{Argument, Ident, InvokeHead, InvokePart};
-use expr_nodes::{It, Scope, Typed};
+use expr_nodes::{FieldType, It, Scope, TypeId, Typed, Types};
 use name_scope::with_fault;
 use osc_base::{Boxed, Fault, FaultCode};
 use program_calls::{
@@ -32,7 +32,6 @@ use program_calls::{
     head_place, owned_behaviour, resolved_actor,
 };
 use std::alloc::{AllocError, Global};
-use type_model::{FieldType, TypeId, Types};
 
 /// Whether a part is something else than an object of an actor.
 fn is_no_actor(types: &Types, typed: &Option<Boxed<Typed>>) -> bool

@@ -6,19 +6,18 @@ ghost use Rattle.dsl_tree.specs.Views.{argument_tree, expr_tree};
 ghost use Rattle.expr_nodes.specs.Fits.{duration_fit_rows};
 ghost use Rattle.expr_nodes.specs.SeenNames.{seen_scope};
 ghost use Rattle.expr_nodes.specs.Typing.{expr_rows, first as first_in, typed};
-ghost use Rattle.composition.specs.Uses.{among, composition_rows, is_overlap as of_overlap, takes_overlap as taking_overlap};
+ghost use Rattle.program_calls.specs.composition.Uses.{among, composition_rows, is_overlap as of_overlap, takes_overlap as taking_overlap};
 ghost use Rattle.program_uses.specs.CompositionRows.{ContinuesComposition, ContinuesNamed, other_rows, overlap_words, valued_rows};
 
 use crate::rules::{with_expr, with_known};
 use dsl_tree::{Argument, CompKind, Expr, Ident};
 use expr_eval::checked;
-use expr_nodes::Scope;
+use expr_nodes::{Scope, Types};
 use fault_sets::TextSet;
 use name_scope::with_fault;
 use osc_base::{Fault, FaultCode};
 use program_calls::{first_place, name_of};
 use std::alloc::{AllocError, Global};
-use type_model::Types;
 use value_fits::with_duration;
 
 /// Whether it is one of the four words after `overlap:`.

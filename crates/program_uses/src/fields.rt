@@ -4,12 +4,12 @@ ghost use Rattle.std.specs.Prelude.{◌≡◌, [], None, cond, map, option_map, 
 ghost use Rattle.std.specs.Option.{option_map_or};
 ghost use Rattle.osc_base.specs.FaultRows.{first_from};
 ghost use Rattle.dsl_tree.specs.Views.{expr_tree, field_tree};
-ghost use Rattle.type_heads.specs.Members.{items_in, list_length as length_of};
+ghost use Rattle.expr_nodes.specs.type_heads.Members.{items_in, list_length as length_of};
 ghost use Rattle.expr_nodes.specs.Fits.{initial_fit_rows};
 ghost use Rattle.expr_nodes.specs.Seen.{seen_kind, seen_size};
 ghost use Rattle.expr_nodes.specs.SeenNames.{seen_it, seen_scope};
 ghost use Rattle.expr_nodes.specs.Typing.{first as first_in, typed};
-ghost use Rattle.composition.specs.Uses.{values_given, values_rows};
+ghost use Rattle.program_calls.specs.composition.Uses.{values_given, values_rows};
 ghost use Rattle.program_uses.specs.ExprParts.{listed_items, seen_exprs};
 ghost use Rattle.program_uses.specs.FieldRows.{field_in, field_it, fitted_rows, initial_in};
 
@@ -18,11 +18,10 @@ use crate::held::{Held, held_in};
 use crate::rules::{with_expr, with_rules};
 use dsl_tree::{Expr, FieldDecl};
 use expr_eval::checked;
-use expr_nodes::{It, Scope};
+use expr_nodes::{FieldType, It, Scope, Types};
 use osc_base::Fault;
 use program_calls::first_place;
 use std::alloc::{AllocError, Global};
-use type_model::{FieldType, Types};
 use value_fits::with_initial;
 
 /// Faults of a value that is given to a field.

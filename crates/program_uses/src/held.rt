@@ -1,15 +1,14 @@
 //! What fields of a type hold.
 
 ghost use Rattle.std.specs.Prelude.{◌≡◌, ◌<◌, Some};
-ghost use Rattle.type_heads.specs.Shown.{kind_form};
-ghost use Rattle.type_heads.specs.Table.{form, is_object as of_object};
+ghost use Rattle.expr_nodes.specs.type_heads.Shown.{kind_form};
+ghost use Rattle.expr_nodes.specs.type_heads.Table.{form, is_object as of_object};
 ghost use Rattle.expr_nodes.specs.Kinds.{kind_of};
 ghost use Rattle.expr_nodes.specs.Names.{per_of as counted_over};
 ghost use Rattle.expr_nodes.specs.Seen.{seen_kind, seen_size};
 ghost use Rattle.expr_nodes.specs.Sizes.{field_size};
 
-use expr_nodes::{Size, ValueKind};
-use type_model::{TypeId, TypeKind, Types};
+use expr_nodes::{Size, TypeId, TypeKind, Types, ValueKind};
 use units_si::Exponents;
 
 /// The exponents of a number without a unit.

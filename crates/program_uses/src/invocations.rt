@@ -3,12 +3,12 @@
 ghost use Rattle.std.specs.Prelude.{◌≡◌, ◌&&◌, ◌++◌, IfOk, OnOk, length, map, option_map};
 ghost use Rattle.osc_base.specs.FaultRows.{first_from};
 ghost use Rattle.dsl_tree.specs.Views.{phase_tree};
-ghost use Rattle.type_heads.specs.Cycles.{returns};
-ghost use Rattle.type_heads.specs.Shown.{kind_form};
-ghost use Rattle.type_heads.specs.Table.{all_types, form, is_scenario as of_scenario};
-ghost use Rattle.type_heads.specs.Types.{Types as TypesOf};
+ghost use Rattle.expr_nodes.specs.type_heads.Cycles.{returns};
+ghost use Rattle.expr_nodes.specs.type_heads.Shown.{kind_form};
+ghost use Rattle.expr_nodes.specs.type_heads.Table.{all_types, form, is_scenario as of_scenario};
+ghost use Rattle.expr_nodes.specs.type_heads.Types.{Types as TypesOf};
 ghost use Rattle.fault_sets.specs.Ranking.{IsShown};
-ghost use Rattle.composition.specs.Uses.{invocation_row, invocations};
+ghost use Rattle.program_calls.specs.composition.Uses.{invocation_row, invocations};
 ghost use Rattle.program_calls.specs.PlacedPhases.{seen_phase};
 ghost use Rattle.program_uses.specs.InvokedTypes.{AreInvoked, invoked_at, invoked_in, invoked_do, row_of};
 ghost use Rattle.program_fields.specs.SeenFields.{seen_do};
@@ -16,13 +16,13 @@ ghost use Rattle.program_uses.specs.SeenTexts.{Tells};
 
 use crate::program_texts::ProgramTexts;
 use dsl_tree::Phase;
+use expr_nodes::{TypeId, TypeKind, Types};
 use fault_sets::{Ranking, Steps};
 use name_scope::with_fault;
 use osc_base::{Fault, FaultCode, Row};
 use program_calls::{PlacedPhase, invoked, phases_in};
 use program_fields::TypeDo;
 use std::alloc::{AllocError, Global};
-use type_model::{TypeId, TypeKind, Types};
 
 /// The actions and scenarios that the `do` of each type invokes.
 #[derive(Drop)]

@@ -16,5 +16,8 @@ mod rules;
 mod texts;
 mod used;
 
+pub use expr_nodes::{TypeId, TypeKind, Types};
 pub use program::uses;
+pub use program_calls::{Setting, Spot};
+pub use program_members::ProgramMembers;
 pub use used::first_use_fault;

@@ -7,7 +7,7 @@ ghost use Rattle.dsl_tree.specs.Views.{argument_tree, expr_tree, modifier_tree};
 ghost use Rattle.expr_nodes.specs.Parts.{of_one};
 ghost use Rattle.expr_nodes.specs.Seen.{seen_kind, seen_part};
 ghost use Rattle.expr_nodes.specs.SeenNames.{seen_scope};
-ghost use Rattle.composition.specs.Uses.{compared_kind as kind_compared, form_rows, is_at as of_at, is_drive as drive_in, is_vehicle_object, modifier_rows};
+ghost use Rattle.program_calls.specs.composition.Uses.{compared_kind as kind_compared, form_rows, is_at as of_at, is_drive as drive_in, is_vehicle_object, modifier_rows};
 ghost use Rattle.program_calls.specs.SeenModifiers.{seen_form, seen_value};
 ghost use Rattle.program_uses.specs.ModifierRows.{compared_rows, modifier_name_rows, range_rows, vehicle_rows};
 ghost use Rattle.program_uses.specs.TableTypes.{of_table};
@@ -16,14 +16,13 @@ use crate::held::NO_EXPONENTS;
 use crate::rules::with_expr;
 use dsl_tree::{Argument, Expr, ModifierNode};
 use expr_eval::checked;
-use expr_nodes::{Scope, Typed, ValueKind};
+use expr_nodes::{Scope, TypeId, Typed, Types, ValueKind};
 use name_scope::with_fault;
 use osc_base::{Boxed, Fault, FaultCode, Kind};
 use program_calls::{
     ModifierForm, first_place, is_drive, is_modifier, is_path, is_vehicle, modifier_form,
 };
 use std::alloc::{AllocError, Global};
-use type_model::{TypeId, Types};
 use units_si::Exponents;
 use value_fits::with_compared;
 

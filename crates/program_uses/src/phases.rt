@@ -4,10 +4,10 @@ ghost use Rattle.std.specs.Prelude.{◌≡◌, None, flat_map, map, IfOk};
 ghost use Rattle.osc_base.specs.FaultRows.{first_from};
 ghost use Rattle.dsl_tree.specs.declared.phases.Phase.{Phase as PhaseOf};
 ghost use Rattle.dsl_tree.specs.Views.{phase_tree};
-ghost use Rattle.type_heads.specs.Types.{Types as TypesOf};
+ghost use Rattle.expr_nodes.specs.type_heads.Types.{Types as TypesOf};
 ghost use Rattle.expr_nodes.specs.SeenNames.{seen_scope};
-ghost use Rattle.composition.specs.Calls.{phases_in as all_phases};
-ghost use Rattle.composition.specs.Uses.{phase_rows};
+ghost use Rattle.program_calls.specs.composition.Calls.{phases_in as all_phases};
+ghost use Rattle.program_calls.specs.composition.Uses.{phase_rows};
 ghost use Rattle.program_calls.specs.PlacedPhases.{seen_phase, seen_turn};
 ghost use Rattle.program_calls.specs.SeenLabels.{do_labels, seen_labels};
 ghost use Rattle.program_uses.specs.PhaseRows.{phase_in, placed_rows};
@@ -17,11 +17,10 @@ use crate::calls::{it_made, with_call, with_callee, with_parts};
 use crate::compositions::{with_composition, with_whole_duration};
 use crate::program_texts::ProgramTexts;
 use dsl_tree::{InvokeNode, Phase};
-use expr_nodes::{LabelTable, Scope};
+use expr_nodes::{LabelTable, Scope, TypeId, Types};
 use osc_base::Fault;
 use program_calls::{PlacedPhase, invoked, phases_in, scope_at};
 use std::alloc::{AllocError, Global};
-use type_model::{TypeId, Types};
 
 /// Faults of an invocation. The scope is that of its arguments.
 fn with_invocation<'a>(

@@ -1,18 +1,18 @@
 //! The first fault of uses of a program.
 
 ghost use Rattle.std.specs.Prelude.{◌≡◌, None, IfOk};
-ghost use Rattle.composition.specs.Uses.{use_rows};
+ghost use Rattle.program_calls.specs.composition.Uses.{use_rows};
 ghost use Rattle.name_scope.specs.FileNumbers.{wanted_name};
 ghost use Rattle.osc_base.specs.FaultRows.{first_fault};
-ghost use Rattle.type_heads.specs.DeclaredTypes.{program_of, types_of};
-ghost use Rattle.type_heads.specs.Told.{told};
+ghost use Rattle.expr_nodes.specs.type_heads.DeclaredTypes.{program_of, types_of};
+ghost use Rattle.expr_nodes.specs.type_heads.Told.{told};
 
 use crate::used::first_use_fault;
+use expr_nodes::Types;
 use name_scope::Program;
 use osc_base::Fault;
 use program_members::ProgramMembers;
 use std::alloc::{AllocError, Global};
-use type_model::Types;
 
 /// The first fault of uses of all declarations, used or not, by file, token and code. `None` exactly when there is none.
 ///

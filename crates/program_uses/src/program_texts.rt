@@ -3,10 +3,10 @@
 ghost use Rattle.std.specs.Prelude.{◌≡◌, None, slice_index_or};
 ghost use Rattle.program_uses.specs.SeenTexts.{bare_body};
 
+use expr_nodes::TypeId;
 use osc_base::Place;
 use program_fields::{ProgramFields, TypeDo};
-use type_heads::{Body, WrittenMember};
-use type_model::TypeId;
+use type_members::{Body, WrittenMember};
 
 /// The place of what no file declares.
 const NOWHERE: Place = Place {

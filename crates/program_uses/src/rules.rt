@@ -4,7 +4,7 @@ ghost use Rattle.std.specs.Prelude.{◌≡◌, ◌++◌, ◌∷◌, [], flat_map
 ghost use Rattle.osc_base.specs.FaultRows.{first_from};
 ghost use Rattle.dsl_tree.specs.ExprTree.{ExprTree};
 ghost use Rattle.dsl_tree.specs.Views.{expr_tree, path_tree, rule_tree};
-ghost use Rattle.type_heads.specs.Table.{Table};
+ghost use Rattle.expr_nodes.specs.type_heads.Table.{Table};
 ghost use Rattle.expr_nodes.specs.Checks.{IsChecked};
 ghost use Rattle.expr_nodes.specs.Fits as Fits;
 ghost use Rattle.expr_nodes.specs.Kinds.{is_truth};
@@ -13,19 +13,17 @@ ghost use Rattle.expr_nodes.specs.Scope.{Scope as ScopeOf};
 ghost use Rattle.expr_nodes.specs.Seen.{seen_part};
 ghost use Rattle.expr_nodes.specs.SeenNames.{seen_scope};
 ghost use Rattle.expr_nodes.specs.Typing.{expr_rows, first as first_in, typed};
-ghost use Rattle.composition.specs.Uses.{default_rows, has_no_target as lacks_target, is_read_truth, isnt_path_to, rule_rows};
+ghost use Rattle.program_calls.specs.composition.Uses.{default_rows, has_no_target as lacks_target, is_read_truth, isnt_path_to, rule_rows};
 ghost use Rattle.program_uses.specs.RuleRows.{keep_rows, remove_rows};
 
 use crate::expr_parts::relation_left;
 use dsl_tree::{Expr, KeepKind, PathNode, RuleDecl};
-use expr_eval::{Checked, checked, path_checked, path_place};
-use expr_nodes::{Scope, Typed};
-use expr_typing::parts::least;
+use expr_eval::{Checked, checked, least, path_checked, path_place};
+use expr_nodes::{Scope, Typed, Types};
 use name_scope::with_fault;
 use osc_base::{Boxed, Fault, FaultCode};
 use program_calls::{first_place, is_path};
 use std::alloc::{AllocError, Global};
-use type_model::Types;
 use value_fits::with_constraint;
 
 /// Faults of an expression that is known.

@@ -1,16 +1,15 @@
 //! The faults of all text: of the members of each type, where they are written.
 
-ghost use Rattle.std.specs.Prelude.{◌≡◌, None, IfOk};
+ghost use Rattle.std.specs.Prelude.{◌≡◌, None, IfOk, [], flat_map, map};
 ghost use Rattle.osc_base.specs.FaultRows.{first_from};
 ghost use Rattle.dsl_tree.specs.Views.{member_tree};
-ghost use Rattle.type_heads.specs.Types.{Types as TypesOf};
+ghost use Rattle.expr_nodes.specs.type_heads.Types.{Types as TypesOf};
 ghost use Rattle.expr_nodes.specs.SeenNames.{seen_scope};
-ghost use Rattle.composition.specs.Calls.{scope_at as scope_in};
-ghost use Rattle.composition.specs.Uses.{member_use_rows, text_rows};
-ghost use Rattle.std.specs.Prelude.{[], flat_map, map};
-ghost use Rattle.type_heads.specs.Table.{all_types};
+ghost use Rattle.program_calls.specs.composition.Calls.{scope_at as scope_in};
+ghost use Rattle.program_calls.specs.composition.Uses.{member_use_rows, text_rows};
+ghost use Rattle.expr_nodes.specs.type_heads.Table.{all_types};
 ghost use Rattle.program_calls.specs.SeenLabels.{do_labels, seen_labels};
-ghost use Rattle.type_heads.specs.Bodied.{seen_written};
+ghost use Rattle.expr_nodes.specs.type_heads.Bodied.{seen_written};
 ghost use Rattle.program_uses.specs.SeenTexts.{Tells, written_rows};
 
 use crate::fields::with_field;
@@ -18,12 +17,11 @@ use crate::phases::with_phases;
 use crate::program_texts::ProgramTexts;
 use crate::rules::with_rule;
 use dsl_tree::Member;
-use expr_nodes::{LabelTable, Scope};
+use expr_nodes::{LabelTable, Scope, TypeId, Types};
 use osc_base::Fault;
 use program_calls::{do_labels, no_labels, scope_at};
 use std::alloc::{AllocError, Global};
-use type_heads::WrittenMember;
-use type_model::{TypeId, Types};
+use type_members::WrittenMember;
 
 /// Faults of a member in the text of a type. The scope is that of the text.
 fn with_member<'a>(

@@ -2,21 +2,20 @@
 
 ghost use Rattle.std.specs.Prelude.{◌≡◌, map, IfOk};
 ghost use Rattle.osc_base.specs.FaultRows.{first_fault};
-ghost use Rattle.type_heads.specs.Bodied.{seen_body};
-ghost use Rattle.type_heads.specs.Types.{Types as TypesOf};
+ghost use Rattle.expr_nodes.specs.type_heads.Bodied.{seen_body};
+ghost use Rattle.expr_nodes.specs.type_heads.Types.{Types as TypesOf};
 ghost use Rattle.program_fields.specs.type_members.Listed.{lists_of};
-ghost use Rattle.composition.specs.Uses.{use_rows};
+ghost use Rattle.program_calls.specs.composition.Uses.{use_rows};
 ghost use Rattle.program_uses.specs.SeenTexts.{HasTextsOf, Tells};
 
 use crate::invocations::with_invocations;
 use crate::program_texts::ProgramTexts;
 use crate::texts::with_texts;
+use expr_nodes::Types;
 use osc_base::Fault;
 use program_fields::ProgramFields;
 use std::alloc::{AllocError, Global};
-use type_heads::Body;
-use type_members::MemberLists;
-use type_model::Types;
+use type_members::{Body, MemberLists};
 
 /// The fields, the `do` and the body of each type.
 fn texts_of<'a>(

@@ -2,16 +2,16 @@
 use Rattle.std.proofs.Common.{◌≡◌, ◌∙◌, refl, sym, ap, subst, inl, inr, ℕ, suc, ◌+◌, Bool, true, false, ◌&&◌, List, [], ◌∷◌, ◌++◌, map, Option, Some, None, true≢false}
 use Rattle.std.specs.Prelude.{codes, filter_map, is_some, nat_eq, option_and_then, slice_index_or}
 use Rattle.std.specs.Option.{option_map_or}
-use Rattle.outside_io.specs.declared.shelf.NamedBytes.{NamedBytes}
-use Rattle.dsl_tree.specs.declared.compounds.CompoundKind.{CompoundKind}
-use Rattle.dsl_tree.specs.FileTree.{DeclarationTree, FileTree}
-use Rattle.name_scope.specs.FileNumbers.{AddedFile}
+use Rattle.source_scenes.specs.outside_io.declared.shelf.NamedBytes.{NamedBytes}
+use Rattle.source_scenes.specs.dsl_tree.declared.compounds.CompoundKind.{CompoundKind}
+use Rattle.source_scenes.specs.dsl_tree.FileTree.{DeclarationTree, FileTree}
+use Rattle.source_scenes.specs.name_scope.FileNumbers.{AddedFile}
 use Rattle.source_scenes.specs.program_load.Loading.{IsLoaded}
-use Rattle.type_heads.specs.Form.{Form}
-use Rattle.type_heads.specs.Table.{TypeHead, bases, form, head, int_head, is_actor, is_behaviour, is_kind_of, is_scenario, named, owner}
-use Rattle.type_heads.specs.Types.{Program}
-use Rattle.type_heads.specs.DeclaredTypes.{Declared, Placed, all_declared, basic_types, declared_heads, heads_from, placed, placed_from, placed_in, program_of, type_declared, types_of}
-use Rattle.composition.specs.Expanded.{is_vehicle}
+use Rattle.run_tests.specs.type_heads.Form.{Form}
+use Rattle.run_tests.specs.type_heads.Table.{TypeHead, bases, form, head, int_head, is_actor, is_behaviour, is_kind_of, is_scenario, named, owner}
+use Rattle.run_tests.specs.type_heads.Types.{Program}
+use Rattle.run_tests.specs.type_heads.DeclaredTypes.{Declared, Placed, all_declared, basic_types, declared_heads, heads_from, placed, placed_from, placed_in, program_of, type_declared, types_of}
+use Rattle.run_tests.specs.composition.Expanded.{is_vehicle}
 use Rattle.source_scenes.proofs.of_field_flatten.NumberLaw.{making}
 use Rattle.source_scenes.proofs.of_field_flatten.Tests.{In, any_at, in_left, in_right, number_is}
 use Rattle.source_scenes.proofs.of_scene_laws.OwnedHeads.{HaveActors}

@@ -9,18 +9,18 @@ use Rattle.std.proofs.lemmas.Bool.{and_parts}
 use Rattle.std.proofs.lemmas.List.Folds.{list_all-append}
 use Rattle.std.proofs.lemmas.Str.{IsUtf8-nil, is_utf8-from_IsUtf8}
 use Rattle.osc_base.specs.PathTexts.{is_name}
-use Rattle.outside_io.specs.declared.shelf.NamedBytes.{NamedBytes}
-use Rattle.dsl_tree.specs.declared.parts.Ident.{Ident}
-use Rattle.dsl_tree.specs.FileTree.{DeclarationTree, FileTree, MemberTree}
-use Rattle.dsl_tree.specs.Views.{file_tree}
-use Rattle.name_scope.specs.FileNumbers.{AddedFile}
+use Rattle.source_scenes.specs.outside_io.declared.shelf.NamedBytes.{NamedBytes}
+use Rattle.source_scenes.specs.dsl_tree.declared.parts.Ident.{Ident}
+use Rattle.source_scenes.specs.dsl_tree.FileTree.{DeclarationTree, FileTree, MemberTree}
+use Rattle.source_scenes.specs.dsl_tree.Views.{file_tree}
+use Rattle.source_scenes.specs.name_scope.FileNumbers.{AddedFile}
 use Rattle.source_scenes.specs.program_load.Loading.{AreTakenAfter, IsTaken}
-use Rattle.type_heads.specs.Texts.{texts_of, with_text}
-use Rattle.type_heads.specs.Types.{Program, Types, Field, Member}
-use Rattle.type_heads.specs.Members.{fields, fields_declared, members}
-use Rattle.type_heads.specs.DeclaredTypes.{Placed, placed_in, placed_from, types_of}
-use Rattle.composition.specs.declared.setting.Setting.{Setting}
-use Rattle.composition.specs.Expanded.{scene}
+use Rattle.run_tests.specs.type_heads.Texts.{texts_of, with_text}
+use Rattle.run_tests.specs.type_heads.Types.{Program, Types, Field, Member}
+use Rattle.run_tests.specs.type_heads.Members.{fields, fields_declared, members}
+use Rattle.run_tests.specs.type_heads.DeclaredTypes.{Placed, placed_in, placed_from, types_of}
+use Rattle.run_tests.specs.composition.declared.setting.Setting.{Setting}
+use Rattle.run_tests.specs.composition.Expanded.{scene}
 use Rattle.source_scenes.proofs.of_field_flatten.Tests.{In, all_at, flat_map_in, map_in}
 use Rattle.source_scenes.proofs.of_scene_laws.WrittenMembers.{AllMembers, all_members, members_pass}
 use Rattle.source_scenes.proofs.of_loaded_programs.Booleans.{both}

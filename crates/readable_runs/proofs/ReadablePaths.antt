@@ -9,26 +9,26 @@ use Rattle.osc_base.specs.Paths.{root, same_path, then_name, then_index, then_me
 use Rattle.osc_base.specs.declared.path.Path.{Path}
 use Rattle.osc_base.specs.declared.path.Step.{Step}
 use Rattle.osc_base.specs.declared.path.Step.TheVariants.{Name, Index, Member}
-use Rattle.dsl_tree.specs.declared.parts.Ident.{Ident}
-use Rattle.dsl_tree.specs.declared.phases.InvokeHead.{InvokeHead}
-use Rattle.dsl_tree.specs.PhaseTree.{ArgumentTree, PartTree, Invoke, phases_of}
-use Rattle.type_heads.specs.Table.{owner, form}
-use Rattle.type_heads.specs.Types.{Types, Field, Do}
-use Rattle.type_heads.specs.Members.{fields, field_type, list_length, the_do}
-use Rattle.composition.specs.expr_nodes.Sizes.{field_reach}
-use Rattle.composition.specs.declared.guard.Guard.{Guard}
-use Rattle.composition.specs.declared.setting.Setting.{Setting}
-use Rattle.composition.specs.declared.spot.PhaseKind.{PhaseKind}
-use Rattle.composition.specs.declared.spot.PhaseSpot.{PhaseSpot}
-use Rattle.composition.specs.declared.spot.ValueRange.{ValueRange}
-use Rattle.composition.specs.declared.spot.ValueSpot.{ValueSpot}
-use Rattle.composition.specs.Calls.{PhaseHere, phases_in, invoked}
-use Rattle.composition.specs.Expanded.{is_vehicle, scene, spot, spots_of}
-use Rattle.composition.specs.Expansion.{Maker, calling, composition_kind, expand_within, expansion, invocation, phase_part}
-use Rattle.composition.specs.Givens.{guards_under}
-use Rattle.composition.specs.Invariants.{are_nested}
-use Rattle.composition.specs.Ranges.{range_of}
-use Rattle.composition.specs.Scenes.{Content, Spot, Scene, Binding, phase_spot, phases, root_do, value_spot, values}
+use Rattle.source_scenes.specs.dsl_tree.declared.parts.Ident.{Ident}
+use Rattle.source_scenes.specs.dsl_tree.declared.phases.InvokeHead.{InvokeHead}
+use Rattle.source_scenes.specs.dsl_tree.PhaseTree.{ArgumentTree, PartTree, Invoke, phases_of}
+use Rattle.run_tests.specs.type_heads.Table.{owner, form}
+use Rattle.run_tests.specs.type_heads.Types.{Types, Field, Do}
+use Rattle.run_tests.specs.type_heads.Members.{fields, field_type, list_length, the_do}
+use Rattle.run_tests.specs.expr_nodes.Sizes.{field_reach}
+use Rattle.run_tests.specs.composition.declared.guard.Guard.{Guard}
+use Rattle.run_tests.specs.composition.declared.setting.Setting.{Setting}
+use Rattle.run_tests.specs.composition.declared.spot.PhaseKind.{PhaseKind}
+use Rattle.run_tests.specs.composition.declared.spot.PhaseSpot.{PhaseSpot}
+use Rattle.run_tests.specs.composition.declared.spot.ValueRange.{ValueRange}
+use Rattle.run_tests.specs.composition.declared.spot.ValueSpot.{ValueSpot}
+use Rattle.run_tests.specs.composition.Calls.{PhaseHere, phases_in, invoked}
+use Rattle.run_tests.specs.composition.Expanded.{is_vehicle, scene, spot, spots_of}
+use Rattle.run_tests.specs.composition.Expansion.{Maker, calling, composition_kind, expand_within, expansion, invocation, phase_part}
+use Rattle.run_tests.specs.composition.Givens.{guards_under}
+use Rattle.run_tests.specs.composition.Invariants.{are_nested}
+use Rattle.run_tests.specs.composition.Ranges.{range_of}
+use Rattle.run_tests.specs.composition.Scenes.{Content, Spot, Scene, Binding, phase_spot, phases, root_do, value_spot, values}
 use Rattle.source_scenes.proofs.of_field_flatten.ItemLaw.{counted_in}
 use Rattle.source_scenes.proofs.of_field_flatten.NumberLaw.{made_from, making}
 use Rattle.source_scenes.proofs.of_field_flatten.Tests.{In, all_at, any_at, in_map, map_in, path_is, two_ways}

@@ -4,19 +4,19 @@ use Rattle.std.specs.Prelude.{flat_map}
 use Rattle.std.proofs.lemmas.Bool.{ltb-true}
 use Rattle.osc_base.specs.declared.path.Path.{Path}
 use Rattle.osc_base.specs.declared.listing.SlotName.{SlotName}
-use Rattle.name_scope.specs.FileNumbers.{AddedFile}
-use Rattle.type_heads.specs.DeclaredTypes.{program_of, types_of}
-use Rattle.composition.specs.declared.run.Run.{Run}
-use Rattle.composition.specs.declared.setting.Setting.{Setting}
-use Rattle.composition.specs.declared.spot.ChoiceSpot.{ChoiceSpot}
-use Rattle.composition.specs.declared.spot.PhaseSpot.{PhaseSpot}
-use Rattle.composition.specs.declared.spot.ValueSpot.{ValueSpot}
-use Rattle.composition.specs.Expanded.{scene}
-use Rattle.composition.specs.SceneFaults.{is_too_large, named_scenario}
-use Rattle.composition.specs.Scenes.{Scene, choices, phases, values, vehicles}
-use Rattle.composition.specs.Slots.{sample_names, slot_names, ticks_of}
-use Rattle.composition.specs.StaticFaults.{declaration_fault}
-use Rattle.composition.specs.TimedRuns.{timed}
+use Rattle.source_scenes.specs.name_scope.FileNumbers.{AddedFile}
+use Rattle.run_tests.specs.type_heads.DeclaredTypes.{program_of, types_of}
+use Rattle.run_tests.specs.composition.declared.run.Run.{Run}
+use Rattle.run_tests.specs.composition.declared.setting.Setting.{Setting}
+use Rattle.run_tests.specs.composition.declared.spot.ChoiceSpot.{ChoiceSpot}
+use Rattle.run_tests.specs.composition.declared.spot.PhaseSpot.{PhaseSpot}
+use Rattle.run_tests.specs.composition.declared.spot.ValueSpot.{ValueSpot}
+use Rattle.run_tests.specs.composition.Expanded.{scene}
+use Rattle.run_tests.specs.composition.SceneFaults.{is_too_large, named_scenario}
+use Rattle.run_tests.specs.composition.Scenes.{Scene, choices, phases, values, vehicles}
+use Rattle.run_tests.specs.composition.Slots.{sample_names, slot_names, ticks_of}
+use Rattle.run_tests.specs.composition.StaticFaults.{declaration_fault}
+use Rattle.run_tests.specs.composition.TimedRuns.{timed}
 use Rattle.source_scenes.specs.named_scenario.Naming.{fault_in, scenario_in, types_in}
 use Rattle.source_scenes.specs.field_flatten.Points.{point_of}
 use Rattle.source_scenes.proofs.of_field_flatten.Exact.{exact}

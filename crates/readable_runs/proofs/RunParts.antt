@@ -14,17 +14,17 @@ use Rattle.osc_base.specs.declared.path.Path.{Path}
 use Rattle.osc_base.specs.declared.listing.SlotName.{SlotName}
 use Rattle.search_answers.specs.box_eval.Box.{IsPointOf, pair}
 use Rattle.search_answers.specs.record_text.Lines.{IsFewDigits}
-use Rattle.composition.specs.expr_nodes.Sizes.{field_reach}
-use Rattle.composition.specs.declared.spot.ChoiceSpot.{ChoiceSpot}
-use Rattle.composition.specs.declared.spot.PhaseSpot.{PhaseSpot}
-use Rattle.composition.specs.declared.spot.ValueSpot.{ValueSpot}
-use Rattle.composition.specs.declared.spot.ValueRange.{ValueRange}
-use Rattle.composition.specs.declared.run.Run.{Run}
-use Rattle.composition.specs.declared.run.Trace.{Trace}
-use Rattle.composition.specs.declared.run.Value.{Value}
-use Rattle.composition.specs.Scenes.{Scene, Spot, Content, Object, Value as ValueContent, Phase, choice_spot, phase_spot, value_spot, vehicle_spot, choices, phases, values, vehicles, is_one_of, has_root_do, root_do}
-use Rattle.composition.specs.Slots.{slot_names}
-use Rattle.composition.specs.TimedRuns.{TimedRun, timed}
+use Rattle.run_tests.specs.expr_nodes.Sizes.{field_reach}
+use Rattle.run_tests.specs.composition.declared.spot.ChoiceSpot.{ChoiceSpot}
+use Rattle.run_tests.specs.composition.declared.spot.PhaseSpot.{PhaseSpot}
+use Rattle.run_tests.specs.composition.declared.spot.ValueSpot.{ValueSpot}
+use Rattle.run_tests.specs.composition.declared.spot.ValueRange.{ValueRange}
+use Rattle.run_tests.specs.composition.declared.run.Run.{Run}
+use Rattle.run_tests.specs.composition.declared.run.Trace.{Trace}
+use Rattle.run_tests.specs.composition.declared.run.Value.{Value}
+use Rattle.run_tests.specs.composition.Scenes.{Scene, Spot, Content, Object, Value as ValueContent, Phase, choice_spot, phase_spot, value_spot, vehicle_spot, choices, phases, values, vehicles, is_one_of, has_root_do, root_do}
+use Rattle.run_tests.specs.composition.Slots.{slot_names}
+use Rattle.run_tests.specs.composition.TimedRuns.{TimedRun, timed}
 use Rattle.source_scenes.specs.field_flatten.Ends.{bounds, ends_of, no_ends}
 use Rattle.source_scenes.specs.field_flatten.Exactness.{IsExpanded, IsLimited}
 use Rattle.source_scenes.specs.field_flatten.Points.{slot_value, stands, choice_of, span_of, held_of, sample_named, end_named, run_of}

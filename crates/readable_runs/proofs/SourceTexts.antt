@@ -1,30 +1,29 @@
 -- The names of a source are letters, digits and `_`, and its strings are UTF-8.
 use Rattle.std.proofs.Common.{◌≡◌, ◌∙◌, refl, ap, ℕ, ◌+◌, ◌≤◌, Bool, true, false, cond, ◌&&◌, ◌||◌, not, Option, Some, None, List, [], ◌∷◌, ◌++◌, map, length, IsUtf8, arith}
 use Rattle.std.specs.Prelude.{nat_le, nat_lt, filter, ◌==◌, codes, take, drop}
-use Rattle.std.specs.Str.{bytes_eq}
+use Rattle.std.specs.Str.{bytes_eq, is_utf8}
 use Rattle.std.specs.Option.{option_map}
 use Rattle.std.specs.List.{list_all, take_while, prefix_len}
-use Rattle.std.specs.Str.{is_utf8}
 use Rattle.std.proofs.lemmas.Bool.{cond_both, and_parts}
 use Rattle.std.proofs.lemmas.List.Folds.{list_all-append}
 use Rattle.std.proofs.lemmas.Str.{is_utf8-from_IsUtf8}
 use Rattle.osc_base.specs.PathTexts.{begins_name, continues_name, is_name}
-use Rattle.dsl_tree.specs.declared.token.Token.{Token}
-use Rattle.dsl_tree.specs.declared.token.TokenKind.{TokenKind}
-use Rattle.dsl_tree.specs.declared.token.TokenKind.TheVariants.{Indent, Dedent, End, Mark}
-use Rattle.dsl_tree.specs.declared.token.MarkKind.{MarkKind}
-use Rattle.dsl_lexer.specs.declared.shape.Shape.{Shape}
-use Rattle.dsl_lexer.specs.declared.words.LanguageWord.{LanguageWord}
-use Rattle.dsl_lexer.specs.declared.words.LanguageWord.TheVariants.{LeftOut, Reserved}
-use Rattle.dsl_lexer.specs.Bytes.{is_digit, is_hexadecimal_digit, is_name_byte, is_name_start}
-use Rattle.dsl_lexer.specs.Shapes.{IsName, IsShape, entry, marks}
-use Rattle.dsl_lexer.specs.Kinds.{kind_of, word_or_name, words, number_kind, decimal_kind, hexadecimal_kind, fraction, unit_name, is_word, string_chars}
-use Rattle.dsl_lexer.specs.Pieces.{Piece, reach, Cut}
-use Rattle.dsl_lexer.specs.Layout.{opened, line, width, widths, brackets, has_lexeme, begins_line, ends_line, is_widest, blocks, newline, own_token, brought, tokens, last_tokens, placed, OffsetToken}
-use Rattle.dsl_lexer.specs.SourceTokens.{TokensCut}
+use Rattle.source_scenes.specs.dsl_tree.declared.token.Token.{Token}
+use Rattle.source_scenes.specs.dsl_tree.declared.token.TokenKind.{TokenKind}
+use Rattle.source_scenes.specs.dsl_tree.declared.token.TokenKind.TheVariants.{Indent, Dedent, End, Mark}
+use Rattle.source_scenes.specs.dsl_tree.declared.token.MarkKind.{MarkKind}
+use Rattle.source_scenes.specs.dsl_lexer.declared.shape.Shape.{Shape}
+use Rattle.source_scenes.specs.dsl_lexer.declared.words.LanguageWord.{LanguageWord}
+use Rattle.source_scenes.specs.dsl_lexer.declared.words.LanguageWord.TheVariants.{LeftOut, Reserved}
+use Rattle.source_scenes.specs.dsl_lexer.Bytes.{is_digit, is_hexadecimal_digit, is_name_byte, is_name_start}
+use Rattle.source_scenes.specs.dsl_lexer.Shapes.{IsName, IsShape, entry, marks}
+use Rattle.source_scenes.specs.dsl_lexer.Kinds.{kind_of, word_or_name, words, number_kind, decimal_kind, hexadecimal_kind, fraction, unit_name, is_word, string_chars}
+use Rattle.source_scenes.specs.dsl_lexer.Pieces.{Piece, reach, Cut}
+use Rattle.source_scenes.specs.dsl_lexer.Layout.{opened, line, width, widths, brackets, has_lexeme, begins_line, ends_line, is_widest, blocks, newline, own_token, brought, tokens, last_tokens, placed, OffsetToken}
+use Rattle.source_scenes.specs.dsl_lexer.SourceTokens.{TokensCut}
 use Rattle.source_scenes.proofs.of_loaded_programs.Booleans.{both}
-use Rattle.dsl_lexer.proofs.Cutting.{cut_length}
-use Rattle.dsl_lexer.proofs.Texts.{string_utf8, valid_all}
+use Rattle.source_scenes.proofs.of_dsl_lexer.Cutting.{cut_length}
+use Rattle.source_scenes.proofs.of_dsl_lexer.Texts.{string_utf8, valid_all}
 
 -- a name of letters, digits and `_`, and a string that is UTF-8
 abbrev pub is_readable : TokenKind → Bool

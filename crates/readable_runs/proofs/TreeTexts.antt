@@ -6,16 +6,16 @@ use Rattle.std.specs.Str.{is_utf8}
 use Rattle.std.proofs.lemmas.Bool.{false≢true, and_parts}
 use Rattle.std.proofs.lemmas.List.Folds.{list_all-append}
 use Rattle.osc_base.specs.PathTexts.{is_name}
-use Rattle.dsl_tree.specs.declared.parts.Ident.{Ident}
-use Rattle.dsl_tree.specs.declared.token.Token.{Token}
-use Rattle.dsl_tree.specs.declared.token.TokenKind.{TokenKind}
-use Rattle.dsl_tree.specs.ExprTree.{ExprTree, Implies, Or, And, Not, Relation, Sum, Product, Minus, Dot, Index, Number, Physical, Chars, Truth, It, Actor, Name, EnumName, Group, Span, Listed, RangeCall, Start, ExprRow, End, Item}
-use Rattle.dsl_tree.specs.FileTree.{MemberTree, DeclarationTree, FileTree}
-use Rattle.dsl_tree.specs.Grammar.{Part}
-use Rattle.dsl_tree.specs.Language.{Spelled}
-use Rattle.dsl_tree.specs.WrittenFile.{file}
-use Rattle.dsl_tree.proofs.OneTrees.{is_is_whole}
-use Rattle.type_heads.specs.Texts.{texts_in, texts_among, member_exprs, declaration_exprs}
+use Rattle.source_scenes.specs.dsl_tree.declared.parts.Ident.{Ident}
+use Rattle.source_scenes.specs.dsl_tree.declared.token.Token.{Token}
+use Rattle.source_scenes.specs.dsl_tree.declared.token.TokenKind.{TokenKind}
+use Rattle.source_scenes.specs.dsl_tree.ExprTree.{ExprTree, Implies, Or, And, Not, Relation, Sum, Product, Minus, Dot, Index, Number, Physical, Chars, Truth, It, Actor, Name, EnumName, Group, Span, Listed, RangeCall, Start, ExprRow, End, Item}
+use Rattle.source_scenes.specs.dsl_tree.FileTree.{MemberTree, DeclarationTree, FileTree}
+use Rattle.source_scenes.specs.dsl_tree.Grammar.{Part}
+use Rattle.source_scenes.specs.dsl_tree.Language.{Spelled}
+use Rattle.source_scenes.specs.dsl_tree.WrittenFile.{file}
+use Rattle.source_scenes.proofs.of_dsl_tree.OneTrees.{is_is_whole}
+use Rattle.run_tests.specs.type_heads.Texts.{texts_in, texts_among, member_exprs, declaration_exprs}
 use Rattle.source_scenes.proofs.of_loaded_programs.Booleans.{both}
 use Rattle.source_scenes.proofs.of_loaded_programs.LeafCounts.{Measure, weight, total, leaves, row_leaves, spelled_total}
 use Rattle.source_scenes.proofs.of_loaded_programs.TreeCounts.{all_leaves, name_weight, declared_names, member_weight, declaration_weight, file_weight, all_append, file_count}

@@ -17,13 +17,13 @@ use Rattle.osc_base.specs.PathTexts.{are_steps, before_member, begins_name, cont
 use Rattle.osc_base.specs.declared.path.Step.{Step}
 use Rattle.osc_base.specs.declared.path.Step.TheVariants.{Name, Index, Member}
 use Rattle.osc_base.specs.declared.sample.Sample.{Sample}
-use Rattle.composition.specs.declared.run.Choice.{Choice}
-use Rattle.composition.specs.declared.run.Span.{Span}
-use Rattle.composition.specs.declared.run.Trace.{Trace}
-use Rattle.composition.specs.declared.run.Value.{Value}
-use Rattle.composition.specs.declared.run.Run.{Run}
-use Rattle.composition.specs.declared.run.Held.{Held}
-use Rattle.composition.specs.declared.run.Held.TheVariants.{Number, Chars}
+use Rattle.run_tests.specs.composition.declared.run.Choice.{Choice}
+use Rattle.run_tests.specs.composition.declared.run.Span.{Span}
+use Rattle.run_tests.specs.composition.declared.run.Trace.{Trace}
+use Rattle.run_tests.specs.composition.declared.run.Value.{Value}
+use Rattle.run_tests.specs.composition.declared.run.Run.{Run}
+use Rattle.run_tests.specs.composition.declared.run.Held.{Held}
+use Rattle.run_tests.specs.composition.declared.run.Held.TheVariants.{Number, Chars}
 use Rattle.run_tests.specs.run_check.RunText.{integer_data, choice_data, span_data, sample_data, trace_data, held_data, value_data, run_data, run_text}
 use Rattle.run_tests.specs.WrittenRuns.{is_u32, is_i64, has_text, is_written_choice, is_written_span, is_written_sample, is_written_trace, is_written_held, is_written_value, is_written_run}
 use Rattle.source_scenes.proofs.of_field_flatten.Tests.{left_of, right_of}

@@ -1,11 +1,11 @@
 -- The text of each run that a search reaches can be read back.
 use Rattle.std.specs.Prelude.{◌≡◌, ℕ, List, true, false, IsUtf8}
-use Rattle.name_scope.specs.FileNumbers.{AddedFile}
+use Rattle.source_scenes.specs.name_scope.FileNumbers.{AddedFile}
 use Rattle.source_scenes.specs.named_scenario.Naming.{types_in}
-use Rattle.composition.specs.declared.run.Run.{Run}
-use Rattle.composition.specs.declared.setting.Setting.{Setting}
-use Rattle.composition.specs.Expanded.{scene}
-use Rattle.composition.specs.SceneFaults.{is_too_large}
+use Rattle.run_tests.specs.composition.declared.run.Run.{Run}
+use Rattle.run_tests.specs.composition.declared.setting.Setting.{Setting}
+use Rattle.run_tests.specs.composition.Expanded.{scene}
+use Rattle.run_tests.specs.composition.SceneFaults.{is_too_large}
 use Rattle.run_tests.specs.run_check.RunText.{run_text}
 use Rattle.run_tests.specs.WrittenRuns.{is_written_run}
 use Rattle.source_scenes.specs.FoundScenes.{IsKnown}

@@ -4,3 +4,5 @@
 mod laws;
 
 pub use laws::reached_runs_can_be_read;
+pub use search_answers::{RunOrReply, generate, run_or_reply};
+pub use source_scenes::{FoundScene, reply_to_stop, scene_in};

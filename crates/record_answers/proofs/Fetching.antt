@@ -12,11 +12,11 @@ use Rattle.outside_io.proofs.SomeFiles.{of_all, onward}
 use Rattle.box_eval.specs.declared.flat.Flat.{Flat}
 use Rattle.flat_forms.specs.composition.Scenes.{Scene}
 use Rattle.flat_forms.specs.field_flatten.Exactness.{IsFlatOf}
-use Rattle.record_text.specs.declared.stop.VerifyStop.{VerifyStop}
-use Rattle.record_text.specs.declared.stop.VerifyStop.TheVariants as stop
-use Rattle.record_text.specs.Progress.{SomeBadText}
-use Rattle.record_text.specs.Source.{limit}
-use Rattle.record_text.specs.Text.{IsFirstBadLine}
+use Rattle.command_replies.specs.record_text.declared.stop.VerifyStop.{VerifyStop}
+use Rattle.command_replies.specs.record_text.declared.stop.VerifyStop.TheVariants as stop
+use Rattle.command_replies.specs.record_text.Progress.{SomeBadText}
+use Rattle.command_replies.specs.record_text.Source.{limit}
+use Rattle.command_replies.specs.record_text.Text.{IsFirstBadLine}
 use Rattle.refute_check.specs.declared.check.Verified.{Verified}
 use Rattle.refute_check.specs.declared.check.Verified.TheVariants as verified
 use Rattle.refute_check.specs.Answers.{IsRefutationText, IsOpenText, IsRefusedAt, SomeVerified}

@@ -8,9 +8,9 @@ use Rattle.outside_io.specs.Files.{file_named}
 use Rattle.box_eval.specs.declared.flat.Flat.{Flat}
 use Rattle.box_eval.specs.declared.record.Record.{Record}
 use Rattle.box_eval.specs.Record.{Tree, IsFirstFalse, marks}
-use Rattle.record_text.specs.Source.{limit}
-use Rattle.record_text.proofs.BadLines.{one_bad_line}
-use Rattle.record_text.proofs.Texts.{text_of_one}
+use Rattle.command_replies.specs.record_text.Source.{limit}
+use Rattle.command_replies.proofs.of_record_text.BadLines.{one_bad_line}
+use Rattle.command_replies.proofs.of_record_text.Texts.{text_of_one}
 use Rattle.refute_check.specs.Answers.{IsRefusedAt}
 use Rattle.refute_check.proofs.Laws.{not_both, one_count, refused_not_accepted}
 use Rattle.command_replies.specs.Reply.{Answer}

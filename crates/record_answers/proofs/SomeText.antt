@@ -8,11 +8,11 @@ use Rattle.outside_io.specs.Files.{file_named}
 use Rattle.box_eval.specs.declared.flat.Flat.{Flat}
 use Rattle.box_eval.specs.declared.record.Record.{Record}
 use Rattle.box_eval.specs.Record.{Tree, has_open, cuts_of, AllTrue, IsFirstFalse, marks, IsAcceptedAs}
-use Rattle.record_text.specs.declared.line.TextLine.{TextLine}
-use Rattle.record_text.specs.Lines.{spelled, text_of}
-use Rattle.record_text.specs.Source.{limit}
-use Rattle.record_text.specs.Text.{IsTextOf, IsGoodFor}
-use Rattle.record_text.proofs.Headers.{nothing_begins}
+use Rattle.command_replies.specs.record_text.declared.line.TextLine.{TextLine}
+use Rattle.command_replies.specs.record_text.Lines.{spelled, text_of}
+use Rattle.command_replies.specs.record_text.Source.{limit}
+use Rattle.command_replies.specs.record_text.Text.{IsTextOf, IsGoodFor}
+use Rattle.command_replies.proofs.of_record_text.Headers.{nothing_begins}
 use Rattle.command_replies.specs.Reply.{Answer}
 use Rattle.command_replies.specs.Replies.{done, long_file, missing_file, no_line, open_cuts, text_refused}
 use Rattle.record_answers.specs.RecordAnswers.{OnRecordText, bad_line, refused, refuted, undecided, OnRecordFile, no_file, too_long, in_file}

@@ -2,9 +2,9 @@
 use Rattle.std.specs.Prelude.{◌≡◌, ◌≤◌, ◌<◌, ℕ, List, Option, IfSome, codes, length}
 use Rattle.std.specs.Fmt.{decimal}
 use Rattle.box_eval.specs.declared.flat.Flat.{Flat}
-use Rattle.record_text.specs.declared.stop.VerifyStop.{VerifyStop}
-use Rattle.record_text.specs.declared.stop.VerifyStop.TheVariants as stop
-use Rattle.record_text.specs.Source.{limit}
+use Rattle.command_replies.specs.record_text.declared.stop.VerifyStop.{VerifyStop}
+use Rattle.command_replies.specs.record_text.declared.stop.VerifyStop.TheVariants as stop
+use Rattle.command_replies.specs.record_text.Source.{limit}
 use Rattle.refute_check.specs.declared.check.Verified.{Verified}
 use Rattle.refute_check.specs.declared.check.Verified.TheVariants as verified
 use Rattle.command_replies.specs.Reply.{Answer}

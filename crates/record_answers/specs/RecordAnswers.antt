@@ -6,8 +6,8 @@ use Rattle.outside_io.specs.Files.{file_named}
 use Rattle.box_eval.specs.declared.flat.Flat.{Flat}
 use Rattle.flat_forms.specs.composition.Scenes.{Scene}
 use Rattle.flat_forms.specs.field_flatten.Exactness.{IsFlatOf}
-use Rattle.record_text.specs.Source.{limit}
-use Rattle.record_text.specs.Text.{IsFirstBadLine}
+use Rattle.command_replies.specs.record_text.Source.{limit}
+use Rattle.command_replies.specs.record_text.Text.{IsFirstBadLine}
 use Rattle.refute_check.specs.Answers.{IsRefutationText, IsOpenText, IsRefusedAt}
 use Rattle.text_load.specs.Texts.{IsLong}
 use Rattle.command_replies.specs.Reply.{Answer}

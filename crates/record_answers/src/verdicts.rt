@@ -15,8 +15,7 @@ use box_eval::Flat;
 use command_replies::{
     Reply, done, failed_shelf, long_file, missing_file, no_line, open_cuts, text_refused,
 };
-use composition::Scene;
-use flat_forms::flatten;
+use flat_forms::{Scene, flatten};
 use osc_base::Text;
 use outside_io::Shelf;
 use refute_check::{Verified, VerifyStop};

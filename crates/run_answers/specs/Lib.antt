@@ -3,3 +3,6 @@ pub mod Verdicts
 -- Crates below, for the crates above.
 pub use Rattle.instance_check.specs.field_flatten as field_flatten
 pub use Rattle.run_texts.specs as run_texts
+pub use Rattle.command_replies.specs as command_replies
+pub use Rattle.instance_check.specs.composition as composition
+pub use Rattle.command_replies.specs.record_text as record_text

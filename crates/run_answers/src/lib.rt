@@ -4,4 +4,7 @@
 mod run_files;
 mod verdicts;
 
+pub use command_replies::{Reply, Status, done, refused_source, words_refused};
+pub use instance_check::{Run, Scene, write_run};
 pub use run_files::check;
+pub use run_texts::Setting;

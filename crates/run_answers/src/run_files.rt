@@ -9,10 +9,10 @@ ghost use Rattle.instance_check.specs.run_values.Frames.{IsCheckable};
 
 use crate::verdicts::verdict;
 use command_replies::{Reply, failed_shelf, long_file, missing_file, text_refused};
-use composition::{Run, Scene};
+use instance_check::Scene;
 use name_scope::Program;
 use outside_io::Shelf;
-use run_texts::{RunStop, read_run};
+use run_texts::{Run, RunStop, read_run};
 use std::alloc::{AllocError, Global};
 use text_load::{TextStop, load_text};
 

@@ -5,10 +5,9 @@ ghost use Rattle.run_answers.specs.Checks.{verdict};
 ghost use Rattle.run_answers.specs.Verdicts.{clause_word, place_text};
 
 use command_replies::{Reply, done, not_instance};
-use composition::Clause;
+use instance_check::{Clause, Wrong};
 use name_scope::Program;
 use osc_base::{Place, Text};
-use run_check::Wrong;
 use std::alloc::{AllocError, Global};
 
 /// The reply `yes` if nothing is wrong; else the `no` line of what is wrong with a run of a scenario of

@@ -12,9 +12,8 @@ ghost use Rattle.run_entries.specs.SeenRuns.{seen_run};
 ghost use Rattle.run_clauses.specs.Latest.{is_first, is_last, latest, later_tick};
 
 use crate::listing::is_root_do;
-use composition::{PhaseKind, PhaseSpot, Scene};
 use osc_base::Path;
-use run_entries::Entries;
+use run_entries::{Entries, PhaseKind, PhaseSpot, Scene};
 
 /// The tick at which the phase starts, 0 if the run doesn't list it.
 fn start_of(run: &Entries<'_>, phase: &Path) -> i64

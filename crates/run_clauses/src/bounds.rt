@@ -9,9 +9,8 @@ ghost use Rattle.run_entries.specs.composition.SeenScenes.{seen_scene};
 ghost use Rattle.run_entries.specs.composition.declared.run.Held.{Held};
 ghost use Rattle.run_entries.specs.SeenRuns.{seen_run};
 
-use composition::{Choice, Held, Scene, Setting, Span, Trace, Value, ValueRange};
 use osc_base::{Sample, Text};
-use run_entries::Entries;
+use run_entries::{Choice, Entries, Held, Scene, Setting, Span, Trace, Value, ValueRange};
 
 /// The greatest speed, in millimetres a second.
 const TOP_SPEED: i64 = 1_000_000_000;

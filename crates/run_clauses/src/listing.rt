@@ -11,9 +11,8 @@ ghost use Rattle.run_entries.specs.composition.TimedRuns.{span_in};
 ghost use Rattle.run_entries.specs.SeenRuns.{seen_run};
 ghost use Rattle.run_clauses.specs.Listing as listing;
 
-use composition::{Choice, ChoiceSpot, PhaseSpot, Scene, Span, Trace, Value, ValueSpot};
 use osc_base::{Path, Step};
-use run_entries::Entries;
+use run_entries::{Choice, ChoiceSpot, Entries, PhaseSpot, Scene, Span, Trace, Value, ValueSpot};
 
 /// What stands at a path, in a scene or in a run.
 pub trait Standing {

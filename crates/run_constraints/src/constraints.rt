@@ -8,9 +8,9 @@ ghost use Rattle.run_constraints.specs.FirstConstraints as firsts;
 
 use crate::presence::is_asked;
 use crate::truth::is_satisfied;
-use composition::Occurrence;
 use osc_base::Strength;
 use run_values::Numbers;
+use scene_conditions::Occurrence;
 use std::alloc::{AllocError, Global};
 
 /// The constraint is hard.

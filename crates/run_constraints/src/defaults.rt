@@ -14,10 +14,10 @@ ghost use Rattle.run_constraints.specs.FirstConstraints as firsts;
 
 use crate::constraints::is_untrue;
 use crate::presence::is_asked;
-use composition::Occurrence;
 use keep_rules::Targets;
 use osc_base::{Mark, Row, Strength};
 use run_values::Numbers;
+use scene_conditions::Occurrence;
 use std::alloc::{AllocError, Global};
 
 /// Which constraints are there in a run, and which override which.

@@ -16,12 +16,11 @@ ghost use Rattle.run_constraints.specs.FirstConstraints.{is_sound_part};
 ghost use Rattle.run_constraints.specs.Watched.{watch_holds, CanCompare, IsEndOf, IsWatch};
 
 use crate::presence::is_watched;
-use composition::ModifierSpot;
 use expr_nodes::Typed;
-use expr_value::value;
 use modifier_rules::true_at;
 use osc_base::{Fraction, Kind, Moment, Path, Sample};
-use run_values::{Numbers, sample_at};
+use run_values::{Numbers, sample_at, value};
+use scene_conditions::ModifierSpot;
 use std::alloc::{AllocError, Global};
 
 /// A modifier that is there, with all that it compares.

@@ -9,11 +9,9 @@ ghost use Rattle.run_values.specs.run_entries.SeenRuns.{seen_run};
 ghost use Rattle.run_values.specs.SeenNumbers.{scene_in, run_in};
 ghost use Rattle.scene_conditions.specs.SeenConditions.{seen_condition};
 
-use composition::{Held, ModifierSpot, Occurrence};
 use osc_base::Path;
-use run_entries::Entries;
-use run_values::Numbers;
-use scene_conditions::{Condition, modifier_presence, presence};
+use run_values::{Entries, Held, Numbers};
+use scene_conditions::{Condition, ModifierSpot, Occurrence, modifier_presence, presence};
 use std::alloc::{AllocError, Global};
 
 /// The `one_of` at the path chose this member.

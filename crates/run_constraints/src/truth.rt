@@ -10,9 +10,8 @@ ghost use Rattle.run_values.specs.SeenNumbers.{scene_in, run_in};
 ghost use Rattle.run_constraints.specs.FirstConstraints.{is_sound_part};
 
 use expr_nodes::Typed;
-use expr_value::value;
 use osc_base::Fraction;
-use run_values::Numbers;
+use run_values::{Numbers, value};
 
 /// All that the expression reads is held, and its value is 1.
 fn is_true(numbers: &Numbers<'_>, typed: &Typed) -> bool

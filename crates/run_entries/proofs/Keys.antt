@@ -6,7 +6,7 @@ use Rattle.osc_base.specs.declared.path.Path.{Path}
 use Rattle.osc_base.specs.contracts.path.PathPartialEq.TheImpl as paths
 use Rattle.osc_base.specs.Paths.{same_path}
 use Rattle.osc_base.proofs.PathEquality.{path_eq, path_is}
-use Rattle.path_index.proofs.Keys.{or_nothing, placed}
+use Rattle.composition.proofs.of_path_index.Keys.{or_nothing, placed}
 
 -- a map finds by the program's `==` what it finds by the test of paths
 pub found_by : {X S : Type 0} (m : IndexMap (Bor Path) X S) (path : Path) → get_by (λ key. paths.eq-value.it path key.now) m ≡ get_by (λ key. same_path path key.now) m

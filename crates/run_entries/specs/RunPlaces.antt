@@ -3,7 +3,7 @@ use Rattle.std.specs.Prelude.{◌≡◌, ℕ, List, Option}
 use Rattle.indexmap.specs.IndexMap.{get_by}
 use Rattle.osc_base.specs.declared.path.Path.{Path}
 use Rattle.osc_base.specs.Paths.{same_path}
-use Rattle.path_index.specs.Places.{first_place}
+use Rattle.composition.specs.path_index.Places.{first_place}
 use Rattle.run_entries.specs.declared.run_index.RunIndex.{RunIndex}
 
 -- the place that an index has for a path

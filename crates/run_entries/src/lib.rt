@@ -4,4 +4,8 @@
 mod entries;
 mod run_index;
 
+pub use composition::{
+    Choice, ChoiceSpot, Held, PhaseKind, PhaseSpot, Scene, Setting, Span, Trace, Value, ValueRange,
+    ValueSpot,
+};
 pub use entries::Entries;

@@ -5,9 +5,9 @@ ghost use Rattle.std.specs.Option.{option_or};
 ghost use Rattle.osc_base.specs.Paths.{same_path};
 ghost use Rattle.run_entries.specs.RunPlaces.{place_at, RunPlaces};
 
+use composition::HasPath;
 use indexmap::IndexMap;
 use osc_base::Path;
-use path_index::HasPath;
 use std::alloc::{AllocError, Global};
 
 /// The first place of each path in a list of fewer than 2^32 things. The paths are those that stand in the things.

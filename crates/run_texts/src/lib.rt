@@ -7,5 +7,6 @@ mod read;
 mod shapes;
 mod stop;
 
+pub use composition::{Run, Setting};
 pub use read::read_run;
 pub use stop::RunStop;

@@ -6,10 +6,10 @@ ghost use Rattle.field_flatten.specs.composition.SeenScenes.{seen_scene};
 ghost use Rattle.run_clauses.specs.run_entries.SeenRuns.{seen_run};
 ghost use Rattle.run_values.specs.Frames.{IsWithin};
 
-use composition::{Held, Scene, Source};
 use expr_value::Reading;
+use field_flatten::{Held, Scene, Source};
 use osc_base::{Path, Text};
-use run_entries::Entries;
+use run_clauses::Entries;
 
 /// The numbers of a run that is within the limits of its scene.
 #[derive(Drop)]

@@ -5,19 +5,19 @@ use Rattle.serde_json.specs.Read.{read}
 use Rattle.outside_io.specs.declared.shelf.NamedBytes.{NamedBytes}
 use Rattle.outside_io.specs.Files.{file_named}
 use Rattle.name_scope.specs.FileNumbers.{AddedFile}
-use Rattle.box_eval.specs.declared.flat.Flat.{Flat}
-use Rattle.record_text.specs.Source.{limit}
+use Rattle.record_answers.specs.box_eval.declared.flat.Flat.{Flat}
+use Rattle.run_answers.specs.record_text.Source.{limit}
 use Rattle.readable_runs.specs.record_laws.Points.{points_of}
-use Rattle.composition.specs.declared.run.Run.{Run}
-use Rattle.composition.specs.Scenes.{Scene}
-use Rattle.composition.specs.TimedRuns.{timed}
+use Rattle.run_answers.specs.composition.declared.run.Run.{Run}
+use Rattle.run_answers.specs.composition.Scenes.{Scene}
+use Rattle.run_answers.specs.composition.TimedRuns.{timed}
 use Rattle.run_answers.specs.field_flatten.Ends.{bounds}
 use Rattle.readable_runs.specs.run_check.declared.wrong.Wrong.{Wrong}
 use Rattle.readable_runs.specs.run_check.Answers.{first_wrong}
 use Rattle.run_answers.specs.run_texts.RunShape.{Fits, Differs, run_from}
 use Rattle.command_words.specs.Words.{Wanted}
-use Rattle.command_replies.specs.declared.status.Status.TheVariants.{Done, Refuted}
-use Rattle.command_replies.specs.Reply.{Answer}
+use Rattle.run_answers.specs.command_replies.declared.status.Status.TheVariants.{Done, Refuted}
+use Rattle.run_answers.specs.command_replies.Reply.{Answer}
 use Rattle.readable_runs.specs.search_answers.SearchAnswers.{Generates, runs, refuted, undecided}
 use Rattle.readable_runs.proofs.of_search_answers.Accepted.{spent_more}
 use Rattle.run_answers.specs.Checks.{Checks, no_file, too_long, in_file, OnRunText, no_json, no_run, a_run, run_limit, verdict}

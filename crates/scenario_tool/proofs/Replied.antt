@@ -3,11 +3,11 @@ use Rattle.std.proofs.Common.{◌≡◌, ℕ, List, Option, Result, Ok, Err, IfO
 use Rattle.outside_io.specs.declared.shelf.NamedBytes.{NamedBytes}
 use Rattle.outside_io.specs.Files.{SomeFiles}
 use Rattle.name_scope.specs.FileNumbers.{AddedFile}
-use Rattle.composition.specs.declared.scene.Scene.{Scene}
-use Rattle.composition.specs.declared.setting.Setting.{Setting}
-use Rattle.composition.specs.SeenScenes.{seen_scene}
-use Rattle.command_replies.specs.Reply.{Answer}
-use Rattle.command_replies.specs.Shelves.{AnswersOrFails, CountsOnce}
+use Rattle.run_answers.specs.composition.declared.scene.Scene.{Scene}
+use Rattle.run_answers.specs.composition.declared.setting.Setting.{Setting}
+use Rattle.run_answers.specs.composition.SeenScenes.{seen_scene}
+use Rattle.run_answers.specs.command_replies.Reply.{Answer}
+use Rattle.run_answers.specs.command_replies.Shelves.{AnswersOrFails, CountsOnce}
 use Rattle.command_words.specs.Words.{CheckAsked, FlatAsked, GenerateAsked, VerifyAsked, Wanted}
 use Rattle.readable_runs.specs.search_answers.SearchAnswers.{Generates}
 use Rattle.run_answers.specs.Checks.{Checks}

@@ -2,13 +2,13 @@
 use Rattle.std.proofs.Common.{◌∙◌, inl, inr, sym, subst, ℕ, List}
 use Rattle.outside_io.specs.declared.shelf.NamedBytes.{NamedBytes}
 use Rattle.readable_runs.specs.named_scenario.Naming.{types_in}
-use Rattle.composition.specs.declared.run.Run.{Run}
-use Rattle.composition.specs.declared.setting.Setting.{Setting}
-use Rattle.composition.specs.Expanded.{scene}
-use Rattle.composition.specs.Scenes.{Scene}
-use Rattle.composition.specs.TimedRuns.{timed}
+use Rattle.run_answers.specs.composition.declared.run.Run.{Run}
+use Rattle.run_answers.specs.composition.declared.setting.Setting.{Setting}
+use Rattle.run_answers.specs.composition.Expanded.{scene}
+use Rattle.run_answers.specs.composition.Scenes.{Scene}
+use Rattle.run_answers.specs.composition.TimedRuns.{timed}
 use Rattle.command_words.specs.Words.{Wanted, request}
-use Rattle.command_replies.specs.Reply.{Answer}
+use Rattle.run_answers.specs.command_replies.Reply.{Answer}
 use Rattle.readable_runs.proofs.of_source_scenes.Sole.{One, on_source}
 use Rattle.readable_runs.specs.search_answers.SearchAnswers.{Generates, IsSearchReply, runs, refuted, undecided}
 use Rattle.run_answers.proofs.OneCheck.{one_check}

@@ -1,8 +1,8 @@
 -- Words and files have some right answer, apart from a search.
 use Rattle.std.proofs.Common.{refl}
 use Rattle.command_words.specs.Words.{Wanted, request}
-use Rattle.command_replies.specs.Reply.{Answer}
-use Rattle.command_replies.specs.Replies.{done, words_refused}
+use Rattle.run_answers.specs.command_replies.Reply.{Answer}
+use Rattle.run_answers.specs.command_replies.Replies.{done, words_refused}
 use Rattle.readable_runs.proofs.of_source_scenes.Total.{some_on_source}
 use Rattle.run_answers.proofs.OneCheck.{some_check}
 use Rattle.record_answers.proofs.SomeText.{some_verdict}

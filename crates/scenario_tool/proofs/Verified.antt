@@ -1,11 +1,11 @@
 -- A source about which `verify` says `yes` has no instance, and so no run of it is found.
 use Rattle.std.proofs.Common.{refl, sym, ℕ, codes}
-use Rattle.composition.specs.declared.run.Run.{Run}
-use Rattle.composition.specs.Claims.{IsInstance}
-use Rattle.composition.specs.Scenes.{Scene}
-use Rattle.composition.specs.TimedRuns.{TimedRun, timed}
-use Rattle.command_replies.specs.Reply.{Answer}
-use Rattle.command_replies.specs.Replies.{done}
+use Rattle.run_answers.specs.composition.declared.run.Run.{Run}
+use Rattle.run_answers.specs.composition.Claims.{IsInstance}
+use Rattle.run_answers.specs.composition.Scenes.{Scene}
+use Rattle.run_answers.specs.composition.TimedRuns.{TimedRun, timed}
+use Rattle.run_answers.specs.command_replies.Reply.{Answer}
+use Rattle.run_answers.specs.command_replies.Replies.{done}
 use Rattle.readable_runs.specs.search_answers.SearchAnswers.{Generates, runs, refuted, undecided}
 use Rattle.record_answers.specs.RecordAnswers.{Verifies}
 use Rattle.record_answers.proofs.Meaning.{yes_means_none}

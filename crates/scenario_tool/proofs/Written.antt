@@ -3,13 +3,13 @@ use Rattle.std.proofs.Common.{◌≡◌, refl, sym, ap, subst, ℕ, ◌≤◌, L
 use Rattle.outside_io.specs.declared.shelf.NamedBytes.{NamedBytes}
 use Rattle.outside_io.specs.Files.{file_named}
 use Rattle.name_scope.specs.FileNumbers.{AddedFile}
-use Rattle.record_text.specs.Text.{record_text}
-use Rattle.composition.specs.declared.run.Run.{Run}
-use Rattle.composition.specs.Scenes.{Scene}
+use Rattle.run_answers.specs.record_text.Text.{record_text}
+use Rattle.run_answers.specs.composition.declared.run.Run.{Run}
+use Rattle.run_answers.specs.composition.Scenes.{Scene}
 use Rattle.readable_runs.specs.run_check.RunText.{run_text}
 use Rattle.readable_runs.proofs.of_run_tests.RoundTrips.{text_back}
-use Rattle.command_replies.specs.Reply.{Answer}
-use Rattle.command_replies.specs.Replies.{done, open_cuts}
+use Rattle.run_answers.specs.command_replies.Reply.{Answer}
+use Rattle.run_answers.specs.command_replies.Replies.{done, open_cuts}
 use Rattle.readable_runs.specs.scene_search.Findings.{IsReachedRun}
 use Rattle.readable_runs.specs.source_scenes.SoundScenes.{IsSoundScene}
 use Rattle.readable_runs.specs.ReadableRuns.{CanBeRead}

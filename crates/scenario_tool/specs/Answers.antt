@@ -10,13 +10,13 @@ use Rattle.outside_io.specs.Bytes.{AppendsPart}
 use Rattle.outside_io.specs.Counts.{Rises}
 use Rattle.outside_io.specs.Files.{SomeFiles}
 use Rattle.made_programs.specs.program_load.Loading.{IsTurn}
-use Rattle.composition.specs.declared.setting.Setting.{Setting}
+use Rattle.run_answers.specs.composition.declared.setting.Setting.{Setting}
 use Rattle.command_words.specs.Shared.{Source}
 use Rattle.command_words.specs.Words.{Wanted, request}
-use Rattle.command_replies.specs.declared.status.Status.{Status}
-use Rattle.command_replies.specs.Reply.{Answer}
-use Rattle.command_replies.specs.Replies.{done, failed_shelf, status_number, words_refused}
-use Rattle.command_replies.specs.Shelves.{CountsOnce}
+use Rattle.run_answers.specs.command_replies.declared.status.Status.{Status}
+use Rattle.run_answers.specs.command_replies.Reply.{Answer}
+use Rattle.run_answers.specs.command_replies.Replies.{done, failed_shelf, status_number, words_refused}
+use Rattle.run_answers.specs.command_replies.Shelves.{CountsOnce}
 use Rattle.readable_runs.specs.source_scenes.Sources.{IsTextTurn, OnSource}
 use Rattle.readable_runs.specs.search_answers.SearchAnswers.{Generates, Makes}
 use Rattle.run_answers.specs.Checks.{Checks}

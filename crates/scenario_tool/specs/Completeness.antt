@@ -5,21 +5,21 @@ use Rattle.outside_io.specs.Files.{file_named}
 use Rattle.name_scope.specs.FileNumbers.{AddedFile}
 use Rattle.made_programs.specs.program_load.Loading.{IsLoaded}
 use Rattle.readable_runs.specs.named_scenario.Naming.{types_in}
-use Rattle.box_eval.specs.Record.{Tree}
-use Rattle.box_eval.specs.declared.record.Record.{Record}
-use Rattle.record_text.specs.Source.{limit}
-use Rattle.record_text.specs.Text.{IsTextOf}
+use Rattle.record_answers.specs.box_eval.Record.{Tree}
+use Rattle.record_answers.specs.box_eval.declared.record.Record.{Record}
+use Rattle.run_answers.specs.record_text.Source.{limit}
+use Rattle.run_answers.specs.record_text.Text.{IsTextOf}
 use Rattle.readable_runs.specs.record_laws.Points.{points_of}
-use Rattle.composition.specs.declared.run.Run.{Run}
-use Rattle.composition.specs.Expanded.{scene}
+use Rattle.run_answers.specs.composition.declared.run.Run.{Run}
+use Rattle.run_answers.specs.composition.Expanded.{scene}
 use Rattle.run_answers.specs.field_flatten.Ends.{bounds}
 use Rattle.run_answers.specs.run_texts.RunReading.{IsReading}
 use Rattle.command_words.specs.declared.requests.Setting.{Setting}
 use Rattle.command_words.specs.Shared.{Source}
 use Rattle.command_words.specs.Words.{GenerateAsked, Wanted}
-use Rattle.command_replies.specs.declared.status.Status.{Status}
-use Rattle.command_replies.specs.declared.status.Status.TheVariants.{Done, Refuted, Undecided}
-use Rattle.command_replies.specs.Reply.{Answer}
+use Rattle.run_answers.specs.command_replies.declared.status.Status.{Status}
+use Rattle.run_answers.specs.command_replies.declared.status.Status.TheVariants.{Done, Refuted, Undecided}
+use Rattle.run_answers.specs.command_replies.Reply.{Answer}
 use Rattle.readable_runs.specs.source_scenes.Programs.{scenario_named}
 use Rattle.readable_runs.specs.source_scenes.Sources.{IsTextTurn}
 use Rattle.made_programs.specs.MadeLoads.{main_name, made_files}

@@ -1,7 +1,7 @@
 -- The setting in which a command looks at a scene.
 use Rattle.std.specs.Prelude.{ℕ, ◌*◌, List, codes}
 use Rattle.command_words.specs.declared.requests.Setting.{Setting as SettingWords}
-use Rattle.composition.specs.declared.setting.Setting.{Setting}
+use Rattle.run_answers.specs.composition.declared.setting.Setting.{Setting}
 
 -- the setting that words give; a tick is a tenth of a second
 abbrev pub scene_setting : SettingWords → Setting

@@ -4,15 +4,15 @@ use Rattle.outside_io.specs.declared.shelf.NamedBytes.{NamedBytes}
 use Rattle.name_scope.specs.FileNumbers.{AddedFile}
 use Rattle.made_programs.specs.program_load.Loading.{IsLoaded}
 use Rattle.readable_runs.specs.named_scenario.Naming.{types_in}
-use Rattle.composition.specs.Claims.{IsInstance}
-use Rattle.composition.specs.Expanded.{scene}
-use Rattle.composition.specs.TimedRuns.{TimedRun}
+use Rattle.run_answers.specs.composition.Claims.{IsInstance}
+use Rattle.run_answers.specs.composition.Expanded.{scene}
+use Rattle.run_answers.specs.composition.TimedRuns.{TimedRun}
 use Rattle.command_words.specs.declared.requests.Setting.{Setting}
 use Rattle.command_words.specs.Shared.{IsSettingInRanges, Source}
 use Rattle.command_words.specs.Words.{GenerateAsked, VerifyAsked, Wanted}
-use Rattle.command_replies.specs.declared.status.Status.TheVariants.{Done}
-use Rattle.command_replies.specs.Reply.{Answer}
-use Rattle.command_replies.specs.Replies.{done}
+use Rattle.run_answers.specs.command_replies.declared.status.Status.TheVariants.{Done}
+use Rattle.run_answers.specs.command_replies.Reply.{Answer}
+use Rattle.run_answers.specs.command_replies.Replies.{done}
 use Rattle.readable_runs.specs.source_scenes.Programs.{scenario_named}
 use Rattle.scenario_tool.specs.Answers.{AnswersTo, Inputs}
 use Rattle.scenario_tool.specs.Settings.{scene_setting}

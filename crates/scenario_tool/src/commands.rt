@@ -1,20 +1,19 @@
 //! What each command replies.
 
 ghost use Rattle.std.specs.Prelude.{◌≡◌, ◌≤◌, IfOk};
-ghost use Rattle.command_replies.specs.Shelves.{CountsOnce};
+ghost use Rattle.run_answers.specs.command_replies.Shelves.{CountsOnce};
 ghost use Rattle.command_words.specs.Seen.{asked_by, checked_by, flattened_by, verified_by};
 ghost use Rattle.command_words.specs.Shared.{IsSettingInRanges};
 ghost use Rattle.command_words.specs.Words.{Wanted};
 ghost use Rattle.scenario_tool.specs.Answers.{AnswersOrShelfFails, SomeInputs};
 
 use crate::sources::{FoundSource, source_scene};
-use command_replies::Reply;
 use command_words::{CheckWords, FlatWords, GenerateWords, VerifyWords};
 use listing_answers::flat;
 use outside_io::Shelf;
+use readable_runs::generate;
 use record_answers::verify;
-use run_answers::check;
-use search_answers::generate;
+use run_answers::{Reply, check};
 use std::alloc::{AllocError, Global};
 
 /// The reply to what `generate` is asked for.

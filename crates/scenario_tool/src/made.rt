@@ -1,9 +1,9 @@
 //! What `make` replies.
 
 ghost use Rattle.std.specs.Prelude.{◌≡◌, ◌≢◌, ◌≤◌, [], None, IfOk};
-ghost use Rattle.command_replies.specs.Replies.{done};
+ghost use Rattle.run_answers.specs.command_replies.Replies.{done};
 ghost use Rattle.command_words.specs.Words.{IsMakeInRange, Wanted};
-ghost use Rattle.composition.specs.SeenScenes.{seen_scene};
+ghost use Rattle.run_answers.specs.composition.SeenScenes.{seen_scene};
 ghost use Rattle.run_answers.specs.field_flatten.Exactness.{IsExpanded, IsLimited};
 ghost use Rattle.made_programs.specs.MadeLoads.{main_name};
 ghost use Rattle.made_programs.specs.MadeText.{made_line};
@@ -15,14 +15,11 @@ ghost use Rattle.readable_runs.specs.source_scenes.FoundScenes.{IsSomeLoad};
 ghost use Rattle.readable_runs.specs.source_scenes.Sources.{OnProgram};
 
 use crate::settings::made_setting;
-use command_replies::{Reply, done, refused_source};
-use composition::{Run, Scene};
 use made_programs::{MadeLoad, made_line, made_program};
 use name_scope::Program;
 use osc_base::Text;
-use run_check::write_run;
-use search_answers::{RunOrReply, run_or_reply};
-use source_scenes::{FoundScene, scene_in};
+use readable_runs::{FoundScene, RunOrReply, run_or_reply, scene_in};
+use run_answers::{Reply, Run, Scene, done, refused_source, write_run};
 use std::alloc::{AllocError, Global};
 
 /// The name of the main file that is made.

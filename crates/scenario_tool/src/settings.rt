@@ -4,7 +4,7 @@ ghost use Rattle.std.specs.Prelude.{◌≡◌, ◌≤◌};
 ghost use Rattle.scenario_tool.specs.Settings.{made_setting, scene_setting};
 
 use command_words::Setting as SettingWords;
-use composition::Setting;
+use run_answers::Setting;
 
 /// The length of a tick in milliseconds.
 const TICK: u32 = 100;

@@ -1,20 +1,19 @@
 //! The scene of a source that words name.
 
 ghost use Rattle.std.specs.Prelude.{◌≡◌, IfOk};
-ghost use Rattle.command_replies.specs.Shelves.{CountsOnce};
+ghost use Rattle.run_answers.specs.command_replies.Shelves.{CountsOnce};
 ghost use Rattle.command_words.specs.Shared.{IsSettingInRanges};
 ghost use Rattle.outside_io.specs.Files.{SomeFiles};
 ghost use Rattle.scenario_tool.specs.Settings.{scene_setting};
 ghost use Rattle.scenario_tool.specs.FoundSources.{IsFoundSource};
 
 use crate::settings::scene_setting;
-use command_replies::Reply;
 use command_words::{Setting as SettingWords, Source};
-use composition::Scene;
+use made_programs::load;
 use name_scope::Program;
 use outside_io::Shelf;
-use program_load::load;
-use source_scenes::{FoundScene, reply_to_stop, scene_in};
+use readable_runs::{FoundScene, reply_to_stop, scene_in};
+use run_answers::{Reply, Scene};
 use std::alloc::{AllocError, Global};
 
 /// What is found for a source.

@@ -1,15 +1,15 @@
 ghost use Rattle.std.specs.Prelude.{◌≡◌, IfOk, map, string_bytes};
-ghost use Rattle.command_replies.specs.Shelves.{CountsOnce};
+ghost use Rattle.run_answers.specs.command_replies.Shelves.{CountsOnce};
 ghost use Rattle.command_words.specs.Words.{request};
 ghost use Rattle.scenario_tool.specs.Answers.{AnswersOrShelfFails, IsAnswered, SomeInputs};
 
 use crate::commands::{reply_to_check, reply_to_flat, reply_to_generate, reply_to_verify};
 use crate::made::reply_to_make;
-use command_replies::{Reply, Status, done, words_refused};
 use command_words::{Request, read_words};
 use fault_texts::{explanation, topic_list};
 use osc_base::Text;
 use outside_io::{Shelf, Sink};
+use run_answers::{Reply, Status, done, words_refused};
 use std::alloc::{AllocError, Global};
 
 /// Answers the words after the program's name: it reads the files that they name from `shelf`, writes its

@@ -6,6 +6,7 @@ mod conditions;
 mod reads;
 mod there;
 
+pub use composition::{Guard, ModifierSpot, Occurrence, PhaseKind};
 pub use condition::Condition;
 pub use conditions::Conditions;
 pub use there::{modifier_presence, presence};

@@ -89,14 +89,3 @@ pub whole_is : (setting : Setting) (texts : List (List ℕ)) (before after : Lis
 whole_is setting texts before after scene os ms bare is_os is_ms =
     ap₂ (λ (xs : List Occurrence) (ys : List ModifierSpot). put (seen_scene scene) xs ys) is_os is_ms
     ∙ ap (asked before after) bare ∙ asked_is setting texts before after
-
--- ---- what is left of lists
-
-pub filter_seen : {X Y : Type 0} (to : X → Y) (test : Y → Bool) (xs : List X) → map to (filter (λ x. test (to x)) xs) ≡ filter test (map to xs)
-filter_seen to test [] = refl
-filter_seen {X} to test (x ∷ xs) = by (test (to x)) (filter_seen to test xs)
-  where
-    by : (b : Bool) → map to (filter (λ (y : X). test (to y)) xs) ≡ filter test (map to xs)
-        → map to (cond b (x ∷ filter (λ (y : X). test (to y)) xs) (filter (λ (y : X). test (to y)) xs)) ≡ cond b (to x ∷ filter test (map to xs)) (filter test (map to xs))
-    by true h = ap (λ ys. to x ∷ ys) h
-    by false h = h

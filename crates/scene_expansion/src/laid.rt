@@ -9,8 +9,8 @@ ghost use Rattle.scene_expansion.specs.Walks.{modifier_at, nodes_done};
 
 use crate::layout::Layout;
 use crate::work::Work;
-use composition::{Binding, ModifierSpot, Occurrence, Scene, Spot};
 use osc_base::Row;
+use program_calls::{Binding, ModifierSpot, Occurrence, Scene, Spot};
 use std::alloc::{AllocError, Global};
 
 /// The spots of works.

@@ -6,9 +6,8 @@ ghost use Rattle.program_calls.specs.composition.SceneFaults as faults;
 use crate::layout::WorkLayout;
 use crate::limits::pass_limits;
 use crate::whole::all_before;
-use composition::Setting;
+use program_calls::{Setting, TypeId};
 use std::alloc::{AllocError, Global};
-use type_model::TypeId;
 
 /// Whether a scenario has more objects, slots, rules or copied tokens than a scene can have. It makes no spot, constraint
 /// or modifier.

@@ -14,11 +14,9 @@ ghost use Rattle.scene_expansion.specs.Walks.{modifier_at};
 
 use crate::counts::Counts;
 use crate::work::Work;
-use composition::{Binding, ModifierSpot, Occurrence, Scene, Spot};
 use osc_base::{Place, Row};
+use program_calls::{Binding, ModifierSpot, Occurrence, Scene, Spot, TextTable, TypeId};
 use std::alloc::{AllocError, Global};
-use type_model::TypeId;
-use type_tables::TextTable;
 
 /// The works of a program, and how much each comes to.
 pub trait WorkLayout<'p> {

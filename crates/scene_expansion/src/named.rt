@@ -10,10 +10,9 @@ ghost use Rattle.program_calls.specs.composition.SeenScenes.{seen_scene};
 use crate::layout::Layout;
 use crate::limits::pass_limits;
 use crate::whole::{all_after, all_before, whole};
-use composition::{Scene, Setting};
 use osc_base::{Fault, FaultCode, Place, Stop};
+use program_calls::{Scene, Setting, TypeId};
 use std::alloc::{AllocError, Global};
-use type_model::TypeId;
 
 /// Why there is no scene: the scenario isn't there, or it is too large. Or out of memory.
 pub type ExpandStop = Stop<Fault>;

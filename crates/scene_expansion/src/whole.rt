@@ -13,13 +13,12 @@ ghost use Rattle.scene_expansion.specs.Walks.{bare_scene, modifier_at, nodes_don
 
 use crate::laid::{bindings_of, modifiers_of, occurrences_of, spots_of};
 use crate::layout::{Layout, WorkLayout};
-use crate::readable::{readable_modifiers, readable_occurrences};
 use crate::walk::{laid_after, laid_before};
 use crate::work::Work;
-use composition::{ModifierSpot, Scene, Setting};
 use osc_base::Row;
+use program_calls::{ModifierSpot, Scene, Setting, TypeId};
+use scene_reads::{readable_modifiers, readable_occurrences};
 use std::alloc::{AllocError, Global};
-use type_model::TypeId;
 
 /// All works of a scenario, each before the works in it. `None` if there are too many for a scene.
 pub(crate) fn all_before<'p, L: WorkLayout<'p>>(

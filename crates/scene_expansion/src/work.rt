@@ -1,10 +1,8 @@
 //! What is left to lay out while a scenario is expanded.
 
-use composition::{Binding, Guard, ValueRange};
 use dsl_tree::{CompNode, InvokeNode, WaitNode};
-use expr_nodes::Turn;
 use osc_base::{Path, Row};
-use type_model::TypeId;
+use program_calls::{Binding, Guard, Turn, TypeId, ValueRange};
 
 /// A phase of an object: the object and its bindings, the type that holds the text of its `do`, the turns on the
 /// phase's way, the phase's path from the named scenario, and the conditions under which it is there.

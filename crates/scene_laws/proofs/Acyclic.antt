@@ -1,8 +1,8 @@
 -- What is reached by steps is closed under them, so no steps lead back to a number that isn't among those reached from it.
 use Rattle.std.proofs.Common.{◌≡◌, ℕ, zero, suc, ◌+◌, ◌≤◌, ◌<◌, refl, sym, ap, ◌∙◌, subst, ◌⊎◌, inl, inr, List, [], ◌∷◌, ◌++◌, Bool, true, false, ◌||◌, not, cond, length, arith, true≢false}
 use Rattle.std.specs.Prelude.{filter, flat_map, nat_eq}
-use Rattle.type_heads.specs.Members.{has}
-use Rattle.type_heads.specs.Cycles.{fresh, reached, returns}
+use Rattle.expansion_laws.specs.type_heads.Members.{has}
+use Rattle.expansion_laws.specs.type_heads.Cycles.{fresh, reached, returns}
 use Rattle.field_flatten.proofs.Tests.{number_is, number_self, In, in_left, in_right, in_either, in_flat_map, flat_map_in, in_filter, any_at, any_from}
 use Rattle.scene_laws.proofs.FieldNames.{Pairs}
 use Rattle.scene_laws.proofs.Steps.{pairs_append}

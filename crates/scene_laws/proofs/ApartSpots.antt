@@ -3,26 +3,26 @@ use Rattle.std.proofs.Common.{◌≡◌, ℕ, zero, suc, ◌+◌, refl, sym, ap,
 use Rattle.std.specs.Prelude.{filter, flat_map, filter_map, option_to_list, is_some, bytes_eq, codes}
 use Rattle.std.specs.List.{range_with_len, cons_option}
 use Rattle.std.proofs.lemmas.Slice.Eq.{bytes_eq-Decides}
-use Rattle.osc_base.specs.declared.path.Path.{Path}
-use Rattle.osc_base.specs.declared.path.Step.{Step}
-use Rattle.osc_base.specs.declared.path.Step.TheVariants.{Name, Index, Member}
-use Rattle.osc_base.specs.Paths.{path_of, root, then_name, then_index}
-use Rattle.dsl_tree.specs.declared.parts.Ident.{Ident}
-use Rattle.dsl_tree.specs.declared.phases.InvokeHead.{InvokeHead}
-use Rattle.dsl_tree.specs.PhaseTree.{ArgumentTree, PartTree, PhaseTree, Comp, Invoke, Wait}
-use Rattle.type_heads.specs.Form.{Form}
-use Rattle.type_heads.specs.Table.{form, owner, is_object}
-use Rattle.type_heads.specs.Types.{Types, Field, Do}
-use Rattle.type_heads.specs.Members.{fields, field_type, list_length, the_do}
-use Rattle.composition.specs.declared.guard.Guard.{Guard}
-use Rattle.composition.specs.declared.spot.ValueRange.{ValueRange}
-use Rattle.composition.specs.Calls.{PhaseHere, phases_in, invoked}
-use Rattle.composition.specs.Scenes.{Content, Spot, Binding, values, phases}
-use Rattle.composition.specs.Ranges.{range_of}
-use Rattle.composition.specs.Homes.{is_bound}
-use Rattle.composition.specs.Givens.{guards_under, own_givens}
-use Rattle.composition.specs.Expansion.{Expansion, Object, Value, Phase, End, Part, in_row, Maker, value_parts, field_parts, Calling, calling, invocation, phase_part, do_parts, expand_within, own_actor, expansion}
-use Rattle.composition.specs.Expanded.{is_vehicle, spot, spots_of, spots_in}
+use Rattle.field_flatten.specs.osc_base.declared.path.Path.{Path}
+use Rattle.field_flatten.specs.osc_base.declared.path.Step.{Step}
+use Rattle.field_flatten.specs.osc_base.declared.path.Step.TheVariants.{Name, Index, Member}
+use Rattle.field_flatten.specs.osc_base.Paths.{path_of, root, then_name, then_index}
+use Rattle.expansion_laws.specs.dsl_tree.declared.parts.Ident.{Ident}
+use Rattle.expansion_laws.specs.dsl_tree.declared.phases.InvokeHead.{InvokeHead}
+use Rattle.expansion_laws.specs.dsl_tree.PhaseTree.{ArgumentTree, PartTree, PhaseTree, Comp, Invoke, Wait}
+use Rattle.expansion_laws.specs.type_heads.Form.{Form}
+use Rattle.expansion_laws.specs.type_heads.Table.{form, owner, is_object}
+use Rattle.expansion_laws.specs.type_heads.Types.{Types, Field, Do}
+use Rattle.expansion_laws.specs.type_heads.Members.{fields, field_type, list_length, the_do}
+use Rattle.expansion_laws.specs.composition.declared.guard.Guard.{Guard}
+use Rattle.expansion_laws.specs.composition.declared.spot.ValueRange.{ValueRange}
+use Rattle.expansion_laws.specs.composition.Calls.{PhaseHere, phases_in, invoked}
+use Rattle.expansion_laws.specs.composition.Scenes.{Content, Spot, Binding, values, phases}
+use Rattle.expansion_laws.specs.composition.Ranges.{range_of}
+use Rattle.expansion_laws.specs.composition.Homes.{is_bound}
+use Rattle.expansion_laws.specs.composition.Givens.{guards_under, own_givens}
+use Rattle.expansion_laws.specs.composition.Expansion.{Expansion, Object, Value, Phase, End, Part, in_row, Maker, value_parts, field_parts, Calling, calling, invocation, phase_part, do_parts, expand_within, own_actor, expansion}
+use Rattle.expansion_laws.specs.composition.Expanded.{is_vehicle, spot, spots_of, spots_in}
 use Rattle.field_flatten.proofs.Tests.{In, in_either, map_in, flat_map_in}
 use Rattle.scene_laws.specs.Premises.{is_free}
 use Rattle.scene_laws.proofs.FaultRows.{no_left, no_right, not_from}

@@ -2,13 +2,13 @@
 use Rattle.std.proofs.Common.{◌≡◌, ℕ, ◌+◌, refl, ap, ap₂, List, [], ◌∷◌, ◌++◌, false, ◌&&◌, cond, Option, Some, None, map}
 use Rattle.std.specs.Prelude.{nat_eq, bytes_eq, flat_map}
 use Rattle.std.specs.Option.{option_map_or}
-use Rattle.dsl_tree.specs.declared.parts.Ident.{Ident}
-use Rattle.dsl_tree.specs.declared.parts.QName.{QName}
-use Rattle.dsl_tree.specs.declared.enums.EnumItem.{EnumItem}
-use Rattle.dsl_tree.specs.FileTree.{DeclarationTree}
-use Rattle.name_scope.specs.Declaring.{same_owner, first_place}
-use Rattle.type_heads.specs.Table.{TypeHead, named}
-use Rattle.type_heads.specs.DeclaredTypes.{Placed, Declared, meant, means, items_added, items_with, heads_from}
+use Rattle.expansion_laws.specs.dsl_tree.declared.parts.Ident.{Ident}
+use Rattle.expansion_laws.specs.dsl_tree.declared.parts.QName.{QName}
+use Rattle.expansion_laws.specs.dsl_tree.declared.enums.EnumItem.{EnumItem}
+use Rattle.expansion_laws.specs.dsl_tree.FileTree.{DeclarationTree}
+use Rattle.expansion_laws.specs.name_scope.Declaring.{same_owner, first_place}
+use Rattle.expansion_laws.specs.type_heads.Table.{TypeHead, named}
+use Rattle.expansion_laws.specs.type_heads.DeclaredTypes.{Placed, Declared, meant, means, items_added, items_with, heads_from}
 
 -- two lists of heads in which each name means the same
 abbrev pub SameNames : List TypeHead → List TypeHead → Type 0

@@ -3,18 +3,18 @@ use Rattle.std.proofs.Common.{◌≡◌, ℕ, refl, sym, ap, ◌∙◌, subst, i
 use Rattle.std.specs.Prelude.{filter_map, option_and_then}
 use Rattle.std.specs.Option.{option_map_or, option_or}
 use Rattle.std.specs.List.{list_any, cons_option}
-use Rattle.osc_base.specs.declared.path.Path.{Path}
-use Rattle.osc_base.specs.Paths.{same_path, path_of, timed_part}
-use Rattle.type_heads.specs.Types.{Types, Field}
-use Rattle.type_heads.specs.Members.{fields}
-use Rattle.composition.specs.declared.setting.Setting.{Setting}
-use Rattle.composition.specs.declared.spot.ChoiceSpot.{ChoiceSpot}
-use Rattle.composition.specs.declared.spot.ValueSpot.{ValueSpot}
-use Rattle.composition.specs.declared.spot.PhaseSpot.{PhaseSpot}
-use Rattle.composition.specs.Scenes.{Content, Spot, is_one_of, choice_spot, value_spot, phase_spot, vehicle_spot, choices, values, phases, vehicles, spot_at, guards}
-use Rattle.composition.specs.Expansion.{expansion}
-use Rattle.composition.specs.Expanded.{scene, spots_of}
-use Rattle.composition.specs.Invariants.{are_distinct}
+use Rattle.field_flatten.specs.osc_base.declared.path.Path.{Path}
+use Rattle.field_flatten.specs.osc_base.Paths.{same_path, path_of, timed_part}
+use Rattle.expansion_laws.specs.type_heads.Types.{Types, Field}
+use Rattle.expansion_laws.specs.type_heads.Members.{fields}
+use Rattle.expansion_laws.specs.composition.declared.setting.Setting.{Setting}
+use Rattle.expansion_laws.specs.composition.declared.spot.ChoiceSpot.{ChoiceSpot}
+use Rattle.expansion_laws.specs.composition.declared.spot.ValueSpot.{ValueSpot}
+use Rattle.expansion_laws.specs.composition.declared.spot.PhaseSpot.{PhaseSpot}
+use Rattle.expansion_laws.specs.composition.Scenes.{Content, Spot, is_one_of, choice_spot, value_spot, phase_spot, vehicle_spot, choices, values, phases, vehicles, spot_at, guards}
+use Rattle.expansion_laws.specs.composition.Expansion.{expansion}
+use Rattle.expansion_laws.specs.composition.Expanded.{scene, spots_of}
+use Rattle.expansion_laws.specs.composition.Invariants.{are_distinct}
 use Rattle.field_flatten.proofs.Tests.{both, two_ways, In, map_in, any_at, path_is, path_self, finds, found_in}
 use Rattle.scene_laws.specs.Premises.{is_free}
 use Rattle.scene_laws.proofs.FaultRows.{not_so}

@@ -2,27 +2,27 @@
 use Rattle.std.proofs.Common.{◌≡◌, ℕ, zero, suc, refl, sym, subst, inl, inr, List, [], ◌∷◌, ◌++◌, Bool, true, ◌&&◌, not, cond, Option, Some, None, map, length}
 use Rattle.std.specs.Prelude.{filter, flat_map, filter_map, option_to_list, is_some, codes}
 use Rattle.std.specs.List.{range_with_len}
-use Rattle.osc_base.specs.declared.fault.Place.{Place}
-use Rattle.osc_base.specs.declared.path.Path.{Path}
-use Rattle.osc_base.specs.Paths.{root, then_name, then_index, then_member, then_do}
-use Rattle.dsl_tree.specs.declared.parts.Ident.{Ident}
-use Rattle.dsl_tree.specs.declared.phases.CompKind.{CompKind}
-use Rattle.dsl_tree.specs.declared.phases.InvokeHead.{InvokeHead}
-use Rattle.dsl_tree.specs.PhaseTree.{ArgumentTree, PartTree, PhaseTree, Comp, Invoke, Wait, PhaseRow, phases_of}
-use Rattle.type_heads.specs.Table.{form, owner, is_object}
-use Rattle.type_heads.specs.Types.{Types, Field, Do}
-use Rattle.type_heads.specs.Members.{fields, field_type, list_length, the_do}
-use Rattle.composition.specs.declared.guard.Guard.{Guard}
-use Rattle.composition.specs.declared.spot.ValueRange.{ValueRange}
-use Rattle.composition.specs.declared.spot.PhaseKind.{PhaseKind}
-use Rattle.expr_nodes.specs.Scope.{It}
-use Rattle.composition.specs.Calls.{PhaseHere, phases_in, callee, invoked}
-use Rattle.composition.specs.Scenes.{Content, Spot, Binding}
-use Rattle.composition.specs.Ranges.{range_of}
-use Rattle.composition.specs.Homes.{is_bound}
-use Rattle.composition.specs.Givens.{guards_under}
-use Rattle.composition.specs.Expansion.{Expansion, Value, in_row, Maker, value_parts, field_parts, Calling, calling, here_in, composition_kind, argument_binding, actor_binding, of_arguments, invocation, phase_part, do_parts, expand_within, own_actor, expansion}
-use Rattle.composition.specs.Expanded.{is_vehicle, spot, spots_of, spots_in}
+use Rattle.field_flatten.specs.osc_base.declared.fault.Place.{Place}
+use Rattle.field_flatten.specs.osc_base.declared.path.Path.{Path}
+use Rattle.field_flatten.specs.osc_base.Paths.{root, then_name, then_index, then_member, then_do}
+use Rattle.expansion_laws.specs.dsl_tree.declared.parts.Ident.{Ident}
+use Rattle.expansion_laws.specs.dsl_tree.declared.phases.CompKind.{CompKind}
+use Rattle.expansion_laws.specs.dsl_tree.declared.phases.InvokeHead.{InvokeHead}
+use Rattle.expansion_laws.specs.dsl_tree.PhaseTree.{ArgumentTree, PartTree, PhaseTree, Comp, Invoke, Wait, PhaseRow, phases_of}
+use Rattle.expansion_laws.specs.type_heads.Table.{form, owner, is_object}
+use Rattle.expansion_laws.specs.type_heads.Types.{Types, Field, Do}
+use Rattle.expansion_laws.specs.type_heads.Members.{fields, field_type, list_length, the_do}
+use Rattle.expansion_laws.specs.composition.declared.guard.Guard.{Guard}
+use Rattle.expansion_laws.specs.composition.declared.spot.ValueRange.{ValueRange}
+use Rattle.expansion_laws.specs.composition.declared.spot.PhaseKind.{PhaseKind}
+use Rattle.expansion_laws.specs.expr_nodes.Scope.{It}
+use Rattle.expansion_laws.specs.composition.Calls.{PhaseHere, phases_in, callee, invoked}
+use Rattle.expansion_laws.specs.composition.Scenes.{Content, Spot, Binding}
+use Rattle.expansion_laws.specs.composition.Ranges.{range_of}
+use Rattle.expansion_laws.specs.composition.Homes.{is_bound}
+use Rattle.expansion_laws.specs.composition.Givens.{guards_under}
+use Rattle.expansion_laws.specs.composition.Expansion.{Expansion, Value, in_row, Maker, value_parts, field_parts, Calling, calling, here_in, composition_kind, argument_binding, actor_binding, of_arguments, invocation, phase_part, do_parts, expand_within, own_actor, expansion}
+use Rattle.expansion_laws.specs.composition.Expanded.{is_vehicle, spot, spots_of, spots_in}
 use Rattle.scene_laws.proofs.Picked.{of_option, filter_map_in}
 use Rattle.field_flatten.proofs.Tests.{In, in_either, in_map, map_in, flat_map_in, in_filter}
 

@@ -2,15 +2,15 @@
 use Rattle.std.proofs.Common.{◌≡◌, ℕ, zero, suc, ◌+◌, refl, sym, ap, ◌∙◌, subst, inl, inr, List, [], ◌∷◌, ◌++◌, true, false, cond, Some, map, length, arith, true≢false}
 use Rattle.std.specs.Prelude.{flat_map, filter_map, slice_index_or, nat_lt}
 use Rattle.std.specs.List.{list_all}
-use Rattle.dsl_tree.specs.declared.enums.EnumItem.{EnumItem}
-use Rattle.dsl_tree.specs.FileTree.{DeclarationTree}
-use Rattle.type_heads.specs.Form.{Form, EnumMember}
-use Rattle.type_heads.specs.Table.{TypeHead, int_head, form, is_enum, all_types}
-use Rattle.type_heads.specs.Types.{Program}
-use Rattle.type_heads.specs.Units.{exponents_of}
-use Rattle.type_heads.specs.HeadingFaults.{item_rows, enum_rows_from, heading_rows, basic_names, name_declared, twice_rows, declaration_rows, cycle_row}
-use Rattle.type_heads.specs.DeclaredTypes.{Placed, placed, Declared, declared, compound, basic_types, type_declared, all_declared, items_added, items_with, numbered_from, form_with, heads_from, bodies_from, declared_heads, types_of}
-use Rattle.expr_nodes.specs.Parts.{any_holds}
+use Rattle.expansion_laws.specs.dsl_tree.declared.enums.EnumItem.{EnumItem}
+use Rattle.expansion_laws.specs.dsl_tree.FileTree.{DeclarationTree}
+use Rattle.expansion_laws.specs.type_heads.Form.{Form, EnumMember}
+use Rattle.expansion_laws.specs.type_heads.Table.{TypeHead, int_head, form, is_enum, all_types}
+use Rattle.expansion_laws.specs.type_heads.Types.{Program}
+use Rattle.expansion_laws.specs.type_heads.Units.{exponents_of}
+use Rattle.expansion_laws.specs.type_heads.HeadingFaults.{item_rows, enum_rows_from, heading_rows, basic_names, name_declared, twice_rows, declaration_rows, cycle_row}
+use Rattle.expansion_laws.specs.type_heads.DeclaredTypes.{Placed, placed, Declared, declared, compound, basic_types, type_declared, all_declared, items_added, items_with, numbered_from, form_with, heads_from, bodies_from, declared_heads, types_of}
+use Rattle.expansion_laws.specs.expr_nodes.Parts.{any_holds}
 use Rattle.field_flatten.proofs.Tests.{In, in_either, all_at}
 use Rattle.scene_laws.specs.Premises.{is_spelled, is_spelled_program}
 use Rattle.scene_laws.proofs.FaultRows.{rows_left, rows_right}

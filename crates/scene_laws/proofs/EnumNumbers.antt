@@ -4,16 +4,16 @@ use Rattle.std.specs.Prelude.{⊤, ℤ, pos, nat_eq, nat_lt, bytes_eq, int_le, i
 use Rattle.std.specs.Option.{option_map_or}
 use Rattle.std.specs.List.{list_any, list_all}
 use Rattle.std.proofs.lemmas.Int.{ints}
-use Rattle.dsl_tree.specs.declared.enums.EnumItem.{EnumItem}
-use Rattle.type_heads.specs.Form.{EnumMember, greatest_value}
-use Rattle.type_heads.specs.Table.{number_of}
-use Rattle.type_heads.specs.Bounds.{inserted, ascending, numbers_of}
-use Rattle.type_heads.specs.HeadingFaults.{shares_item, item_rows}
-use Rattle.type_heads.specs.DeclaredTypes.{numbered_from}
-use Rattle.expr_nodes.specs.Sizes.{field_reach}
-use Rattle.expr_nodes.specs.Parts.{any_holds}
-use Rattle.composition.specs.declared.spot.ValueRange.{ValueRange}
-use Rattle.composition.specs.Invariants.{is_small, is_range}
+use Rattle.expansion_laws.specs.dsl_tree.declared.enums.EnumItem.{EnumItem}
+use Rattle.expansion_laws.specs.type_heads.Form.{EnumMember, greatest_value}
+use Rattle.expansion_laws.specs.type_heads.Table.{number_of}
+use Rattle.expansion_laws.specs.type_heads.Bounds.{inserted, ascending, numbers_of}
+use Rattle.expansion_laws.specs.type_heads.HeadingFaults.{shares_item, item_rows}
+use Rattle.expansion_laws.specs.type_heads.DeclaredTypes.{numbered_from}
+use Rattle.expansion_laws.specs.expr_nodes.Sizes.{field_reach}
+use Rattle.expansion_laws.specs.expr_nodes.Parts.{any_holds}
+use Rattle.expansion_laws.specs.composition.declared.spot.ValueRange.{ValueRange}
+use Rattle.expansion_laws.specs.composition.Invariants.{is_small, is_range}
 use Rattle.field_flatten.specs.Exactness.{is_ascending, is_ordered_range}
 use Rattle.field_flatten.proofs.Tests.{both, In, map_in, all_from, found_in}
 use Rattle.scene_laws.proofs.FaultRows.{no_left, no_right}

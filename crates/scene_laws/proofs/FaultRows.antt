@@ -2,15 +2,15 @@
 use Rattle.std.proofs.Common.{◌≡◌, refl, sym, subst, inl, inr, map, List, [], ◌∷◌, ◌++◌, Bool, true, false, ◌||◌, not, cond, Option, Some, None, true≢false}
 use Rattle.std.specs.Prelude.{flat_map}
 use Rattle.std.specs.Option.{option_or}
-use Rattle.osc_base.specs.declared.fault.Fault.{Fault}
-use Rattle.osc_base.specs.FaultRows.{FaultRow, is_before, first_of, row_fault, first_from, first_fault}
-use Rattle.type_heads.specs.Types.{Program, Types}
-use Rattle.type_heads.specs.HeadingFaults.{heading_rows}
-use Rattle.type_heads.specs.MemberFaults.{member_fault_rows}
-use Rattle.expr_nodes.specs.Typed.{Typed}
-use Rattle.expr_nodes.specs.Parts.{any_holds, on_one, on_two, unless}
-use Rattle.composition.specs.Uses.{use_rows}
-use Rattle.composition.specs.StaticFaults.{declaration_fault}
+use Rattle.field_flatten.specs.osc_base.declared.fault.Fault.{Fault}
+use Rattle.field_flatten.specs.osc_base.FaultRows.{FaultRow, is_before, first_of, row_fault, first_from, first_fault}
+use Rattle.expansion_laws.specs.type_heads.Types.{Program, Types}
+use Rattle.expansion_laws.specs.type_heads.HeadingFaults.{heading_rows}
+use Rattle.expansion_laws.specs.type_heads.MemberFaults.{member_fault_rows}
+use Rattle.expansion_laws.specs.expr_nodes.Typed.{Typed}
+use Rattle.expansion_laws.specs.expr_nodes.Parts.{any_holds, on_one, on_two, unless}
+use Rattle.expansion_laws.specs.composition.Uses.{use_rows}
+use Rattle.expansion_laws.specs.composition.StaticFaults.{declaration_fault}
 use Rattle.field_flatten.proofs.Tests.{In}
 
 pub no_left : (a b : Bool) → a || b ≡ false → a ≡ false

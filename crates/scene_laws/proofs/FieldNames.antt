@@ -3,14 +3,14 @@ use Rattle.std.proofs.Common.{◌≡◌, ℕ, zero, suc, ◌+◌, ◌≤◌, ◌
 use Rattle.std.specs.Prelude.{⊤, flat_map, find, nat_lt, bytes_eq, codes, slice_index_or}
 use Rattle.std.specs.List.{list_any}
 use Rattle.std.proofs.lemmas.Slice.Eq.{bytes_eq-Decides}
-use Rattle.dsl_tree.specs.declared.parts.Ident.{Ident}
-use Rattle.dsl_tree.specs.FileTree.{FieldTree, MemberTree}
-use Rattle.type_heads.specs.Table.{TypeHead, form, is_behaviour, all_types, numbers_from}
-use Rattle.type_heads.specs.Types.{Program, Types, Member, Field}
-use Rattle.type_heads.specs.Members.{members, fields_declared, fields_among, fields, field, dos, members_of}
-use Rattle.type_heads.specs.MemberFaults.{labels_in, member_names, names_among, repeated_rows, names_given, do_rows, initial_rows, condition_rows, type_rows, member_fault_rows}
-use Rattle.type_heads.specs.DeclaredTypes.{types_of, placed, heads_from, bodies_from, all_declared, declared_heads}
-use Rattle.expr_nodes.specs.Parts.{any_holds}
+use Rattle.expansion_laws.specs.dsl_tree.declared.parts.Ident.{Ident}
+use Rattle.expansion_laws.specs.dsl_tree.FileTree.{FieldTree, MemberTree}
+use Rattle.expansion_laws.specs.type_heads.Table.{TypeHead, form, is_behaviour, all_types, numbers_from}
+use Rattle.expansion_laws.specs.type_heads.Types.{Program, Types, Member, Field}
+use Rattle.expansion_laws.specs.type_heads.Members.{members, fields_declared, fields_among, fields, field, dos, members_of}
+use Rattle.expansion_laws.specs.type_heads.MemberFaults.{labels_in, member_names, names_among, repeated_rows, names_given, do_rows, initial_rows, condition_rows, type_rows, member_fault_rows}
+use Rattle.expansion_laws.specs.type_heads.DeclaredTypes.{types_of, placed, heads_from, bodies_from, all_declared, declared_heads}
+use Rattle.expansion_laws.specs.expr_nodes.Parts.{any_holds}
 use Rattle.field_flatten.proofs.Tests.{two_ways, In}
 use Rattle.scene_laws.proofs.FaultRows.{no_left, no_right, rows_left, rows_among}
 

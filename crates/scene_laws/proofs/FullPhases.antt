@@ -2,20 +2,20 @@
 use Rattle.std.proofs.Common.{◌≡◌, ℕ, zero, suc, ◌+◌, refl, sym, ap, subst, inl, inr, List, [], ◌∷◌, ◌++◌, Bool, true, false, cond, Option, Some, None, map, length, arith, true≢false}
 use Rattle.std.specs.Prelude.{⊤, nat_lt, is_some}
 use Rattle.std.specs.List.{list_all, range_with_len}
-use Rattle.osc_base.specs.declared.path.Path.{Path}
-use Rattle.osc_base.specs.Paths.{root, then_do, then_member}
-use Rattle.dsl_tree.specs.declared.parts.Ident.{Ident}
-use Rattle.dsl_tree.specs.declared.phases.CompKind.{CompKind}
-use Rattle.dsl_tree.specs.PhaseTree.{ArgumentTree, PhaseTree, Comp, Invoke, Wait, PhaseRow, End, Phase, phases_of}
-use Rattle.dsl_tree.specs.FileTree.{MemberTree}
-use Rattle.type_heads.specs.Types.{Types, Member, Do}
-use Rattle.type_heads.specs.Members.{members, do_declared, dos, the_do}
-use Rattle.composition.specs.declared.setting.Setting.{Setting}
-use Rattle.composition.specs.declared.spot.ChoiceSpot.{ChoiceSpot}
-use Rattle.composition.specs.Calls.{Turn, turns, PhaseHere, phases_at, phases_among}
-use Rattle.composition.specs.Scenes.{Content, Spot, choice_spot, choices}
-use Rattle.composition.specs.Expansion.{expansion}
-use Rattle.composition.specs.Expanded.{scene, spots_of}
+use Rattle.field_flatten.specs.osc_base.declared.path.Path.{Path}
+use Rattle.field_flatten.specs.osc_base.Paths.{root, then_do, then_member}
+use Rattle.expansion_laws.specs.dsl_tree.declared.parts.Ident.{Ident}
+use Rattle.expansion_laws.specs.dsl_tree.declared.phases.CompKind.{CompKind}
+use Rattle.expansion_laws.specs.dsl_tree.PhaseTree.{ArgumentTree, PhaseTree, Comp, Invoke, Wait, PhaseRow, End, Phase, phases_of}
+use Rattle.expansion_laws.specs.dsl_tree.FileTree.{MemberTree}
+use Rattle.expansion_laws.specs.type_heads.Types.{Types, Member, Do}
+use Rattle.expansion_laws.specs.type_heads.Members.{members, do_declared, dos, the_do}
+use Rattle.expansion_laws.specs.composition.declared.setting.Setting.{Setting}
+use Rattle.expansion_laws.specs.composition.declared.spot.ChoiceSpot.{ChoiceSpot}
+use Rattle.expansion_laws.specs.composition.Calls.{Turn, turns, PhaseHere, phases_at, phases_among}
+use Rattle.expansion_laws.specs.composition.Scenes.{Content, Spot, choice_spot, choices}
+use Rattle.expansion_laws.specs.composition.Expansion.{expansion}
+use Rattle.expansion_laws.specs.composition.Expanded.{scene, spots_of}
 use Rattle.field_flatten.proofs.Tests.{left_of, right_of, In, in_either, all_from, found_in}
 use Rattle.scene_laws.specs.Premises.{is_full, row_is_full, is_formed}
 use Rattle.scene_laws.proofs.Picked.{filter_map_in}

@@ -3,12 +3,12 @@ use Rattle.std.proofs.Common.{◌≡◌, refl, sym, ◌∙◌, subst, ◌⊎◌,
 use Rattle.std.specs.Prelude.{flat_map, option_to_list, option_and_then}
 use Rattle.std.specs.Option.{option_map_or, option_or}
 use Rattle.std.specs.List.{list_all, list_any}
-use Rattle.osc_base.specs.declared.path.Path.{Path}
-use Rattle.osc_base.specs.Paths.{same_path, path_of, timed_part}
-use Rattle.composition.specs.declared.guard.Guard.{Guard}
-use Rattle.composition.specs.Scenes.{Scene, Spot, Occurrence, ModifierSpot, spot_at, guards}
-use Rattle.composition.specs.There.{same_guard, once, once_after, read_by, removed, presence, modifier_presence}
-use Rattle.composition.specs.Invariants.{are_grounded, is_guard, guard_path}
+use Rattle.field_flatten.specs.osc_base.declared.path.Path.{Path}
+use Rattle.field_flatten.specs.osc_base.Paths.{same_path, path_of, timed_part}
+use Rattle.expansion_laws.specs.composition.declared.guard.Guard.{Guard}
+use Rattle.expansion_laws.specs.composition.Scenes.{Scene, Spot, Occurrence, ModifierSpot, spot_at, guards}
+use Rattle.expansion_laws.specs.composition.There.{same_guard, once, once_after, read_by, removed, presence, modifier_presence}
+use Rattle.expansion_laws.specs.composition.Invariants.{are_grounded, is_guard, guard_path}
 use Rattle.field_flatten.specs.Exactness.{is_small_guard, are_small_guards}
 use Rattle.field_flatten.proofs.Tests.{left_of, right_of, both, two_ways, all_at, all_from, all_append, found_in}
 use Rattle.field_flatten.proofs.Presence.{guard_is, guards_grounded, once_same}

@@ -2,23 +2,23 @@
 use Rattle.std.proofs.Common.{◌≡◌, ℕ, zero, suc, ◌+◌, ◌<◌, refl, sym, ap, ◌∙◌, subst, inl, inr, List, [], ◌∷◌, ◌++◌, Bool, true, false, ◌&&◌, ◌||◌, not, cond, Option, Some, None, map, length, arith, true≢false}
 use Rattle.std.specs.Prelude.{filter, flat_map, filter_map, slice_index_or, option_to_list, option_and_then, bytes_eq, nat_eq}
 use Rattle.std.specs.Option.{option_map_or}
-use Rattle.dsl_tree.specs.declared.parts.Ident.{Ident}
-use Rattle.dsl_tree.specs.declared.parts.QName.{QName}
-use Rattle.dsl_tree.specs.declared.phases.InvokeHead.{InvokeHead}
-use Rattle.dsl_tree.specs.declared.compounds.Heir.{Heir}
-use Rattle.dsl_tree.specs.PhaseTree.{ArgumentTree, PartTree, PhaseTree, Comp, Invoke, Wait}
-use Rattle.dsl_tree.specs.FileTree.{MemberTree}
-use Rattle.name_scope.specs.Declaring.{same_owner, first_place}
-use Rattle.type_heads.specs.Table.{TypeHead, int_head, head, form, base, bases, line_within, named, numbers_from, all_types, is_scenario, has_members, is_behaviour}
-use Rattle.type_heads.specs.Types.{Program, Types, TypeBody, Written, Member, Field, Do}
-use Rattle.type_heads.specs.Members.{has, body, subtypes, is_conditional, Line, line_of, through, down_within, down, lines_within, member_of, members_of, members, fields_declared, fields, field_type, the_do}
-use Rattle.type_heads.specs.Cycles.{reached, returns}
-use Rattle.type_heads.specs.HeadingFaults.{field_types, family, held_types, cycle_row, heading_rows, twice_rows, basic_names, name_declared, declaration_rows, enum_rows_from}
-use Rattle.type_heads.specs.DeclaredTypes.{Placed, placed, Declared, all_declared, meant, declared_heads, heads_from, bodies_from, types_of}
-use Rattle.expr_nodes.specs.Parts.{any_holds}
-use Rattle.expr_nodes.specs.Typing.{typed}
-use Rattle.composition.specs.Calls.{PhaseHere, phases_in, Callee, callee, actor_type, owned_behaviour, called, without_labels, invoked}
-use Rattle.composition.specs.Uses.{text_rows, invoked_by, invocations, invocation_row, use_rows}
+use Rattle.expansion_laws.specs.dsl_tree.declared.parts.Ident.{Ident}
+use Rattle.expansion_laws.specs.dsl_tree.declared.parts.QName.{QName}
+use Rattle.expansion_laws.specs.dsl_tree.declared.phases.InvokeHead.{InvokeHead}
+use Rattle.expansion_laws.specs.dsl_tree.declared.compounds.Heir.{Heir}
+use Rattle.expansion_laws.specs.dsl_tree.PhaseTree.{ArgumentTree, PartTree, PhaseTree, Comp, Invoke, Wait}
+use Rattle.expansion_laws.specs.dsl_tree.FileTree.{MemberTree}
+use Rattle.expansion_laws.specs.name_scope.Declaring.{same_owner, first_place}
+use Rattle.expansion_laws.specs.type_heads.Table.{TypeHead, int_head, head, form, base, bases, line_within, named, numbers_from, all_types, is_scenario, has_members, is_behaviour}
+use Rattle.expansion_laws.specs.type_heads.Types.{Program, Types, TypeBody, Written, Member, Field, Do}
+use Rattle.expansion_laws.specs.type_heads.Members.{has, body, subtypes, is_conditional, Line, line_of, through, down_within, down, lines_within, member_of, members_of, members, fields_declared, fields, field_type, the_do}
+use Rattle.expansion_laws.specs.type_heads.Cycles.{reached, returns}
+use Rattle.expansion_laws.specs.type_heads.HeadingFaults.{field_types, family, held_types, cycle_row, heading_rows, twice_rows, basic_names, name_declared, declaration_rows, enum_rows_from}
+use Rattle.expansion_laws.specs.type_heads.DeclaredTypes.{Placed, placed, Declared, all_declared, meant, declared_heads, heads_from, bodies_from, types_of}
+use Rattle.expansion_laws.specs.expr_nodes.Parts.{any_holds}
+use Rattle.expansion_laws.specs.expr_nodes.Typing.{typed}
+use Rattle.expansion_laws.specs.composition.Calls.{PhaseHere, phases_in, Callee, callee, actor_type, owned_behaviour, called, without_labels, invoked}
+use Rattle.expansion_laws.specs.composition.Uses.{text_rows, invoked_by, invocations, invocation_row, use_rows}
 use Rattle.field_flatten.proofs.Tests.{In, in_left, in_right, in_either, map_in, in_flat_map, flat_map_in, in_filter, found_in}
 use Rattle.scene_laws.proofs.FaultRows.{no_right, rows_right, row_among}
 use Rattle.scene_laws.proofs.Picked.{of_option, filter_map_in}

@@ -3,18 +3,18 @@ use Rattle.std.proofs.Common.{◌≡◌, refl, sym, ◌∙◌, subst, List, [], 
 use Rattle.std.specs.Prelude.{ℤ, nat_eq}
 use Rattle.std.specs.List.{list_all, list_any}
 use Rattle.std.proofs.lemmas.Int.{ints}
-use Rattle.osc_base.specs.declared.fault.Place.{Place}
-use Rattle.osc_base.specs.Comparisons.{same_number}
-use Rattle.dsl_tree.specs.declared.expr.Operator.{Operator}
-use Rattle.units_si.specs.declared.units.Exponents.{Exponents}
-use Rattle.units_si.specs.ExponentTests.{same_exponents}
-use Rattle.expr_nodes.specs.declared.compare.Compare.{Compare}
-use Rattle.expr_nodes.specs.Kinds.{ValueKind, is_number, is_truth, same_units}
-use Rattle.expr_nodes.specs.Typed.{Typed, Info, Constant, Read, Whole, Listed, Span, Minus, Not, Sum, Times, And, Or, Implies, Relation, Within, info, kind, place_of}
-use Rattle.expr_nodes.specs.Sizes.{Size, size, info_at, constant_size, field_size, duration_size, unit_size, joined, multiplied, is_wide}
-use Rattle.expr_nodes.specs.Parts.{any_holds, is_scalar, parts_of, both_numbers}
-use Rattle.expr_nodes.specs.Operators.{truth_at, not_rows, logic_rows, minus_rows, sum_rows, sum_of, product_rows, product_of, fit_for, comparison_rows, fits_in, is_range_or_list, within_rows, span_rows}
-use Rattle.expr_nodes.specs.Sound.{same_size, has_size, is_constant_of, is_per, are_truths, is_truth_info, can_join, is_sound, are_sound}
+use Rattle.field_flatten.specs.osc_base.declared.fault.Place.{Place}
+use Rattle.field_flatten.specs.osc_base.Comparisons.{same_number}
+use Rattle.expansion_laws.specs.dsl_tree.declared.expr.Operator.{Operator}
+use Rattle.expansion_laws.specs.units_si.declared.units.Exponents.{Exponents}
+use Rattle.expansion_laws.specs.units_si.ExponentTests.{same_exponents}
+use Rattle.expansion_laws.specs.expr_nodes.declared.compare.Compare.{Compare}
+use Rattle.expansion_laws.specs.expr_nodes.Kinds.{ValueKind, is_number, is_truth, same_units}
+use Rattle.expansion_laws.specs.expr_nodes.Typed.{Typed, Info, Constant, Read, Whole, Listed, Span, Minus, Not, Sum, Times, And, Or, Implies, Relation, Within, info, kind, place_of}
+use Rattle.expansion_laws.specs.expr_nodes.Sizes.{Size, size, info_at, constant_size, field_size, duration_size, unit_size, joined, multiplied, is_wide}
+use Rattle.expansion_laws.specs.expr_nodes.Parts.{any_holds, is_scalar, parts_of, both_numbers}
+use Rattle.expansion_laws.specs.expr_nodes.Operators.{truth_at, not_rows, logic_rows, minus_rows, sum_rows, sum_of, product_rows, product_of, fit_for, comparison_rows, fits_in, is_range_or_list, within_rows, span_rows}
+use Rattle.expansion_laws.specs.expr_nodes.Sound.{same_size, has_size, is_constant_of, is_per, are_truths, is_truth_info, can_join, is_sound, are_sound}
 use Rattle.field_flatten.specs.Seen.{has_values, have_values}
 use Rattle.field_flatten.proofs.Tests.{left_of, right_of, both, two_ways, number_self}
 use Rattle.field_flatten.proofs.ShapeLaw.{scale_is}

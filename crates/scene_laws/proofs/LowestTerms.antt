@@ -5,12 +5,12 @@ use Rattle.std.specs.Int.{IsGcd, ◌∣◌}
 use Rattle.std.proofs.lemmas.Int.{ints}
 use Rattle.std.proofs.lemmas.Nat.Gcd.{dvd_antisymm}
 use Rattle.std.proofs.Math.Nat.{one-dvd, div-le_self, one-le-pow, pow-le-pow_right, pos_of_dvd_of_pos, mul-div_cancel', dvd-mul_left}
-use Rattle.osc_base.specs.Number.{Number, whole}
-use Rattle.osc_base.specs.Comparisons.{greatest_part}
-use Rattle.osc_base.specs.LowestTerms.{gcd, share, lowest, decimal_number}
-use Rattle.osc_base.proofs.Multiples.{lowest_terms}
-use Rattle.expr_nodes.specs.Sizes.{Size, constant_size, is_wide}
-use Rattle.expr_nodes.specs.Sound.{is_lowest}
+use Rattle.field_flatten.specs.osc_base.Number.{Number, whole}
+use Rattle.field_flatten.specs.osc_base.Comparisons.{greatest_part}
+use Rattle.field_flatten.specs.osc_base.LowestTerms.{gcd, share, lowest, decimal_number}
+use Rattle.field_flatten.proofs.of_osc_base.Multiples.{lowest_terms}
+use Rattle.expansion_laws.specs.expr_nodes.Sizes.{Size, constant_size, is_wide}
+use Rattle.expansion_laws.specs.expr_nodes.Sound.{is_lowest}
 use Rattle.field_flatten.proofs.Tests.{both}
 use Rattle.field_flatten.proofs.Multiples.{gcd_is}
 

@@ -2,31 +2,31 @@
 use Rattle.std.proofs.Common.{◌≡◌, ℕ, zero, suc, ◌+◌, ◌≤◌, ◌<◌, refl, sym, ap, ◌∙◌, subst, inl, inr, List, [], ◌∷◌, ◌++◌, Bool, true, false, cond, Option, Some, None, map, length, arith, true≢false}
 use Rattle.std.specs.Prelude.{filter_map, option_to_list, is_some, bytes_eq, codes, nat_eq}
 use Rattle.std.specs.List.{list_all, range_with_len}
-use Rattle.osc_base.specs.declared.fault.Place.{Place}
-use Rattle.osc_base.specs.declared.path.Path.{Path}
-use Rattle.osc_base.specs.declared.path.Step.TheVariants.{Member}
-use Rattle.osc_base.specs.Comparisons.{same_number}
-use Rattle.osc_base.specs.Paths.{path_of, root, same_path, then_name, then_member, then_do}
-use Rattle.dsl_tree.specs.declared.parts.Ident.{Ident}
-use Rattle.dsl_tree.specs.declared.phases.CompKind.{CompKind}
-use Rattle.dsl_tree.specs.declared.phases.InvokeHead.{InvokeHead}
-use Rattle.dsl_tree.specs.ExprTree.{ExprTree}
-use Rattle.dsl_tree.specs.PhaseTree as Tree
-use Rattle.dsl_tree.specs.PhaseTree.{ArgumentTree, PartTree, PhaseTree, Comp, Invoke, Wait, PhaseRow, phases_of}
-use Rattle.type_heads.specs.Table.{owner}
-use Rattle.type_heads.specs.Types.{Types, Field, Do}
-use Rattle.type_heads.specs.Members.{fields, the_do}
-use Rattle.composition.specs.declared.guard.Guard.{Guard}
-use Rattle.composition.specs.declared.setting.Setting.{Setting}
-use Rattle.composition.specs.declared.spot.PhaseKind.{PhaseKind}
-use Rattle.composition.specs.declared.spot.PhaseSpot.{PhaseSpot}
-use Rattle.composition.specs.declared.spot.ValueRange.{ValueRange}
-use Rattle.composition.specs.Calls.{Turn, turns, PhaseHere, phases_at, phases_among, phases_in, invoked}
-use Rattle.composition.specs.Scenes.{Content, Spot, Scene, Binding, phase_spot, phases, has_phase, guards}
-use Rattle.composition.specs.There.{same_guard}
-use Rattle.composition.specs.Expansion.{Expansion, Maker, Calling, from_object, calling, argument_named, overlap_kind, composition_kind, invocation, phase_part, expand_within, expansion}
-use Rattle.composition.specs.Expanded.{spot, spots_of, scene}
-use Rattle.composition.specs.Invariants.{same_guards, is_member, are_choices, are_members}
+use Rattle.field_flatten.specs.osc_base.declared.fault.Place.{Place}
+use Rattle.field_flatten.specs.osc_base.declared.path.Path.{Path}
+use Rattle.field_flatten.specs.osc_base.declared.path.Step.TheVariants.{Member}
+use Rattle.field_flatten.specs.osc_base.Comparisons.{same_number}
+use Rattle.field_flatten.specs.osc_base.Paths.{path_of, root, same_path, then_name, then_member, then_do}
+use Rattle.expansion_laws.specs.dsl_tree.declared.parts.Ident.{Ident}
+use Rattle.expansion_laws.specs.dsl_tree.declared.phases.CompKind.{CompKind}
+use Rattle.expansion_laws.specs.dsl_tree.declared.phases.InvokeHead.{InvokeHead}
+use Rattle.expansion_laws.specs.dsl_tree.ExprTree.{ExprTree}
+use Rattle.expansion_laws.specs.dsl_tree.PhaseTree as Tree
+use Rattle.expansion_laws.specs.dsl_tree.PhaseTree.{ArgumentTree, PartTree, PhaseTree, Comp, Invoke, Wait, PhaseRow, phases_of}
+use Rattle.expansion_laws.specs.type_heads.Table.{owner}
+use Rattle.expansion_laws.specs.type_heads.Types.{Types, Field, Do}
+use Rattle.expansion_laws.specs.type_heads.Members.{fields, the_do}
+use Rattle.expansion_laws.specs.composition.declared.guard.Guard.{Guard}
+use Rattle.expansion_laws.specs.composition.declared.setting.Setting.{Setting}
+use Rattle.expansion_laws.specs.composition.declared.spot.PhaseKind.{PhaseKind}
+use Rattle.expansion_laws.specs.composition.declared.spot.PhaseSpot.{PhaseSpot}
+use Rattle.expansion_laws.specs.composition.declared.spot.ValueRange.{ValueRange}
+use Rattle.expansion_laws.specs.composition.Calls.{Turn, turns, PhaseHere, phases_at, phases_among, phases_in, invoked}
+use Rattle.expansion_laws.specs.composition.Scenes.{Content, Spot, Scene, Binding, phase_spot, phases, has_phase, guards}
+use Rattle.expansion_laws.specs.composition.There.{same_guard}
+use Rattle.expansion_laws.specs.composition.Expansion.{Expansion, Maker, Calling, from_object, calling, argument_named, overlap_kind, composition_kind, invocation, phase_part, expand_within, expansion}
+use Rattle.expansion_laws.specs.composition.Expanded.{spot, spots_of, scene}
+use Rattle.expansion_laws.specs.composition.Invariants.{same_guards, is_member, are_choices, are_members}
 use Rattle.field_flatten.proofs.Tests.{both, In, in_left, in_right, in_either, in_map, map_in, all_from, any_from, path_self, number_self}
 use Rattle.field_flatten.proofs.Presence.{same_number_self}
 use Rattle.scene_laws.specs.Premises.{is_free}

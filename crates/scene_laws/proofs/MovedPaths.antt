@@ -1,14 +1,14 @@
 -- Expressions stay sound when their paths are replaced.
 use Rattle.std.proofs.Common.{◌≡◌, refl, sym, ap, ap₂, ◌∙◌, Bool, true, false, ◌&&◌, ◌||◌, not}
 use Rattle.std.specs.List.{list_all, list_any}
-use Rattle.osc_base.specs.declared.path.Path.{Path}
-use Rattle.expr_nodes.specs.declared.compare.Compare.{Compare}
-use Rattle.expr_nodes.specs.Kinds.{ValueKind, is_number, is_truth, same_units, are_alike}
-use Rattle.expr_nodes.specs.Typed.{Typed, Constant, Read, Whole, Listed, Span, Minus, Not, Sum, Times, And, Or, Implies, Relation, Within, TypedRow, End, Item, info, kind, items_of, moved, moved_row}
-use Rattle.expr_nodes.specs.Sizes.{Size, size, joined, multiplied, unit_size, is_wide}
-use Rattle.expr_nodes.specs.Parts.{is_scalar, parts_of}
-use Rattle.expr_nodes.specs.Operators.{fit_for, fits_in, is_range_or_list}
-use Rattle.expr_nodes.specs.Sound.{has_size, are_truths, is_truth_info, can_join, is_sound, are_sound}
+use Rattle.field_flatten.specs.osc_base.declared.path.Path.{Path}
+use Rattle.expansion_laws.specs.expr_nodes.declared.compare.Compare.{Compare}
+use Rattle.expansion_laws.specs.expr_nodes.Kinds.{ValueKind, is_number, is_truth, same_units, are_alike}
+use Rattle.expansion_laws.specs.expr_nodes.Typed.{Typed, Constant, Read, Whole, Listed, Span, Minus, Not, Sum, Times, And, Or, Implies, Relation, Within, TypedRow, End, Item, info, kind, items_of, moved, moved_row}
+use Rattle.expansion_laws.specs.expr_nodes.Sizes.{Size, size, joined, multiplied, unit_size, is_wide}
+use Rattle.expansion_laws.specs.expr_nodes.Parts.{is_scalar, parts_of}
+use Rattle.expansion_laws.specs.expr_nodes.Operators.{fit_for, fits_in, is_range_or_list}
+use Rattle.expansion_laws.specs.expr_nodes.Sound.{has_size, are_truths, is_truth_info, can_join, is_sound, are_sound}
 use Rattle.field_flatten.specs.Seen.{has_values, have_values}
 
 module _ (to : Path → Path) where

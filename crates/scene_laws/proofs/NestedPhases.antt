@@ -2,30 +2,30 @@
 use Rattle.std.proofs.Common.{◌≡◌, ℕ, zero, suc, ◌+◌, ◌≤◌, ◌<◌, refl, sym, ap, ◌∙◌, subst, ◌⊎◌, inl, inr, List, [], ◌∷◌, ◌++◌, Bool, true, false, ◌&&◌, ◌||◌, not, cond, Option, Some, None, map, length, arith, true≢false}
 use Rattle.std.specs.Prelude.{⊤, filter, flat_map, filter_map, option_to_list, is_some, nat_eq, codes}
 use Rattle.std.specs.List.{list_any, range_with_len, cons_option}
-use Rattle.osc_base.specs.declared.path.Path.{Path}
-use Rattle.osc_base.specs.declared.path.Step.TheVariants.{Member}
-use Rattle.osc_base.specs.Paths.{path_of, root, same_path, then_name, then_member, then_do}
-use Rattle.dsl_tree.specs.declared.phases.CompKind.{CompKind}
-use Rattle.dsl_tree.specs.declared.compounds.CompoundKind.{CompoundKind}
-use Rattle.dsl_tree.specs.PhaseTree as Tree
-use Rattle.dsl_tree.specs.PhaseTree.{PhaseTree, Comp, Invoke, Wait, PhaseRow, phases_of}
-use Rattle.type_heads.specs.Form.{Form}
-use Rattle.type_heads.specs.Table.{form, owner, is_object, is_actor, is_scenario}
-use Rattle.type_heads.specs.Types.{Types, Field, Do}
-use Rattle.type_heads.specs.Members.{fields, field_type, list_length, the_do}
-use Rattle.composition.specs.declared.guard.Guard.{Guard}
-use Rattle.composition.specs.declared.setting.Setting.{Setting}
-use Rattle.composition.specs.declared.spot.PhaseKind.{PhaseKind}
-use Rattle.composition.specs.declared.spot.PhaseSpot.{PhaseSpot}
-use Rattle.composition.specs.declared.spot.ValueRange.{ValueRange}
-use Rattle.composition.specs.Calls.{Turn, turns, PhaseHere, phases_at, phases_among, phases_in, invoked}
-use Rattle.composition.specs.Scenes.{Content, Spot, Binding, phase_spot, phases, root_do}
-use Rattle.composition.specs.Ranges.{range_of}
-use Rattle.composition.specs.Homes.{is_bound}
-use Rattle.composition.specs.Givens.{guards_under}
-use Rattle.composition.specs.Expansion.{Expansion, Object, Value, in_row, Maker, value_parts, field_parts, Calling, from_object, calling, composition_kind, invocation, phase_part, do_parts, expand_within, own_actor, expansion}
-use Rattle.composition.specs.Expanded.{is_vehicle, spot, spots_of, spots_in, scene}
-use Rattle.composition.specs.Invariants.{are_nested}
+use Rattle.field_flatten.specs.osc_base.declared.path.Path.{Path}
+use Rattle.field_flatten.specs.osc_base.declared.path.Step.TheVariants.{Member}
+use Rattle.field_flatten.specs.osc_base.Paths.{path_of, root, same_path, then_name, then_member, then_do}
+use Rattle.expansion_laws.specs.dsl_tree.declared.phases.CompKind.{CompKind}
+use Rattle.expansion_laws.specs.dsl_tree.declared.compounds.CompoundKind.{CompoundKind}
+use Rattle.expansion_laws.specs.dsl_tree.PhaseTree as Tree
+use Rattle.expansion_laws.specs.dsl_tree.PhaseTree.{PhaseTree, Comp, Invoke, Wait, PhaseRow, phases_of}
+use Rattle.expansion_laws.specs.type_heads.Form.{Form}
+use Rattle.expansion_laws.specs.type_heads.Table.{form, owner, is_object, is_actor, is_scenario}
+use Rattle.expansion_laws.specs.type_heads.Types.{Types, Field, Do}
+use Rattle.expansion_laws.specs.type_heads.Members.{fields, field_type, list_length, the_do}
+use Rattle.expansion_laws.specs.composition.declared.guard.Guard.{Guard}
+use Rattle.expansion_laws.specs.composition.declared.setting.Setting.{Setting}
+use Rattle.expansion_laws.specs.composition.declared.spot.PhaseKind.{PhaseKind}
+use Rattle.expansion_laws.specs.composition.declared.spot.PhaseSpot.{PhaseSpot}
+use Rattle.expansion_laws.specs.composition.declared.spot.ValueRange.{ValueRange}
+use Rattle.expansion_laws.specs.composition.Calls.{Turn, turns, PhaseHere, phases_at, phases_among, phases_in, invoked}
+use Rattle.expansion_laws.specs.composition.Scenes.{Content, Spot, Binding, phase_spot, phases, root_do}
+use Rattle.expansion_laws.specs.composition.Ranges.{range_of}
+use Rattle.expansion_laws.specs.composition.Homes.{is_bound}
+use Rattle.expansion_laws.specs.composition.Givens.{guards_under}
+use Rattle.expansion_laws.specs.composition.Expansion.{Expansion, Object, Value, in_row, Maker, value_parts, field_parts, Calling, from_object, calling, composition_kind, invocation, phase_part, do_parts, expand_within, own_actor, expansion}
+use Rattle.expansion_laws.specs.composition.Expanded.{is_vehicle, spot, spots_of, spots_in, scene}
+use Rattle.expansion_laws.specs.composition.Invariants.{are_nested}
 use Rattle.field_flatten.proofs.Tests.{left_of, both, two_ways, In, in_either, in_filter, in_map, map_in, flat_map_in, any_from, path_self}
 use Rattle.scene_laws.proofs.Picked.{of_option}
 use Rattle.scene_laws.proofs.EachSpot.{spots_in_row, value_spots, invoked_kind, invoked_members, call_bindings, each_within}

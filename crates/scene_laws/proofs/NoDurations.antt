@@ -4,20 +4,20 @@ use Rattle.std.specs.Prelude.{⊤, bytes_eq, codes}
 use Rattle.std.specs.Option.{option_map_or}
 use Rattle.std.specs.List.{list_all, range_with_len}
 use Rattle.std.proofs.lemmas.Slice.Eq.{bytes_eq-Decides}
-use Rattle.osc_base.specs.declared.path.Path.{Path}
-use Rattle.osc_base.specs.declared.path.Step.{Step}
-use Rattle.osc_base.specs.declared.path.Step.TheVariants.{Name, Index, Member}
-use Rattle.osc_base.specs.Paths.{path_of, root, same_path, then_name, then_index, timed_part}
-use Rattle.type_heads.specs.Table.{form, is_behaviour}
-use Rattle.type_heads.specs.Types.{Types, Field, Do}
-use Rattle.type_heads.specs.Members.{fields, list_length}
-use Rattle.composition.specs.declared.guard.Guard.{Guard}
-use Rattle.composition.specs.declared.setting.Setting.{Setting}
-use Rattle.composition.specs.declared.spot.PhaseSpot.{PhaseSpot}
-use Rattle.composition.specs.Calls.{PhaseHere, phases_in, callee, invoked}
-use Rattle.composition.specs.Scenes.{Spot, OfValue, Binding, phase_spot, phases, has_phase, source, source_timed}
-use Rattle.composition.specs.Expansion.{calling, expansion}
-use Rattle.composition.specs.Expanded.{scene, spot, spots_of}
+use Rattle.field_flatten.specs.osc_base.declared.path.Path.{Path}
+use Rattle.field_flatten.specs.osc_base.declared.path.Step.{Step}
+use Rattle.field_flatten.specs.osc_base.declared.path.Step.TheVariants.{Name, Index, Member}
+use Rattle.field_flatten.specs.osc_base.Paths.{path_of, root, same_path, then_name, then_index, timed_part}
+use Rattle.expansion_laws.specs.type_heads.Table.{form, is_behaviour}
+use Rattle.expansion_laws.specs.type_heads.Types.{Types, Field, Do}
+use Rattle.expansion_laws.specs.type_heads.Members.{fields, list_length}
+use Rattle.expansion_laws.specs.composition.declared.guard.Guard.{Guard}
+use Rattle.expansion_laws.specs.composition.declared.setting.Setting.{Setting}
+use Rattle.expansion_laws.specs.composition.declared.spot.PhaseSpot.{PhaseSpot}
+use Rattle.expansion_laws.specs.composition.Calls.{PhaseHere, phases_in, callee, invoked}
+use Rattle.expansion_laws.specs.composition.Scenes.{Spot, OfValue, Binding, phase_spot, phases, has_phase, source, source_timed}
+use Rattle.expansion_laws.specs.composition.Expansion.{calling, expansion}
+use Rattle.expansion_laws.specs.composition.Expanded.{scene, spot, spots_of}
 use Rattle.field_flatten.specs.Exactness.{is_value_source}
 use Rattle.field_flatten.proofs.Tests.{two_ways, In, map_in, any_at, all_from, path_is}
 use Rattle.scene_laws.specs.Premises.{is_free}

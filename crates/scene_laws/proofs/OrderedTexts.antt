@@ -7,9 +7,9 @@ use Rattle.std.specs.declared.cmp.Ordering.{Ordering}
 use Rattle.std.specs.Cmp.Lexicographic.{slice_cmp}
 use Rattle.std.proofs.lemmas.Cmp.{nat_list_cmp_total}
 use Rattle.std.proofs.lemmas.Map.Text.{is_eq-slice_cmp}
-use Rattle.dsl_tree.specs.FileTree.{FileTree}
-use Rattle.type_heads.specs.Texts.{texts_in, declaration_exprs, with_text, texts_of}
-use Rattle.composition.specs.Invariants.{are_texts}
+use Rattle.expansion_laws.specs.dsl_tree.FileTree.{FileTree}
+use Rattle.expansion_laws.specs.type_heads.Texts.{texts_in, declaration_exprs, with_text, texts_of}
+use Rattle.expansion_laws.specs.composition.Invariants.{are_texts}
 use Rattle.field_flatten.proofs.Tests.{In, both}
 
 abbrev order : List ℕ → List ℕ → Ordering

@@ -1,23 +1,23 @@
 -- What has an owner is an action or a scenario, and so is what is invoked. Only a scenario has a `do`.
 use Rattle.std.proofs.Common.{◌≡◌, ℕ, zero, suc, ◌+◌, ◌<◌, ◌≤◌, refl, sym, ap, ◌∙◌, subst, inl, inr, List, [], ◌∷◌, ◌++◌, Bool, true, false, ◌&&◌, ◌||◌, not, cond, Option, Some, None, map, length, arith, true≢false}
 use Rattle.std.specs.Prelude.{is_none, flat_map, filter_map, find, slice_index_or, bytes_eq, nat_lt, option_and_then}
-use Rattle.dsl_tree.specs.declared.parts.Ident.{Ident}
-use Rattle.dsl_tree.specs.declared.parts.QName.{QName}
-use Rattle.dsl_tree.specs.declared.compounds.CompoundKind.{CompoundKind}
-use Rattle.dsl_tree.specs.declared.enums.EnumItem.{EnumItem}
-use Rattle.dsl_tree.specs.FileTree.{DeclarationTree}
-use Rattle.name_scope.specs.Declaring.{DeclaredName, compound_name, behaviour_name, same_owner, first_place}
-use Rattle.type_heads.specs.Form.{Form}
+use Rattle.expansion_laws.specs.dsl_tree.declared.parts.Ident.{Ident}
+use Rattle.expansion_laws.specs.dsl_tree.declared.parts.QName.{QName}
+use Rattle.expansion_laws.specs.dsl_tree.declared.compounds.CompoundKind.{CompoundKind}
+use Rattle.expansion_laws.specs.dsl_tree.declared.enums.EnumItem.{EnumItem}
+use Rattle.expansion_laws.specs.dsl_tree.FileTree.{DeclarationTree}
+use Rattle.expansion_laws.specs.name_scope.Declaring.{DeclaredName, compound_name, behaviour_name, same_owner, first_place}
+use Rattle.expansion_laws.specs.type_heads.Form.{Form}
 use Rattle.std.specs.Option.{option_map_or}
-use Rattle.type_heads.specs.Table.{owner, is_actor, TypeHead, int_head, head, form, bases, named, is_behaviour, is_scenario, all_types}
-use Rattle.type_heads.specs.Types.{Program, Types, Do, Member}
-use Rattle.type_heads.specs.Members.{members, do_declared, dos, the_do}
-use Rattle.type_heads.specs.MemberFaults.{names_among, repeated_rows, names_given, do_rows, initial_rows, condition_rows, member_fault_rows}
-use Rattle.type_heads.specs.HeadingFaults.{owner_rows, heir_rows, member_rows, declaration_rows, heading_rows, twice_rows, basic_names, name_declared, enum_rows_from, cycle_row}
-use Rattle.type_heads.specs.DeclaredTypes.{Placed, placed, Declared, declared, compound, basic_types, type_declared, all_declared, items_with, form_with, heads_from, bodies_from, declared_heads, types_of}
-use Rattle.expr_nodes.specs.Parts.{any_holds}
-use Rattle.expr_nodes.specs.Typing.{typed}
-use Rattle.composition.specs.Calls.{Callee, actor_type, owned_behaviour, called, without_labels, invoked}
+use Rattle.expansion_laws.specs.type_heads.Table.{owner, is_actor, TypeHead, int_head, head, form, bases, named, is_behaviour, is_scenario, all_types}
+use Rattle.expansion_laws.specs.type_heads.Types.{Program, Types, Do, Member}
+use Rattle.expansion_laws.specs.type_heads.Members.{members, do_declared, dos, the_do}
+use Rattle.expansion_laws.specs.type_heads.MemberFaults.{names_among, repeated_rows, names_given, do_rows, initial_rows, condition_rows, member_fault_rows}
+use Rattle.expansion_laws.specs.type_heads.HeadingFaults.{owner_rows, heir_rows, member_rows, declaration_rows, heading_rows, twice_rows, basic_names, name_declared, enum_rows_from, cycle_row}
+use Rattle.expansion_laws.specs.type_heads.DeclaredTypes.{Placed, placed, Declared, declared, compound, basic_types, type_declared, all_declared, items_with, form_with, heads_from, bodies_from, declared_heads, types_of}
+use Rattle.expansion_laws.specs.expr_nodes.Parts.{any_holds}
+use Rattle.expansion_laws.specs.expr_nodes.Typing.{typed}
+use Rattle.expansion_laws.specs.composition.Calls.{Callee, actor_type, owned_behaviour, called, without_labels, invoked}
 use Rattle.field_flatten.proofs.Tests.{left_of, two_ways, In, in_either, found_in}
 use Rattle.scene_laws.proofs.FaultRows.{no_left, no_right, rows_left, rows_right, rows_among, holds_not}
 use Rattle.scene_laws.proofs.Picked.{filter_map_in}

@@ -1,12 +1,12 @@
 -- The paths of the phases of a `do`.
 use Rattle.std.proofs.Common.{◌≡◌, ℕ, ◌+◌, ◌≤◌, refl, sym, ap, ◌∙◌, subst, inl, inr, List, [], ◌∷◌, ◌++◌, arith}
-use Rattle.osc_base.specs.declared.path.Path.{Path}
-use Rattle.osc_base.specs.declared.path.Step.{Step}
-use Rattle.osc_base.specs.declared.path.Step.TheVariants.{Member}
-use Rattle.osc_base.specs.Paths.{root, then_member, then_do}
-use Rattle.dsl_tree.specs.declared.phases.CompKind.{CompKind}
-use Rattle.dsl_tree.specs.PhaseTree.{PhaseTree, Comp, Invoke, Wait, PhaseRow, End, Phase}
-use Rattle.composition.specs.Calls.{Turn, turns, PhaseHere, phases_at, phases_among, phases_in}
+use Rattle.field_flatten.specs.osc_base.declared.path.Path.{Path}
+use Rattle.field_flatten.specs.osc_base.declared.path.Step.{Step}
+use Rattle.field_flatten.specs.osc_base.declared.path.Step.TheVariants.{Member}
+use Rattle.field_flatten.specs.osc_base.Paths.{root, then_member, then_do}
+use Rattle.expansion_laws.specs.dsl_tree.declared.phases.CompKind.{CompKind}
+use Rattle.expansion_laws.specs.dsl_tree.PhaseTree.{PhaseTree, Comp, Invoke, Wait, PhaseRow, End, Phase}
+use Rattle.expansion_laws.specs.composition.Calls.{Turn, turns, PhaseHere, phases_at, phases_among, phases_in}
 use Rattle.field_flatten.proofs.Tests.{In, in_either}
 use Rattle.scene_laws.proofs.FieldNames.{Pairs}
 use Rattle.scene_laws.proofs.Steps.{joined_again, cancelled, nothing_after, pairs_append, AreMembers}

@@ -2,28 +2,28 @@
 use Rattle.std.proofs.Common.{◌≡◌, ℕ, zero, suc, ◌+◌, ◌≤◌, ◌<◌, refl, sym, ap, ◌∙◌, subst, ◌⊎◌, inl, inr, List, [], ◌∷◌, ◌++◌, Bool, true, false, ◌&&◌, ◌||◌, not, cond, Option, Some, None, map, length, arith, true≢false}
 use Rattle.std.specs.Prelude.{filter, flat_map, filter_map, option_to_list}
 use Rattle.std.specs.List.{range_with_len, cons_option}
-use Rattle.osc_base.specs.declared.path.Path.{Path}
-use Rattle.osc_base.specs.Paths.{then_name, then_index}
-use Rattle.dsl_tree.specs.declared.parts.Ident.{Ident}
-use Rattle.dsl_tree.specs.declared.phases.InvokeHead.{InvokeHead}
-use Rattle.dsl_tree.specs.declared.compounds.CompoundKind.{CompoundKind}
-use Rattle.dsl_tree.specs.PhaseTree.{ArgumentTree, PartTree, Comp, Invoke}
-use Rattle.type_heads.specs.Form.{Form}
-use Rattle.type_heads.specs.Table.{form, is_object, is_scenario, is_behaviour, has_members}
-use Rattle.type_heads.specs.Types.{Types, Field, Do}
-use Rattle.type_heads.specs.Members.{fields, field_type, list_length, the_do}
-use Rattle.type_heads.specs.Cycles.{returns}
-use Rattle.type_heads.specs.HeadingFaults.{held_types}
-use Rattle.composition.specs.declared.guard.Guard.{Guard}
-use Rattle.composition.specs.declared.spot.ValueRange.{ValueRange}
-use Rattle.composition.specs.Calls.{PhaseHere, phases_in, callee, invoked}
-use Rattle.composition.specs.Uses.{invocations}
-use Rattle.composition.specs.Scenes.{Content, Spot, Binding}
-use Rattle.composition.specs.Ranges.{range_of}
-use Rattle.composition.specs.Homes.{is_bound}
-use Rattle.composition.specs.Givens.{guards_under}
-use Rattle.composition.specs.Expansion.{Expansion, Value, in_row, Maker, value_parts, field_parts, calling, invocation, phase_part, do_parts, expand_within, expansion}
-use Rattle.composition.specs.Expanded.{spot, spots_of, spots_in}
+use Rattle.field_flatten.specs.osc_base.declared.path.Path.{Path}
+use Rattle.field_flatten.specs.osc_base.Paths.{then_name, then_index}
+use Rattle.expansion_laws.specs.dsl_tree.declared.parts.Ident.{Ident}
+use Rattle.expansion_laws.specs.dsl_tree.declared.phases.InvokeHead.{InvokeHead}
+use Rattle.expansion_laws.specs.dsl_tree.declared.compounds.CompoundKind.{CompoundKind}
+use Rattle.expansion_laws.specs.dsl_tree.PhaseTree.{ArgumentTree, PartTree, Comp, Invoke}
+use Rattle.expansion_laws.specs.type_heads.Form.{Form}
+use Rattle.expansion_laws.specs.type_heads.Table.{form, is_object, is_scenario, is_behaviour, has_members}
+use Rattle.expansion_laws.specs.type_heads.Types.{Types, Field, Do}
+use Rattle.expansion_laws.specs.type_heads.Members.{fields, field_type, list_length, the_do}
+use Rattle.expansion_laws.specs.type_heads.Cycles.{returns}
+use Rattle.expansion_laws.specs.type_heads.HeadingFaults.{held_types}
+use Rattle.expansion_laws.specs.composition.declared.guard.Guard.{Guard}
+use Rattle.expansion_laws.specs.composition.declared.spot.ValueRange.{ValueRange}
+use Rattle.expansion_laws.specs.composition.Calls.{PhaseHere, phases_in, callee, invoked}
+use Rattle.expansion_laws.specs.composition.Uses.{invocations}
+use Rattle.expansion_laws.specs.composition.Scenes.{Content, Spot, Binding}
+use Rattle.expansion_laws.specs.composition.Ranges.{range_of}
+use Rattle.expansion_laws.specs.composition.Homes.{is_bound}
+use Rattle.expansion_laws.specs.composition.Givens.{guards_under}
+use Rattle.expansion_laws.specs.composition.Expansion.{Expansion, Value, in_row, Maker, value_parts, field_parts, calling, invocation, phase_part, do_parts, expand_within, expansion}
+use Rattle.expansion_laws.specs.composition.Expanded.{spot, spots_of, spots_in}
 use Rattle.field_flatten.proofs.Tests.{left_of, In, in_left, in_right, in_map, map_in, in_flat_map, filter_in}
 use Rattle.scene_laws.proofs.EachSpot.{value_paths, call_bindings}
 use Rattle.scene_laws.proofs.FieldNames.{Pairs}

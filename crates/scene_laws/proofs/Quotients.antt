@@ -4,19 +4,19 @@ use Rattle.std.specs.Prelude.{ℤ, pos, negsuc, ◌≤ℤ◌, nat_eq, nat_lt, in
 use Rattle.std.specs.Int.{IsGcd}
 use Rattle.std.specs.Ordering.{int_eq}
 use Rattle.std.proofs.lemmas.Int.{ints}
-use Rattle.osc_base.specs.declared.fault.Place.{Place}
-use Rattle.osc_base.specs.declared.path.Path.{Path}
-use Rattle.osc_base.specs.Number.{Number}
-use Rattle.osc_base.specs.Comparisons.{greatest_part}
-use Rattle.osc_base.specs.LowestTerms.{gcd, lcm}
-use Rattle.osc_base.proofs.Integers.{product_above}
-use Rattle.expr_nodes.specs.Kinds.{ValueKind, is_number, is_truth, same_units}
-use Rattle.expr_nodes.specs.Typed.{Typed, Info, Constant, Read, Whole, Listed, Span, Minus, Not, Sum, Times, And, Or, Implies, Relation, Within, kind, scale, reach, place_of}
-use Rattle.expr_nodes.specs.Value.{worth}
-use Rattle.expr_nodes.specs.Sizes.{Size, size, info_at, constant_size, field_size, duration_size, unit_size, widened, joined, multiplied, divided, is_wide}
-use Rattle.expr_nodes.specs.Parts.{any_holds, is_scalar}
-use Rattle.expr_nodes.specs.Operators.{constant_at, quotient_rows, product_of, constant_value, is_constant, is_zero, can_divide, signed_like, reciprocal, reciprocal_exponents, reciprocal_of}
-use Rattle.expr_nodes.specs.Sound.{has_size, is_lowest, is_constant_of, is_per, is_truth_info, is_sound, are_sound}
+use Rattle.field_flatten.specs.osc_base.declared.fault.Place.{Place}
+use Rattle.field_flatten.specs.osc_base.declared.path.Path.{Path}
+use Rattle.field_flatten.specs.osc_base.Number.{Number}
+use Rattle.field_flatten.specs.osc_base.Comparisons.{greatest_part}
+use Rattle.field_flatten.specs.osc_base.LowestTerms.{gcd, lcm}
+use Rattle.field_flatten.proofs.of_osc_base.Integers.{product_above}
+use Rattle.expansion_laws.specs.expr_nodes.Kinds.{ValueKind, is_number, is_truth, same_units}
+use Rattle.expansion_laws.specs.expr_nodes.Typed.{Typed, Info, Constant, Read, Whole, Listed, Span, Minus, Not, Sum, Times, And, Or, Implies, Relation, Within, kind, scale, reach, place_of}
+use Rattle.expansion_laws.specs.expr_nodes.Value.{worth}
+use Rattle.expansion_laws.specs.expr_nodes.Sizes.{Size, size, info_at, constant_size, field_size, duration_size, unit_size, widened, joined, multiplied, divided, is_wide}
+use Rattle.expansion_laws.specs.expr_nodes.Parts.{any_holds, is_scalar}
+use Rattle.expansion_laws.specs.expr_nodes.Operators.{constant_at, quotient_rows, product_of, constant_value, is_constant, is_zero, can_divide, signed_like, reciprocal, reciprocal_exponents, reciprocal_of}
+use Rattle.expansion_laws.specs.expr_nodes.Sound.{has_size, is_lowest, is_constant_of, is_per, is_truth_info, is_sound, are_sound}
 use Rattle.field_flatten.proofs.Tests.{left_of, right_of, both, two_ways, number_is}
 use Rattle.field_flatten.proofs.Multiples.{common, share_of, product_positive, gcd_is}
 use Rattle.field_flatten.proofs.ShapeLaw.{scale_is, per_law}

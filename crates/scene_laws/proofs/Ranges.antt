@@ -2,20 +2,20 @@
 use Rattle.std.proofs.Common.{◌≡◌, ℕ, ◌≤◌, refl, subst, List, Bool, true, ◌&&◌, Some, None, length}
 use Rattle.std.specs.Prelude.{⊤, pos}
 use Rattle.std.specs.List.{list_all}
-use Rattle.osc_base.specs.declared.path.Path.{Path}
-use Rattle.type_heads.specs.Form.{Form, EnumMember}
-use Rattle.type_heads.specs.Table.{TypeHead, form, enum_members, number_of}
-use Rattle.type_heads.specs.Bounds.{numbers_of}
-use Rattle.type_heads.specs.Types.{Types}
-use Rattle.expr_nodes.specs.Sizes.{field_reach}
-use Rattle.composition.specs.declared.setting.Setting.{Setting}
-use Rattle.composition.specs.declared.spot.ValueRange.{ValueRange}
-use Rattle.composition.specs.declared.spot.ValueSpot.{ValueSpot}
-use Rattle.composition.specs.Scenes.{Spot, value_spot, values}
-use Rattle.composition.specs.Ranges.{signed_range, range_of}
-use Rattle.composition.specs.Expansion.{expansion}
-use Rattle.composition.specs.Expanded.{scene, spots_of}
-use Rattle.composition.specs.Invariants.{is_range}
+use Rattle.field_flatten.specs.osc_base.declared.path.Path.{Path}
+use Rattle.expansion_laws.specs.type_heads.Form.{Form, EnumMember}
+use Rattle.expansion_laws.specs.type_heads.Table.{TypeHead, form, enum_members, number_of}
+use Rattle.expansion_laws.specs.type_heads.Bounds.{numbers_of}
+use Rattle.expansion_laws.specs.type_heads.Types.{Types}
+use Rattle.expansion_laws.specs.expr_nodes.Sizes.{field_reach}
+use Rattle.expansion_laws.specs.composition.declared.setting.Setting.{Setting}
+use Rattle.expansion_laws.specs.composition.declared.spot.ValueRange.{ValueRange}
+use Rattle.expansion_laws.specs.composition.declared.spot.ValueSpot.{ValueSpot}
+use Rattle.expansion_laws.specs.composition.Scenes.{Spot, value_spot, values}
+use Rattle.expansion_laws.specs.composition.Ranges.{signed_range, range_of}
+use Rattle.expansion_laws.specs.composition.Expansion.{expansion}
+use Rattle.expansion_laws.specs.composition.Expanded.{scene, spots_of}
+use Rattle.expansion_laws.specs.composition.Invariants.{is_range}
 use Rattle.field_flatten.specs.Exactness.{is_ordered_range}
 use Rattle.field_flatten.proofs.Tests.{left_of, right_of, both, In, all_from}
 use Rattle.scene_laws.specs.Premises.{IsSmallTable}

@@ -1,21 +1,20 @@
 -- The laws, from their lemmas.
 use Rattle.std.proofs.Common.{List, ◌≡◌, ℕ, ◌<◌, ◌≤◌, ◌^◌, refl, sym, ap, subst, ◌∙◌, Bool, true, false, ◌&&◌, ◌||◌, Option, Some, None, length, arith}
-use Rattle.std.specs.Prelude.{nat_lt}
+use Rattle.std.specs.Prelude.{nat_lt, codes, cond, option_and_then}
 use Rattle.std.specs.List.{list_all}
-use Rattle.type_heads.specs.Types.{Program}
-use Rattle.type_heads.specs.DeclaredTypes.{types_of}
-use Rattle.composition.specs.declared.setting.Setting.{Setting}
-use Rattle.composition.specs.Slots.{slot_names}
-use Rattle.composition.specs.Items.{items}
-use Rattle.composition.specs.Expansion.{expansion}
-use Rattle.composition.specs.Expanded.{scene_from, scene}
-use Rattle.composition.specs.SceneFaults.{object_count, most_slots, most_rules}
-use Rattle.composition.specs.Invariants.{are_texts}
-use Rattle.dsl_tree.specs.FileTree.{DeclarationTree, MemberTree}
-use Rattle.type_heads.specs.DeclaredTypes.{Placed, placed}
-use Rattle.field_flatten.proofs.Tests.{left_of, all_at, all_from}
-use Rattle.scene_laws.specs.Premises.{is_formed, is_written, is_spelled, is_spelled_program}
-use Rattle.scene_laws.specs.SceneLaws.{ScenesHaveRanges, ScenesAreFew, TypedAreSound, ConditionsAreGrounded, ConditionsAreSmall}
+use Rattle.expansion_laws.specs.type_heads.Types.{Program, Types, Member, Field, Do}
+use Rattle.expansion_laws.specs.type_heads.DeclaredTypes.{types_of, Placed, placed}
+use Rattle.expansion_laws.specs.composition.declared.setting.Setting.{Setting}
+use Rattle.expansion_laws.specs.composition.Slots.{slot_names}
+use Rattle.expansion_laws.specs.composition.Items.{items}
+use Rattle.expansion_laws.specs.composition.Expansion.{expansion}
+use Rattle.expansion_laws.specs.composition.Expanded.{scene_from, scene}
+use Rattle.expansion_laws.specs.composition.SceneFaults.{object_count, most_slots, most_rules, named_scenario}
+use Rattle.expansion_laws.specs.composition.Invariants.{are_texts}
+use Rattle.expansion_laws.specs.dsl_tree.FileTree.{DeclarationTree, MemberTree}
+use Rattle.field_flatten.proofs.Tests.{left_of, all_at, all_from, In, map_in, flat_map_in}
+use Rattle.scene_laws.specs.Premises.{is_formed, is_written, is_spelled, is_spelled_program, is_free}
+use Rattle.scene_laws.specs.SceneLaws.{ScenesHaveRanges, ScenesAreFew, TypedAreSound, ConditionsAreGrounded, ConditionsAreSmall, ScenesAreLaidOut}
 use Rattle.expansion_laws.proofs.SceneCounts.{fewer_rules}
 use Rattle.scene_laws.proofs.FaultRows.{no_left, no_right, no_faults}
 use Rattle.scene_laws.proofs.LowestTerms.{below}
@@ -28,18 +27,12 @@ use Rattle.scene_laws.proofs.EnumHeads.{program_enums}
 use Rattle.scene_laws.proofs.Ranges.{all_ranges, all_ordered}
 use Rattle.scene_laws.proofs.WrittenMembers.{AllMembers, all_members, members_pass}
 use Rattle.scene_laws.proofs.FullPhases.{choices_full}
-use Rattle.std.specs.Prelude.{codes, cond, option_and_then}
-use Rattle.dsl_tree.specs.declared.parts.Ident.{Ident}
-use Rattle.dsl_tree.specs.declared.compounds.CompoundKind.{CompoundKind}
-use Rattle.type_heads.specs.Form.{Form}
-use Rattle.type_heads.specs.Table.{form, named, is_compound, is_behaviour, is_scenario}
-use Rattle.type_heads.specs.Types.{Types, Member, Field, Do}
-use Rattle.type_heads.specs.Members.{members, fields_declared, fields, the_do}
-use Rattle.composition.specs.SceneFaults.{named_scenario}
-use Rattle.composition.specs.StaticFaults.{declaration_fault}
-use Rattle.field_flatten.proofs.Tests.{In, map_in, flat_map_in}
-use Rattle.scene_laws.specs.Premises.{is_free}
-use Rattle.scene_laws.specs.SceneLaws.{ScenesAreLaidOut}
+use Rattle.expansion_laws.specs.dsl_tree.declared.parts.Ident.{Ident}
+use Rattle.expansion_laws.specs.dsl_tree.declared.compounds.CompoundKind.{CompoundKind}
+use Rattle.expansion_laws.specs.type_heads.Form.{Form}
+use Rattle.expansion_laws.specs.type_heads.Table.{form, named, is_compound, is_behaviour, is_scenario}
+use Rattle.expansion_laws.specs.type_heads.Members.{members, fields_declared, fields, the_do}
+use Rattle.expansion_laws.specs.composition.StaticFaults.{declaration_fault}
 use Rattle.scene_laws.proofs.FieldNames.{Pairs, NamesDiffer, program_counted, fields_apart, no_duration}
 use Rattle.scene_laws.proofs.OwnedHeads.{AreOwned, HaveActors, program_owned, program_actors, do_scenario}
 use Rattle.scene_laws.proofs.DistinctPaths.{choices_distinct, values_distinct, phases_distinct, vehicles_distinct}

@@ -2,10 +2,10 @@
 use Rattle.std.proofs.Common.{◌≡◌, ℕ, zero, suc, ◌+◌, ◌≤◌, refl, sym, ap, ◌∙◌, subst, ◌⊎◌, inl, inr, List, [], ◌∷◌, ◌++◌, map, arith}
 use Rattle.std.specs.Prelude.{⊤, flat_map}
 use Rattle.std.specs.List.{range_with_len}
-use Rattle.osc_base.specs.declared.path.Path.{Path}
-use Rattle.osc_base.specs.declared.path.Step.{Step}
-use Rattle.osc_base.specs.declared.path.Step.TheVariants.{Name, Index, Member}
-use Rattle.osc_base.specs.Paths.{then_name}
+use Rattle.field_flatten.specs.osc_base.declared.path.Path.{Path}
+use Rattle.field_flatten.specs.osc_base.declared.path.Step.{Step}
+use Rattle.field_flatten.specs.osc_base.declared.path.Step.TheVariants.{Name, Index, Member}
+use Rattle.field_flatten.specs.osc_base.Paths.{then_name}
 use Rattle.field_flatten.proofs.Tests.{In, in_either, flat_map_in, map_in}
 use Rattle.scene_laws.proofs.FieldNames.{Pairs}
 

@@ -3,34 +3,34 @@ use Rattle.std.proofs.Common.{◌≡◌, ℕ, zero, suc, ◌+◌, ◌≤◌, ◌
 use Rattle.std.specs.Prelude.{ℤ, pos, negsuc, ◌≤ℤ◌, nat_lt, nat_le, int_le, unsigned_abs, unwrap_or, option_map, option_and_then, slice_get, bytes_eq}
 use Rattle.std.specs.Option.{option_map_or}
 use Rattle.std.proofs.lemmas.Int.{ints}
-use Rattle.osc_base.specs.declared.fault.Place.{Place}
-use Rattle.osc_base.specs.declared.path.Path.{Path}
-use Rattle.osc_base.specs.Number.{Number, whole}
-use Rattle.osc_base.specs.Comparisons.{greatest_part}
-use Rattle.osc_base.specs.FaultRows.{FaultRow}
-use Rattle.osc_base.specs.LowestTerms.{lowest}
-use Rattle.osc_base.specs.Paths.{root, then_name, then_index, then_duration}
-use Rattle.dsl_tree.specs.declared.parts.Ident.{Ident}
-use Rattle.dsl_tree.specs.declared.parts.Digits.{Digits}
-use Rattle.dsl_tree.specs.declared.expr.Operator.{Operator}
-use Rattle.dsl_tree.specs.declared.expr.RelationSign.{RelationSign}
-use Rattle.dsl_tree.specs.ExprTree as Tree
-use Rattle.dsl_tree.specs.ExprTree.{ExprTree, ExprRow}
-use Rattle.units_si.specs.Literals.{times, add, nearest_thousandth, slot_value, literal_count}
-use Rattle.name_scope.specs.Declaring.{first_place}
-use Rattle.type_heads.specs.Form.{Form}
-use Rattle.type_heads.specs.Table.{Table, TableUnit, TableField, form, unit, has_members, owner, field_of, enums_with, enum_number, is_behaviour}
-use Rattle.type_heads.specs.Units.{digits_number}
-use Rattle.expr_nodes.specs.declared.compare.Compare.{Compare}
-use Rattle.expr_nodes.specs.Kinds.{ValueKind, Made, plain, kind_of, is_truth}
-use Rattle.expr_nodes.specs.Typed.{Typed, Constant, Read, Whole, Listed, Span, Minus, Not, Sum, Times, And, Or, Implies, Relation, Within, TypedRow, End, Item, info, kind, begun_at, place_of, items_of}
-use Rattle.expr_nodes.specs.Sizes.{info_at, constant_size, field_size, field_reach, unit_size}
-use Rattle.expr_nodes.specs.Scope.{It, Label, Scope}
-use Rattle.expr_nodes.specs.Parts.{any_holds, is_scalar, unless}
-use Rattle.expr_nodes.specs.Names.{per_of, elements_from, held_at, duration_at, Meaning, Nothing, Something, typed_meaning, is_duration, field_meant, member_at, member_meant, label_named, label_at, meaning_by_duration, meaning_by_label, meaning_by_field, meaning, name_rows, name_typed, it_at, it_typed, actor_typed, enum_named, enum_name_typed, duration_if, member_of_object, member_made, member_of_phase, member_of_whole, after_point, dot_typed}
-use Rattle.expr_nodes.specs.Operators.{constant_at, is_long, number_rows, number_typed, truth_typed, text_typed, count_in, physical_typed, not_rows, logic_rows, truth_at, minus_rows, sum_rows, sum_of, product_rows, product_typed, product_of, quotient_rows, reciprocal_of, factor_typed, comparison_rows, comparison_typed, within_rows, within_typed, compare_of, relation_typed, part_rows, span_rows, span_typed, item_typed, row_kind, list_typed, index_of, element, index_typed, group_typed}
-use Rattle.expr_nodes.specs.Typing.{typed, typed_row}
-use Rattle.expr_nodes.specs.Sound.{has_size, is_lowest, is_constant_of, is_sound, are_sound}
+use Rattle.field_flatten.specs.osc_base.declared.fault.Place.{Place}
+use Rattle.field_flatten.specs.osc_base.declared.path.Path.{Path}
+use Rattle.field_flatten.specs.osc_base.Number.{Number, whole}
+use Rattle.field_flatten.specs.osc_base.Comparisons.{greatest_part}
+use Rattle.field_flatten.specs.osc_base.FaultRows.{FaultRow}
+use Rattle.field_flatten.specs.osc_base.LowestTerms.{lowest}
+use Rattle.field_flatten.specs.osc_base.Paths.{root, then_name, then_index, then_duration}
+use Rattle.expansion_laws.specs.dsl_tree.declared.parts.Ident.{Ident}
+use Rattle.expansion_laws.specs.dsl_tree.declared.parts.Digits.{Digits}
+use Rattle.expansion_laws.specs.dsl_tree.declared.expr.Operator.{Operator}
+use Rattle.expansion_laws.specs.dsl_tree.declared.expr.RelationSign.{RelationSign}
+use Rattle.expansion_laws.specs.dsl_tree.ExprTree as Tree
+use Rattle.expansion_laws.specs.dsl_tree.ExprTree.{ExprTree, ExprRow}
+use Rattle.expansion_laws.specs.units_si.Literals.{times, add, nearest_thousandth, slot_value, literal_count}
+use Rattle.expansion_laws.specs.name_scope.Declaring.{first_place}
+use Rattle.expansion_laws.specs.type_heads.Form.{Form}
+use Rattle.expansion_laws.specs.type_heads.Table.{Table, TableUnit, TableField, form, unit, has_members, owner, field_of, enums_with, enum_number, is_behaviour}
+use Rattle.expansion_laws.specs.type_heads.Units.{digits_number}
+use Rattle.expansion_laws.specs.expr_nodes.declared.compare.Compare.{Compare}
+use Rattle.expansion_laws.specs.expr_nodes.Kinds.{ValueKind, Made, plain, kind_of, is_truth}
+use Rattle.expansion_laws.specs.expr_nodes.Typed.{Typed, Constant, Read, Whole, Listed, Span, Minus, Not, Sum, Times, And, Or, Implies, Relation, Within, TypedRow, End, Item, info, kind, begun_at, place_of, items_of}
+use Rattle.expansion_laws.specs.expr_nodes.Sizes.{info_at, constant_size, field_size, field_reach, unit_size}
+use Rattle.expansion_laws.specs.expr_nodes.Scope.{It, Label, Scope}
+use Rattle.expansion_laws.specs.expr_nodes.Parts.{any_holds, is_scalar, unless}
+use Rattle.expansion_laws.specs.expr_nodes.Names.{per_of, elements_from, held_at, duration_at, Meaning, Nothing, Something, typed_meaning, is_duration, field_meant, member_at, member_meant, label_named, label_at, meaning_by_duration, meaning_by_label, meaning_by_field, meaning, name_rows, name_typed, it_at, it_typed, actor_typed, enum_named, enum_name_typed, duration_if, member_of_object, member_made, member_of_phase, member_of_whole, after_point, dot_typed}
+use Rattle.expansion_laws.specs.expr_nodes.Operators.{constant_at, is_long, number_rows, number_typed, truth_typed, text_typed, count_in, physical_typed, not_rows, logic_rows, truth_at, minus_rows, sum_rows, sum_of, product_rows, product_typed, product_of, quotient_rows, reciprocal_of, factor_typed, comparison_rows, comparison_typed, within_rows, within_typed, compare_of, relation_typed, part_rows, span_rows, span_typed, item_typed, row_kind, list_typed, index_of, element, index_typed, group_typed}
+use Rattle.expansion_laws.specs.expr_nodes.Typing.{typed, typed_row}
+use Rattle.expansion_laws.specs.expr_nodes.Sound.{has_size, is_lowest, is_constant_of, is_sound, are_sound}
 use Rattle.field_flatten.specs.Seen.{has_values, have_values}
 use Rattle.field_flatten.proofs.Tests.{left_of, right_of, both}
 use Rattle.scene_laws.specs.Premises.{is_short, are_short, row_is_short, IsSmallTable}

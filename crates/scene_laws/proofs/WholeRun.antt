@@ -2,20 +2,20 @@
 use Rattle.std.proofs.Common.{◌≡◌, ℕ, zero, suc, ◌+◌, refl, sym, ap, ◌∙◌, subst, ◌⊎◌, inl, inr, List, [], ◌∷◌, ◌++◌, Bool, true, false, ◌||◌, cond, Option, Some, None, map, length}
 use Rattle.std.specs.Prelude.{flat_map, filter_map, option_to_list, is_some, nat_eq}
 use Rattle.std.specs.List.{cons_option}
-use Rattle.osc_base.specs.declared.path.Path.{Path}
-use Rattle.osc_base.specs.Paths.{root, same_path, then_do}
-use Rattle.dsl_tree.specs.PhaseTree.{PhaseTree, Comp, Invoke, Wait}
-use Rattle.type_heads.specs.Table.{form, is_scenario}
-use Rattle.type_heads.specs.Types.{Types, Field, Do}
-use Rattle.type_heads.specs.Members.{fields, the_do}
-use Rattle.composition.specs.declared.setting.Setting.{Setting}
-use Rattle.composition.specs.declared.spot.PhaseKind.{PhaseKind}
-use Rattle.composition.specs.declared.spot.PhaseSpot.{PhaseSpot}
-use Rattle.composition.specs.Calls.{PhaseHere, phases_in, invoked}
-use Rattle.composition.specs.Scenes.{Content, Spot, phase_spot, phases, has_root_do, root_do, guards}
-use Rattle.composition.specs.Expansion.{in_row, Maker, field_parts, calling, invocation, phase_part, do_parts, expand_within, own_actor, expansion}
-use Rattle.composition.specs.Expanded.{is_vehicle, spot, spots_of, spots_in, scene}
-use Rattle.composition.specs.Invariants.{has_whole}
+use Rattle.field_flatten.specs.osc_base.declared.path.Path.{Path}
+use Rattle.field_flatten.specs.osc_base.Paths.{root, same_path, then_do}
+use Rattle.expansion_laws.specs.dsl_tree.PhaseTree.{PhaseTree, Comp, Invoke, Wait}
+use Rattle.expansion_laws.specs.type_heads.Table.{form, is_scenario}
+use Rattle.expansion_laws.specs.type_heads.Types.{Types, Field, Do}
+use Rattle.expansion_laws.specs.type_heads.Members.{fields, the_do}
+use Rattle.expansion_laws.specs.composition.declared.setting.Setting.{Setting}
+use Rattle.expansion_laws.specs.composition.declared.spot.PhaseKind.{PhaseKind}
+use Rattle.expansion_laws.specs.composition.declared.spot.PhaseSpot.{PhaseSpot}
+use Rattle.expansion_laws.specs.composition.Calls.{PhaseHere, phases_in, invoked}
+use Rattle.expansion_laws.specs.composition.Scenes.{Content, Spot, phase_spot, phases, has_root_do, root_do, guards}
+use Rattle.expansion_laws.specs.composition.Expansion.{in_row, Maker, field_parts, calling, invocation, phase_part, do_parts, expand_within, own_actor, expansion}
+use Rattle.expansion_laws.specs.composition.Expanded.{is_vehicle, spot, spots_of, spots_in, scene}
+use Rattle.expansion_laws.specs.composition.Invariants.{has_whole}
 use Rattle.field_flatten.proofs.Tests.{both, In, in_left, in_right, in_either, flat_map_in, any_from, path_self}
 use Rattle.scene_laws.specs.Premises.{is_free}
 use Rattle.scene_laws.proofs.EachSpot.{invoked_kind, invoked_members}

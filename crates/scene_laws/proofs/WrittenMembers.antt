@@ -2,11 +2,11 @@
 use Rattle.std.proofs.Common.{◌≡◌, ℕ, zero, suc, ◌+◌, refl, sym, ap, ◌∙◌, subst, ◌⊎◌, inl, inr, List, [], ◌∷◌, ◌++◌, Bool, true, false, not, cond, Some, map, length}
 use Rattle.std.specs.Prelude.{filter, flat_map, filter_map, slice_index_or, option_to_list}
 use Rattle.std.specs.List.{list_all}
-use Rattle.dsl_tree.specs.FileTree.{MemberTree, DeclarationTree}
-use Rattle.type_heads.specs.Table.{TypeHead, base, bases, all_types}
-use Rattle.type_heads.specs.Types.{Program, Types, Written, TypeBody, Member}
-use Rattle.type_heads.specs.Members.{has, body, subtypes, Line, line_of, through, down_within, down, lines_within, member_of, members_of, members}
-use Rattle.type_heads.specs.DeclaredTypes.{Placed, placed, Declared, written_from, basic_types, type_declared, all_declared, means, members_added, bodies_from, heads_from, declared_heads, types_of}
+use Rattle.expansion_laws.specs.dsl_tree.FileTree.{MemberTree, DeclarationTree}
+use Rattle.expansion_laws.specs.type_heads.Table.{TypeHead, base, bases, all_types}
+use Rattle.expansion_laws.specs.type_heads.Types.{Program, Types, Written, TypeBody, Member}
+use Rattle.expansion_laws.specs.type_heads.Members.{has, body, subtypes, Line, line_of, through, down_within, down, lines_within, member_of, members_of, members}
+use Rattle.expansion_laws.specs.type_heads.DeclaredTypes.{Placed, placed, Declared, written_from, basic_types, type_declared, all_declared, means, members_added, bodies_from, heads_from, declared_heads, types_of}
 use Rattle.field_flatten.proofs.Tests.{left_of, right_of, In, in_either, map_in, flat_map_in, in_filter, all_at}
 use Rattle.scene_laws.proofs.Picked.{filter_map_in}
 

@@ -1,4 +1,4 @@
 pub mod Premises
 pub mod SceneLaws
 -- Crates below, for the crates above.
-pub use Rattle.name_scope.specs as name_scope
+pub use Rattle.expansion_laws.specs.name_scope as name_scope

@@ -1,19 +1,19 @@
 -- What a program's code gives of the trees and tables that the definitions take.
 use Rattle.std.specs.Prelude.{◌≡◌, ℕ, ◌≤◌, ◌^◌, ◌&&◌, ◌||◌, ◌++◌, Bool, true, not, List, [], Some, length, nat_lt, nat_le, bytes_eq, codes}
 use Rattle.std.specs.List.{list_all}
-use Rattle.dsl_tree.specs.declared.parts.Ident.{Ident}
-use Rattle.dsl_tree.specs.declared.parts.Digits.{Digits}
-use Rattle.dsl_tree.specs.ExprTree.{ExprTree, Implies, Or, And, Not, Relation, Sum, Product, Minus, Dot, Index, Number, Physical, Chars, Truth, It, Actor, Name, EnumName, Group, Span, Listed, RangeCall, Start, ExprRow, End, Item}
-use Rattle.dsl_tree.specs.PhaseTree as Phases
-use Rattle.dsl_tree.specs.PhaseTree.{PhaseTree, PhaseRow, phases_of}
-use Rattle.dsl_tree.specs.FileTree.{MemberTree, DeclarationTree}
-use Rattle.type_heads.specs.Table.{Table, enum_number}
-use Rattle.type_heads.specs.Types.{Program}
-use Rattle.type_heads.specs.Texts.{member_exprs}
-use Rattle.type_heads.specs.DeclaredTypes.{Placed, placed}
-use Rattle.expr_nodes.specs.Sizes.{field_reach}
-use Rattle.composition.specs.Scenes.{Scene, Occurrence, guards}
-use Rattle.composition.specs.Invariants.{are_grounded}
+use Rattle.expansion_laws.specs.dsl_tree.declared.parts.Ident.{Ident}
+use Rattle.expansion_laws.specs.dsl_tree.declared.parts.Digits.{Digits}
+use Rattle.expansion_laws.specs.dsl_tree.ExprTree.{ExprTree, Implies, Or, And, Not, Relation, Sum, Product, Minus, Dot, Index, Number, Physical, Chars, Truth, It, Actor, Name, EnumName, Group, Span, Listed, RangeCall, Start, ExprRow, End, Item}
+use Rattle.expansion_laws.specs.dsl_tree.PhaseTree as Phases
+use Rattle.expansion_laws.specs.dsl_tree.PhaseTree.{PhaseTree, PhaseRow, phases_of}
+use Rattle.expansion_laws.specs.dsl_tree.FileTree.{MemberTree, DeclarationTree}
+use Rattle.expansion_laws.specs.type_heads.Table.{Table, enum_number}
+use Rattle.expansion_laws.specs.type_heads.Types.{Program}
+use Rattle.expansion_laws.specs.type_heads.Texts.{member_exprs}
+use Rattle.expansion_laws.specs.type_heads.DeclaredTypes.{Placed, placed}
+use Rattle.expansion_laws.specs.expr_nodes.Sizes.{field_reach}
+use Rattle.expansion_laws.specs.composition.Scenes.{Scene, Occurrence, guards}
+use Rattle.expansion_laws.specs.composition.Invariants.{are_grounded}
 
 -- a number of at most 18 digits
 abbrev pub is_short : Digits → Bool

@@ -1,28 +1,28 @@
 -- What the scenes of a program without faults of declarations have.
 use Rattle.std.specs.Prelude.{◌≡◌, ℕ, ◌^◌, ◌&&◌, true, false, List, [], Option, Some, None, map, length, nat_lt}
 use Rattle.std.specs.List.{list_all}
-use Rattle.osc_base.specs.declared.path.Path.{Path}
-use Rattle.dsl_tree.specs.ExprTree.{ExprTree}
-use Rattle.type_heads.specs.Table.{Table}
-use Rattle.type_heads.specs.Types.{Program, Types}
-use Rattle.type_heads.specs.DeclaredTypes.{types_of}
-use Rattle.expr_nodes.specs.Typed.{Typed, moved}
-use Rattle.expr_nodes.specs.Scope.{Scope}
-use Rattle.expr_nodes.specs.Typing.{typed}
-use Rattle.expr_nodes.specs.Parts.{is_scalar}
-use Rattle.expr_nodes.specs.Sound.{is_sound}
-use Rattle.composition.specs.declared.setting.Setting.{Setting}
-use Rattle.composition.specs.declared.spot.ChoiceSpot.{ChoiceSpot}
-use Rattle.composition.specs.declared.spot.ValueSpot.{ValueSpot}
-use Rattle.composition.specs.declared.spot.PhaseSpot.{PhaseSpot}
-use Rattle.composition.specs.Scenes.{Scene, Spot, Occurrence, ModifierSpot, source, choices, values, phases, vehicles}
-use Rattle.composition.specs.There.{presence, modifier_presence}
-use Rattle.composition.specs.Slots.{slot_names}
-use Rattle.composition.specs.Items.{items}
-use Rattle.composition.specs.Expanded.{scene}
-use Rattle.composition.specs.SceneFaults.{named_scenario, is_too_large}
-use Rattle.composition.specs.StaticFaults.{declaration_fault}
-use Rattle.composition.specs.Invariants.{are_texts, are_distinct, are_grounded, are_nested, has_whole, is_range}
+use Rattle.field_flatten.specs.osc_base.declared.path.Path.{Path}
+use Rattle.expansion_laws.specs.dsl_tree.ExprTree.{ExprTree}
+use Rattle.expansion_laws.specs.type_heads.Table.{Table}
+use Rattle.expansion_laws.specs.type_heads.Types.{Program, Types}
+use Rattle.expansion_laws.specs.type_heads.DeclaredTypes.{types_of}
+use Rattle.expansion_laws.specs.expr_nodes.Typed.{Typed, moved}
+use Rattle.expansion_laws.specs.expr_nodes.Scope.{Scope}
+use Rattle.expansion_laws.specs.expr_nodes.Typing.{typed}
+use Rattle.expansion_laws.specs.expr_nodes.Parts.{is_scalar}
+use Rattle.expansion_laws.specs.expr_nodes.Sound.{is_sound}
+use Rattle.expansion_laws.specs.composition.declared.setting.Setting.{Setting}
+use Rattle.expansion_laws.specs.composition.declared.spot.ChoiceSpot.{ChoiceSpot}
+use Rattle.expansion_laws.specs.composition.declared.spot.ValueSpot.{ValueSpot}
+use Rattle.expansion_laws.specs.composition.declared.spot.PhaseSpot.{PhaseSpot}
+use Rattle.expansion_laws.specs.composition.Scenes.{Scene, Spot, Occurrence, ModifierSpot, source, choices, values, phases, vehicles}
+use Rattle.expansion_laws.specs.composition.There.{presence, modifier_presence}
+use Rattle.expansion_laws.specs.composition.Slots.{slot_names}
+use Rattle.expansion_laws.specs.composition.Items.{items}
+use Rattle.expansion_laws.specs.composition.Expanded.{scene}
+use Rattle.expansion_laws.specs.composition.SceneFaults.{named_scenario, is_too_large}
+use Rattle.expansion_laws.specs.composition.StaticFaults.{declaration_fault}
+use Rattle.expansion_laws.specs.composition.Invariants.{are_texts, are_distinct, are_grounded, are_nested, has_whole, is_range}
 use Rattle.field_flatten.specs.Seen.{has_values}
 use Rattle.field_flatten.specs.Exactness.{is_value_source, is_ordered_range, are_small_guards}
 use Rattle.scene_laws.specs.Premises.{IsSmallTable, are_short, are_held, is_spelled_program}

@@ -6,3 +6,4 @@ mod places;
 
 pub use expressions::{moved, moved_part};
 pub use places::Places;
+pub use scene_texts::Scene;

@@ -3,9 +3,8 @@
 ghost use Rattle.std.specs.Prelude.{◌≡◌, IfOk};
 ghost use Rattle.scene_places.specs.Placed.{place_in};
 
-use composition::Scene;
 use osc_base::Path;
-use scene_texts::Moves;
+use scene_texts::{Moves, Scene};
 use std::alloc::{AllocError, Global};
 
 /// The object in whose members a text stands, what `it` is in the text, and the scene that tells homes.

@@ -1,5 +1,3 @@
 pub mod PhaseRows
 pub mod RootDo
 pub mod Rooms
-pub mod RunEnds
-pub mod TickRows

@@ -5,8 +5,8 @@ use Rattle.std.proofs.lemmas.List.{append_assoc, drop_more}
 use Rattle.osc_base.specs.declared.path.Path.{Path}
 use Rattle.osc_base.specs.declared.listing.SlotName.{SlotName}
 use Rattle.box_eval.specs.FlatRules.{FlatTerm, FlatRule, Equal, Slot, Whole, under}
-use Rattle.scene_slots.specs.field_flatten.Shapes.{Layout, phase_start, phase_end}
-use Rattle.scene_slots.specs.field_flatten.Rules.{follow_rules, chosen_rules, span_rule}
+use Rattle.rule_parts.specs.field_flatten.Shapes.{Layout, phase_start, phase_end}
+use Rattle.rule_parts.specs.field_flatten.Rules.{follow_rules, chosen_rules, span_rule}
 
 module _ (at : Layout) (members : List Path) (i : ℕ) (m : Path) (less : i < length members) (is : m ≡ get_or members i m) where
   rest_is : drop i members ≡ m ∷ drop (i + 1) members

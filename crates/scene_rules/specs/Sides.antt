@@ -4,7 +4,7 @@ use Rattle.osc_base.specs.declared.path.Path.{Path}
 use Rattle.osc_base.specs.declared.path.Step.{Step}
 use Rattle.osc_base.specs.declared.path.Step.TheVariants.{Name, Index, Member}
 use Rattle.box_eval.specs.FlatRules.{FlatTerm}
-use Rattle.scene_slots.specs.field_flatten.Shapes.{Layout, phase_start, phase_end}
+use Rattle.rule_parts.specs.field_flatten.Shapes.{Layout, phase_start, phase_end}
 use Rattle.scene_rules.specs.declared.spans.Side.{Side}
 
 -- the tick of a phase

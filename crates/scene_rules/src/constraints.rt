@@ -3,21 +3,16 @@
 ghost use Rattle.std.specs.Prelude.{◌≡◌, ◌∷◌, [], ◌++◌, true, map, IfOk};
 ghost use Rattle.box_eval.specs.FlatRules.{flat_rule, any_of};
 ghost use Rattle.expr_nodes.specs.Seen.{seen_part};
-ghost use Rattle.scene_conditions.specs.composition.Invariants.{is_occurrence};
-ghost use Rattle.scene_conditions.specs.composition.SeenParts.{seen_occurrence};
-ghost use Rattle.scene_conditions.specs.composition.There.{presence as presence_in};
-ghost use Rattle.scene_slots.specs.field_flatten.Rules.{typed_rule as rule_of, hard_rule as hard, default_rule as default_of, presence_of_number as number_rule, presence_rules};
-ghost use Rattle.scene_rules.specs.Rooms.{has_rule, are_values};
-ghost use Rattle.scene_slots.specs.SeenSlots.{layout_of, scene_of};
+ghost use Rattle.rule_parts.specs.composition.Invariants.{is_occurrence};
+ghost use Rattle.rule_parts.specs.composition.SeenParts.{seen_occurrence};
+ghost use Rattle.rule_parts.specs.composition.There.{presence as presence_in};
+ghost use Rattle.rule_parts.specs.field_flatten.Rules.{typed_rule as rule_of, hard_rule as hard, default_rule as default_of, presence_of_number as number_rule, presence_rules};
+ghost use Rattle.rule_parts.specs.Rooms.{has_rule, are_values};
+ghost use Rattle.rule_parts.specs.scene_slots.SeenSlots.{layout_of, scene_of};
 
-use crate::conditions::{condition_row, under};
 use box_eval::Rule;
-use composition::Occurrence;
 use expr_nodes::Typed;
-use flat_shapes::rule;
-use flat_terms::rows;
-use scene_conditions::presence;
-use scene_slots::SceneSlots;
+use rule_parts::{Occurrence, SceneSlots, condition_row, presence, rows, rule, under};
 use std::alloc::{AllocError, Global};
 
 /// The rule of an expression; always true if there is none.

@@ -3,14 +3,12 @@
 ghost use Rattle.std.specs.Prelude.{◌≡◌, map, IfOk};
 ghost use Rattle.box_eval.specs.FlatRules.{flat_rule};
 ghost use Rattle.box_eval.specs.FlatRules as Flat;
-ghost use Rattle.scene_slots.specs.field_flatten.Rules.{enum_rule as enum_of, member_rule as member_of};
-ghost use Rattle.scene_slots.specs.SeenSlots.{layout_of, scene_of};
+ghost use Rattle.rule_parts.specs.field_flatten.Rules.{enum_rule as enum_of, member_rule as member_of};
+ghost use Rattle.rule_parts.specs.scene_slots.SeenSlots.{layout_of, scene_of};
 
-use crate::conditions::{guard_row, under};
 use box_eval::{Rule, Term};
-use flat_terms::rows;
 use osc_base::Path;
-use scene_slots::SceneSlots;
+use rule_parts::{SceneSlots, guard_row, rows, under};
 use std::alloc::{AllocError, Global};
 
 /// The slot has that number.

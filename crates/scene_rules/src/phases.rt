@@ -5,19 +5,19 @@ ghost use Rattle.osc_base.specs.declared.listing.SlotName.{SlotName};
 ghost use Rattle.osc_base.specs.Paths.{same_path};
 ghost use Rattle.box_eval.specs.FlatRules as Flat;
 ghost use Rattle.box_eval.specs.FlatRules.{flat_rule, under as under_row};
-ghost use Rattle.scene_conditions.specs.composition.Scenes.{root_do as root};
-ghost use Rattle.scene_slots.specs.field_flatten.Rules.{arranged_rule as rule_of, kind_rules as rules_of_kind, root_do_rules as rules_of_root, cover_rules as rules_of_cover, follow_rules as rules_of_following, chosen_rules as rules_of_chosen, span_rule as rule_of_span, same_rules, overlap_rules, starts, ends};
-ghost use Rattle.scene_slots.specs.field_flatten.Shapes.{phase_start, phase_end};
+ghost use Rattle.rule_parts.specs.composition.Scenes.{root_do as root};
+ghost use Rattle.rule_parts.specs.field_flatten.Rules.{arranged_rule as rule_of, kind_rules as rules_of_kind, root_do_rules as rules_of_root, cover_rules as rules_of_cover, follow_rules as rules_of_following, chosen_rules as rules_of_chosen, span_rule as rule_of_span, same_rules, overlap_rules, starts, ends};
+ghost use Rattle.rule_parts.specs.field_flatten.Shapes.{phase_start, phase_end};
 ghost use Rattle.scene_rules.specs.Sides.{is_only_do};
-ghost use Rattle.scene_slots.specs.SeenSlots.{layout_of, scene_of};
+ghost use Rattle.rule_parts.specs.scene_slots.SeenSlots.{layout_of, scene_of};
 
-use crate::conditions::{each_under, guard_row, under, with_row};
-use crate::spans::{Side, at_most, equal, first_start, last_end, same_ticks, shared_tick};
+use crate::spans::{Side, first_start, last_end, same_ticks, shared_tick};
 use box_eval::{Rule, Term};
-use composition::{PhaseKind, PhaseSpot};
-use flat_terms::{rows, terms};
 use osc_base::{Path, Step};
-use scene_slots::SceneSlots;
+use rule_parts::{
+    PhaseKind, PhaseSpot, SceneSlots, at_most, each_under, equal, guard_row, rows, terms, under,
+    with_row,
+};
 use std::alloc::{AllocError, Global};
 
 /// The first phase starts at a tick, each next when the one before ends, and the last ends at another tick.

@@ -3,15 +3,13 @@
 ghost use Rattle.std.specs.Prelude.{◌≡◌, ◌++◌, ◌∷◌, [], map, IfOk};
 ghost use Rattle.box_eval.specs.FlatRules as Flat;
 ghost use Rattle.box_eval.specs.FlatRules.{flat_rule};
-ghost use Rattle.scene_slots.specs.field_flatten.Rules.{least_rules as rules_of_least, greatest_rules as rules_of_greatest, same_rules as rules_of_same, overlap_rules as rules_of_overlap, starts, ends};
+ghost use Rattle.rule_parts.specs.field_flatten.Rules.{least_rules as rules_of_least, greatest_rules as rules_of_greatest, same_rules as rules_of_same, overlap_rules as rules_of_overlap, starts, ends};
 ghost use Rattle.scene_rules.specs.Sides.{side_term, side_terms};
-ghost use Rattle.scene_slots.specs.SeenSlots.{layout_of};
+ghost use Rattle.rule_parts.specs.scene_slots.SeenSlots.{layout_of};
 
-use crate::conditions::with_row;
-use box_eval::{Rule, Term};
-use flat_terms::rows;
+use box_eval::Rule;
 use osc_base::Path;
-use scene_slots::SceneSlots;
+use rule_parts::{SceneSlots, at_most, equal, rows, with_row};
 use std::alloc::{AllocError, Global};
 
 /// Where a phase starts, or where it ends.
@@ -29,20 +27,6 @@ pub(crate) fn slot_of(slots: &SceneSlots<'_>, side: Side, phase: &Path) -> u32
         Side::Start => slots.start(phase),
         Side::End => slots.end(phase),
     }
-}
-
-/// Two slots are equal.
-pub(crate) fn equal(a: u32, b: u32) -> Rule
-    ensures { flat_rule result ≡ Flat.Equal (Flat.Slot a) (Flat.Slot b) }
-{
-    Rule::Equal(Term::Slot(a), Term::Slot(b))
-}
-
-/// A slot is at most another.
-pub(crate) fn at_most(a: u32, b: u32) -> Rule
-    ensures { flat_rule result ≡ Flat.AtMost (Flat.Slot a) (Flat.Slot b) }
-{
-    Rule::AtMost(Term::Slot(a), Term::Slot(b))
 }
 
 /// The slots of that tick of phases.

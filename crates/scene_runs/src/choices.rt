@@ -9,9 +9,8 @@ ghost use Rattle.scene_slots.specs.SeenSlots.{scene_of};
 
 use crate::conditions::stands;
 use crate::numbers::{counted, number_in};
-use composition::{Choice, ChoiceSpot};
 use osc_base::Row;
-use scene_slots::SceneSlots;
+use scene_slots::{Choice, ChoiceSpot, SceneSlots};
 use std::alloc::{AllocError, Global};
 
 /// The chosen member of a `one_of`.

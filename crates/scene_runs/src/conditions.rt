@@ -7,9 +7,8 @@ ghost use Rattle.scene_slots.specs.field_flatten.Points.{is_held as is_held_at, 
 ghost use Rattle.scene_slots.specs.SeenSlots.{scene_of};
 
 use crate::numbers::number_in;
-use composition::Guard;
 use osc_base::Path;
-use scene_slots::SceneSlots;
+use scene_slots::{Guard, SceneSlots};
 
 /// They are one number.
 fn is_same(a: i64, b: i64) -> bool

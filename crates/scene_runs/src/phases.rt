@@ -9,9 +9,8 @@ ghost use Rattle.scene_slots.specs.SeenSlots.{scene_of};
 
 use crate::conditions::stands;
 use crate::numbers::{counted, number_in};
-use composition::{PhaseSpot, Span};
 use osc_base::{Path, Row};
-use scene_slots::SceneSlots;
+use scene_slots::{PhaseSpot, SceneSlots, Span};
 use std::alloc::{AllocError, Global};
 
 /// The ticks at which a phase starts and ends.

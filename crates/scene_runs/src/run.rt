@@ -15,8 +15,7 @@ use crate::phases::spans_of;
 use crate::traces::traces_of;
 use crate::values::values_of;
 use box_eval::Point;
-use composition::{Run, Scene};
-use scene_slots::SceneSlots;
+use scene_slots::{Run, Scene, SceneSlots};
 use std::alloc::{AllocError, Global};
 
 /// The run of a point of the scene that these slots are of.

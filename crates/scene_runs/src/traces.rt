@@ -8,9 +8,8 @@ ghost use Rattle.scene_slots.specs.SeenSlots.{scene_of};
 
 use crate::conditions::stands;
 use crate::numbers::number_in;
-use composition::Trace;
 use osc_base::{Path, Row, Sample, SampleSlots};
-use scene_slots::SceneSlots;
+use scene_slots::{SceneSlots, Trace};
 use std::alloc::{AllocError, Global};
 
 /// The sample in these slots.

@@ -7,9 +7,8 @@ ghost use Rattle.scene_slots.specs.SeenSlots.{scene_of};
 
 use crate::conditions::stands;
 use crate::numbers::number_in;
-use composition::{Held, Value, ValueRange, ValueSpot};
 use osc_base::{Row, Text};
-use scene_slots::SceneSlots;
+use scene_slots::{Held, SceneSlots, Value, ValueRange, ValueSpot};
 use std::alloc::{AllocError, Global};
 
 /// The text of that number. Past the last it is empty.

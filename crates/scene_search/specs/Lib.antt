@@ -4,3 +4,4 @@ pub mod Outcomes
 pub use Rattle.record_laws.specs as record_laws
 pub use Rattle.record_laws.specs.refute_check as refute_check
 pub use Rattle.seeded_search.specs as seeded_search
+pub use Rattle.box_eval.specs as box_eval

@@ -1,5 +1,5 @@
 use box_eval::Record;
-use composition::Run;
+use flat_forms::Run;
 
 /// What a search for a run of a scene finds.
 #[derive(Drop)]

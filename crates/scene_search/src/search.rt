@@ -8,11 +8,10 @@ ghost use Rattle.scene_search.specs.Findings.{IsFinding};
 ghost use Rattle.scene_search.specs.Outcomes.{IsOutcome};
 
 use crate::finding::Finding;
-use bound_trail::Trail;
 use box_eval::Flat;
-use composition::Scene;
-use flat_forms::flatten;
+use flat_forms::{Scene, flatten};
 use scene_runs::run_of;
+use seeded_search::bound_trail::Trail;
 use seeded_search::{Desk, Outcome, search};
 use std::alloc::{AllocError, Global};
 use wake_ring::WakeRing;

@@ -4,7 +4,7 @@ ghost use Rattle.std.specs.Prelude.{◌≡◌, ◌<◌, ◌≤◌, ◌^◌, ◌+
 ghost use Rattle.flat_shapes.specs.composition.SeenScenes.{seen_scene};
 ghost use Rattle.scene_slots.specs.Numbers.{first_phase as phases_from, first_value as values_from, first_sample as samples_from, past as past_slots, track_length};
 
-use composition::Scene;
+use flat_shapes::Scene;
 
 /// The first slot of a phase, of a value and of a vehicle, how many slots a vehicle has, and the number after those of
 /// all slots.

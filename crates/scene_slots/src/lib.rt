@@ -8,6 +8,10 @@ mod reads;
 mod slots;
 mod track;
 
+pub use flat_shapes::{
+    Choice, ChoiceSpot, Guard, Held, PhaseSpot, Run, Scene, Setting, Span, Trace, Value,
+    ValueRange, ValueSpot, common_scale, number, rows, rule, terms,
+};
 pub use names::slot_names;
 pub use slots::SceneSlots;
 pub use track::Track;

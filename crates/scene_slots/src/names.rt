@@ -7,7 +7,7 @@ ghost use Rattle.flat_shapes.specs.composition.Slots.{slot_names as names_of};
 ghost use Rattle.scene_slots.specs.NameRows.{choice_names, end_names, phase_names, value_names, track_names};
 ghost use Rattle.flat_shapes.specs.composition.Slots.{sample_names};
 
-use composition::{ChoiceSpot, PhaseSpot, Scene, ValueSpot};
+use flat_shapes::{ChoiceSpot, PhaseSpot, Scene, ValueSpot};
 use osc_base::{Path, Row, SlotName};
 use std::alloc::{AllocError, Global};
 

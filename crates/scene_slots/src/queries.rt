@@ -14,7 +14,7 @@ ghost use Rattle.scene_slots.specs.Tracks.{IsTrack, track_slot, track_by};
 use crate::counts::slot_counts;
 use crate::slots::SceneSlots;
 use crate::track::Track;
-use composition::Scene;
+use flat_shapes::Scene;
 use osc_base::{Path, Row, Step, Text};
 use path_index::{HasPath, PathIndex};
 use std::alloc::{AllocError, Global};

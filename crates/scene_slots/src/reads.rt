@@ -3,8 +3,7 @@
 ghost use Rattle.scene_slots.specs.SeenSlots.{layout_of};
 
 use crate::slots::SceneSlots;
-use composition::Source;
-use flat_shapes::{Found, Slots};
+use flat_shapes::{Found, Slots, Source};
 use osc_base::Path;
 
 impl<'a> Slots for SceneSlots<'a> {

@@ -7,7 +7,7 @@ ghost use Rattle.flat_shapes.specs.composition.SeenScenes.{seen_scene};
 ghost use Rattle.scene_slots.specs.Numbers.{first_phase, first_value, first_sample, past, track_length};
 
 use crate::counts::Counts;
-use composition::Scene;
+use flat_shapes::Scene;
 use osc_base::Path;
 use path_index::PathIndex;
 

@@ -1,7 +1,7 @@
 -- Lists and rows of the program's own expressions with their paths changed.
 use Rattle.std.proofs.Common.{◌≡◌, List, ◌∙◌, map, ap, sym}
 use Rattle.std.specs.Prelude.{Bool}
-use Rattle.osc_base.specs.declared.path.Path.{Path}
+use Rattle.dsl_tree.specs.osc_base.declared.path.Path.{Path}
 use Rattle.expansion_laws.specs.expr_nodes.declared.node.Info.{Info}
 use Rattle.expansion_laws.specs.expr_nodes.declared.node.Join.{Join}
 use Rattle.expansion_laws.specs.expr_nodes.declared.node.Earlier.{Earlier}

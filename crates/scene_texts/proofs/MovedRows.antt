@@ -1,6 +1,6 @@
 -- Rows of expressions with their paths changed.
 use Rattle.std.proofs.Common.{◌≡◌, List, [], ◌∷◌, ◌∙◌, map, refl, ap}
-use Rattle.osc_base.specs.declared.path.Path.{Path}
+use Rattle.dsl_tree.specs.osc_base.declared.path.Path.{Path}
 use Rattle.expansion_laws.specs.expr_nodes.declared.node.Join.{Join}
 use Rattle.expansion_laws.specs.expr_nodes.Typed as Nodes
 use Rattle.expansion_laws.specs.expr_nodes.Typed.{Typed, TypedRow, moved, moved_row, row_of}

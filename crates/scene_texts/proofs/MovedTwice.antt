@@ -1,8 +1,8 @@
 -- Paths that are changed twice are changed once.
 use Rattle.std.proofs.Common.{◌≡◌, List, [], ◌∷◌, ◌∙◌, refl, ap, ap₂}
-use Rattle.osc_base.specs.declared.path.Path.{Path}
-use Rattle.osc_base.specs.declared.path.Step.{Step}
-use Rattle.osc_base.specs.Paths.{path_of}
+use Rattle.dsl_tree.specs.osc_base.declared.path.Path.{Path}
+use Rattle.dsl_tree.specs.osc_base.declared.path.Step.{Step}
+use Rattle.dsl_tree.specs.osc_base.Paths.{path_of}
 use Rattle.expansion_laws.specs.expr_nodes.Typed as Nodes
 use Rattle.expansion_laws.specs.expr_nodes.Typed.{Typed, TypedRow, moved, moved_row}
 use Rattle.expansion_laws.specs.composition.Givens.{Here, steps_from, from_root}

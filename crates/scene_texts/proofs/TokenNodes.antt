@@ -1,7 +1,7 @@
 -- The tokens of the program's own expressions, node by node.
 use Rattle.std.proofs.Common.{◌≡◌, ℕ, ◌+◌, List, ◌∙◌, ap, sym, refl, arith}
 use Rattle.std.specs.Prelude.{Bool}
-use Rattle.osc_base.specs.declared.fault.Place.{Place}
+use Rattle.dsl_tree.specs.osc_base.declared.fault.Place.{Place}
 use Rattle.dsl_tree.specs.declared.parts.Ident.{Ident}
 use Rattle.dsl_tree.specs.declared.parts.Digits.{Digits}
 use Rattle.dsl_tree.specs.declared.expr.RelationSign.{RelationSign}

@@ -2,7 +2,7 @@
 use Rattle.std.proofs.Common.{◌≡◌, ℕ, ◌+◌, ◌<◌, List, [], ◌∷◌, ◌++◌, ◌∙◌, length, take, map, get_or, refl, ap, sym, arith}
 use Rattle.std.proofs.lemmas.List.{take_more}
 use Rattle.expansion_laws.specs.Counts.{total}
-use Rattle.osc_base.specs.declared.fault.Place.{Place}
+use Rattle.dsl_tree.specs.osc_base.declared.fault.Place.{Place}
 use Rattle.dsl_tree.specs.declared.expr.Operator.{Operator}
 use Rattle.dsl_tree.specs.declared.expr.Expr.{Expr}
 use Rattle.dsl_tree.specs.declared.expr.Suffix.{Suffix}

@@ -1,9 +1,9 @@
 -- Expressions whose paths lead from a text, with their paths from the named scenario on and at their homes.
 use Rattle.std.specs.Prelude.{List, [], ◌∷◌, ◌++◌, cond, codes, map}
-use Rattle.osc_base.specs.declared.path.Path.{Path}
-use Rattle.osc_base.specs.declared.path.Step.{Step}
-use Rattle.osc_base.specs.declared.path.Step.TheVariants.{Name}
-use Rattle.osc_base.specs.Paths.{path_of, same_step}
+use Rattle.dsl_tree.specs.osc_base.declared.path.Path.{Path}
+use Rattle.dsl_tree.specs.osc_base.declared.path.Step.{Step}
+use Rattle.dsl_tree.specs.osc_base.declared.path.Step.TheVariants.{Name}
+use Rattle.dsl_tree.specs.osc_base.Paths.{path_of, same_step}
 use Rattle.expansion_laws.specs.expr_nodes.Typed.{moved}
 use Rattle.expansion_laws.specs.expr_nodes.Seen.{Reached}
 use Rattle.expansion_laws.specs.composition.Scenes.{Binding}

@@ -1,13 +1,13 @@
 //! Where the paths of a text lead.
 
 ghost use Rattle.std.specs.Prelude.{◌≡◌, codes, map, IfOk};
-ghost use Rattle.osc_base.specs.Paths.{path_of, same_step};
-ghost use Rattle.osc_base.specs.declared.path.Step.TheVariants.{Name};
+ghost use Rattle.dsl_tree.specs.osc_base.Paths.{path_of, same_step};
+ghost use Rattle.dsl_tree.specs.osc_base.declared.path.Step.TheVariants.{Name};
 ghost use Rattle.expansion_laws.specs.composition.Homes.{home as home_by};
 ghost use Rattle.scene_texts.specs.Moving.{moved_path, path_under, seen_bound};
 
 use crate::paths::{after, joined};
-use osc_base::{Path, Step};
+use dsl_tree::osc_base::{Path, Step};
 use std::alloc::{AllocError, Global};
 
 /// A parameter is another name of what stands at its home.

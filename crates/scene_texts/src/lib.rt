@@ -8,6 +8,7 @@ mod paths;
 mod token_counts;
 
 pub use counts::{add, times};
+pub use expansion_laws::Scene;
 pub use homes::{Bound, Moves, home};
 pub use paths::{
     from_object, joined, same_path, then_do, then_duration, then_index, then_member, then_name,

@@ -1,12 +1,11 @@
 //! Paths made of others.
 
 ghost use Rattle.std.specs.Prelude.{◌≡◌, [], ◌∷◌, ◌++◌, option_copied, IfOk, OnOk};
-ghost use Rattle.osc_base.specs.Paths as Paths;
-ghost use Rattle.osc_base.specs.Paths.{path_of, same_steps, steps_after};
-ghost use Rattle.osc_base.specs.Paths.{same_path as one_path, same_step as one_step};
+ghost use Rattle.dsl_tree.specs.osc_base.Paths as Paths;
+ghost use Rattle.dsl_tree.specs.osc_base.Paths.{path_of, same_steps, steps_after, same_path as one_path, same_step as one_step};
 ghost use Rattle.expansion_laws.specs.composition.Expansion.{from_object as path_from};
 
-use osc_base::{Path, Row, Step, Text};
+use dsl_tree::osc_base::{Path, Row, Step, Text};
 use std::alloc::{AllocError, Global};
 
 /// An equal step.

@@ -1,13 +1,13 @@
 -- What is written of a search is accepted.
 use Rattle.std.proofs.Common.{◌≡◌, sym, subst, ℕ, ◌≤◌, ◌<◌, None, length, arith}
-use Rattle.box_eval.specs.declared.flat.Flat.{Flat}
-use Rattle.box_eval.specs.declared.record.Record.{Record}
-use Rattle.box_eval.specs.Record.{Tree, IsAcceptedAs}
-use Rattle.box_eval.proofs.Ways.{ends_open}
-use Rattle.record_text.specs.Lines.{AllShort}
-use Rattle.record_text.specs.Source.{limit}
-use Rattle.record_text.specs.Text.{record_lines, record_text}
-use Rattle.record_text.specs.Written.{HaveShortValues}
+use Rattle.scene_search.specs.box_eval.declared.flat.Flat.{Flat}
+use Rattle.scene_search.specs.box_eval.declared.record.Record.{Record}
+use Rattle.scene_search.specs.box_eval.Record.{Tree, IsAcceptedAs}
+use Rattle.scene_search.proofs.of_box_eval.Ways.{ends_open}
+use Rattle.command_replies.specs.record_text.Lines.{AllShort}
+use Rattle.command_replies.specs.record_text.Source.{limit}
+use Rattle.command_replies.specs.record_text.Text.{record_lines, record_text}
+use Rattle.command_replies.specs.record_text.Written.{HaveShortValues}
 use Rattle.scene_search.specs.refute_check.Answers.{IsRefutationText, IsOpenText}
 use Rattle.scene_search.proofs.of_refute_check.Laws.{refutation_text, open_text}
 use Rattle.scene_search.specs.record_laws.Points.{points_of}

@@ -7,9 +7,9 @@ use Rattle.std.proofs.lemmas.Option.{slice_get-map}
 use Rattle.osc_base.specs.declared.path.Path.{Path}
 use Rattle.osc_base.specs.declared.listing.SlotName.{SlotName}
 use Rattle.osc_base.specs.Paths.{same_path}
-use Rattle.box_eval.specs.declared.bounds.Pair.{Pair}
-use Rattle.box_eval.specs.Box.{pair}
-use Rattle.record_text.specs.Lines.{IsFewDigits}
+use Rattle.scene_search.specs.box_eval.declared.bounds.Pair.{Pair}
+use Rattle.scene_search.specs.box_eval.Box.{pair}
+use Rattle.command_replies.specs.record_text.Lines.{IsFewDigits}
 use Rattle.scene_search.specs.record_laws.Short.{HasShortEnds}
 use Rattle.instance_check.specs.expr_nodes.Sizes.{field_reach}
 use Rattle.instance_check.specs.composition.declared.spot.ChoiceSpot.{ChoiceSpot}

@@ -1,12 +1,12 @@
 -- The values of a record whose lines are short.
 use Rattle.std.proofs.Common.{List, [], ◌∷◌, ◌++◌, map}
-use Rattle.box_eval.specs.declared.record.Line.{Line}
-use Rattle.box_eval.specs.declared.record.Line.TheVariants as L
-use Rattle.box_eval.specs.declared.record.Record.{Record}
-use Rattle.record_text.specs.declared.line.TextLine.{TextLine}
-use Rattle.record_text.specs.Lines.{AllShort, IsShort}
-use Rattle.record_text.specs.Text.{text_line, record_lines}
-use Rattle.record_text.specs.Written.{HasShortValue, HaveShortValues}
+use Rattle.scene_search.specs.box_eval.declared.record.Line.{Line}
+use Rattle.scene_search.specs.box_eval.declared.record.Line.TheVariants as L
+use Rattle.scene_search.specs.box_eval.declared.record.Record.{Record}
+use Rattle.command_replies.specs.record_text.declared.line.TextLine.{TextLine}
+use Rattle.command_replies.specs.record_text.Lines.{AllShort, IsShort}
+use Rattle.command_replies.specs.record_text.Text.{text_line, record_lines}
+use Rattle.command_replies.specs.record_text.Written.{HasShortValue, HaveShortValues}
 
 short_value : (line : Line) → IsShort (text_line line) → HasShortValue line
 short_value (L.Low slot value) short = short.1

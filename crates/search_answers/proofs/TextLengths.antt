@@ -1,12 +1,12 @@
 -- How long the text of a record is.
 use Rattle.std.proofs.Common.{◌*◌, ◌≤◌, List, [], ◌∷◌, length, arith, length-append}
-use Rattle.box_eval.specs.declared.record.Record.{Record}
-use Rattle.box_eval.specs.Record.{Tree, cuts_of, IsRecordOf}
-use Rattle.record_text.specs.declared.line.TextLine.{TextLine}
-use Rattle.record_text.specs.Lines.{AllShort, spelled, text_of}
-use Rattle.record_text.specs.Source.{limit}
-use Rattle.record_text.specs.Text.{record_lines, record_text}
-use Rattle.record_text.proofs.Lines.{spelled_short}
+use Rattle.scene_search.specs.box_eval.declared.record.Record.{Record}
+use Rattle.scene_search.specs.box_eval.Record.{Tree, cuts_of, IsRecordOf}
+use Rattle.command_replies.specs.record_text.declared.line.TextLine.{TextLine}
+use Rattle.command_replies.specs.record_text.Lines.{AllShort, spelled, text_of}
+use Rattle.command_replies.specs.record_text.Source.{limit}
+use Rattle.command_replies.specs.record_text.Text.{record_lines, record_text}
+use Rattle.command_replies.proofs.of_record_text.Lines.{spelled_short}
 use Rattle.scene_search.proofs.of_record_laws.Accepting.{lines_count}
 
 -- a line has at most 43 bytes, and a line feed

@@ -1,13 +1,13 @@
 -- What is written of a search is what the checks of records and of runs accept.
 use Rattle.std.specs.Prelude.{◌≡◌, ℕ, ◌≤◌, None, length}
-use Rattle.box_eval.specs.declared.flat.Flat.{Flat}
-use Rattle.box_eval.specs.declared.record.Record.{Record}
+use Rattle.scene_search.specs.box_eval.declared.flat.Flat.{Flat}
+use Rattle.scene_search.specs.box_eval.declared.record.Record.{Record}
 use Rattle.instance_check.specs.composition.declared.run.Run.{Run}
 use Rattle.instance_check.specs.composition.Scenes.{Scene}
 use Rattle.instance_check.specs.composition.TimedRuns.{timed}
 use Rattle.instance_check.specs.field_flatten.Exactness.{IsExpanded, IsLimited, IsFlatOf}
-use Rattle.record_text.specs.Source.{limit}
-use Rattle.record_text.specs.Text.{record_text}
+use Rattle.command_replies.specs.record_text.Source.{limit}
+use Rattle.command_replies.specs.record_text.Text.{record_text}
 use Rattle.scene_search.specs.refute_check.Answers.{IsRefutationText, IsOpenText}
 use Rattle.instance_check.specs.run_check.Answers.{first_wrong}
 use Rattle.scene_search.specs.Findings.{IsReachedRun, IsSceneRefutation, IsSpentRecord}

@@ -3,7 +3,7 @@ pub mod SearchAnswers
 pub mod Searches
 pub mod SpentBoxes
 -- Crates below, for the crates above.
-pub use Rattle.box_eval.specs as box_eval
+pub use Rattle.scene_search.specs.box_eval as box_eval
 pub use Rattle.scene_search.specs.record_laws as record_laws
-pub use Rattle.record_text.specs as record_text
+pub use Rattle.command_replies.specs.record_text as record_text
 pub use Rattle.scene_search.specs as scene_search

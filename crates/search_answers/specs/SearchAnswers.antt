@@ -1,6 +1,6 @@
 -- What is replied of a search for a run of a scene.
 use Rattle.std.specs.Prelude.{◌≡◌, ℕ, List, ◌++◌, length}
-use Rattle.box_eval.specs.declared.record.Record.{Record}
+use Rattle.scene_search.specs.box_eval.declared.record.Record.{Record}
 use Rattle.instance_check.specs.composition.declared.run.Run.{Run}
 use Rattle.instance_check.specs.composition.Scenes.{Scene}
 use Rattle.instance_check.specs.run_check.RunText.{run_text}

@@ -1,6 +1,6 @@
 -- What a search for a run of a scene ends with.
 use Rattle.std.specs.Prelude.{◌≡◌, ◌⊎◌, ℕ}
-use Rattle.box_eval.specs.declared.record.Record.{Record}
+use Rattle.scene_search.specs.box_eval.declared.record.Record.{Record}
 use Rattle.instance_check.specs.composition.Scenes.{Scene}
 use Rattle.command_replies.specs.Reply.{Answer}
 use Rattle.command_replies.specs.Replies.{refutation, undecided}

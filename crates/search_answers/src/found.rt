@@ -1,5 +1,5 @@
 use command_replies::Reply;
-use composition::Run;
+use instance_check::Run;
 
 /// What a search for a run of a scene ends with.
 #[derive(Drop)]

@@ -8,8 +8,7 @@ ghost use Rattle.search_answers.specs.Searches.{IsSearched};
 
 use crate::found::RunOrReply;
 use command_replies::{Reply, done, refutation, undecided};
-use composition::Scene;
-use run_check::write_run;
+use instance_check::{Scene, write_run};
 use scene_search::{Finding, find_run};
 use std::alloc::{AllocError, Global};
 

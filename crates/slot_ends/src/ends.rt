@@ -11,9 +11,8 @@ ghost use Rattle.scene_slots.specs.box_eval.Box.{pair};
 ghost use Rattle.scene_slots.specs.field_flatten.Ends.{ends_of as ends_in, range_ends as range_by, tick_ends as ticks_by, no_ends, bounds as all_ends};
 
 use box_eval::{Bounds, Pair};
-use composition::{ChoiceSpot, Scene, Setting, ValueRange, ValueSpot};
 use osc_base::{Row, SlotName, Text};
-use scene_slots::slot_names;
+use scene_slots::{ChoiceSpot, Scene, Setting, ValueRange, ValueSpot, slot_names};
 use std::alloc::{AllocError, Global};
 
 /// The ends of a slot that isn't there.

@@ -4,3 +4,4 @@
 mod ends;
 
 pub use ends::{bounds, ends_of, number_ends};
+pub use scene_slots::{Scene, ValueRange, ValueSpot, slot_names};

@@ -6,7 +6,7 @@ use Rattle.osc_base.specs.declared.fault.Fault.{Fault}
 use Rattle.dsl_tree.specs.FileTree.{CompoundTree}
 use Rattle.name_scope.specs.Declaring.{behaviour_name}
 use Rattle.name_scope.specs.FileNumbers.{AddedFile}
-use Rattle.type_heads.specs.Members.{body}
+use Rattle.program_scenes.specs.type_heads.Members.{body}
 use Rattle.loaded_programs.specs.composition.declared.scene.Scene.{Scene}
 use Rattle.loaded_programs.specs.composition.declared.setting.Setting.{Setting}
 use Rattle.loaded_programs.specs.composition.Expanded.{scene}

@@ -1,7 +1,7 @@
 -- What is known of each program that was loaded.
 use Rattle.std.proofs.Common.{◌≡◌, ℕ, List, [], ◌∷◌, Some, None}
 use Rattle.std.specs.Prelude.{◌≢◌}
-use Rattle.outside_io.specs.declared.shelf.NamedBytes.{NamedBytes}
+use Rattle.loaded_programs.specs.outside_io.declared.shelf.NamedBytes.{NamedBytes}
 use Rattle.name_scope.specs.FileNumbers.{AddedFile}
 use Rattle.loaded_programs.specs.program_load.Loading.{IsLoaded}
 

@@ -1,6 +1,6 @@
 -- A source has one right reply, or each right reply is left open, if the same holds of what a command answers about scenes.
 use Rattle.std.proofs.Common.{◌≡◌, ◌∙◌, ◌⊎◌, inl, sym, ap, subst, ℕ, List, Option, Some, None}
-use Rattle.outside_io.specs.declared.shelf.NamedBytes.{NamedBytes}
+use Rattle.loaded_programs.specs.outside_io.declared.shelf.NamedBytes.{NamedBytes}
 use Rattle.name_scope.specs.FileNumbers.{AddedFile}
 use Rattle.loaded_programs.specs.composition.declared.setting.Setting.{Setting}
 use Rattle.loaded_programs.specs.composition.Expanded.{scene}

@@ -1,7 +1,7 @@
 -- The scenes of programs without faults are sound.
 use Rattle.std.proofs.Common.{◌≡◌, ℕ, List, Option, Some, None, false}
 use Rattle.name_scope.specs.FileNumbers.{AddedFile}
-use Rattle.type_heads.specs.DeclaredTypes.{program_of}
+use Rattle.program_scenes.specs.type_heads.DeclaredTypes.{program_of}
 use Rattle.loaded_programs.specs.composition.declared.setting.Setting.{Setting}
 use Rattle.loaded_programs.specs.composition.Expanded.{scene}
 use Rattle.loaded_programs.specs.composition.SceneFaults.{is_too_large, named_scenario}

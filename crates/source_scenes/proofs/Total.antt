@@ -2,7 +2,7 @@
 use Rattle.std.proofs.Common.{◌≡◌, ◌∙◌, refl, sym, ap, ℕ, List, [], ◌∷◌, Option, Some, None}
 use Rattle.std.specs.Prelude.{◌≢◌}
 use Rattle.std.specs.Option.{option_or}
-use Rattle.outside_io.specs.declared.shelf.NamedBytes.{NamedBytes}
+use Rattle.loaded_programs.specs.outside_io.declared.shelf.NamedBytes.{NamedBytes}
 use Rattle.name_scope.specs.FileNumbers.{AddedFile}
 use Rattle.loaded_programs.specs.composition.declared.setting.Setting.{Setting}
 use Rattle.loaded_programs.specs.composition.Expanded.{scene}

@@ -1,7 +1,7 @@
 -- What the functions find. This is no part of the meaning.
 use Rattle.std.specs.Prelude.{◌≡◌, ℕ, true, List, Option, Some, None, option_map}
 use Rattle.osc_base.specs.declared.fault.Fault.{Fault}
-use Rattle.outside_io.specs.declared.shelf.NamedBytes.{NamedBytes}
+use Rattle.loaded_programs.specs.outside_io.declared.shelf.NamedBytes.{NamedBytes}
 use Rattle.name_scope.specs.FileNumbers.{AddedFile}
 use Rattle.loaded_programs.specs.composition.declared.setting.Setting.{Setting}
 use Rattle.loaded_programs.specs.composition.Expanded.{scene}

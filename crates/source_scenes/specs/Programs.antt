@@ -6,8 +6,8 @@ use Rattle.osc_base.specs.declared.fault.FaultCode.{FaultCode}
 use Rattle.osc_base.specs.declared.fault.Fault.{Fault}
 use Rattle.dsl_tree.specs.Views.{file_tree}
 use Rattle.name_scope.specs.FileNumbers.{AddedFile}
-use Rattle.type_heads.specs.Types.{Types}
-use Rattle.type_heads.specs.Members.{body}
+use Rattle.program_scenes.specs.type_heads.Types.{Types}
+use Rattle.program_scenes.specs.type_heads.Members.{body}
 use Rattle.loaded_programs.specs.composition.declared.setting.Setting.{Setting}
 use Rattle.loaded_programs.specs.composition.SceneFaults.{is_too_large}
 use Rattle.program_scenes.specs.named_scenario.Naming.{fault_in, scenario_in, types_in}

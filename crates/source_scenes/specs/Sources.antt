@@ -1,6 +1,6 @@
 -- What is replied about a source, and about the scene of the scenario that a word names in it.
 use Rattle.std.specs.Prelude.{◌≡◌, ℕ, List, Some, None}
-use Rattle.outside_io.specs.declared.shelf.NamedBytes.{NamedBytes}
+use Rattle.loaded_programs.specs.outside_io.declared.shelf.NamedBytes.{NamedBytes}
 use Rattle.name_scope.specs.FileNumbers.{AddedFile}
 use Rattle.loaded_programs.specs.composition.declared.setting.Setting.{Setting}
 use Rattle.loaded_programs.specs.composition.Expanded.{scene}

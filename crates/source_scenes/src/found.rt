@@ -1,5 +1,5 @@
 use command_replies::Reply;
-use composition::Scene;
+use program_scenes::Scene;
 
 /// What is found for the word of a scenario.
 #[derive(Drop)]

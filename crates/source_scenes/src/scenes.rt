@@ -6,15 +6,13 @@ ghost use Rattle.program_scenes.specs.named_scenario.Declarations.{IsDeclaredBy}
 ghost use Rattle.program_scenes.specs.named_scenario.Naming.{types_in};
 ghost use Rattle.source_scenes.specs.FoundScenes.{IsFoundScene, IsKnown, IsSceneOf, IsSomeLoad};
 ghost use Rattle.source_scenes.specs.Programs.{name_in, owner_in};
-ghost use Rattle.type_heads.specs.Told.{told};
+ghost use Rattle.program_scenes.specs.type_heads.Told.{told};
 
 use crate::found::FoundScene;
 use crate::refusals::{fault_in, name_place, no_scenario};
-use composition::Setting;
 use name_scope::Program;
-use named_scenario::{NameStop, NamedScenario, find_scenario};
 use osc_base::{Fault, FaultCode};
-use program_scenes::scene_of;
+use program_scenes::{NameStop, NamedScenario, Setting, find_scenario, scene_of};
 use std::alloc::{AllocError, Global};
 
 /// The scene of the scenario that a word names in a program that was loaded, or the reply that refuses

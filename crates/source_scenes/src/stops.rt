@@ -2,7 +2,7 @@ ghost use Rattle.std.specs.Prelude.{IfOk};
 ghost use Rattle.source_scenes.specs.FoundScenes.{IsReplyToStop};
 
 use command_replies::{Reply, failed_shelf, refused_source};
-use program_load::LoadStop;
+use loaded_programs::LoadStop;
 use std::alloc::{AllocError, Global};
 
 /// The reply to why no program was loaded; `main` is the name of the main file. Out of memory has none.

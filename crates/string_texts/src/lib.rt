@@ -12,6 +12,10 @@ pub use exprs::push_texts_in;
 pub use program::texts;
 pub use sorted::ordered;
 
-// Crates below, for the crates above.
-pub use type_heads;
-pub use type_heads::{dsl_tree, name_scope, osc_base, units_si};
+// Items of the crates below, for the crates above.
+pub use dsl_tree::osc_base::{Boxed, FaultCode, Fraction, Path};
+pub use type_heads::{
+    Body, CompoundKind, ConditionEntry, DeclId, Declarations, EnumHit, Exponents, Fault, FieldType,
+    Form, Heads, MemberRef, Place, Program, Row, Text, TypeId, TypeKind, Unit, bodies, literal,
+    unit_entries,
+};

@@ -8,8 +8,7 @@ use crate::declared::push_declaration;
 use crate::sorted::ordered;
 use std::alloc::{AllocError, Global};
 use std::collections::BTreeSet;
-use type_heads::PlacedDecl;
-use type_heads::osc_base::Text;
+use type_heads::{PlacedDecl, Text};
 
 /// The greatest number of texts.
 const MOST_TEXTS: usize = 1_000_000_000;

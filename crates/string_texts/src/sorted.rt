@@ -6,7 +6,7 @@ ghost use Rattle.string_texts.specs.Ordered.{shown};
 
 use std::alloc::{AllocError, Global};
 use std::collections::BTreeSet;
-use type_heads::osc_base::Text;
+use type_heads::Text;
 
 /// Puts a text in its place, unless it is there.
 fn put<'a>(texts: &mut BTreeSet<&'a str>, text: &'a str) -> Result<(), AllocError>

@@ -8,9 +8,9 @@ use Rattle.osc_base.specs.FaultRows.{FaultRow, first_fault, row}
 use Rattle.osc_base.specs.Paths.{root, then_index, then_name}
 use Rattle.dsl_tree.specs.declared.parts.Digits.{Digits}
 use Rattle.dsl_tree.specs.ExprTree.{ExprTree}
-use Rattle.type_heads.specs.Table.{Table, form}
-use Rattle.type_heads.specs.Form.{Form}
-use Rattle.composition.specs.Givens.{element}
+use Rattle.expr_nodes.specs.type_heads.Table.{Table, form}
+use Rattle.expr_nodes.specs.type_heads.Form.{Form}
+use Rattle.program_texts.specs.composition.Givens.{element}
 use Rattle.expr_nodes.specs.Kinds.{ValueKind, kind_of}
 use Rattle.expr_nodes.specs.Names.{elements_from, it_at, per_of}
 use Rattle.expr_nodes.specs.Operators.{index_typed, element as element_in}

@@ -6,9 +6,9 @@ use Rattle.osc_base.specs.declared.path.Path.{Path}
 use Rattle.osc_base.specs.FaultRows.{first_fault}
 use Rattle.dsl_tree.specs.declared.expr.RelationSign.{RelationSign}
 use Rattle.dsl_tree.specs.ExprTree.{ExprTree}
-use Rattle.type_heads.specs.Table.{Table}
-use Rattle.composition.specs.Givens.{element, equals}
-use Rattle.composition.specs.Scenes.{Occurrence}
+use Rattle.expr_nodes.specs.type_heads.Table.{Table}
+use Rattle.program_texts.specs.composition.Givens.{element, equals}
+use Rattle.program_texts.specs.composition.Scenes.{Occurrence}
 use Rattle.expr_nodes.specs.declared.compare.Compare.{Compare}
 use Rattle.expr_nodes.specs.declared.parts.Checked.{Checked}
 use Rattle.expr_nodes.specs.Checks.{IsChecked}

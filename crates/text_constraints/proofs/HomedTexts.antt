@@ -2,13 +2,13 @@
 use Rattle.std.proofs.Common.{◌≡◌, ◌∙◌, refl, ap, Bool, true, false, cond, List, Option, Some, None, option_and_then, option_map}
 use Rattle.osc_base.specs.declared.path.Path.{Path}
 use Rattle.dsl_tree.specs.ExprTree.{ExprTree}
-use Rattle.type_heads.specs.Types.{Types}
+use Rattle.expr_nodes.specs.type_heads.Types.{Types}
 use Rattle.expr_nodes.specs.Typed as Nodes
 use Rattle.expr_nodes.specs.Typed.{Typed, moved}
 use Rattle.expr_nodes.specs.Typing.{is_path, typed}
-use Rattle.composition.specs.Givens.{from_root, left_target, read_at, target_at, typed_here}
-use Rattle.composition.specs.Homes.{home}
-use Rattle.composition.specs.Scenes.{Binding}
+use Rattle.program_texts.specs.composition.Givens.{from_root, left_target, read_at, target_at, typed_here}
+use Rattle.program_texts.specs.composition.Homes.{home}
+use Rattle.program_texts.specs.composition.Scenes.{Binding}
 use Rattle.scene_places.specs.scene_texts.Moving.{path_under}
 use Rattle.scene_places.proofs.of_scene_texts.MovedTwice.{from_root_is, moved_home}
 use Rattle.text_constraints.specs.Sites.{Site, at_home, here_of, left_home, path_home, read_home, typed_home}

@@ -4,8 +4,8 @@ use Rattle.osc_base.specs.declared.fault.Place.{Place}
 use Rattle.dsl_tree.specs.declared.expr.Expr.{Expr}
 use Rattle.dsl_tree.specs.ExprTree.{ExprTree, items_of}
 use Rattle.dsl_tree.specs.Views.{expr_tree}
-use Rattle.type_heads.specs.Table.{Table}
-use Rattle.type_heads.specs.Members.{items_in}
+use Rattle.expr_nodes.specs.type_heads.Table.{Table}
+use Rattle.expr_nodes.specs.type_heads.Members.{items_in}
 use Rattle.expr_nodes.specs.Typing.{first}
 use Rattle.program_texts.specs.Ranges.{listed_items}
 use Rattle.text_constraints.specs.Kept.{Holder}

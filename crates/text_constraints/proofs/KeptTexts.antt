@@ -10,16 +10,16 @@ use Rattle.dsl_tree.specs.declared.compounds.HeirCondition.{HeirCondition}
 use Rattle.dsl_tree.specs.ExprTree.{ExprTree, items_of}
 use Rattle.dsl_tree.specs.FileTree.{MemberTree}
 use Rattle.dsl_tree.specs.PhaseTree.{RuleTree}
-use Rattle.type_heads.specs.Table.{bases}
-use Rattle.type_heads.specs.Types.{Field, Member, Types}
-use Rattle.type_heads.specs.Members.{field, field_type, fields_declared, heir_condition, members}
+use Rattle.expr_nodes.specs.type_heads.Table.{bases}
+use Rattle.expr_nodes.specs.type_heads.Types.{Field, Member, Types}
+use Rattle.expr_nodes.specs.type_heads.Members.{field, field_type, fields_declared, heir_condition, members}
 use Rattle.expr_nodes.specs.Typing.{first, is_path, typed}
-use Rattle.composition.specs.declared.guard.Guard.{Guard}
-use Rattle.composition.specs.Expanded.{occurrence_of}
-use Rattle.composition.specs.Givens.{FieldHere, Given, element, equals, field_here, given_condition, given_conditions, given_elements, given_field, given_initial, given_initials, given_keep, given_member, given_rule, keep_target, left_target, own_givens, strength_of, target_at, value_tree}
-use Rattle.composition.specs.Homes.{home}
-use Rattle.composition.specs.Tokens.{tokens, value_tokens}
-use Rattle.composition.specs.Scenes.{Binding}
+use Rattle.program_texts.specs.composition.declared.guard.Guard.{Guard}
+use Rattle.program_texts.specs.composition.Expanded.{occurrence_of}
+use Rattle.program_texts.specs.composition.Givens.{FieldHere, Given, element, equals, field_here, given_condition, given_conditions, given_elements, given_field, given_initial, given_initials, given_keep, given_member, given_rule, keep_target, left_target, own_givens, strength_of, target_at, value_tree}
+use Rattle.program_texts.specs.composition.Homes.{home}
+use Rattle.program_texts.specs.composition.Tokens.{tokens, value_tokens}
+use Rattle.program_texts.specs.composition.Scenes.{Binding}
 use Rattle.scene_places.specs.expansion_laws.WorkNodes.{own_within}
 use Rattle.text_constraints.specs.Kept.{Holder, equal_kept, kept, mark_home, rule_kept}
 use Rattle.text_constraints.specs.OwnTexts.{condition_kept, conditions_kept, elements_kept, field_kept, field_site, held_under, heir_kept, initial_kept, initials_kept, listed_kept, member_kept, rule_site}

@@ -1,8 +1,8 @@
 -- Scopes of texts, by the labels of the texts.
 use Rattle.std.proofs.Common.{◌≡◌, ◌∙◌, refl, sym, ap, subst, ℕ, List, [], None}
-use Rattle.type_heads.specs.Types.{Types}
+use Rattle.expr_nodes.specs.type_heads.Types.{Types}
 use Rattle.expr_nodes.specs.Scope.{Scope}
-use Rattle.composition.specs.Calls.{scope_at}
+use Rattle.program_texts.specs.composition.Calls.{scope_at}
 use Rattle.program_texts.specs.program_calls.SeenLabels.{LabelHere, do_labels}
 use Rattle.program_texts.specs.OwnLabels.{seen_type_labels}
 use Rattle.text_constraints.specs.Labelled.{IsLabelled}

@@ -1,6 +1,6 @@
 -- A type and those that it inherits from, one by one.
 use Rattle.std.proofs.Common.{◌≡◌, ◌∙◌, refl, sym, ap, ap₂, ℕ, zero, suc, ◌+◌, ◌-◌, ◌<◌, ◌≤◌, arith, List, [], ◌∷◌, ◌++◌, Option, Some, None, append-nil, append_assoc, length}
-use Rattle.type_heads.specs.Table.{TypeHead, base, bases, line_within}
+use Rattle.expr_nodes.specs.type_heads.Table.{TypeHead, base, bases, line_within}
 
 module _ (heads : List TypeHead) where
   pub line_init : (of steps : ℕ) (at : Option ℕ) (none line : List ℕ) → none ≡ [] → line ≡ none ++ of ∷ [] → steps ≡ length heads → at ≡ base heads of → line ++ line_within steps heads at ≡ of ∷ bases heads of

@@ -1,10 +1,10 @@
 -- What the members of a part give, seen from inside of conditional subtypes.
 use Rattle.std.proofs.Common.{◌≡◌, ◌∙◌, sym, ap, ℕ, ◌+◌, ◌<◌, List, ◌++◌, flat_map, get_or, length, map}
 use Rattle.std.proofs.lemmas.List.Folds.{flat_map-map}
-use Rattle.type_heads.specs.Types.{Member}
-use Rattle.type_members.specs.Shared.{part_at, under_inside}
-use Rattle.type_members.specs.declared.places.Part.{Part}
-use Rattle.type_members.specs.declared.places.Span.{Span}
+use Rattle.expr_nodes.specs.type_heads.Types.{Member}
+use Rattle.program_texts.specs.type_members.Shared.{part_at, under_inside}
+use Rattle.program_texts.specs.type_members.declared.places.Part.{Part}
+use Rattle.program_texts.specs.type_members.declared.places.Span.{Span}
 use Rattle.program_texts.proofs.of_program_fields.Fronts.{given_more, left_at}
 
 -- after what came before

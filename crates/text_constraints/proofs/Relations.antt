@@ -13,7 +13,7 @@ use Rattle.dsl_tree.specs.declared.expr.Expr.TheViews
 use Rattle.dsl_tree.specs.declared.expr.Expr.TheViews.{roll-Expr}
 use Rattle.dsl_tree.specs.ExprTree.{ExprTree}
 use Rattle.dsl_tree.specs.Views.{SuffixTree, FurtherTree, expr_step, suffix_step, further_step, expr_tree, suffix_tree, further_tree}
-use Rattle.type_heads.specs.Table.{Table}
+use Rattle.expr_nodes.specs.type_heads.Table.{Table}
 use Rattle.expr_nodes.specs.Typed.{Typed}
 use Rattle.expr_nodes.specs.Typing.{is_path, typed}
 use Rattle.program_texts.proofs.ExprKinds.{dot_other, index_other, row_other}

@@ -5,12 +5,12 @@ use Rattle.osc_base.specs.declared.path.Path.{Path}
 use Rattle.dsl_tree.specs.declared.parts.Ident.{Ident}
 use Rattle.dsl_tree.specs.FileTree.{FieldTree, MemberTree}
 use Rattle.dsl_tree.specs.PhaseTree.{RuleTree}
-use Rattle.type_heads.specs.Types.{Field, Member, Types}
+use Rattle.expr_nodes.specs.type_heads.Types.{Field, Member, Types}
 use Rattle.expr_nodes.specs.Scope.{Scope}
-use Rattle.composition.specs.declared.guard.Guard.{Guard}
-use Rattle.composition.specs.Calls.{scope_at}
-use Rattle.composition.specs.Givens.{guards_under}
-use Rattle.composition.specs.Scenes.{Binding}
+use Rattle.program_texts.specs.composition.declared.guard.Guard.{Guard}
+use Rattle.program_texts.specs.composition.Calls.{scope_at}
+use Rattle.program_texts.specs.composition.Givens.{guards_under}
+use Rattle.program_texts.specs.composition.Scenes.{Binding}
 use Rattle.text_constraints.specs.OwnTexts.{IsTextScope, field_kept, it_given, member_kept, name_kept, own_rule_kept, without_it}
 
 -- a scope that is made for a text

@@ -4,13 +4,13 @@ use Rattle.osc_base.specs.declared.fault.Place.{Place}
 use Rattle.osc_base.specs.declared.path.Path.{Path}
 use Rattle.osc_base.specs.Paths.{root, then_index, then_name}
 use Rattle.osc_base.specs.FaultRows.{first_fault}
-use Rattle.type_heads.specs.Table.{Table, form}
+use Rattle.expr_nodes.specs.type_heads.Table.{Table, form}
 use Rattle.expr_nodes.specs.Kinds.{kind_of}
 use Rattle.expr_nodes.specs.Names.{per_of}
 use Rattle.expr_nodes.specs.Seen.{seen_info}
 use Rattle.expr_nodes.specs.Scope.{Scope}
 use Rattle.expr_nodes.specs.Typing.{expr_rows, typed}
-use Rattle.composition.specs.Givens.{element}
+use Rattle.program_texts.specs.composition.Givens.{element}
 use Rattle.expr_nodes.specs.Sizes.{field_size, info_at}
 use Rattle.expr_nodes.specs.Typed.{Info, Typed, Listed, Read, TypedRow, End, Item}
 use Rattle.text_constraints.specs.declared.elements.Sample.{Sample as OwnSample}

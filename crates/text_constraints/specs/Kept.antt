@@ -5,12 +5,12 @@ use Rattle.osc_base.specs.declared.path.Path.{Path}
 use Rattle.osc_base.specs.declared.mark.Strength.{Strength}
 use Rattle.dsl_tree.specs.ExprTree.{ExprTree}
 use Rattle.dsl_tree.specs.PhaseTree.{RuleTree}
-use Rattle.type_heads.specs.Table.{Table}
+use Rattle.expr_nodes.specs.type_heads.Table.{Table}
 use Rattle.expr_nodes.specs.Typed.{Typed}
 use Rattle.expr_nodes.specs.Typing.{typed}
-use Rattle.composition.specs.declared.guard.Guard.{Guard}
-use Rattle.composition.specs.Givens.{equals, strength_of}
-use Rattle.composition.specs.Scenes.{Occurrence}
+use Rattle.program_texts.specs.composition.declared.guard.Guard.{Guard}
+use Rattle.program_texts.specs.composition.Givens.{equals, strength_of}
+use Rattle.program_texts.specs.composition.Scenes.{Occurrence}
 use Rattle.text_constraints.specs.Sites.{Site, left_home, path_home, read_home, typed_home, whole_home}
 use Rattle.text_constraints.specs.declared.rules.Owner.{Owner}
 

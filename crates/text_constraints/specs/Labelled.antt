@@ -1,6 +1,6 @@
 -- The labels of the text of a type.
 use Rattle.std.specs.Prelude.{◌≡◌, ℕ}
-use Rattle.type_heads.specs.Types.{Types}
+use Rattle.expr_nodes.specs.type_heads.Types.{Types}
 use Rattle.program_texts.specs.program_calls.SeenLabels.{do_labels}
 use Rattle.program_texts.specs.OwnLabels.{seen_type_labels}
 use Rattle.text_constraints.specs.declared.members.TextLabels.{TextLabels}

@@ -9,15 +9,15 @@ use Rattle.dsl_tree.specs.PhaseTree.{RuleTree}
 use Rattle.dsl_tree.specs.declared.compounds.HeirCondition.{HeirCondition}
 use Rattle.dsl_tree.specs.ExprTree.{ExprTree, items_of}
 use Rattle.dsl_tree.specs.FileTree.{FieldTree, MemberTree}
-use Rattle.type_heads.specs.Table.{Table, bases}
-use Rattle.type_heads.specs.Types.{Types, Member, Field}
-use Rattle.type_heads.specs.Members.{declared_type, field, field_type, fields_declared, heir_condition, list_length}
+use Rattle.expr_nodes.specs.type_heads.Table.{Table, bases}
+use Rattle.expr_nodes.specs.type_heads.Types.{Types, Member, Field}
+use Rattle.expr_nodes.specs.type_heads.Members.{declared_type, field, field_type, fields_declared, heir_condition, list_length}
 use Rattle.expr_nodes.specs.Scope.{It, Scope}
 use Rattle.expr_nodes.specs.Typing.{first}
-use Rattle.composition.specs.declared.guard.Guard.{Guard}
-use Rattle.composition.specs.Calls.{scope_at}
-use Rattle.composition.specs.Givens.{element, guards_under, it_of, value_tree}
-use Rattle.composition.specs.Scenes.{Binding, Occurrence}
+use Rattle.program_texts.specs.composition.declared.guard.Guard.{Guard}
+use Rattle.program_texts.specs.composition.Calls.{scope_at}
+use Rattle.program_texts.specs.composition.Givens.{element, guards_under, it_of, value_tree}
+use Rattle.program_texts.specs.composition.Scenes.{Binding, Occurrence}
 use Rattle.text_constraints.specs.Kept.{Holder, equal_kept, rule_kept}
 use Rattle.text_constraints.specs.Sites.{Site}
 

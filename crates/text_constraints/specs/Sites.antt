@@ -6,14 +6,14 @@ use Rattle.osc_base.specs.declared.path.Path.{Path}
 use Rattle.dsl_tree.specs.declared.expr.Expr.{Expr}
 use Rattle.dsl_tree.specs.ExprTree.{ExprTree}
 use Rattle.dsl_tree.specs.Views.{expr_tree}
-use Rattle.type_heads.specs.Table.{Table}
+use Rattle.expr_nodes.specs.type_heads.Table.{Table}
 use Rattle.expr_nodes.specs.Scope.{Scope}
 use Rattle.expr_nodes.specs.SeenNames.{seen_scope}
 use Rattle.expr_nodes.specs.Typed.{Typed, moved}
 use Rattle.expr_nodes.specs.Typing.{typed, is_path}
-use Rattle.composition.specs.Givens.{Here, read_at}
-use Rattle.composition.specs.Scenes.{Binding}
-use Rattle.composition.specs.SeenScenes.{seen_scene}
+use Rattle.program_texts.specs.composition.Givens.{Here, read_at}
+use Rattle.program_texts.specs.composition.Scenes.{Binding}
+use Rattle.program_texts.specs.composition.SeenScenes.{seen_scene}
 use Rattle.scene_places.specs.Placed.{home_under}
 use Rattle.scene_places.specs.declared.places.Places.{Places}
 use Rattle.text_constraints.specs.declared.targets.TextSite.{TextSite}

@@ -1,8 +1,8 @@
 //! The conditions that the objects of a type meet.
 
 ghost use Rattle.std.specs.Prelude.{◌≡◌, ◌++◌, ◌∷◌, [], flat_map, map, option_to_list, reverse, IfOk, OnOk};
-ghost use Rattle.composition.specs.Givens.{value_tree};
-ghost use Rattle.composition.specs.SeenParts.{seen_occurrence};
+ghost use Rattle.program_texts.specs.composition.Givens.{value_tree};
+ghost use Rattle.program_texts.specs.composition.SeenParts.{seen_occurrence};
 ghost use Rattle.dsl_tree.specs.ExprTree.{ExprTree};
 ghost use Rattle.expr_nodes.specs.Checks.{IsChecked};
 ghost use Rattle.expr_nodes.specs.Scope as Scopes;
@@ -10,25 +10,19 @@ ghost use Rattle.expr_nodes.specs.SeenNames.{seen_scope};
 ghost use Rattle.expr_nodes.specs.Typing.{first};
 ghost use Rattle.program_texts.specs.program_fields.SeenFields.{seen_field};
 ghost use Rattle.program_texts.specs.SeenTexts.{types_in};
-ghost use Rattle.type_heads.specs.Table.{bases};
+ghost use Rattle.expr_nodes.specs.type_heads.Table.{bases};
 ghost use Rattle.text_constraints.specs.Kept.{seen_owner};
 ghost use Rattle.text_constraints.specs.OwnTexts.{base_kept, condition_kept, conditions_kept, heir_kept};
 ghost use Rattle.text_constraints.specs.Sites.{seen_site};
 
 use crate::rules::{Owner, equal};
 use crate::targets::TextSite;
-use composition::Occurrence;
 use dsl_tree::{ConditionValue, HeirCondition, Ident};
-use expr_eval::Checked;
-use expr_nodes::Scope;
-use expr_typing::literals;
-use expr_typing::others::{enum_name, it};
-use expr_typing::steps::pointed;
+use expr_eval::{Checked, enum_name, it, literals, pointed};
+use expr_nodes::{Scope, Types};
 use osc_base::{Boxed, Place, Row, Strength};
-use program_fields::TypeField;
-use program_texts::ProgramTexts;
+use program_texts::{Occurrence, ProgramTexts, TypeField, TypeId};
 use std::alloc::{AllocError, Global};
-use type_model::{TypeId, Types};
 
 /// `true` or `false`.
 fn truth(alloc: Global, types: &Types, place: Place, value: bool) -> Result<Checked, AllocError>

@@ -2,8 +2,8 @@
 
 ghost use Rattle.std.specs.Prelude.{◌≡◌, IfOk};
 
-use composition::Guard;
 use osc_base::Row;
+use program_texts::Guard;
 use std::alloc::{AllocError, Global};
 
 /// An equal condition.

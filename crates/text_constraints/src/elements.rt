@@ -5,13 +5,11 @@ ghost use Rattle.expr_nodes.specs.Seen.{seen, seen_part};
 ghost use Rattle.expr_nodes.specs.Typed.{row_of};
 ghost use Rattle.text_constraints.specs.Elements.{element_path, element_read, first_item, first_of as item_first, sample_at, sample_in, sample_read, seen_sample};
 
-use expr_eval::Checked;
-use expr_nodes::{Info, It, Scope, Typed};
-use expr_typing::others::it;
+use expr_eval::{Checked, it};
+use expr_nodes::{FieldType, Info, It, Scope, Typed, Types};
 use osc_base::{Boxed, Path, Place, Row};
-use scene_texts::{then_index, then_name};
+use program_texts::{TypeId, then_index, then_name};
 use std::alloc::{AllocError, Global};
-use type_model::{FieldType, TypeId, Types};
 
 /// What an element of a list holds of itself, and over what it is counted.
 #[derive(Clone, Copy)]

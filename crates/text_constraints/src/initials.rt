@@ -1,14 +1,14 @@
 //! The constraints of initial values.
 
 ghost use Rattle.std.specs.Prelude.{◌≡◌, ◌++◌, ◌∷◌, [], None, Some, cond, length, map, option_and_then, option_map, IfOk, OnOk};
-ghost use Rattle.composition.specs.Givens.{element as element_tree};
-ghost use Rattle.composition.specs.SeenParts.{seen_occurrence};
+ghost use Rattle.program_texts.specs.composition.Givens.{element as element_tree};
+ghost use Rattle.program_texts.specs.composition.SeenParts.{seen_occurrence};
 ghost use Rattle.dsl_tree.specs.ExprTree.{ExprTree};
 ghost use Rattle.dsl_tree.specs.Views.{expr_tree};
 ghost use Rattle.expr_nodes.specs.Scope as Scopes;
 ghost use Rattle.expr_nodes.specs.Seen.{seen_part};
 ghost use Rattle.program_texts.specs.Ranges.{listed_items, seen_exprs};
-ghost use Rattle.type_heads.specs.Members.{items_in};
+ghost use Rattle.expr_nodes.specs.type_heads.Members.{items_in};
 ghost use Rattle.expr_nodes.specs.Typing.{first};
 ghost use Rattle.text_constraints.specs.Elements.{AreSampled, SampleFor, sample_at, sample_in, seen_sample};
 ghost use Rattle.text_constraints.specs.Kept.{seen_owner};
@@ -18,16 +18,12 @@ ghost use Rattle.text_constraints.specs.Sites.{seen_site};
 use crate::elements::{Sample, element, sample_list, sampled};
 use crate::rules::{Owner, constraint, equal};
 use crate::targets::TextSite;
-use composition::Occurrence;
 use dsl_tree::Expr;
-use expr_eval::checked;
-use expr_nodes::Typed;
-use expr_typing::others::it;
+use expr_eval::{checked, it};
+use expr_nodes::{Typed, Types};
 use osc_base::{Boxed, Place, Strength};
-use program_calls::first_place;
-use program_texts::list_items;
+use program_texts::{Occurrence, TypeId, first_place, list_items};
 use std::alloc::{AllocError, Global};
-use type_model::{TypeId, Types};
 
 /// The default that `it` has an initial value.
 fn initial(

@@ -1,17 +1,17 @@
 //! The own constraints of an object, member by member.
 
 ghost use Rattle.std.specs.Prelude.{◌≡◌, ◌++◌, ◌∷◌, [], flat_map, is_some, map, option_map, option_to_list, IfOk, OnOk};
-ghost use Rattle.composition.specs.SeenParts.{seen_occurrence};
-ghost use Rattle.composition.specs.SeenScenes.{seen_scene};
+ghost use Rattle.program_texts.specs.composition.SeenParts.{seen_occurrence};
+ghost use Rattle.program_texts.specs.composition.SeenScenes.{seen_scene};
 ghost use Rattle.dsl_tree.specs.FileTree.{MemberTree};
 ghost use Rattle.dsl_tree.specs.Views.{expr_tree, field_tree, rule_tree};
 ghost use Rattle.expr_nodes.specs.SeenNames.{seen_it, seen_scope};
 ghost use Rattle.program_texts.specs.SeenTexts.{types_in};
-ghost use Rattle.type_heads.specs.Members as told;
-ghost use Rattle.type_members.specs.Listed.{seen_listed};
-ghost use Rattle.type_members.specs.Shared.{under_inside};
+ghost use Rattle.expr_nodes.specs.type_heads.Members as told;
+ghost use Rattle.program_texts.specs.type_members.Listed.{seen_listed};
+ghost use Rattle.program_texts.specs.type_members.Shared.{under_inside};
 ghost use Rattle.scene_places.specs.expansion_laws.WorkNodes.{own_within};
-ghost use Rattle.composition.specs.Expanded.{occurrence_of};
+ghost use Rattle.program_texts.specs.composition.Expanded.{occurrence_of};
 ghost use Rattle.text_constraints.specs.Kept.{seen_owner};
 ghost use Rattle.text_constraints.specs.Labelled.{IsLabelled};
 ghost use Rattle.text_constraints.specs.OwnTexts.{HasIt, IsTextScope, conditions_kept, initials_kept, it_given, listed_kept, member_kept, name_kept, own_rule_kept, texts_kept};
@@ -21,16 +21,15 @@ use crate::conditions::push_conditions;
 use crate::initials::push_initial;
 use crate::rules::{Owner, push_rule, push_rules};
 use crate::targets::TextSite;
-use composition::{Guard, Occurrence, Scene};
 use dsl_tree::{Expr, FieldDecl, Ident, Member, RuleDecl};
-use expr_nodes::{It, Scope};
+use expr_nodes::{FieldType, It, Scope};
 use osc_base::{Path, Place};
-use program_calls::scope_at;
-use program_texts::{ProgramTexts, TypeLabels, list_length};
-use scene_places::Places;
-use scene_texts::then_name;
+use program_texts::{
+    Guard, ListedMember, Occurrence, ProgramTexts, TypeId, TypeLabels, list_length, scope_at,
+    then_name,
+};
+use scene_places::{Places, Scene};
 use std::alloc::{AllocError, Global};
-use type_model::{FieldType, ListedMember, TypeId};
 
 /// An object of a type, and the scene in which it stands.
 #[derive(Clone, Copy)]

@@ -1,29 +1,27 @@
 //! The constraints of rules.
 
 ghost use Rattle.std.specs.Prelude.{◌≡◌, ◌++◌, ◌∷◌, [], map, IfOk, OnOk};
-ghost use Rattle.composition.specs.Givens.{strength_of as strength_given};
-ghost use Rattle.composition.specs.SeenParts.{seen_occurrence};
+ghost use Rattle.program_texts.specs.composition.Givens.{strength_of as strength_given};
+ghost use Rattle.program_texts.specs.composition.SeenParts.{seen_occurrence};
 ghost use Rattle.dsl_tree.specs.ExprTree.{ExprTree};
 ghost use Rattle.dsl_tree.specs.declared.expr.RelationSign.{RelationSign};
 ghost use Rattle.dsl_tree.specs.Views.{expr_tree, path_tree, rule_tree};
 ghost use Rattle.expr_nodes.specs.Checks.{IsChecked};
 ghost use Rattle.expr_nodes.specs.Seen.{seen_part};
 ghost use Rattle.expr_nodes.specs.Typing.{first};
-ghost use Rattle.type_heads.specs.Table.{Table};
+ghost use Rattle.expr_nodes.specs.type_heads.Table.{Table};
 ghost use Rattle.text_constraints.specs.Kept.{constraint as constraint_of, equal_kept, kept as kept_of, mark_home as home_marked, removed as removed_of, rule_kept, seen_owner};
 ghost use Rattle.text_constraints.specs.Sites.{seen_site, typed_home as home_typed};
 
 use crate::copies::copy_guards;
 use crate::targets::{TextSite, default_home, read_home, relation_home, removed_home};
-use composition::{Guard, Occurrence};
 use dsl_tree::{Expr, KeepKind, PathNode, RelationSign, RuleDecl};
-use expr_eval::{Checked, checked};
-use expr_nodes::Typed;
-use expr_typing::steps::related;
+use expr_eval::{Checked, checked, related};
+use expr_nodes::{Typed, Types};
 use osc_base::{Mark, Path, Place, Strength};
+use program_texts::{Guard, Occurrence};
 use scene_places::moved_part;
 use std::alloc::{AllocError, Global};
-use type_model::Types;
 
 /// Whose constraints a text gives: an object or a phase, and the conditions under which they are there.
 #[derive(Clone, Copy)]

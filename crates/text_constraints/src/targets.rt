@@ -2,19 +2,18 @@
 
 ghost use Rattle.std.specs.Prelude.{◌≡◌, option_and_then, option_copied, option_map, IfOk};
 ghost use Rattle.dsl_tree.specs.Views.{expr_tree, path_tree};
-ghost use Rattle.composition.specs.Givens.{read_at as read_in};
+ghost use Rattle.program_texts.specs.composition.Givens.{read_at as read_in};
 ghost use Rattle.expr_nodes.specs.Seen.{seen, seen_part};
 ghost use Rattle.text_constraints.specs.Sites.{left_home, left_in, path_home, seen_expr, seen_site, whole_home};
 ghost use Rattle.scene_places.specs.Placed.{place_in};
 
 use dsl_tree::{Expr, PathNode};
 use expr_eval::{checked, path_checked};
-use expr_nodes::{Scope, Typed};
+use expr_nodes::{Scope, Typed, Types};
 use osc_base::{Boxed, Path};
-use program_calls::is_path;
+use program_texts::is_path;
 use scene_places::Places;
 use std::alloc::{AllocError, Global};
-use type_model::Types;
 
 /// Where a text stands: the homes of its paths, and the scope of its names.
 #[derive(Clone, Copy)]

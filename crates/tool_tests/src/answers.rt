@@ -1,5 +1,4 @@
-use answer_tests::{Outside, SOUND, answer};
-use scenario_tool::{one_answer, some_answer};
+use answer_tests::{Outside, SOUND, answer, one_answer, some_answer};
 use std::process::Abort;
 use std::test::Fail;
 

@@ -6,7 +6,7 @@ use name_scope::DeclId;
 use units_si::Exponents;
 
 /// What a type is: a basic type, a physical type with its exponents, an enum, or a type with members.
-#[derive(Debug, Clone, Copy, PartialEq, Eq)]
+#[derive(Clone, Copy, PartialEq, Eq)]
 pub enum TypeKind {
     Int,
     Uint,
@@ -22,7 +22,7 @@ pub enum TypeKind {
 }
 
 /// Which enum has a member of a name: none, one, or several.
-#[derive(Debug, Clone, Copy, PartialEq, Eq)]
+#[derive(Clone, Copy, PartialEq, Eq)]
 pub enum EnumHit {
     Absent,
     One(TypeId),
@@ -51,7 +51,7 @@ pub struct FieldType {
 /// Where a member of a type is written: the declaration or extension, and its place there counted from 0.
 ///
 /// `under` is the innermost conditional subtype that it is under.
-#[derive(Debug, Clone, Copy, PartialEq, Eq)]
+#[derive(Clone, Copy)]
 pub struct MemberRef {
     pub decl: DeclId,
     pub index: u32,

@@ -37,8 +37,8 @@ pub use placed::PlacedDecl;
 pub use type_id::TypeId;
 pub use units::unit_entries;
 
-// Crates below, for the crates above.
-pub use name_scope;
-pub use name_scope::dsl_tree;
-pub use units_si;
-pub use units_si::osc_base;
+// Items of the crates below, for the crates above. A whole crate that is passed on slows every proof above it.
+pub use name_scope::dsl_tree::{CompoundKind, HeirCondition};
+pub use name_scope::{DeclId, Program};
+pub use units_si::osc_base::{Fault, Place, Row, Text};
+pub use units_si::{Exponents, Unit, literal};

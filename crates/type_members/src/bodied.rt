@@ -5,8 +5,7 @@ ghost use Rattle.type_heads.specs.Bodied.{seen_body};
 ghost use Rattle.type_heads.specs.Members.{heir_condition as condition_of, is_conditional as conditional};
 ghost use Rattle.type_heads.specs.Table.{base};
 
-use type_heads::dsl_tree::HeirCondition;
-use type_heads::{Body, Heads, TypeId};
+use type_heads::{Body, Heads, HeirCondition, TypeId};
 
 /// The condition under which a conditional subtype inherits.
 pub fn heir_condition<'a>(bodies: &[Body<'a>], of: TypeId) -> Option<&'a HeirCondition>

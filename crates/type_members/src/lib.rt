@@ -23,6 +23,8 @@ pub use places::{Part, Span};
 pub use rows::{Cut, MemberRow, RowEnd, Start};
 pub use subtypes::Subtypes;
 
-// Crates below, for the crates above.
-pub use type_heads;
-pub use type_heads::{dsl_tree, name_scope, osc_base, units_si};
+// Items of the crates below, for the crates above.
+pub use type_heads::{
+    Body, ConditionEntry, EnumEntry, FieldEntry, FieldType, Form, Heads, Row, Text, TypeId,
+    UnitEntry, WrittenMember,
+};

@@ -3,8 +3,7 @@
 ghost use Rattle.std.specs.Prelude.{◌≡◌, drop, map, take};
 ghost use Rattle.type_members.specs.Listed.{seen_listed};
 
-use type_heads::osc_base::Row;
-use type_heads::{TypeId, WrittenMember};
+use type_heads::{Row, TypeId, WrittenMember};
 
 /// A member of a type: where it is written, the type in whose declaration or extension that is, and the conditional
 /// subtypes that it is under, outermost first.

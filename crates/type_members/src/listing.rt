@@ -8,8 +8,7 @@ ghost use Rattle.type_members.specs.Listing.{Way, deeper as deeper_under, kept, 
 
 use crate::{ListedMember, Subtypes};
 use std::alloc::{AllocError, Global};
-use type_heads::osc_base::Row;
-use type_heads::{Body, TypeId, WrittenMember};
+use type_heads::{Body, Row, TypeId, WrittenMember};
 
 /// What of a type is left to be listed: all that comes down from it, in at most so many steps through conditional
 /// subtypes, or the members of its extensions.

@@ -7,8 +7,7 @@ ghost use Rattle.type_members.specs.Listed.{AreSubtypes, is_subtype};
 use crate::bodied::conditional_base;
 use std::alloc::{AllocError, Global};
 use std::marker::Model;
-use type_heads::osc_base::Row;
-use type_heads::{Body, Heads, TypeId};
+use type_heads::{Body, Heads, Row, TypeId};
 
 /// The conditional subtypes of each type. Contracts see them as a list of lists.
 #[derive(Drop)]

@@ -8,10 +8,9 @@ mod types;
 
 pub use lists::member_lists;
 pub use parts::{Bodies, MemberTables, ProgramTables};
-pub use string_texts::type_heads::{EnumHit, FieldType, MemberRef, TypeId, TypeKind};
-pub use type_tables::type_members::{ListedMember, MemberLists};
+pub use string_texts::{
+    Boxed, EnumHit, Exponents, Fault, FaultCode, FieldType, Fraction, MemberRef, Path, Place, Row,
+    Text, TypeId, TypeKind, Unit, literal,
+};
+pub use type_tables::{ListedMember, MemberLists, TextTable};
 pub use types::Types;
-
-// Crates below, for the crates above.
-pub use string_texts::{dsl_tree, name_scope, osc_base, type_heads, units_si};
-pub use type_tables;

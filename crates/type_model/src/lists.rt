@@ -11,9 +11,8 @@ ghost use Rattle.type_tables.specs.type_members.Listed.{lists_of};
 
 use crate::parts::Bodies;
 use std::alloc::{AllocError, Global};
-use string_texts::name_scope::Program;
-use string_texts::type_heads::{Declarations, Heads};
-use type_tables::type_members::MemberLists;
+use string_texts::{Declarations, Heads, Program};
+use type_tables::MemberLists;
 
 /// The members of each type that is declared.
 fn declared_lists<'a>(

@@ -9,11 +9,12 @@ ghost use Rattle.type_model.specs.Built.{AreBodies, AreMemberTables, AreProgramT
 
 use crate::refs::MemberRefs;
 use std::alloc::{AllocError, Global};
-use string_texts::osc_base::{Row, Text};
-use string_texts::texts;
-use string_texts::type_heads::{Body, ConditionEntry, Declarations, Heads, bodies, unit_entries};
-use type_tables::type_members::{MemberLists, Subtypes};
-use type_tables::{FieldLists, TextTable, UnitTable, all_conditions, all_numbers};
+use string_texts::{
+    Body, ConditionEntry, Declarations, Heads, Row, Text, bodies, texts, unit_entries,
+};
+use type_tables::{
+    FieldLists, MemberLists, Subtypes, TextTable, UnitTable, all_conditions, all_numbers,
+};
 
 /// The bodies and the conditional subtypes of all types.
 #[derive(Drop)]

@@ -9,10 +9,8 @@ ghost use Rattle.type_model.specs.RowRefs.{ref_of, refs_in_parts, told_at, told_
 
 use std::alloc::{AllocError, Global};
 use std::marker::Model;
-use string_texts::name_scope::DeclId;
-use string_texts::osc_base::Row;
-use string_texts::type_heads::{MemberRef, TypeId};
-use type_tables::type_members::{ListedMember, MemberLists, MemberRow, Part, Span};
+use string_texts::{DeclId, MemberRef, Row, TypeId};
+use type_tables::{ListedMember, MemberLists, MemberRow, Part, Span};
 
 /// The innermost of the conditional subtypes that a member is under.
 fn innermost(under: &[TypeId]) -> Option<TypeId>

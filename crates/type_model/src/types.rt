@@ -11,12 +11,10 @@ use crate::parts::{MemberTables, ProgramTables};
 use crate::refs::MemberRefs;
 use std::alloc::{AllocError, Global};
 use std::marker::Model;
-use string_texts::dsl_tree::CompoundKind;
-use string_texts::osc_base::{Row, Text};
-use string_texts::type_heads::{
-    ConditionEntry, EnumHit, FieldType, Form, Heads, MemberRef, TypeId, TypeKind,
+use string_texts::{
+    CompoundKind, ConditionEntry, EnumHit, FieldType, Form, Heads, MemberRef, Row, Text, TypeId,
+    TypeKind, Unit,
 };
-use string_texts::units_si::Unit;
 use type_tables::{FieldLists, TextTable, UnitTable};
 
 /// The greatest magnitude of what a field holds.

@@ -12,9 +12,7 @@ use crate::FieldLists;
 use crate::field_types::{all_have_types, listed_type};
 use dsl_tree::{ConditionValue, HeirCondition};
 use std::alloc::{AllocError, Global};
-use type_members::osc_base::Text;
-use type_members::type_heads::{Body, ConditionEntry, Form, Heads, TypeId};
-use type_members::{MemberLists, heir_condition};
+use type_members::{Body, ConditionEntry, Form, Heads, MemberLists, Text, TypeId, heir_condition};
 
 /// The number of a value in a type that the field of a condition has, if such fields hold such values.
 fn condition_value(heads: &Heads, of: TypeId, value: &ConditionValue) -> Option<i64>

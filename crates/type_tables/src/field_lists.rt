@@ -11,9 +11,7 @@ ghost use Rattle.type_tables.specs.InParts.{first_found};
 use crate::field_rows::{FieldRow, field_rows};
 use std::alloc::{AllocError, Global};
 use std::marker::Model;
-use type_members::osc_base::Row;
-use type_members::type_heads::{FieldEntry, Heads, TypeId};
-use type_members::{MemberLists, MemberRow, Part, Span};
+use type_members::{FieldEntry, Heads, MemberLists, MemberRow, Part, Row, Span, TypeId};
 
 /// How many fields the first members of a row declare.
 fn first_count(rows: &[FieldRow], row: usize, members: usize) -> usize

@@ -9,8 +9,7 @@ ghost use Rattle.type_tables.specs.FieldEnds.{all_ends};
 use crate::FieldTable;
 use crate::fields::push_member;
 use std::alloc::{AllocError, Global};
-use type_members::type_heads::{FieldEntry, Heads};
-use type_members::{ListedMember, MemberRow};
+use type_members::{FieldEntry, Heads, ListedMember, MemberRow};
 
 /// The fields that a row of members declares, and how many of them the first members of the row declare: none of them, the
 /// first, the first two, and so on.

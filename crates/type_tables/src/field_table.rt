@@ -6,7 +6,7 @@ ghost use Rattle.type_members.specs.type_heads.Table.{field_in};
 use crate::first_places::{FirstPlaces, HasName, found_between};
 use std::alloc::{AllocError, Global};
 use std::marker::Model;
-use type_members::type_heads::FieldEntry;
+use type_members::FieldEntry;
 
 impl HasName for FieldEntry {
     ghost name_of = { λ f. f.name };

@@ -12,8 +12,7 @@ ghost use Rattle.type_tables.specs.InParts.{first_found};
 ghost use Rattle.type_tables.specs.Looked.{field_type_among, has_type as type_there, have_types as types_there};
 
 use dsl_tree::{FieldDecl, Ident, Member};
-use type_members::type_heads::{Heads, TypeId};
-use type_members::{ListedMember, MemberLists, MemberRow, Part};
+use type_members::{Heads, ListedMember, MemberLists, MemberRow, Part, TypeId};
 
 /// Whether one of the names is that name.
 fn has_name(names: &[Ident], name: &str) -> bool

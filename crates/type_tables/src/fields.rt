@@ -8,9 +8,7 @@ ghost use Rattle.type_tables.specs.Entries.{entries, field_entries, member_entri
 
 use dsl_tree::{Expr, FieldDecl, Ident, Member};
 use std::alloc::{AllocError, Global};
-use type_members::ListedMember;
-use type_members::osc_base::Text;
-use type_members::type_heads::{FieldEntry, FieldType, Heads, TypeId};
+use type_members::{FieldEntry, FieldType, Heads, ListedMember, Text, TypeId};
 
 /// The number of elements of a list constructor, and 0 of another expression. More of them than a `u32` counts are
 /// out of memory.

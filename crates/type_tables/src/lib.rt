@@ -20,5 +20,5 @@ pub use numbers::all_numbers;
 pub use text_table::TextTable;
 pub use unit_table::UnitTable;
 
-// Crates below, for the crates above.
-pub use type_members;
+// Items of the crates below, for the crates above.
+pub use type_members::{ListedMember, MemberLists, MemberRow, Part, Span, Subtypes};

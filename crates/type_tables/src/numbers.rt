@@ -7,8 +7,7 @@ ghost use Rattle.type_members.specs.type_heads.Seen.{seen_form};
 ghost use Rattle.type_members.specs.type_heads.Table.{TypeHead, enum_members};
 
 use std::alloc::{AllocError, Global};
-use type_members::osc_base::Row;
-use type_members::type_heads::{EnumEntry, Form, Heads, TypeId};
+use type_members::{EnumEntry, Form, Heads, Row, TypeId};
 
 /// The numbers of members, in their order.
 fn values(alloc: Global, members: &[EnumEntry]) -> Result<Vec<i64>, AllocError>

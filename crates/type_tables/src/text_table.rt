@@ -6,7 +6,7 @@ ghost use Rattle.type_members.specs.name_scope.Declaring.{first_place};
 use crate::first_places::{FirstPlaces, HasName, place_of};
 use std::alloc::{AllocError, Global};
 use std::marker::Model;
-use type_members::osc_base::Text;
+use type_members::Text;
 
 impl HasName for Text {
     ghost name_of = { λ t. t };

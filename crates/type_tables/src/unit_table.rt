@@ -6,7 +6,7 @@ ghost use Rattle.type_members.specs.type_heads.Table.{TableUnit};
 use crate::first_places::{FirstPlaces, HasName, found};
 use std::alloc::{AllocError, Global};
 use std::marker::Model;
-use type_members::type_heads::UnitEntry;
+use type_members::UnitEntry;
 
 impl HasName for UnitEntry {
     ghost name_of = { λ u. u.name };

@@ -8,8 +8,8 @@ use Rattle.dsl_tree.specs.declared.phases.InvokePart.{InvokePart}
 use Rattle.dsl_tree.specs.ExprTree.{ExprTree}
 use Rattle.dsl_tree.specs.PhaseTree.{ArgumentTree, PartTree}
 use Rattle.dsl_tree.specs.Views.{argument_tree, part_tree}
-use Rattle.type_heads.specs.Table.{Table}
-use Rattle.type_heads.specs.Types.{Field}
+use Rattle.expr_nodes.specs.type_heads.Table.{Table}
+use Rattle.expr_nodes.specs.type_heads.Types.{Field}
 use Rattle.expr_nodes.specs.Scope.{It}
 use Rattle.osc_base.specs.declared.fault.Place.{Place}
 use Rattle.osc_base.specs.declared.path.Path.{Path}

@@ -6,9 +6,9 @@ use Rattle.std.proofs.lemmas.List.{map-append}
 use Rattle.dsl_tree.specs.declared.parts.Ident.{Ident}
 use Rattle.dsl_tree.specs.ExprTree.{ExprTree}
 use Rattle.dsl_tree.specs.PhaseTree.{ArgumentTree, PartTree}
-use Rattle.type_heads.specs.Table.{Table}
-use Rattle.type_heads.specs.Types.{Field, Types}
-use Rattle.type_heads.specs.Members.{field, fields}
+use Rattle.expr_nodes.specs.type_heads.Table.{Table}
+use Rattle.expr_nodes.specs.type_heads.Types.{Field, Types}
+use Rattle.expr_nodes.specs.type_heads.Members.{field, fields}
 use Rattle.scene_expansion.specs.expansion_laws.WorkNodes.{node_of}
 use Rattle.scene_expansion.specs.expansion_laws.Works.{Work}
 use Rattle.expr_nodes.specs.Names.{is_duration}

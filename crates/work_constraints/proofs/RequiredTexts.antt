@@ -4,7 +4,7 @@ use Rattle.osc_base.specs.declared.fault.Place.{Place}
 use Rattle.osc_base.specs.declared.mark.Strength.{Strength}
 use Rattle.osc_base.specs.declared.path.Path.{Path}
 use Rattle.dsl_tree.specs.ExprTree.{ExprTree}
-use Rattle.type_heads.specs.Types.{Field, Types}
+use Rattle.expr_nodes.specs.type_heads.Types.{Field, Types}
 use Rattle.osc_base.specs.Paths.{then_duration}
 use Rattle.expr_nodes.specs.Names.{duration_at}
 use Rattle.expr_nodes.specs.Typed as Nodes

@@ -7,9 +7,9 @@ use Rattle.osc_base.specs.Paths.{then_duration}
 use Rattle.dsl_tree.specs.declared.parts.Ident.{Ident}
 use Rattle.dsl_tree.specs.ExprTree.{ExprTree}
 use Rattle.dsl_tree.specs.PhaseTree.{ArgumentTree, PartTree}
-use Rattle.type_heads.specs.Table.{Table}
-use Rattle.type_heads.specs.Types.{Field, Types}
-use Rattle.type_heads.specs.Members.{fields}
+use Rattle.expr_nodes.specs.type_heads.Table.{Table}
+use Rattle.expr_nodes.specs.type_heads.Types.{Field, Types}
+use Rattle.expr_nodes.specs.type_heads.Members.{fields}
 use Rattle.expr_nodes.specs.Names.{duration_at, is_duration}
 use Rattle.expr_nodes.specs.Scope.{It, Scope}
 use Rattle.expr_nodes.specs.Typed.{Span, Typed, moved}

@@ -13,14 +13,10 @@ ghost use Rattle.text_constraints.specs.Kept.{seen_owner};
 ghost use Rattle.text_constraints.specs.Sites.{seen_site, site_of};
 
 use crate::required::{push_duration, push_parameter};
-use composition::Occurrence;
 use dsl_tree::{Argument, Expr, Ident, InvokeNode, InvokePart};
-use expr_nodes::{It, Scope};
-use program_fields::{FieldsOf, TypeField};
-use scene_places::Places;
+use expr_nodes::{FieldType, It, Scope, TypeId, Types};
 use std::alloc::{AllocError, Global};
-use text_constraints::{Owner, TextSite, push_rule};
-use type_model::{FieldType, TypeId, Types};
+use text_constraints::{FieldsOf, Occurrence, Owner, Places, TextSite, TypeField, push_rule};
 
 /// Whether an argument is for the duration.
 fn is_for_duration(name: &Option<Ident>) -> bool

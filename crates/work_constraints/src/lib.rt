@@ -5,4 +5,6 @@ mod arguments;
 mod required;
 mod works;
 
+pub use scene_expansion::Counts;
+pub use text_constraints::Occurrence;
 pub use works::push_occurrences;

@@ -20,16 +20,15 @@ ghost use Rattle.text_constraints.specs.Kept.{seen_owner};
 ghost use Rattle.text_constraints.specs.Sites.{at_home, seen_site, typed_home as home_typed};
 ghost use Rattle.text_constraints.specs.scene_places.Placed.{place_in};
 
-use composition::Occurrence;
 use dsl_tree::{Expr, Ident};
-use expr_nodes::{Compare, Info, Size, Typed, ValueKind};
+use expr_nodes::{Compare, Info, Size, Typed, Types, ValueKind};
 use osc_base::{Boxed, Path, Place, Strength};
-use program_calls::first_place;
-use scene_places::{Places, moved_part};
-use scene_texts::then_duration;
+use scene_expansion::{first_place, then_duration};
 use std::alloc::{AllocError, Global};
-use text_constraints::{Owner, TextSite, constraint, field_checked, read_at, read_of, typed_home};
-use type_model::Types;
+use text_constraints::{
+    Occurrence, Owner, Places, TextSite, constraint, field_checked, moved_part, read_at, read_of,
+    typed_home,
+};
 use units_si::Exponents;
 
 /// The kind of a duration.

@@ -12,23 +12,18 @@ ghost use Rattle.expr_nodes.specs.SeenNames.{seen_scope};
 ghost use Rattle.scene_expansion.specs.program_calls.PlacedPhases.{seen_turn};
 ghost use Rattle.scene_expansion.specs.program_calls.SeenLabels.{do_labels, seen_labels};
 ghost use Rattle.text_constraints.specs.program_texts.SeenTexts.{types_in};
-ghost use Rattle.type_heads.specs.Types.{Types};
+ghost use Rattle.expr_nodes.specs.type_heads.Types.{Types};
 ghost use Rattle.scene_expansion.specs.SeenWorks.{seen_call, seen_work};
 ghost use Rattle.work_constraints.specs.CallTexts.{invoke_kept, phase_holder};
 ghost use Rattle.text_constraints.specs.Kept.{seen_owner};
 
 use crate::arguments::push_invocation;
 use crate::required::push_duration;
-use composition::{Occurrence, Scene};
 use dsl_tree::{CompNode, Expr, InvokeNode};
-use expr_nodes::{LabelTable, Scope};
-use program_calls::{argument_named, scope_at};
-use program_texts::ProgramTexts;
-use scene_expansion::{Call, Work};
-use scene_places::Places;
+use expr_nodes::{LabelTable, Scope, TypeId};
+use scene_expansion::{Call, Scene, Work, argument_named, scope_at};
 use std::alloc::{AllocError, Global};
-use text_constraints::{Owner, Standing, TextSite, push_own};
-use type_model::TypeId;
+use text_constraints::{Occurrence, Owner, Places, ProgramTexts, Standing, TextSite, push_own};
 
 /// The scope of the texts of a phase, in which `it` is nothing. The labels are those of the `do` in which it stands.
 fn call_scope<'c>(labels: &'c LabelTable, call: &'c Call) -> Scope<'c>

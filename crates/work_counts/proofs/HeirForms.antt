@@ -2,8 +2,8 @@
 use Rattle.std.proofs.Common.{◌≡◌, ◌∙◌, sym, ap, ℕ, ◌+◌, Option, Some, None, cond, is_some, option_map}
 use Rattle.std.specs.Option.{option_map_or}
 use Rattle.dsl_tree.specs.declared.compounds.HeirCondition.{HeirCondition}
-use Rattle.type_heads.specs.Types.{Field, Types}
-use Rattle.type_heads.specs.Members.{field, heir_condition}
+use Rattle.program_texts.specs.type_heads.Types.{Field, Types}
+use Rattle.program_texts.specs.type_heads.Members.{field, heir_condition}
 use Rattle.program_texts.specs.composition.Tokens.{value_tokens}
 use Rattle.program_texts.specs.program_fields.SeenFields.{seen_field}
 use Rattle.program_texts.specs.program_fields.declared.fields.TypeField.{TypeField}

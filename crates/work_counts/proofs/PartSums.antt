@@ -1,9 +1,9 @@
 -- Sums over the members of parts. What members are under doesn't count.
 use Rattle.std.proofs.Common.{◌≡◌, ◌∙◌, refl, sym, ap, ap₂, ℕ, ◌+◌, ◌<◌, List, [], ◌∷◌, get_or, length, map}
-use Rattle.type_heads.specs.Types.{Member}
-use Rattle.type_members.specs.Shared.{members_in_part, part_at, under_inside}
-use Rattle.type_members.specs.declared.places.Part.{Part}
-use Rattle.type_members.specs.declared.places.Span.{Span}
+use Rattle.program_texts.specs.type_heads.Types.{Member}
+use Rattle.program_texts.specs.type_members.Shared.{members_in_part, part_at, under_inside}
+use Rattle.program_texts.specs.type_members.declared.places.Part.{Part}
+use Rattle.program_texts.specs.type_members.declared.places.Span.{Span}
 use Rattle.program_texts.specs.expansion_laws.Counts.{total}
 use Rattle.program_texts.proofs.of_program_fields.Fronts.{left_at, one_more}
 use Rattle.work_counts.specs.declared.tally.Tally.{Tally}

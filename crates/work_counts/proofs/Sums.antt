@@ -5,7 +5,7 @@ use Rattle.std.proofs.lemmas.Bool.{cases_lt}
 use Rattle.program_texts.specs.scene_texts.Capped.{capped, greatest_count}
 use Rattle.program_texts.proofs.of_scene_texts.Caps.{capped_left, capped_right, capped_twice}
 use Rattle.program_texts.specs.expansion_laws.Counts.{total}
-use Rattle.type_heads.specs.Table.{TypeHead, base, line_within}
+use Rattle.program_texts.specs.type_heads.Table.{TypeHead, base, line_within}
 use Rattle.work_counts.specs.declared.tally.Tally.{Tally}
 use Rattle.work_counts.specs.Amounts.{Amount, kept, no_amount, plus, sum_of}
 use Rattle.work_counts.specs.TextAmounts.{times_amount}

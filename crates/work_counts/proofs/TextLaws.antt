@@ -3,17 +3,17 @@ use Rattle.std.proofs.Common.{◌≡◌, ◌∙◌, refl, sym, ap, ap₂, ℕ, z
 use Rattle.std.specs.List.{cons_option}
 use Rattle.std.proofs.lemmas.List.{reverse-append}
 use Rattle.std.specs.Option.{option_map_or}
-use Rattle.osc_base.specs.declared.fault.Place.{Place}
-use Rattle.osc_base.specs.declared.path.Path.{Path}
+use Rattle.dsl_tree.specs.osc_base.declared.fault.Place.{Place}
+use Rattle.dsl_tree.specs.osc_base.declared.path.Path.{Path}
 use Rattle.dsl_tree.specs.declared.parts.Ident.{Ident}
 use Rattle.dsl_tree.specs.declared.rules.KeepKind.{KeepKind}
 use Rattle.dsl_tree.specs.declared.compounds.HeirCondition.{HeirCondition}
 use Rattle.dsl_tree.specs.ExprTree.{ExprTree, items_of}
 use Rattle.dsl_tree.specs.PhaseTree.{RuleTree}
 use Rattle.dsl_tree.specs.FileTree.{FieldTree, MemberTree}
-use Rattle.type_heads.specs.Table.{bases}
-use Rattle.type_heads.specs.Types.{Types, Field, Member}
-use Rattle.type_heads.specs.Members.{field, field_type, heir_condition, members}
+use Rattle.program_texts.specs.type_heads.Table.{bases}
+use Rattle.program_texts.specs.type_heads.Types.{Types, Field, Member}
+use Rattle.program_texts.specs.type_heads.Members.{field, field_type, heir_condition, members}
 use Rattle.program_texts.specs.expr_nodes.Typing.{first}
 use Rattle.program_texts.specs.composition.declared.guard.Guard.{Guard}
 use Rattle.program_texts.specs.composition.Givens.{FieldHere, Given, Here, element, field_here, given_condition, given_conditions, given_elements, given_field, given_initial, given_initials, given_member, given_rule, own_givens}

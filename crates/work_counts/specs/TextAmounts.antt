@@ -5,9 +5,9 @@ use Rattle.dsl_tree.specs.declared.compounds.HeirCondition.{HeirCondition}
 use Rattle.dsl_tree.specs.ExprTree.{ExprTree, items_of}
 use Rattle.dsl_tree.specs.PhaseTree.{RuleTree}
 use Rattle.dsl_tree.specs.FileTree.{FieldTree, MemberTree}
-use Rattle.type_heads.specs.Table.{bases}
-use Rattle.type_heads.specs.Types.{Types}
-use Rattle.type_heads.specs.Members.{declared_type, field, heir_condition}
+use Rattle.program_texts.specs.type_heads.Table.{bases}
+use Rattle.program_texts.specs.type_heads.Types.{Types}
+use Rattle.program_texts.specs.type_heads.Members.{declared_type, field, heir_condition}
 use Rattle.program_texts.specs.composition.Tokens.{tokens, value_tokens}
 use Rattle.work_counts.specs.Amounts.{Amount, no_amount, plus, sum_of}
 

@@ -6,5 +6,6 @@ mod tally;
 mod texts;
 
 pub use members::object_tally;
+pub use program_texts::{FieldsOf, ProgramTexts, TypeField};
 pub use tally::Tally;
 pub use texts::{rule_tally, value_tally};

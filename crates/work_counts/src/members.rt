@@ -4,10 +4,10 @@ ghost use Rattle.std.specs.Prelude.{◌≡◌, ◌+◌, length, map, option_map,
 ghost use Rattle.std.specs.Option.{option_map_or};
 ghost use Rattle.dsl_tree.specs.Views.{expr_tree, field_tree, member_tree};
 ghost use Rattle.program_texts.specs.expansion_laws.WorkNodes.{own_within};
-ghost use Rattle.osc_base.specs.declared.path.Path.{Path};
-ghost use Rattle.type_heads.specs.Members as told;
-ghost use Rattle.type_heads.specs.Table.{line_within};
-ghost use Rattle.type_members.specs.Listed.{seen_listed};
+ghost use Rattle.dsl_tree.specs.osc_base.declared.path.Path.{Path};
+ghost use Rattle.program_texts.specs.type_heads.Members as told;
+ghost use Rattle.program_texts.specs.type_heads.Table.{line_within};
+ghost use Rattle.program_texts.specs.type_members.Listed.{seen_listed};
 ghost use Rattle.program_texts.specs.SeenTexts.{types_in};
 ghost use Rattle.work_counts.specs.Amounts.{amount_of, kept, no_amount, sum_of};
 ghost use Rattle.work_counts.specs.TextAmounts.{base_amount, field_amount, initial_amount, member_amount, type_amount};
@@ -15,8 +15,7 @@ ghost use Rattle.work_counts.specs.TextAmounts.{base_amount, field_amount, initi
 use crate::Tally;
 use crate::texts::{base_tally, initial_tally, rule_tally, rules_tally};
 use dsl_tree::{Expr, FieldDecl, Member};
-use program_texts::ProgramTexts;
-use type_model::{ListedMember, TypeId};
+use program_texts::{ListedMember, ProgramTexts, TypeId};
 
 /// The conditions of the types on a line, the nearest first.
 fn line_tally(texts: &ProgramTexts<'_>, of: TypeId, first: Option<TypeId>) -> Tally

@@ -4,7 +4,7 @@ ghost use Rattle.std.specs.Prelude.{◌≡◌, ◌+◌, ◌*◌};
 ghost use Rattle.program_texts.specs.scene_texts.Capped.{capped};
 ghost use Rattle.work_counts.specs.Amounts.{kept, no_amount};
 
-use scene_texts::{add, times};
+use program_texts::{add, times};
 
 /// Numbers of rules and of copied tokens. Each stops at the greatest number of 64 bits.
 #[derive(Clone, Copy)]

@@ -9,9 +9,7 @@ ghost use Rattle.work_counts.specs.TextAmounts.{base_amount, heir_amount, initia
 
 use crate::Tally;
 use dsl_tree::{Expr, HeirCondition, RuleDecl};
-use program_texts::{ProgramTexts, list_items};
-use scene_texts::{add, path_tokens, tokens, value_tokens};
-use type_model::TypeId;
+use program_texts::{ProgramTexts, TypeId, add, list_items, path_tokens, tokens, value_tokens};
 
 /// A rule.
 pub fn rule_tally(rule: &RuleDecl) -> Tally

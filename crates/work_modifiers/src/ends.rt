@@ -10,13 +10,11 @@ ghost use Rattle.scene_places.specs.Placed.{place_in};
 ghost use Rattle.work_modifiers.specs.Modifiers.{high_at as high_of, low_at as low_of};
 
 use dsl_tree::Expr;
-use expr_eval::checked;
-use expr_nodes::{Scope, Typed};
-use object_works::object_at;
+use expr_nodes::{Scope, Typed, Types};
+use object_works::{checked, object_at};
 use osc_base::{Boxed, Path};
 use scene_places::{Places, moved};
 use std::alloc::{AllocError, Global};
-use type_model::Types;
 
 /// The least value of a range. A value is the range from it to itself.
 fn low_end(typed: &Typed) -> &Typed

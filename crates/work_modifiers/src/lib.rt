@@ -5,4 +5,6 @@ mod ends;
 mod modifiers;
 mod parts;
 
+pub use object_works::ModifierSpot;
 pub use parts::push_modifiers;
+pub use scene_places::Scene;

@@ -14,16 +14,12 @@ ghost use Rattle.scene_places.specs.Placed.{place_in};
 ghost use Rattle.work_modifiers.specs.Modifiers.{actor_home, high_at as high_of, low_at as low_of, modifier_there};
 
 use crate::ends::{high_at, low_at, typed_part, vehicle_at};
-use composition::ModifierSpot;
 use dsl_tree::{Expr, ModifierNode};
-use expr_nodes::{Scope, Typed};
+use expr_nodes::{Scope, Typed, Types};
+use object_works::{Call, ModifierForm, ModifierSpot, then_name};
 use osc_base::{Boxed, Path};
-use program_calls::ModifierForm;
-use scene_expansion::Call;
 use scene_places::Places;
-use scene_texts::then_name;
 use std::alloc::{AllocError, Global};
-use type_model::Types;
 
 /// The invocation in whose `with:` modifiers stand: the types, the invocation, the scope of its text, and where the
 /// paths of the text lead.

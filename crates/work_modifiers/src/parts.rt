@@ -15,15 +15,10 @@ ghost use Rattle.scene_places.specs.Placed.{place_in};
 ghost use Rattle.work_modifiers.specs.Modifiers.{actor_home, modifier_among, part_there, parts_there};
 
 use crate::modifiers::Within;
-use composition::{ModifierSpot, Scene};
 use dsl_tree::{InvokeNode, InvokePart, ModifierNode};
-use object_works::call_scope;
-use program_calls::modifier_form;
-use program_texts::ProgramTexts;
-use scene_expansion::{Call, Work};
-use scene_places::Places;
+use object_works::{Call, ModifierSpot, ProgramTexts, TypeId, Work, call_scope, modifier_form};
+use scene_places::{Places, Scene};
 use std::alloc::{AllocError, Global};
-use type_model::TypeId;
 
 /// Puts a modifier at the end, if it has a form.
 fn push_modifier(

@@ -3,10 +3,9 @@
 ghost use Rattle.std.specs.Prelude.{◌≡◌, IfOk};
 ghost use Rattle.object_works.specs.program_texts.SeenTexts.{types_in};
 
+use object_works::{ProgramTexts, TextTable};
 use osc_base::Text;
-use program_texts::ProgramTexts;
 use std::alloc::{AllocError, Global};
-use type_tables::TextTable;
 
 /// Equal texts.
 fn copies(alloc: Global, texts: &[Text]) -> Result<Vec<Text>, AllocError>

@@ -6,10 +6,8 @@ ghost use Rattle.object_works.specs.expansion_laws.WorkNodes.{node_of};
 ghost use Rattle.object_works.specs.scene_expansion.SeenWorks.{seen_work};
 ghost use Rattle.object_works.specs.type_heads.Types.{Types};
 
-use composition::Binding;
-use object_works::copy_binding;
+use object_works::{Binding, Work, copy_binding};
 use osc_base::Row;
-use scene_expansion::Work;
 use std::alloc::{AllocError, Global};
 
 /// Puts copies of bindings at the end.

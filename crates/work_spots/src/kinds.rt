@@ -5,9 +5,8 @@ ghost use Rattle.object_works.specs.composition.Expansion as expansions;
 ghost use Rattle.dsl_tree.specs.Views.{argument_tree, expr_tree};
 ghost use Rattle.object_works.specs.program_calls.SeenModifiers.{seen_value};
 
-use composition::PhaseKind;
 use dsl_tree::{CompKind, CompNode, Expr};
-use program_calls::{argument_named, name_of};
+use object_works::{PhaseKind, argument_named, name_of};
 
 /// The word after `overlap:`. Members start together if it is no word of the language.
 fn overlap_word(word: &Expr) -> PhaseKind

@@ -10,4 +10,5 @@ mod spots;
 pub use all_texts::texts;
 pub use bindings::push_bindings;
 pub use kinds::composition_kind;
+pub use object_works::{Binding, ProgramTexts, TextTable, parts, root, root_parts};
 pub use spots::spot;

@@ -5,8 +5,8 @@ ghost use Rattle.std.specs.List.{range_with_len};
 ghost use Rattle.osc_base.specs.Paths as paths;
 
 use dsl_tree::CompNode;
+use object_works::{then_do, then_member};
 use osc_base::{Path, Row};
-use scene_texts::{then_do, then_member};
 use std::alloc::{AllocError, Global};
 
 /// The paths of so many members of the phase at a path, from member 0 on.

@@ -17,14 +17,13 @@ ghost use Rattle.object_works.specs.type_heads.Members as told;
 
 use crate::kinds::composition_kind;
 use crate::members::{do_paths, member_paths};
-use composition::{Content, Guard, PhaseKind, Spot, ValueRange};
 use dsl_tree::CompNode;
-use object_works::{copy_guards, copy_range};
+use object_works::{
+    Call, Content, Guard, PhaseKind, ProgramTexts, Spot, TypeId, ValueRange, Work, copy_guards,
+    copy_range,
+};
 use osc_base::{Path, Row};
-use program_texts::ProgramTexts;
-use scene_expansion::{Call, Work};
 use std::alloc::{AllocError, Global};
-use type_model::TypeId;
 
 /// A spot of an object.
 fn object_spot(

@@ -1,5 +1,5 @@
 use Rattle.std.proofs.Common.{◌≡◌}
-use Rattle.osc_base.specs.LowestTerms.{gcd as divisor}
+use Rattle.type_model.specs.osc_base.LowestTerms.{gcd as divisor}
 use Rattle.expr_nodes.proofs.size.gcd.Given as goal
 
 abbrev pub invariant-loop-y : goal.invariant-loop-y

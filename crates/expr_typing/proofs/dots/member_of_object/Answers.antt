@@ -1,6 +1,6 @@
 use Rattle.std.proofs.Common.{◌≡◌, ◌∙◌, ap, subst}
 use Rattle.std.specs.Prelude.{IfOk}
-use Rattle.osc_base.specs.Paths.{then_name}
+use Rattle.dsl_tree.specs.osc_base.Paths.{then_name}
 use Rattle.expr_typing.specs.Meanings.{seen_meaning}
 use Rattle.expr_typing.proofs.NameMeanings.{member_found}
 use Rattle.expr_typing.proofs.dots.member_of_object.Goals as goal

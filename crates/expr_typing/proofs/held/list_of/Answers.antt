@@ -2,7 +2,7 @@ use Rattle.std.proofs.Common.{◌∙◌, ap, Some}
 use Rattle.expr_nodes.specs.type_heads.Shown.{kind_form}
 use Rattle.expr_nodes.specs.Seen.{seen_kind, seen_size}
 use Rattle.expr_typing.proofs.Forms.{list_made}
-use Rattle.expr_typing.proofs.Results.{if_ok_more}
+use Rattle.typed_parts.proofs.Results.{if_ok_more}
 use Rattle.expr_typing.proofs.held.list_of.Goals as goal
 
 pub returns : goal.returns

@@ -1,6 +1,6 @@
 use Rattle.std.proofs.Common.{◌≡◌, ◌∙◌, ap, subst}
 use Rattle.std.specs.Prelude.{IfOk}
-use Rattle.osc_base.specs.Paths.{root, then_name}
+use Rattle.dsl_tree.specs.osc_base.Paths.{root, then_name}
 use Rattle.expr_nodes.specs.SeenNames.{seen_scope}
 use Rattle.expr_typing.specs.Meanings.{seen_meaning}
 use Rattle.expr_typing.proofs.NameMeanings.{field_found, field_lost}

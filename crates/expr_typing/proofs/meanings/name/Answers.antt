@@ -3,7 +3,7 @@ use Rattle.expr_nodes.specs.Names.{meaning, typed_meaning, name_rows}
 use Rattle.expr_nodes.specs.SeenNames.{seen_scope}
 use Rattle.expr_typing.specs.Meanings.{seen_meaning}
 use Rattle.expr_typing.proofs.NameMeanings.{name_faults}
-use Rattle.expr_typing.proofs.Settled.{refused, settled}
+use Rattle.typed_parts.proofs.Settled.{refused, settled}
 use Rattle.expr_typing.proofs.meanings.name.Goals as goal
 
 pub returns-in-None-clause-fault : goal.returns-in-None-clause-fault

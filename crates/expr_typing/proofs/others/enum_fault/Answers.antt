@@ -1,9 +1,9 @@
 use Rattle.std.proofs.Common.{◌∙◌, ap, ap₂, false}
-use Rattle.expr_typing.proofs.Results.{none_as}
+use Rattle.typed_parts.proofs.Results.{none_as}
 use Rattle.std.specs.Prelude.{is_none}
 use Rattle.std.specs.Option.{option_map_or}
-use Rattle.osc_base.specs.declared.fault.FaultCode.{FaultCode}
-use Rattle.osc_base.specs.FaultRows.{row, row_fault, first_of}
+use Rattle.dsl_tree.specs.osc_base.declared.fault.FaultCode.{FaultCode}
+use Rattle.dsl_tree.specs.osc_base.FaultRows.{row, row_fault, first_of}
 use Rattle.expr_nodes.specs.type_heads.Table.{enum_number}
 use Rattle.expr_nodes.specs.Names.{enum_named}
 use Rattle.expr_typing.proofs.others.enum_fault.Goals as goal

@@ -1,7 +1,7 @@
 use Rattle.std.proofs.Common.{◌∙◌, ap}
-use Rattle.expr_typing.proofs.Results.{none_as}
-use Rattle.osc_base.specs.declared.fault.FaultCode.{FaultCode}
-use Rattle.osc_base.specs.FaultRows.{row, row_fault}
+use Rattle.typed_parts.proofs.Results.{none_as}
+use Rattle.dsl_tree.specs.osc_base.declared.fault.FaultCode.{FaultCode}
+use Rattle.dsl_tree.specs.osc_base.FaultRows.{row, row_fault}
 use Rattle.expr_nodes.specs.type_heads.Shown.{shown_unit}
 use Rattle.expr_nodes.specs.SeenNames.{count_of}
 use Rattle.expr_typing.proofs.LiteralUnits.{unit_faults, unit_typed, lost_faults, lost_typed}

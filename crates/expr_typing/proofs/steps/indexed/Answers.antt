@@ -3,7 +3,7 @@ use Rattle.dsl_tree.specs.Views.{expr_tree}
 use Rattle.expr_nodes.specs.Operators.{index_rows, index_typed}
 use Rattle.expr_nodes.specs.Seen.{seen_part}
 use Rattle.expr_nodes.specs.Typing.{typed, expr_rows}
-use Rattle.expr_typing.proofs.StepFaults.{two_faults}
+use Rattle.typed_parts.proofs.StepFaults.{two_faults}
 use Rattle.expr_typing.proofs.steps.indexed.Goals as goal
 
 pub returns : goal.returns

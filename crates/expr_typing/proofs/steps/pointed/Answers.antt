@@ -2,7 +2,7 @@ use Rattle.std.proofs.Common.{◌∙◌, ap}
 use Rattle.expr_nodes.specs.Names.{dot_rows, dot_typed}
 use Rattle.expr_nodes.specs.Seen.{seen_part}
 use Rattle.expr_nodes.specs.Typing.{typed, expr_rows}
-use Rattle.expr_typing.proofs.StepFaults.{one_fault}
+use Rattle.typed_parts.proofs.StepFaults.{one_fault}
 use Rattle.expr_typing.proofs.steps.pointed.Goals as goal
 
 pub returns : goal.returns

@@ -1,7 +1,7 @@
 use Rattle.std.proofs.Common.{◌∙◌, ap, map}
 use Rattle.dsl_tree.specs.Views.{argument_tree, part_tree}
 use Rattle.work_counts.specs.program_texts.SeenTexts.{types_in}
-use Rattle.type_heads.specs.Members.{fields}
+use Rattle.expr_nodes.specs.type_heads.Members.{fields}
 use Rattle.work_counts.specs.Amounts.{kept, sum_of}
 use Rattle.node_counts.specs.Arguments.{arguments_amount}
 use Rattle.node_counts.specs.Parts.{part_amount}

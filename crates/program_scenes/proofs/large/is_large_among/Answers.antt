@@ -1,6 +1,6 @@
 use Rattle.std.proofs.Common.{◌∙◌, ap}
 use Rattle.named_scenario.specs.composition.SceneFaults.{is_too_large}
-use Rattle.type_heads.specs.Types.{Types}
+use Rattle.named_scenario.specs.type_heads.Types.{Types}
 use Rattle.program_scenes.proofs.large.is_large_among.Goals as goal
 
 pub returns : goal.returns

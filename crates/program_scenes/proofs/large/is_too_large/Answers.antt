@@ -1,7 +1,7 @@
 use Rattle.std.proofs.Common.{◌∙◌, ap}
 use Rattle.named_scenario.specs.composition.SceneFaults.{is_too_large}
 use Rattle.named_scenario.specs.Naming.{types_in}
-use Rattle.type_heads.specs.Types.{Types}
+use Rattle.named_scenario.specs.type_heads.Types.{Types}
 use Rattle.program_scenes.proofs.SameTypes.{told_are, types_are}
 use Rattle.program_scenes.proofs.large.is_too_large.Goals as goal
 

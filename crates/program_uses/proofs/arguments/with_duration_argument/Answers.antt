@@ -4,7 +4,7 @@ use Rattle.dsl_tree.specs.Views.{argument_tree}
 use Rattle.expr_nodes.specs.Fits.{duration_fit_rows}
 use Rattle.expr_nodes.specs.SeenNames.{seen_scope}
 use Rattle.expr_nodes.specs.Typing.{first, typed}
-use Rattle.composition.specs.Calls.{Assigned}
+use Rattle.program_calls.specs.composition.Calls.{Assigned}
 use Rattle.program_uses.specs.ArgumentRows.{Continues}
 use Rattle.program_uses.proofs.ArgumentSteps.{duration}
 use Rattle.program_uses.proofs.RowSteps.{if_ok}

@@ -3,7 +3,7 @@ use Rattle.osc_base.specs.declared.fault.FaultCode.{FaultCode}
 use Rattle.osc_base.specs.FaultRows.{first_from, first_of, row, row_fault}
 use Rattle.dsl_tree.specs.Views.{argument_tree}
 use Rattle.expr_nodes.specs.SeenNames.{seen_scope}
-use Rattle.composition.specs.Calls.{Assigned}
+use Rattle.program_calls.specs.composition.Calls.{Assigned}
 use Rattle.program_uses.specs.ArgumentRows.{Continues, field_value_rows}
 use Rattle.program_fields.specs.SeenFields.{seen_field}
 use Rattle.program_uses.proofs.ArgumentSteps.{given}

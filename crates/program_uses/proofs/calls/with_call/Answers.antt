@@ -1,11 +1,11 @@
 use Rattle.std.proofs.Common.{◌≡◌, ◌∙◌, [], ap, map, slice_index_or, sym}
 use Rattle.osc_base.specs.FaultRows.{first_from}
 use Rattle.dsl_tree.specs.Views.{argument_tree}
-use Rattle.type_heads.specs.Members.{fields_among}
-use Rattle.type_heads.specs.Types.{Types}
+use Rattle.expr_nodes.specs.type_heads.Members.{fields_among}
+use Rattle.expr_nodes.specs.type_heads.Types.{Types}
 use Rattle.program_fields.specs.Tables.{lists_in}
 use Rattle.expr_nodes.specs.SeenNames.{seen_scope}
-use Rattle.composition.specs.Uses.{call_rows}
+use Rattle.program_calls.specs.composition.Uses.{call_rows}
 use Rattle.program_uses.specs.ArgumentRows.{arguments_in}
 use Rattle.program_uses.specs.SeenTexts.{Tells}
 use Rattle.program_uses.proofs.PhaseSteps.{given_law}

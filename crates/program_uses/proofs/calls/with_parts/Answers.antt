@@ -2,7 +2,7 @@ use Rattle.std.proofs.Common.{flat_map, map, refl}
 use Rattle.osc_base.specs.FaultRows.{first_from}
 use Rattle.dsl_tree.specs.Views.{part_tree}
 use Rattle.expr_nodes.specs.SeenNames.{seen_scope}
-use Rattle.composition.specs.Uses.{part_rows}
+use Rattle.program_calls.specs.composition.Uses.{part_rows}
 use Rattle.program_uses.specs.TableTypes.{of_table}
 use Rattle.program_uses.proofs.RowSteps.{each_more}
 use Rattle.program_uses.proofs.calls.with_parts.Goals as goal

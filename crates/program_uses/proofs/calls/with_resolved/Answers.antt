@@ -1,7 +1,7 @@
 use Rattle.std.proofs.Common.{◌≡◌, ◌∙◌, [], ap, map, slice_index_or}
 use Rattle.osc_base.specs.FaultRows.{first_from}
 use Rattle.dsl_tree.specs.Views.{argument_tree}
-use Rattle.type_heads.specs.Members.{fields_among}
+use Rattle.expr_nodes.specs.type_heads.Members.{fields_among}
 use Rattle.expr_nodes.specs.SeenNames.{seen_scope}
 use Rattle.program_uses.specs.ArgumentRows.{arguments_in}
 use Rattle.program_fields.specs.Tables.{fields_in, lists_in}

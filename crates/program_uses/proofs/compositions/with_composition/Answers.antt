@@ -2,7 +2,7 @@ use Rattle.std.proofs.Common.{[], ◌+◌, ap, drop, map}
 use Rattle.osc_base.specs.FaultRows.{first_from}
 use Rattle.dsl_tree.specs.Views.{argument_tree}
 use Rattle.expr_nodes.specs.SeenNames.{seen_scope}
-use Rattle.composition.specs.Uses.{composition_rows}
+use Rattle.program_calls.specs.composition.Uses.{composition_rows}
 use Rattle.program_uses.proofs.CompositionSteps.{next_composed}
 use Rattle.program_uses.proofs.RowSteps.{left_is}
 use Rattle.program_uses.proofs.compositions.with_composition.Goals as goal

@@ -3,7 +3,7 @@ use Rattle.std.specs.Option.{option_map_or}
 use Rattle.osc_base.specs.FaultRows.{first_from}
 use Rattle.dsl_tree.specs.Views.{field_tree, rule_tree}
 use Rattle.expr_nodes.specs.SeenNames.{seen_it, seen_scope}
-use Rattle.composition.specs.Uses.{rule_rows}
+use Rattle.program_calls.specs.composition.Uses.{rule_rows}
 use Rattle.program_uses.specs.FieldRows.{field_in, field_it, initial_in}
 use Rattle.program_uses.proofs.RowSteps.{if_ok, two}
 use Rattle.program_uses.proofs.fields.with_field.Goals as goal

@@ -3,7 +3,7 @@ use Rattle.osc_base.specs.FaultRows.{first_from}
 use Rattle.dsl_tree.specs.Views.{expr_tree}
 use Rattle.expr_nodes.specs.Seen.{seen_kind, seen_size}
 use Rattle.expr_nodes.specs.SeenNames.{seen_scope}
-use Rattle.composition.specs.Uses.{values_rows}
+use Rattle.program_calls.specs.composition.Uses.{values_rows}
 use Rattle.program_uses.proofs.FieldSteps.{items_given, value_given}
 use Rattle.program_uses.proofs.fields.with_given.Goals as goal
 

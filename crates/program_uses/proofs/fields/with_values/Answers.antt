@@ -5,7 +5,7 @@ use Rattle.expr_nodes.specs.Fits.{initial_fit_rows}
 use Rattle.expr_nodes.specs.Seen.{seen_kind, seen_size}
 use Rattle.expr_nodes.specs.SeenNames.{seen_scope}
 use Rattle.expr_nodes.specs.Typing.{first, typed}
-use Rattle.composition.specs.Uses.{values_rows}
+use Rattle.program_calls.specs.composition.Uses.{values_rows}
 use Rattle.program_uses.proofs.RowSteps.{each_more}
 use Rattle.program_uses.proofs.fields.with_values.Goals as goal
 

@@ -1,5 +1,5 @@
 use Rattle.std.proofs.Common.{◌∙◌, ap}
-use Rattle.type_heads.specs.Table.{form}
+use Rattle.expr_nodes.specs.type_heads.Table.{form}
 use Rattle.expr_nodes.specs.Kinds.{kind_of}
 use Rattle.expr_nodes.specs.Names.{per_of}
 use Rattle.expr_nodes.specs.Sizes.{field_size}

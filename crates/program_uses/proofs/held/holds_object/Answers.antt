@@ -1,5 +1,5 @@
 use Rattle.std.proofs.Common.{◌∙◌, ap}
-use Rattle.type_heads.specs.Table.{form, is_object}
+use Rattle.expr_nodes.specs.type_heads.Table.{form, is_object}
 use Rattle.program_uses.proofs.BareForms.{object_bare}
 use Rattle.program_uses.proofs.held.holds_object.Goals as goal
 

@@ -1,7 +1,7 @@
 use Rattle.std.proofs.Common.{◌≡◌, ◌∙◌, ◌+◌, ◌<◌, ap, arith, drop, length, map}
 use Rattle.osc_base.specs.FaultRows.{first_from, first_of, row_fault}
-use Rattle.type_heads.specs.Table.{all_types, numbers_from}
-use Rattle.composition.specs.Uses.{invocation_row}
+use Rattle.expr_nodes.specs.type_heads.Table.{all_types, numbers_from}
+use Rattle.program_calls.specs.composition.Uses.{invocation_row}
 use Rattle.program_uses.specs.InvokedTypes.{row_of}
 use Rattle.program_uses.proofs.InvokedSteps.{next_number}
 use Rattle.program_uses.proofs.TextSteps.{next_row, row_is}

@@ -1,8 +1,8 @@
 use Rattle.std.proofs.Common.{◌≡◌, drop, map}
 use Rattle.osc_base.specs.FaultRows.{first_from}
-use Rattle.type_heads.specs.Table.{all_types, numbers_from}
-use Rattle.type_heads.specs.Types.{Types}
-use Rattle.composition.specs.Uses.{invocation_row}
+use Rattle.expr_nodes.specs.type_heads.Table.{all_types, numbers_from}
+use Rattle.expr_nodes.specs.type_heads.Types.{Types}
+use Rattle.program_calls.specs.composition.Uses.{invocation_row}
 use Rattle.program_uses.specs.InvokedTypes.{AreInvoked}
 use Rattle.program_uses.specs.SeenTexts.{Tells}
 use Rattle.program_uses.proofs.invocations.with_returning.Given as goal

@@ -4,8 +4,8 @@ use Rattle.osc_base.specs.FaultRows.{first_from}
 use Rattle.dsl_tree.specs.Views.{argument_tree, modifier_tree}
 use Rattle.expr_nodes.specs.SeenNames.{seen_scope}
 use Rattle.expr_nodes.specs.Typing.{expr_rows}
-use Rattle.composition.specs.ModifierLines.{modifier_form}
-use Rattle.composition.specs.Uses.{compared_exprs, form_rows, modifier_rows}
+use Rattle.program_calls.specs.composition.ModifierLines.{modifier_form}
+use Rattle.program_calls.specs.composition.Uses.{compared_exprs, form_rows, modifier_rows}
 use Rattle.program_calls.specs.SeenModifiers.{seen_form}
 use Rattle.program_uses.specs.ModifierRows.{compared_rows, modifier_name_rows}
 use Rattle.program_uses.specs.TableTypes.{of_table}

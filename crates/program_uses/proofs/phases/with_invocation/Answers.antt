@@ -2,10 +2,10 @@ use Rattle.std.proofs.Common.{◌≡◌, ◌∙◌, None, Some, ap, ap₂, flat_
 use Rattle.osc_base.specs.FaultRows.{first_from}
 use Rattle.dsl_tree.specs.declared.phases.Phase.{Phase}
 use Rattle.dsl_tree.specs.Views.{argument_tree, part_tree, phase_tree}
-use Rattle.type_heads.specs.Types.{Types}
+use Rattle.expr_nodes.specs.type_heads.Types.{Types}
 use Rattle.expr_nodes.specs.SeenNames.{seen_it, seen_scope}
-use Rattle.composition.specs.Calls.{callee}
-use Rattle.composition.specs.Uses.{call_rows, callee_rows, part_rows}
+use Rattle.program_calls.specs.composition.Calls.{callee}
+use Rattle.program_calls.specs.composition.Uses.{call_rows, callee_rows, part_rows}
 use Rattle.program_uses.specs.PhaseRows.{phase_in}
 use Rattle.program_uses.specs.SeenTexts.{Tells}
 use Rattle.program_uses.specs.TableTypes.{of_table}

@@ -1,6 +1,6 @@
 use Rattle.std.proofs.Common.{◌≡◌, drop, flat_map, map}
 use Rattle.osc_base.specs.FaultRows.{first_from}
-use Rattle.type_heads.specs.Types.{Types}
+use Rattle.expr_nodes.specs.type_heads.Types.{Types}
 use Rattle.program_calls.specs.PlacedPhases.{seen_phase}
 use Rattle.program_calls.specs.SeenLabels.{do_labels, seen_labels}
 use Rattle.program_uses.specs.PhaseRows.{placed_rows}

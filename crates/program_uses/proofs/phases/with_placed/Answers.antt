@@ -1,9 +1,9 @@
 use Rattle.std.proofs.Common.{◌≡◌, ◌∙◌, ap, map}
 use Rattle.osc_base.specs.FaultRows.{first_from}
 use Rattle.dsl_tree.specs.Views.{phase_tree}
-use Rattle.type_heads.specs.Types.{Types}
+use Rattle.expr_nodes.specs.type_heads.Types.{Types}
 use Rattle.expr_nodes.specs.SeenNames.{seen_scope}
-use Rattle.composition.specs.Uses.{phase_rows}
+use Rattle.program_calls.specs.composition.Uses.{phase_rows}
 use Rattle.program_calls.specs.PlacedPhases.{seen_turn}
 use Rattle.program_calls.specs.SeenLabels.{do_labels, seen_labels}
 use Rattle.program_uses.specs.PhaseRows.{phase_in}

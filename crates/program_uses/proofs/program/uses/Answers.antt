@@ -1,8 +1,8 @@
 use Rattle.std.proofs.Common.{◌∙◌, ap, map}
 use Rattle.std.proofs.lemmas.Result.{IfOk-weaker}
-use Rattle.type_heads.specs.Bodied.{seen_body}
-use Rattle.type_heads.specs.DeclaredTypes.{program_of, types_of}
-use Rattle.type_heads.specs.Told.{Told}
+use Rattle.expr_nodes.specs.type_heads.Bodied.{seen_body}
+use Rattle.expr_nodes.specs.type_heads.DeclaredTypes.{program_of, types_of}
+use Rattle.expr_nodes.specs.type_heads.Told.{Told}
 use Rattle.program_uses.proofs.program.uses.Goals as goal
 
 pub returns : goal.returns

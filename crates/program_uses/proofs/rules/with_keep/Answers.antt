@@ -4,7 +4,7 @@ use Rattle.dsl_tree.specs.Views.{expr_tree}
 use Rattle.expr_nodes.specs.Fits.{constraint_rows}
 use Rattle.expr_nodes.specs.SeenNames.{seen_scope}
 use Rattle.expr_nodes.specs.Typing.{expr_rows, first, typed}
-use Rattle.composition.specs.Uses.{default_rows}
+use Rattle.program_calls.specs.composition.Uses.{default_rows}
 use Rattle.program_uses.specs.RuleRows.{keep_rows}
 use Rattle.program_uses.proofs.RowSteps.{fitted_from, if_ok, three}
 use Rattle.program_uses.proofs.rules.with_keep.Goals as goal

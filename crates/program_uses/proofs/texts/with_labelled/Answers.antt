@@ -1,6 +1,6 @@
 use Rattle.std.proofs.Common.{◌∙◌, ap, flat_map, map}
 use Rattle.osc_base.specs.FaultRows.{first_from}
-use Rattle.type_heads.specs.Bodied.{seen_written}
+use Rattle.expr_nodes.specs.type_heads.Bodied.{seen_written}
 use Rattle.program_uses.specs.SeenTexts.{written_rows}
 use Rattle.program_uses.proofs.RowSteps.{two}
 use Rattle.program_uses.proofs.TextSteps.{text_law}

@@ -1,7 +1,7 @@
 use Rattle.std.proofs.Common.{◌≡◌, drop, flat_map, map}
 use Rattle.osc_base.specs.FaultRows.{first_from}
-use Rattle.type_heads.specs.Bodied.{seen_written}
-use Rattle.type_heads.specs.Types.{Types}
+use Rattle.expr_nodes.specs.type_heads.Bodied.{seen_written}
+use Rattle.expr_nodes.specs.type_heads.Types.{Types}
 use Rattle.program_calls.specs.SeenLabels.{do_labels, seen_labels}
 use Rattle.program_uses.specs.SeenTexts.{Tells, written_rows}
 use Rattle.program_uses.proofs.texts.with_members.Given as goal

@@ -1,7 +1,7 @@
 use Rattle.std.proofs.Common.{◌≡◌, ◌∙◌, ◌+◌, ◌<◌, ◌≤◌, ap, arith, drop, flat_map, length, sym}
 use Rattle.osc_base.specs.FaultRows.{first_from}
-use Rattle.type_heads.specs.Table.{all_types, numbers_from}
-use Rattle.composition.specs.Uses.{text_rows}
+use Rattle.expr_nodes.specs.type_heads.Table.{all_types, numbers_from}
+use Rattle.program_calls.specs.composition.Uses.{text_rows}
 use Rattle.program_uses.proofs.InvokedSteps.{next_number, no_number}
 use Rattle.program_uses.proofs.TextSteps.{next_text}
 use Rattle.program_uses.proofs.texts.with_texts.Goals as goal

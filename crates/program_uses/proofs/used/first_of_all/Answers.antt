@@ -1,8 +1,8 @@
 use Rattle.std.proofs.Common.{◌≡◌, None, flat_map, map}
 use Rattle.osc_base.specs.FaultRows.{first_fault, first_from}
-use Rattle.type_heads.specs.Table.{all_types}
-use Rattle.type_heads.specs.Types.{Types}
-use Rattle.composition.specs.Uses.{invocation_row, text_rows, use_rows}
+use Rattle.expr_nodes.specs.type_heads.Table.{all_types}
+use Rattle.expr_nodes.specs.type_heads.Types.{Types}
+use Rattle.program_calls.specs.composition.Uses.{invocation_row, text_rows, use_rows}
 use Rattle.program_uses.specs.SeenTexts.{Tells}
 use Rattle.program_uses.proofs.RowSteps.{if_ok, two}
 use Rattle.program_uses.proofs.used.first_of_all.Goals as goal

@@ -1,9 +1,9 @@
 use Rattle.std.proofs.Common.{◌≡◌, map}
 use Rattle.osc_base.specs.FaultRows.{first_fault}
-use Rattle.type_heads.specs.Bodied.{seen_body}
-use Rattle.type_heads.specs.Types.{Types}
+use Rattle.expr_nodes.specs.type_heads.Bodied.{seen_body}
+use Rattle.expr_nodes.specs.type_heads.Types.{Types}
 use Rattle.program_fields.specs.type_members.Listed.{lists_of}
-use Rattle.composition.specs.Uses.{use_rows}
+use Rattle.program_calls.specs.composition.Uses.{use_rows}
 use Rattle.program_uses.specs.SeenTexts.{Tells}
 use Rattle.program_uses.proofs.RowSteps.{if_ok}
 use Rattle.program_uses.proofs.used.first_use_fault.Goals as goal

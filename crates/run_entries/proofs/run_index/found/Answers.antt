@@ -1,6 +1,6 @@
 use Rattle.std.proofs.Common.{◌∙◌, sym, ap, option_and_then, slice_get}
 use Rattle.osc_base.specs.Paths.{same_path}
-use Rattle.path_index.proofs.Firsts.{find_is, item_is}
+use Rattle.composition.proofs.of_path_index.Firsts.{find_is, item_is}
 use Rattle.run_entries.proofs.run_index.found.Goals as goal
 
 pub returns-in-Some : goal.returns-in-Some

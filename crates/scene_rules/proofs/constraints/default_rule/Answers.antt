@@ -1,5 +1,5 @@
-use Rattle.scene_conditions.specs.composition.SeenParts.{seen_occurrence}
-use Rattle.scene_slots.specs.SeenSlots.{scene_of}
+use Rattle.rule_parts.specs.composition.SeenParts.{seen_occurrence}
+use Rattle.rule_parts.specs.scene_slots.SeenSlots.{scene_of}
 use Rattle.scene_rules.proofs.Rooms.{occurrence_room}
 use Rattle.scene_rules.proofs.constraints.default_rule.Goals as goal
 

@@ -1,7 +1,7 @@
 use Rattle.std.proofs.Common.{◌≡◌, map, take}
 use Rattle.box_eval.specs.FlatRules.{flat_rule}
-use Rattle.scene_slots.specs.field_flatten.Rules.{presence_of_number}
-use Rattle.scene_slots.specs.SeenSlots.{scene_of, layout_of}
+use Rattle.rule_parts.specs.field_flatten.Rules.{presence_of_number}
+use Rattle.rule_parts.specs.scene_slots.SeenSlots.{scene_of, layout_of}
 use Rattle.scene_rules.proofs.constraints.presences.Given as goal
 
 abbrev pub invariant-numbers : goal.invariant-numbers

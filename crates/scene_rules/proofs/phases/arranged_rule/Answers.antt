@@ -1,10 +1,10 @@
 use Rattle.std.proofs.Common.{◌∙◌, ap, ap₂, map, List}
 use Rattle.std.proofs.lemmas.Result.{IfOk-weaker}
 use Rattle.box_eval.specs.FlatRules.{FlatRule, flat_rule, all_of, under}
-use Rattle.scene_conditions.specs.composition.Scenes.{guards}
-use Rattle.scene_conditions.specs.composition.SeenScenes.{seen_scene}
-use Rattle.scene_slots.specs.field_flatten.Rules.{presence_rules}
-use Rattle.scene_slots.specs.SeenSlots.{layout_of}
+use Rattle.rule_parts.specs.composition.Scenes.{guards}
+use Rattle.rule_parts.specs.composition.SeenScenes.{seen_scene}
+use Rattle.rule_parts.specs.field_flatten.Rules.{presence_rules}
+use Rattle.rule_parts.specs.scene_slots.SeenSlots.{layout_of}
 use Rattle.scene_rules.proofs.phases.arranged_rule.Goals as goal
 
 pub returns : goal.returns

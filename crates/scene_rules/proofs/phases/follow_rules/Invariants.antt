@@ -1,7 +1,7 @@
 use Rattle.std.proofs.Common.{◌≡◌, ◌++◌, map, drop}
 use Rattle.box_eval.specs.FlatRules.{flat_rule, Slot}
-use Rattle.scene_slots.specs.field_flatten.Rules.{follow_rules}
-use Rattle.scene_slots.specs.SeenSlots.{layout_of}
+use Rattle.rule_parts.specs.field_flatten.Rules.{follow_rules}
+use Rattle.rule_parts.specs.scene_slots.SeenSlots.{layout_of}
 use Rattle.scene_rules.proofs.phases.follow_rules.Given as goal
 
 abbrev pub invariant-members : goal.invariant-members

@@ -1,6 +1,6 @@
 use Rattle.std.proofs.Common.{◌≡◌, map, take}
 use Rattle.box_eval.specs.FlatRules.{flat_rule, Slot}
-use Rattle.scene_slots.specs.field_flatten.Rules.{overlap_rules}
+use Rattle.rule_parts.specs.field_flatten.Rules.{overlap_rules}
 use Rattle.scene_rules.proofs.spans.overlap_rules.Given as goal
 
 abbrev pub invariant-starts : goal.invariant-starts

@@ -1,7 +1,7 @@
 use Rattle.std.proofs.Common.{◌∙◌, ap, ap₂, map}
 use Rattle.std.proofs.lemmas.Result.{IfOk-weaker}
 use Rattle.box_eval.specs.FlatRules.{Slot}
-use Rattle.scene_slots.specs.field_flatten.Rules.{overlap_rules}
+use Rattle.rule_parts.specs.field_flatten.Rules.{overlap_rules}
 use Rattle.scene_rules.proofs.spans.shared_tick.Goals as goal
 
 pub returns : goal.returns

@@ -1,7 +1,7 @@
 use Rattle.std.proofs.Common.{◌≡◌, map, take}
 use Rattle.box_eval.specs.FlatRules.{Slot}
 use Rattle.scene_rules.specs.Sides.{side_term}
-use Rattle.scene_slots.specs.SeenSlots.{layout_of}
+use Rattle.rule_parts.specs.scene_slots.SeenSlots.{layout_of}
 use Rattle.scene_rules.proofs.spans.slots_of.Given as goal
 
 abbrev pub invariant-phases : goal.invariant-phases

@@ -1,5 +1,5 @@
 use Rattle.std.proofs.Common.{◌≡◌, length, map}
-use Rattle.osc_base.specs.Paths.{path_of}
+use Rattle.dsl_tree.specs.osc_base.Paths.{path_of}
 use Rattle.expansion_laws.specs.composition.Homes.{home}
 use Rattle.scene_texts.specs.Moving.{seen_bound}
 use Rattle.scene_texts.proofs.homes.home.Given as goal

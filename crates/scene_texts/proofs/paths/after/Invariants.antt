@@ -1,5 +1,5 @@
 use Rattle.std.proofs.Common.{◌≡◌, length}
-use Rattle.osc_base.specs.Paths.{steps_after}
+use Rattle.dsl_tree.specs.osc_base.Paths.{steps_after}
 use Rattle.scene_texts.proofs.paths.after.Given as goal
 
 abbrev pub invariant-loop-left : goal.invariant-loop-left

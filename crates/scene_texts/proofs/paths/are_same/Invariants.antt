@@ -1,5 +1,5 @@
 use Rattle.std.proofs.Common.{◌≡◌, length}
-use Rattle.osc_base.specs.Paths.{same_steps}
+use Rattle.dsl_tree.specs.osc_base.Paths.{same_steps}
 use Rattle.scene_texts.proofs.paths.are_same.Given as goal
 
 abbrev pub invariant-loop-left : goal.invariant-loop-left

@@ -1,12 +1,12 @@
 use Rattle.std.proofs.Common.{◌≡◌}
 use Rattle.osc_base.specs.declared.mark.Strength.{Strength}
-use Rattle.composition.specs.Givens.{value_tree}
-use Rattle.composition.specs.SeenParts.{seen_occurrence}
+use Rattle.program_texts.specs.composition.Givens.{value_tree}
+use Rattle.program_texts.specs.composition.SeenParts.{seen_occurrence}
 use Rattle.dsl_tree.specs.ExprTree.{ExprTree}
 use Rattle.expr_nodes.specs.Checks.{IsChecked}
 use Rattle.expr_nodes.specs.Typing.{first}
 use Rattle.program_texts.specs.program_fields.SeenFields.{seen_field}
-use Rattle.type_heads.specs.Table.{Table}
+use Rattle.expr_nodes.specs.type_heads.Table.{Table}
 use Rattle.text_constraints.specs.Kept.{equal_kept, seen_owner}
 use Rattle.text_constraints.specs.OwnTexts.{condition_kept}
 use Rattle.text_constraints.specs.Sites.{seen_site}

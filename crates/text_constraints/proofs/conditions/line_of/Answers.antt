@@ -1,5 +1,5 @@
 use Rattle.std.proofs.Common.{◌∙◌, ◌∷◌, ap, length}
-use Rattle.type_heads.specs.Table.{Table, base, bases}
+use Rattle.expr_nodes.specs.type_heads.Table.{Table, base, bases}
 use Rattle.program_texts.specs.SeenTexts.{types_in}
 use Rattle.text_constraints.proofs.LineSteps.{line_end, line_init, line_more, line_none}
 use Rattle.text_constraints.proofs.conditions.line_of.Goals as goal

@@ -1,5 +1,5 @@
 use Rattle.std.proofs.Common.{◌≡◌, ◌++◌, ◌∷◌}
-use Rattle.type_heads.specs.Table.{bases, line_within}
+use Rattle.expr_nodes.specs.type_heads.Table.{bases, line_within}
 use Rattle.program_texts.specs.SeenTexts.{types_in}
 use Rattle.text_constraints.proofs.conditions.line_of.Given as goal
 

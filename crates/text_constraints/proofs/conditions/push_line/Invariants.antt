@@ -1,5 +1,5 @@
 use Rattle.std.proofs.Common.{◌≡◌, ◌≤◌, ◌++◌, flat_map, length, map, reverse, take}
-use Rattle.composition.specs.SeenParts.{seen_occurrence}
+use Rattle.program_texts.specs.composition.SeenParts.{seen_occurrence}
 use Rattle.program_texts.specs.SeenTexts.{types_in}
 use Rattle.text_constraints.specs.Kept.{seen_owner}
 use Rattle.text_constraints.specs.OwnTexts.{base_kept}

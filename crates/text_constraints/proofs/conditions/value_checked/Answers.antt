@@ -1,5 +1,5 @@
 use Rattle.std.proofs.Common.{subst, sym}
-use Rattle.composition.specs.Givens.{value_tree}
+use Rattle.program_texts.specs.composition.Givens.{value_tree}
 use Rattle.dsl_tree.specs.ExprTree.{ExprTree}
 use Rattle.expr_nodes.specs.Checks.{IsChecked}
 use Rattle.expr_nodes.specs.Scope.{Scope}

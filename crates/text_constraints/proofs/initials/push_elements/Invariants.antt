@@ -1,5 +1,5 @@
 use Rattle.std.proofs.Common.{◌≡◌, ◌++◌, drop, length, map}
-use Rattle.composition.specs.SeenParts.{seen_occurrence}
+use Rattle.program_texts.specs.composition.SeenParts.{seen_occurrence}
 use Rattle.dsl_tree.specs.Views.{expr_tree}
 use Rattle.expr_nodes.specs.Seen.{seen_part}
 use Rattle.text_constraints.specs.Elements.{AreSampled, sample_in}

@@ -1,9 +1,9 @@
 use Rattle.std.proofs.Common.{◌≡◌, ◌∙◌, ◌++◌, ◌∷◌, [], None, Some, ap, cond, length, map, option_map}
 use Rattle.std.proofs.lemmas.List.{map-append}
-use Rattle.composition.specs.SeenParts.{seen_occurrence}
+use Rattle.program_texts.specs.composition.SeenParts.{seen_occurrence}
 use Rattle.dsl_tree.specs.Views.{expr_tree}
 use Rattle.expr_nodes.specs.Scope.{It}
-use Rattle.type_heads.specs.Members.{items_in}
+use Rattle.expr_nodes.specs.type_heads.Members.{items_in}
 use Rattle.text_constraints.specs.Kept.{seen_owner}
 use Rattle.text_constraints.specs.OwnTexts.{elements_kept, initials_kept}
 use Rattle.text_constraints.specs.Sites.{seen_site}

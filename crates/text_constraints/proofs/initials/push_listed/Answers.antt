@@ -1,5 +1,5 @@
 use Rattle.std.proofs.Common.{◌≡◌, ◌++◌, Some, length, map, option_map, subst, sym}
-use Rattle.composition.specs.SeenParts.{seen_occurrence}
+use Rattle.program_texts.specs.composition.SeenParts.{seen_occurrence}
 use Rattle.dsl_tree.specs.Views.{expr_tree}
 use Rattle.expr_nodes.specs.Scope.{It}
 use Rattle.expr_nodes.specs.Seen.{seen_part}

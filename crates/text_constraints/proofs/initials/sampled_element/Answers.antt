@@ -1,12 +1,12 @@
 use Rattle.std.proofs.Common.{◌≡◌, Some}
 use Rattle.osc_base.specs.declared.mark.Strength.{Strength}
-use Rattle.composition.specs.Givens.{element}
-use Rattle.composition.specs.SeenParts.{seen_occurrence}
+use Rattle.program_texts.specs.composition.Givens.{element}
+use Rattle.program_texts.specs.composition.SeenParts.{seen_occurrence}
 use Rattle.dsl_tree.specs.ExprTree.{ExprTree}
 use Rattle.dsl_tree.specs.Views.{expr_tree}
 use Rattle.expr_nodes.specs.Checks.{IsChecked}
 use Rattle.expr_nodes.specs.Typing.{first}
-use Rattle.type_heads.specs.Table.{Table}
+use Rattle.expr_nodes.specs.type_heads.Table.{Table}
 use Rattle.text_constraints.specs.Elements.{SampleFor, seen_sample}
 use Rattle.text_constraints.specs.Kept.{equal_kept, seen_owner}
 use Rattle.text_constraints.specs.OwnTexts.{initial_kept}

@@ -1,12 +1,12 @@
 use Rattle.std.proofs.Common.{◌∙◌, ◌++◌, ap, map, None, refl}
-use Rattle.composition.specs.SeenParts.{seen_occurrence}
-use Rattle.composition.specs.SeenScenes.{seen_scene}
-use Rattle.composition.specs.Givens.{guards_under}
+use Rattle.program_texts.specs.composition.SeenParts.{seen_occurrence}
+use Rattle.program_texts.specs.composition.SeenScenes.{seen_scene}
+use Rattle.program_texts.specs.composition.Givens.{guards_under}
 use Rattle.dsl_tree.specs.Views.{rule_tree}
 use Rattle.expr_nodes.specs.SeenNames.{seen_scope}
 use Rattle.program_texts.specs.SeenTexts.{types_in}
-use Rattle.type_members.specs.Listed.{seen_listed}
-use Rattle.type_members.specs.Shared.{under_inside}
+use Rattle.program_texts.specs.type_members.Listed.{seen_listed}
+use Rattle.program_texts.specs.type_members.Shared.{under_inside}
 use Rattle.text_constraints.proofs.ListSteps.{on_ok}
 use Rattle.text_constraints.proofs.ScopeSteps.{rule_here}
 use Rattle.text_constraints.proofs.members.push_member_rule.Goals as goal

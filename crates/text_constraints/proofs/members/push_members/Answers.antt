@@ -1,10 +1,10 @@
 use Rattle.std.proofs.Common.{◌++◌, flat_map, map, refl}
-use Rattle.composition.specs.SeenParts.{seen_occurrence}
-use Rattle.composition.specs.SeenScenes.{seen_scene}
+use Rattle.program_texts.specs.composition.SeenParts.{seen_occurrence}
+use Rattle.program_texts.specs.composition.SeenScenes.{seen_scene}
 use Rattle.program_texts.specs.SeenTexts.{types_in}
-use Rattle.type_heads.specs.Types.{Member}
-use Rattle.type_members.specs.Listed.{seen_listed}
-use Rattle.type_members.specs.Shared.{under_inside}
+use Rattle.expr_nodes.specs.type_heads.Types.{Member}
+use Rattle.program_texts.specs.type_members.Listed.{seen_listed}
+use Rattle.program_texts.specs.type_members.Shared.{under_inside}
 use Rattle.text_constraints.specs.OwnTexts.{listed_kept}
 use Rattle.text_constraints.proofs.LabelSteps.{self_labelled}
 use Rattle.text_constraints.proofs.ListSteps.{each_more}

@@ -1,12 +1,12 @@
 use Rattle.std.proofs.Common.{◌∙◌, ◌++◌, ap, ap₂, map, option_map, sym}
 use Rattle.osc_base.specs.Paths.{then_name}
-use Rattle.composition.specs.SeenParts.{seen_occurrence}
-use Rattle.composition.specs.SeenScenes.{seen_scene}
+use Rattle.program_texts.specs.composition.SeenParts.{seen_occurrence}
+use Rattle.program_texts.specs.composition.SeenScenes.{seen_scene}
 use Rattle.dsl_tree.specs.Views.{field_tree}
 use Rattle.expr_nodes.specs.Scope.{It}
 use Rattle.expr_nodes.specs.SeenNames.{seen_scope}
 use Rattle.program_texts.specs.SeenTexts.{types_in}
-use Rattle.type_heads.specs.Members.{list_length}
+use Rattle.expr_nodes.specs.type_heads.Members.{list_length}
 use Rattle.text_constraints.specs.OwnTexts.{texts_kept}
 use Rattle.text_constraints.proofs.ListSteps.{on_ok}
 use Rattle.text_constraints.proofs.members.push_name.Goals as goal

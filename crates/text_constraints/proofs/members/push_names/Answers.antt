@@ -1,6 +1,6 @@
 use Rattle.std.proofs.Common.{◌++◌, flat_map, map}
-use Rattle.composition.specs.SeenParts.{seen_occurrence}
-use Rattle.composition.specs.SeenScenes.{seen_scene}
+use Rattle.program_texts.specs.composition.SeenParts.{seen_occurrence}
+use Rattle.program_texts.specs.composition.SeenScenes.{seen_scene}
 use Rattle.dsl_tree.specs.declared.parts.Ident.{Ident}
 use Rattle.dsl_tree.specs.Views.{field_tree}
 use Rattle.expr_nodes.specs.SeenNames.{seen_scope}

@@ -1,6 +1,6 @@
 use Rattle.std.proofs.Common.{◌∙◌, ◌++◌, ◌<◌, ap, arith, map}
-use Rattle.composition.specs.SeenParts.{seen_occurrence}
-use Rattle.composition.specs.SeenScenes.{seen_scene}
+use Rattle.program_texts.specs.composition.SeenParts.{seen_occurrence}
+use Rattle.program_texts.specs.composition.SeenScenes.{seen_scene}
 use Rattle.program_texts.specs.SeenTexts.{types_in}
 use Rattle.text_constraints.proofs.KeptTexts.{own_some}
 use Rattle.text_constraints.proofs.members.push_own.Goals as goal

@@ -1,9 +1,9 @@
 use Rattle.std.proofs.Common.{◌∙◌, ◌++◌, [], ap, flat_map, map, slice_index_or}
-use Rattle.composition.specs.SeenParts.{seen_occurrence}
-use Rattle.composition.specs.SeenScenes.{seen_scene}
-use Rattle.type_heads.specs.Members.{members}
-use Rattle.type_members.specs.Listed.{seen_listed, seen_row}
-use Rattle.type_members.specs.Shared.{fronts_in}
+use Rattle.program_texts.specs.composition.SeenParts.{seen_occurrence}
+use Rattle.program_texts.specs.composition.SeenScenes.{seen_scene}
+use Rattle.expr_nodes.specs.type_heads.Members.{members}
+use Rattle.program_texts.specs.type_members.Listed.{seen_listed, seen_row}
+use Rattle.program_texts.specs.type_members.Shared.{fronts_in}
 use Rattle.program_texts.proofs.of_program_fields.Fronts.{all_left, own_at, own_left}
 use Rattle.program_texts.specs.SeenTexts.{types_in}
 use Rattle.text_constraints.specs.OwnTexts.{listed_kept}

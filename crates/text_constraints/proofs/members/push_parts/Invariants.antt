@@ -1,8 +1,8 @@
 use Rattle.std.proofs.Common.{◌≡◌, ◌++◌, flat_map, map}
-use Rattle.composition.specs.SeenParts.{seen_occurrence}
-use Rattle.composition.specs.SeenScenes.{seen_scene}
-use Rattle.type_heads.specs.Members.{members}
-use Rattle.type_members.specs.Listed.{seen_row}
+use Rattle.program_texts.specs.composition.SeenParts.{seen_occurrence}
+use Rattle.program_texts.specs.composition.SeenScenes.{seen_scene}
+use Rattle.expr_nodes.specs.type_heads.Members.{members}
+use Rattle.program_texts.specs.type_members.Listed.{seen_row}
 use Rattle.program_texts.proofs.of_program_fields.Fronts.{left_at}
 use Rattle.program_texts.specs.SeenTexts.{types_in}
 use Rattle.text_constraints.specs.OwnTexts.{listed_kept}

@@ -1,5 +1,5 @@
 use Rattle.std.proofs.Common.{◌∙◌, ◌++◌, ap₂, map}
-use Rattle.composition.specs.SeenParts.{seen_occurrence}
+use Rattle.program_texts.specs.composition.SeenParts.{seen_occurrence}
 use Rattle.dsl_tree.specs.Views.{rule_tree}
 use Rattle.text_constraints.specs.Kept.{rule_kept, seen_owner}
 use Rattle.text_constraints.specs.Sites.{seen_site}

@@ -1,10 +1,10 @@
 use Rattle.std.proofs.Common.{◌≡◌, ◌∙◌}
-use Rattle.composition.specs.SeenParts.{seen_occurrence}
+use Rattle.program_texts.specs.composition.SeenParts.{seen_occurrence}
 use Rattle.dsl_tree.specs.ExprTree.{ExprTree}
 use Rattle.expr_nodes.specs.Checks.{IsChecked}
 use Rattle.expr_nodes.specs.Seen.{seen_part}
 use Rattle.expr_nodes.specs.Typing.{first}
-use Rattle.type_heads.specs.Table.{Table}
+use Rattle.expr_nodes.specs.type_heads.Table.{Table}
 use Rattle.text_constraints.specs.Kept.{constraint, equal_kept, seen_owner}
 use Rattle.text_constraints.specs.Sites.{seen_site}
 use Rattle.text_constraints.proofs.EqualSteps.{equal_of, if_ok}

@@ -1,12 +1,11 @@
-use Rattle.std.proofs.Common.{◌≡◌, ap, option_map}
+use Rattle.std.proofs.Common.{◌≡◌, ap, option_map, ◌∙◌}
 use Rattle.dsl_tree.specs.declared.expr.RelationSign.{RelationSign}
 use Rattle.dsl_tree.specs.ExprTree.{ExprTree}
 use Rattle.expr_nodes.specs.Checks.{IsChecked}
 use Rattle.expr_nodes.specs.Seen.{seen_part}
 use Rattle.expr_nodes.specs.Typed.{moved}
 use Rattle.expr_nodes.specs.Typing.{first}
-use Rattle.std.proofs.Common.{◌∙◌}
-use Rattle.type_heads.specs.Table.{Table}
+use Rattle.expr_nodes.specs.type_heads.Table.{Table}
 use Rattle.text_constraints.specs.Sites.{seen_site, typed_home}
 use Rattle.scene_places.specs.Placed.{place_in}
 use Rattle.text_constraints.proofs.EqualSteps.{if_ok}

@@ -1,5 +1,5 @@
 use Rattle.std.proofs.Common.{◌≡◌, ◌∙◌, option_and_then, option_map}
-use Rattle.composition.specs.Givens.{read_at}
+use Rattle.program_texts.specs.composition.Givens.{read_at}
 use Rattle.dsl_tree.specs.Views.{path_tree}
 use Rattle.expr_nodes.specs.Seen.{seen_part}
 use Rattle.text_constraints.specs.Sites.{path_home, seen_site}

@@ -1,7 +1,7 @@
 use Rattle.std.proofs.Common.{◌∙◌, ap, ap₂, is_some, map, option_map}
 use Rattle.std.specs.Option.{option_map_or}
 use Rattle.dsl_tree.specs.Views.{expr_tree, field_tree, rule_tree}
-use Rattle.type_heads.specs.Members.{declared_type}
+use Rattle.program_texts.specs.type_heads.Members.{declared_type}
 use Rattle.program_texts.specs.SeenTexts.{types_in}
 use Rattle.work_counts.specs.Amounts.{kept, no_amount, plus, sum_of}
 use Rattle.work_counts.specs.TextAmounts.{initial_amount, rule_amount, type_amount}

@@ -1,5 +1,5 @@
 use Rattle.std.proofs.Common.{◌∙◌, ◌-◌, ap, length}
-use Rattle.type_heads.specs.Table.{Table, base}
+use Rattle.program_texts.specs.type_heads.Table.{Table, base}
 use Rattle.program_texts.specs.SeenTexts.{types_in}
 use Rattle.work_counts.specs.Amounts.{kept}
 use Rattle.work_counts.specs.TextAmounts.{base_amount}

@@ -1,6 +1,6 @@
 use Rattle.std.proofs.Common.{◌≡◌, take, map}
-use Rattle.type_heads.specs.Types.{Member}
-use Rattle.type_members.specs.Listed.{seen_listed}
+use Rattle.program_texts.specs.type_heads.Types.{Member}
+use Rattle.program_texts.specs.type_members.Listed.{seen_listed}
 use Rattle.program_texts.specs.SeenTexts.{types_in}
 use Rattle.work_counts.specs.Amounts.{kept, sum_of}
 use Rattle.work_counts.specs.TextAmounts.{member_amount}

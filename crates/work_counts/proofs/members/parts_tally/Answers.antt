@@ -1,8 +1,8 @@
 use Rattle.std.proofs.Common.{◌∙◌, ◌+◌, [], ap, map, refl, slice_index_or}
-use Rattle.type_heads.specs.Members.{members}
-use Rattle.type_heads.specs.Types.{Member}
-use Rattle.type_members.specs.Listed.{seen_listed, seen_row}
-use Rattle.type_members.specs.Shared.{fronts_in}
+use Rattle.program_texts.specs.type_heads.Members.{members}
+use Rattle.program_texts.specs.type_heads.Types.{Member}
+use Rattle.program_texts.specs.type_members.Listed.{seen_listed, seen_row}
+use Rattle.program_texts.specs.type_members.Shared.{fronts_in}
 use Rattle.program_texts.proofs.of_program_fields.Fronts.{all_left, left_at, own_left}
 use Rattle.program_texts.specs.SeenTexts.{types_in}
 use Rattle.work_counts.specs.Amounts.{kept, sum_of}

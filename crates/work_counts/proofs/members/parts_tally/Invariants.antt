@@ -1,7 +1,7 @@
 use Rattle.std.proofs.Common.{map}
-use Rattle.type_heads.specs.Members.{members}
-use Rattle.type_heads.specs.Types.{Member}
-use Rattle.type_members.specs.Listed.{seen_row}
+use Rattle.program_texts.specs.type_heads.Members.{members}
+use Rattle.program_texts.specs.type_heads.Types.{Member}
+use Rattle.program_texts.specs.type_members.Listed.{seen_row}
 use Rattle.program_texts.proofs.of_program_fields.Fronts.{left_at}
 use Rattle.program_texts.specs.SeenTexts.{types_in}
 use Rattle.work_counts.specs.Amounts.{kept, sum_of}

@@ -1,5 +1,5 @@
 use Rattle.std.proofs.Common.{◌∙◌, ap, ap₂, length}
-use Rattle.type_heads.specs.Table.{Table, base, bases, line_within}
+use Rattle.program_texts.specs.type_heads.Table.{Table, base, bases, line_within}
 use Rattle.program_texts.specs.SeenTexts.{types_in}
 use Rattle.work_counts.specs.Amounts.{kept, sum_of}
 use Rattle.work_counts.specs.TextAmounts.{base_amount}

@@ -1,6 +1,6 @@
 use Rattle.std.proofs.Common.{◌∙◌, ◌+◌, ap, ℕ}
 use Rattle.program_texts.specs.scene_texts.Capped.{capped}
-use Rattle.type_heads.specs.Members.{field}
+use Rattle.program_texts.specs.type_heads.Members.{field}
 use Rattle.program_texts.specs.SeenTexts.{types_in}
 use Rattle.work_counts.specs.declared.tally.Tally.{Tally}
 use Rattle.work_counts.specs.Amounts.{kept}

@@ -7,7 +7,7 @@ use Rattle.composition.proofs.scene.Scene.first_binding_place.Goals as goal
 
 pub loop-step-init : goal.loop-step-init
 loop-step-init c =
-    (c.new.ensures, c.get-first.ensures ∙ first_root c.args.self.now.binding_index c.args.self.now.bindings (record { steps = c.new.result }) c.args.self.now.bindings_at c.new.ensures)
+    (c.new.ensures, c.get-first.ensures ∙ first_root c.args.self.now.part_indexes.bindings c.args.self.now.bindings (record { steps = c.new.result }) c.args.self.now.bindings_at c.new.ensures)
 
 pub loop-step-preserved : goal.loop-step-preserved
 loop-step-preserved c =
@@ -17,7 +17,7 @@ loop-step-preserved c =
     let more = more_steps items i c.step-item.result c.in_ok-copy.field-0 c.loop-step.prefix.steps c.push.new.self c.loop-step-test.true c.step-item.is c.in_ok-copy.ensures c.loop-step.invariant.0 c.in_ok-push.ensures.ok in (
       more,
       c.least_place-first.ensures ∙ ap (least_place c.loop-step.first) c.get.ensures
-          ∙ first_longer c.args.self.now.binding_index c.args.self.now.bindings (record { steps = c.push.new.self }) (take i items) (get_or items i c.step-item.result) c.loop-step.first
+          ∙ first_longer c.args.self.now.part_indexes.bindings c.args.self.now.bindings (record { steps = c.push.new.self }) (take i items) (get_or items i c.step-item.result) c.loop-step.first
           c.args.self.now.bindings_at (more ∙ one) c.loop-step.invariant.1
           ∙ ap (λ z. first_place (leads z) 0 c.args.self.now.bindings) (sym one),
     )

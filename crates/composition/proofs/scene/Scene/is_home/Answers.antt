@@ -1,5 +1,5 @@
 use Rattle.std.proofs.Common.{◌∙◌, ap, refl, Some, None, find}
-use Rattle.osc_base.specs.Paths.{same_path}
+use Rattle.expr_nodes.specs.osc_base.Paths.{same_path}
 use Rattle.composition.specs.declared.part.Spot.{Spot}
 use Rattle.composition.specs.Homes.{is_timed}
 use Rattle.composition.specs.SeenScenes.{seen_scene}

@@ -1,5 +1,5 @@
 use Rattle.std.proofs.Common.{◌∙◌, sym, ap, Some, None, find}
-use Rattle.osc_base.specs.Paths.{same_path, then_duration}
+use Rattle.expr_nodes.specs.osc_base.Paths.{same_path, then_duration}
 use Rattle.composition.specs.declared.spot.PhaseSpot.{PhaseSpot}
 use Rattle.composition.specs.SeenScenes.{seen_scene}
 use Rattle.composition.proofs.Sources.{read_as}

@@ -1,5 +1,5 @@
 use Rattle.std.proofs.Common.{◌∙◌, ap, find}
-use Rattle.osc_base.specs.Paths.{same_path}
+use Rattle.expr_nodes.specs.osc_base.Paths.{same_path}
 use Rattle.composition.specs.declared.spot.ValueSpot.{ValueSpot}
 use Rattle.composition.proofs.SpotSorts.{values_seen}
 use Rattle.composition.proofs.scene.Scene.value.Goals as goal

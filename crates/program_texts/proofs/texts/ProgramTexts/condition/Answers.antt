@@ -1,5 +1,5 @@
 use Rattle.std.proofs.Common.{◌∙◌, ap}
-use Rattle.type_heads.specs.Told.{Told}
+use Rattle.program_calls.specs.type_heads.Told.{Told}
 use Rattle.program_calls.specs.cond_inherit.SubtypeConditions.{condition_at}
 use Rattle.program_texts.specs.SeenTexts.{types_in}
 use Rattle.program_texts.proofs.TypeRows.{condition_is}

@@ -1,7 +1,7 @@
 use Rattle.std.proofs.Common.{◌+◌, ◌∙◌, ap, take_all}
 use Rattle.osc_base.specs.Paths.{same_path}
-use Rattle.path_index.specs.Places.{first_place}
-use Rattle.path_index.proofs.Firsts.{noted}
+use Rattle.composition.specs.path_index.Places.{first_place}
+use Rattle.composition.proofs.of_path_index.Firsts.{noted}
 use Rattle.run_entries.specs.RunPlaces.{place_at}
 use Rattle.run_entries.proofs.run_index.RunIndex.of.Goals as goal
 

@@ -1,0 +1,3 @@
+pub mod Exponents
+pub mod NoReads
+pub mod Pairs

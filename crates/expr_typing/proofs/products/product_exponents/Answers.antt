@@ -1,8 +1,0 @@
-use Rattle.std.proofs.Common.{ap}
-use Rattle.expr_nodes.specs.Operators.{product_exponents}
-use Rattle.expr_nodes.specs.Seen.{seen}
-use Rattle.expr_typing.proofs.Exponents.{within_limits}
-use Rattle.expr_typing.proofs.products.product_exponents.Goals as goal
-
-pub returns : goal.returns
-returns c = within_limits (product_exponents (seen c.args.left.now) (seen c.args.right.now)) c.plus.result (rw (c.exponents_of-left.ensures, c.exponents_of-right.ensures, ap (λ i. i.kind) c.info.ensures, ap (λ i. i.kind) c.info-2.ensures) at c.plus.ensures)

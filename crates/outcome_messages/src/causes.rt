@@ -1,0 +1,214 @@
+//! Why there is no run: the constraints that the record needs, and what the setting excludes.
+
+use crate::limits::{Excluded, excluded, is_duration};
+use crate::places::{RulePlace, closed_places};
+use crate::setting::{Asked, put_setting};
+use diagnostics::{ClosedRules, Spot, bytes_of, gutter_of, line_start, put_site, source_of};
+use mistake_helps::View;
+use osc_base::FaultCode;
+use outside_io::MemoryShelf;
+use std::alloc::{AllocError, Global};
+
+/// The most ticks of a setting.
+const MOST_TICKS: u32 = 600;
+/// How many places are shown.
+const SHOWN: usize = 8;
+/// The name of the library's file.
+const LIBRARY: &str = "osc";
+
+/// Puts that a scenario has no run, and why.
+pub fn put_no_run(
+    alloc: Global,
+    text: &mut String,
+    asked: &Asked<'_>,
+    listing: Option<&str>,
+    closed: &ClosedRules,
+    kept: &mut MemoryShelf,
+) -> Result<(), AllocError> {
+    let scenario = asked.source.scenario;
+    write!(text, "no run: `{scenario}` has no run within ")?;
+    put_setting(text, asked.setting)?;
+    text.push_str("\n")?;
+    match listing {
+        Some(listing) => {
+            let places = closed_places(alloc, listing, closed)?;
+            put_causes(alloc, text, asked, places.as_slice(), kept)
+        }
+        None => Ok(()),
+    }
+}
+
+/// Puts the causes: those that a limit alone excludes, else all that the record needs.
+fn put_causes(
+    alloc: Global,
+    text: &mut String,
+    asked: &Asked<'_>,
+    places: &[RulePlace<'_>],
+    kept: &mut MemoryShelf,
+) -> Result<(), AllocError> {
+    let mut is_excluded = false;
+    for place in places {
+        if let Some(excluded) = excluded_at(alloc, asked, *place, kept)? {
+            put_excluded(alloc, text, *place, &excluded, kept)?;
+            is_excluded = true;
+        }
+    }
+    if is_excluded {
+        return Ok(());
+    }
+    put_needed(alloc, text, places, kept)?;
+    put_longer(alloc, text, asked, places, kept)
+}
+
+/// Puts that a longer run may serve, if nothing but durations is needed.
+fn put_longer(
+    alloc: Global,
+    text: &mut String,
+    asked: &Asked<'_>,
+    places: &[RulePlace<'_>],
+    kept: &mut MemoryShelf,
+) -> Result<(), AllocError> {
+    if places.is_empty() || asked.setting.ticks >= MOST_TICKS {
+        return Ok(());
+    }
+    for place in places {
+        let bytes = source_of(alloc, place.file, kept)?;
+        match view_at(bytes_of(&bytes), *place) {
+            Some(view) if is_duration(&view) => {}
+            _ => return Ok(()),
+        }
+    }
+    write!(
+        text,
+        "  = help: a longer run may have room for them: `--ticks {MOST_TICKS}`, which is 60 s, is the most\n"
+    )
+}
+
+/// What a limit of the setting excludes at a place of the user's files.
+fn excluded_at(
+    alloc: Global,
+    asked: &Asked<'_>,
+    place: RulePlace<'_>,
+    kept: &mut MemoryShelf,
+) -> Result<Option<Excluded>, AllocError> {
+    if place.file == LIBRARY {
+        return Ok(None);
+    }
+    let bytes = source_of(alloc, place.file, kept)?;
+    match view_at(bytes_of(&bytes), place) {
+        Some(view) => excluded(alloc, &view, asked.setting),
+        None => Ok(None),
+    }
+}
+
+/// The text around a place. A view is of a fault; here its code is of no use.
+pub fn view_at<'a>(source: Option<&'a [u8]>, place: RulePlace<'_>) -> Option<View<'a>> {
+    let source = source?;
+    let start = line_start(source, place.line)?;
+    let at = start.saturating_add((place.column as usize).saturating_sub(1));
+    View::new(FaultCode::Syntax, source, start, at)
+}
+
+fn put_excluded(
+    alloc: Global,
+    text: &mut String,
+    place: RulePlace<'_>,
+    excluded: &Excluded,
+    kept: &mut MemoryShelf,
+) -> Result<(), AllocError> {
+    put_place(alloc, text, place, excluded.label.as_str(), kept)?;
+    let cure = excluded.cure.as_str();
+    write!(text, "  = help: {cure}\n")
+}
+
+/// Puts the place of a rule with the line of its source, and what there is to say of it.
+pub fn put_place(
+    alloc: Global,
+    text: &mut String,
+    place: RulePlace<'_>,
+    label: &str,
+    kept: &mut MemoryShelf,
+) -> Result<(), AllocError> {
+    let spot = Spot {
+        code: FaultCode::Syntax,
+        file: place.file,
+        line: place.line,
+        column: place.column,
+    };
+    let bytes = source_of(alloc, place.file, kept)?;
+    put_site(
+        alloc,
+        text,
+        gutter_of(place.line),
+        &spot,
+        bytes_of(&bytes),
+        label,
+    )
+}
+
+/// Puts the places of the user's files that the record needs.
+fn put_needed(
+    alloc: Global,
+    text: &mut String,
+    places: &[RulePlace<'_>],
+    kept: &mut MemoryShelf,
+) -> Result<(), AllocError> {
+    let count = places.iter().filter(|it| it.file != LIBRARY).count();
+    match count {
+        0 => return put_none_needed(text),
+        1 => text.push_str(
+            "  no run meets this constraint, with how phases follow and vehicles move:\n",
+        )?,
+        _ => text.push_str(
+            "  no run meets these constraints together, with how phases follow and vehicles move:\n",
+        )?,
+    }
+    let mut shown = 0usize;
+    for place in places {
+        if place.file != LIBRARY && shown < SHOWN {
+            put_place(alloc, text, *place, "", kept)?;
+            shown = shown.saturating_add(1);
+        }
+    }
+    if count > shown {
+        let more = count.saturating_sub(shown);
+        write!(text, "  and {more} more\n")?;
+    }
+    put_library(alloc, text, places, kept)
+}
+
+fn put_none_needed(text: &mut String) -> Result<(), AllocError> {
+    text.push_str(
+        "  = note: no constraint of the source is needed for that: its phases alone don't fit the setting\n",
+    )
+}
+
+/// Puts which initial values of the library the record needs besides.
+fn put_library(
+    alloc: Global,
+    text: &mut String,
+    places: &[RulePlace<'_>],
+    kept: &mut MemoryShelf,
+) -> Result<(), AllocError> {
+    let bytes = source_of(alloc, LIBRARY, kept)?;
+    for place in places {
+        if place.file == LIBRARY {
+            if let Some(view) = view_at(bytes_of(&bytes), *place) {
+                put_default(text, &view)?;
+            }
+        }
+    }
+    Ok(())
+}
+
+/// Puts the field whose initial value stands at a place of the library.
+fn put_default(text: &mut String, view: &View<'_>) -> Result<(), AllocError> {
+    if !view.before.trim_end().ends_with('=') {
+        return Ok(());
+    }
+    let (before, value) = (view.before.trim(), view.number());
+    write!(
+        text,
+        "  = note: they also need the default `{before} {value}` of the library's `vehicle`\n"
+    )
+}

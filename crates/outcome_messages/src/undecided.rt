@@ -1,0 +1,68 @@
+//! What helps if a search is undecided.
+
+use crate::setting::{Asked, put_setting};
+use diagnostics::{bytes_of, put_help, source_of};
+use outside_io::MemoryShelf;
+use std::alloc::{AllocError, Global};
+
+/// The most cuts of a search.
+const MOST_CUTS: u32 = 1_000_000;
+
+/// Puts that nothing is decided, and what helps.
+pub fn put_undecided(
+    alloc: Global,
+    text: &mut String,
+    asked: &Asked<'_>,
+    kept: &mut MemoryShelf,
+) -> Result<(), AllocError> {
+    let (scenario, file, cuts) = (asked.source.scenario, asked.source.file, asked.cuts);
+    write!(
+        text,
+        "undecided: {cuts} cuts (`--cuts {cuts}`) found no run of `{scenario}`, and no proof that there is none,\n  within "
+    )?;
+    put_setting(text, asked.setting)?;
+    text.push_str("\n")?;
+    let seed = asked.seed.wrapping_add(1);
+    write!(
+        text,
+        "  = help: another seed often decides it, as `osc generate {file} {scenario} --seed {seed}`\n"
+    )?;
+    if drives_without_start(alloc, file, kept)? {
+        put_help(
+            text,
+            0,
+            "a start position helps: `position(100m, at: start)` in the first `drive` of one vehicle",
+        )?;
+    }
+    if cuts < MOST_CUTS {
+        write!(
+            text,
+            "  = help: more cuts help at times: `--cuts {MOST_CUTS}` are the most\n"
+        )?;
+    }
+    Ok(())
+}
+
+/// Whether vehicles drive in a source, and no line of it says where one starts on the road.
+fn drives_without_start(
+    alloc: Global,
+    file: &str,
+    kept: &mut MemoryShelf,
+) -> Result<bool, AllocError> {
+    let bytes = source_of(alloc, file, kept)?;
+    let Some(source) = bytes_of(&bytes) else {
+        return Ok(false);
+    };
+    let Ok(source) = str::from_utf8(source) else {
+        return Ok(false);
+    };
+    Ok(source.contains(".drive(") && !source.lines().any(is_start_position))
+}
+
+fn is_start_position(line: &str) -> bool {
+    let line = line.trim_start();
+    line.starts_with("position(")
+        && line.contains("at: start")
+        && !line.contains("behind:")
+        && !line.contains("ahead_of:")
+}

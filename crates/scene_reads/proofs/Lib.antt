@@ -1,0 +1,3 @@
+pub mod DrivenPaths
+pub mod KeptItems
+pub mod ReadRows

@@ -1,0 +1,4 @@
+pub mod Firsts
+pub mod Results
+pub mod Settled
+pub mod StepFaults
