@@ -14,7 +14,8 @@ pub use expr_eval::checked;
 pub use expr_nodes::TextTable;
 pub use program_texts::{Guard, ProgramTexts, TypeId, ValueRange, then_name};
 pub use scene_expansion::{
-    Binding, Call, Content, ModifierForm, ModifierSpot, PhaseKind, Spot, Work, argument_named,
-    modifier_form, name_of, then_do, then_member,
+    Binding, Call, Content, Counts, Layout, ModifierForm, ModifierSpot, PhaseKind, Spot, Work,
+    WorkLayout, add, argument_named, arguments_tokens, first_place, is_too_large, it,
+    modifier_form, name_of, pointed, scene_of, then_do, then_member,
 };
 pub use works_in::{parts, root, root_parts};

@@ -2,7 +2,7 @@
 use Rattle.std.proofs.Common.{◌≡◌, ◌∙◌, sym, ap}
 use Rattle.named_scenario.specs.program_members.declared.members.ProgramMembers.{ProgramMembers}
 use Rattle.named_scenario.specs.program_members.MembersOf.{AreMembersOf}
-use Rattle.node_counts.specs.program_texts.SeenTexts.{types_with}
+use Rattle.work_parts.specs.program_texts.SeenTexts.{types_with}
 use Rattle.named_scenario.specs.type_heads.Told.{Told, told}
 use Rattle.named_scenario.specs.type_heads.Types.{Types}
 

@@ -4,7 +4,7 @@ ghost use Rattle.std.specs.Prelude.{◌≡◌, IfOk, None};
 ghost use Rattle.named_scenario.specs.composition.SceneFaults.{is_too_large as too_large};
 ghost use Rattle.name_scope.specs.FileNumbers.{wanted_name};
 ghost use Rattle.named_scenario.specs.Naming.{types_in};
-ghost use Rattle.node_counts.specs.program_texts.SeenTexts.{types_with};
+ghost use Rattle.work_parts.specs.program_texts.SeenTexts.{types_with};
 ghost use Rattle.named_scenario.specs.type_heads.Told.{told};
 
 use crate::layout::ProgramLayout;
@@ -41,6 +41,6 @@ fn is_large_among(
     ensures { IfOk result (λ past. past ≡ too_large (types_with members.now types.now.table) of setting) }
 {
     let layout = ProgramLayout::of(alloc, types, members)?;
-    let past = node_counts::is_too_large(alloc, &layout, of, setting)?;
+    let past = work_parts::is_too_large(alloc, &layout, of, setting)?;
     Ok(past)
 }

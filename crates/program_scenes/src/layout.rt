@@ -1,17 +1,16 @@
 //! The works of a program.
 
 ghost use Rattle.std.specs.Prelude.{◌≡◌, IfOk};
-ghost use Rattle.node_counts.specs.program_texts.SeenTexts.{types_in, types_with};
+ghost use Rattle.work_parts.specs.program_texts.SeenTexts.{types_in, types_with};
 ghost use Rattle.named_scenario.specs.type_heads.Told.{told};
 
 use named_scenario::{ProgramMembers, Spot, TypeId, Types};
-use node_counts::{Layout, Work, WorkLayout, counts};
 use osc_base::{Place, Row};
 use std::alloc::{AllocError, Global};
 use work_constraints::{Counts, Occurrence, push_occurrences};
-use work_modifiers::{ModifierSpot, Scene, push_modifiers};
-use work_spots::{
-    Binding, ProgramTexts, TextTable, parts, push_bindings, root, root_parts, spot, texts,
+use work_parts::{
+    Binding, Layout, ModifierSpot, ProgramTexts, Scene, TextTable, Work, WorkLayout, counts, parts,
+    push_bindings, push_modifiers, root, root_parts, spot, texts,
 };
 
 /// The works of the scenarios of a program, read from its texts.
@@ -36,7 +35,7 @@ impl<'p> ProgramLayout<'p> {
 }
 
 impl<'p> WorkLayout<'p> for ProgramLayout<'p> {
-    ghost use Rattle.node_counts.specs.program_texts.SeenTexts.{types_in};
+    ghost use Rattle.work_parts.specs.program_texts.SeenTexts.{types_in};
 
     ghost types = { λ l. types_in l.texts };
 

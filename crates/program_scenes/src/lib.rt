@@ -9,4 +9,4 @@ pub use large::is_too_large;
 pub use layout::ProgramLayout;
 pub use named_scenario::{NameStop, NamedScenario, Setting, find_scenario};
 pub use scenes::scene_of;
-pub use work_modifiers::Scene;
+pub use work_parts::Scene;

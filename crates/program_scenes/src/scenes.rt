@@ -4,14 +4,14 @@ ghost use Rattle.std.specs.Prelude.{◌≡◌, IfOk, None};
 ghost use Rattle.name_scope.specs.FileNumbers.{wanted_name};
 ghost use Rattle.named_scenario.specs.Naming.{types_in};
 ghost use Rattle.program_scenes.specs.SceneFound.{IsSceneFound};
-ghost use Rattle.node_counts.specs.program_texts.SeenTexts.{types_with};
+ghost use Rattle.work_parts.specs.program_texts.SeenTexts.{types_with};
 ghost use Rattle.named_scenario.specs.type_heads.Told.{told};
 
 use crate::layout::ProgramLayout;
 use name_scope::Program;
 use named_scenario::{NamedScenario, ProgramMembers, Setting, TypeId, Types};
 use std::alloc::{AllocError, Global};
-use work_modifiers::Scene;
+use work_parts::Scene;
 
 /// The scene of a scenario that was found in a program, in a setting. `None` exactly if it has more objects, slots, rules or
 /// copied tokens than a scene can have. This is found before anything of that size is made.
@@ -42,6 +42,6 @@ fn scene_among(
     ensures { IfOk result (IsSceneFound (types_with members.now types.now.table) of setting) }
 {
     let layout = ProgramLayout::of(alloc, types, members)?;
-    let found = node_counts::scene_of(alloc, &layout, of, setting)?;
+    let found = work_parts::scene_of(alloc, &layout, of, setting)?;
     Ok(found)
 }

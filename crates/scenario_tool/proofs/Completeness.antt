@@ -5,7 +5,7 @@ use Rattle.serde_json.specs.Read.{read}
 use Rattle.outside_io.specs.declared.shelf.NamedBytes.{NamedBytes}
 use Rattle.outside_io.specs.Files.{file_named}
 use Rattle.name_scope.specs.FileNumbers.{AddedFile}
-use Rattle.record_answers.specs.box_eval.declared.flat.Flat.{Flat}
+use Rattle.form_answers.specs.box_eval.declared.flat.Flat.{Flat}
 use Rattle.run_answers.specs.record_text.Source.{limit}
 use Rattle.readable_runs.specs.record_laws.Points.{points_of}
 use Rattle.run_answers.specs.composition.declared.run.Run.{Run}
@@ -21,8 +21,8 @@ use Rattle.run_answers.specs.command_replies.Reply.{Answer}
 use Rattle.readable_runs.specs.search_answers.SearchAnswers.{Generates, runs, refuted, undecided}
 use Rattle.readable_runs.proofs.of_search_answers.Accepted.{spent_more}
 use Rattle.run_answers.specs.Checks.{Checks, no_file, too_long, in_file, OnRunText, no_json, no_run, a_run, run_limit, verdict}
-use Rattle.record_answers.specs.RecordAnswers.{OnRecordFile, OnRecordText}
-use Rattle.record_answers.specs.RecordAnswers as record_reply
+use Rattle.form_answers.specs.RecordAnswers.{OnRecordFile, OnRecordText}
+use Rattle.form_answers.specs.RecordAnswers as record_reply
 use Rattle.scenario_tool.specs.Completeness.{DecidedByPoints, HasRecord, HasRun, SoundInputsHaveOutcomes}
 use Rattle.scenario_tool.specs.Laws.{IsOutcome}
 use Rattle.scenario_tool.proofs.Said.{IsRefusal, IsUndecided, no_status, none_some, other_status, said_of, said_of_sound, said_on_source, some_is, status_of}

@@ -11,8 +11,8 @@ use Rattle.run_answers.specs.command_replies.Shelves.{AnswersOrFails, CountsOnce
 use Rattle.command_words.specs.Words.{CheckAsked, FlatAsked, GenerateAsked, VerifyAsked, Wanted}
 use Rattle.readable_runs.specs.search_answers.SearchAnswers.{Generates}
 use Rattle.run_answers.specs.Checks.{Checks}
-use Rattle.record_answers.specs.RecordAnswers.{Verifies}
-use Rattle.listing_answers.specs.Lists.{Lists}
+use Rattle.form_answers.specs.RecordAnswers.{Verifies}
+use Rattle.form_answers.specs.Lists.{Lists}
 use Rattle.scenario_tool.specs.declared.sources.FoundSource.{FoundSource}
 use Rattle.scenario_tool.specs.Answers.{Inputs}
 use Rattle.scenario_tool.specs.FoundSources.{IsFoundSource, IsRefusal}

@@ -12,7 +12,7 @@ use Rattle.run_answers.specs.command_replies.Reply.{Answer}
 use Rattle.readable_runs.proofs.of_source_scenes.Sole.{One, on_source}
 use Rattle.readable_runs.specs.search_answers.SearchAnswers.{Generates, IsSearchReply, runs, refuted, undecided}
 use Rattle.run_answers.proofs.OneCheck.{one_check}
-use Rattle.record_answers.proofs.OneText.{one_verdict}
+use Rattle.form_answers.proofs.OneText.{one_verdict}
 use Rattle.scenario_tool.specs.Answers.{AnswersTo, Inputs}
 use Rattle.scenario_tool.specs.Laws.{IsLeftOpen, IsOutcome, NeverBoth, OneAnswer}
 use Rattle.scenario_tool.specs.Settings.{scene_setting}

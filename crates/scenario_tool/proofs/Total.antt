@@ -5,7 +5,7 @@ use Rattle.run_answers.specs.command_replies.Reply.{Answer}
 use Rattle.run_answers.specs.command_replies.Replies.{done, words_refused}
 use Rattle.readable_runs.proofs.of_source_scenes.Total.{some_on_source}
 use Rattle.run_answers.proofs.OneCheck.{some_check}
-use Rattle.record_answers.proofs.SomeText.{some_verdict}
+use Rattle.form_answers.proofs.SomeText.{some_verdict}
 use Rattle.scenario_tool.specs.Answers.{AnswersTo, Inputs}
 use Rattle.scenario_tool.specs.Laws.{IsSearch, SomeAnswer}
 

@@ -7,8 +7,8 @@ use Rattle.run_answers.specs.composition.TimedRuns.{TimedRun, timed}
 use Rattle.run_answers.specs.command_replies.Reply.{Answer}
 use Rattle.run_answers.specs.command_replies.Replies.{done}
 use Rattle.readable_runs.specs.search_answers.SearchAnswers.{Generates, runs, refuted, undecided}
-use Rattle.record_answers.specs.RecordAnswers.{Verifies}
-use Rattle.record_answers.proofs.Meaning.{yes_means_none}
+use Rattle.form_answers.specs.RecordAnswers.{Verifies}
+use Rattle.form_answers.proofs.Meaning.{yes_means_none}
 use Rattle.scenario_tool.specs.Settings.{scene_setting}
 use Rattle.scenario_tool.specs.Verified.{NeverFoundAndVerified, VerifiedMeansNone}
 use Rattle.scenario_tool.specs.Written.{with_texts}

@@ -17,8 +17,8 @@ use Rattle.readable_runs.proofs.ReadableScenes.{reached_runs_can_be_read}
 use Rattle.readable_runs.specs.search_answers.SearchAnswers.{Generates, runs, refuted, undecided}
 use Rattle.readable_runs.proofs.of_search_answers.Accepted.{reached_right, refutation_accepted, refutation_within, spent_open, spent_within}
 use Rattle.run_answers.specs.Checks.{Checks, in_file, a_run, run_limit, verdict}
-use Rattle.record_answers.specs.RecordAnswers.{Verifies}
-use Rattle.record_answers.specs.RecordAnswers as record_reply
+use Rattle.form_answers.specs.RecordAnswers.{Verifies}
+use Rattle.form_answers.specs.RecordAnswers as record_reply
 use Rattle.scenario_tool.specs.Settings.{scene_setting}
 use Rattle.scenario_tool.specs.Written.{WrittenRecordsAreOpen, WrittenRefutationsAreAccepted, WrittenRunsAreAccepted}
 use Rattle.scenario_tool.proofs.Said.{IsDone, IsRefusal, IsRefuted, IsUndecided, no_status, other_status, said_on_source, say}

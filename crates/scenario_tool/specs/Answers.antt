@@ -20,8 +20,8 @@ use Rattle.run_answers.specs.command_replies.Shelves.{CountsOnce}
 use Rattle.readable_runs.specs.source_scenes.Sources.{IsTextTurn, OnSource}
 use Rattle.readable_runs.specs.search_answers.SearchAnswers.{Generates, Makes}
 use Rattle.run_answers.specs.Checks.{Checks}
-use Rattle.record_answers.specs.RecordAnswers.{Verifies}
-use Rattle.listing_answers.specs.Lists.{Lists}
+use Rattle.form_answers.specs.RecordAnswers.{Verifies}
+use Rattle.form_answers.specs.Lists.{Lists}
 use Rattle.made_programs.specs.MadeLoads.{main_name, made_files}
 use Rattle.made_programs.specs.MadeText.{made_line}
 use Rattle.scenario_tool.specs.Settings.{made_cuts, made_scenario, made_seed, made_setting, scene_setting}

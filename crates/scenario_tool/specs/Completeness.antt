@@ -5,8 +5,8 @@ use Rattle.outside_io.specs.Files.{file_named}
 use Rattle.name_scope.specs.FileNumbers.{AddedFile}
 use Rattle.made_programs.specs.program_load.Loading.{IsLoaded}
 use Rattle.readable_runs.specs.named_scenario.Naming.{types_in}
-use Rattle.record_answers.specs.box_eval.Record.{Tree}
-use Rattle.record_answers.specs.box_eval.declared.record.Record.{Record}
+use Rattle.form_answers.specs.box_eval.Record.{Tree}
+use Rattle.form_answers.specs.box_eval.declared.record.Record.{Record}
 use Rattle.run_answers.specs.record_text.Source.{limit}
 use Rattle.run_answers.specs.record_text.Text.{IsTextOf}
 use Rattle.readable_runs.specs.record_laws.Points.{points_of}

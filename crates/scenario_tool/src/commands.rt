@@ -9,10 +9,9 @@ ghost use Rattle.scenario_tool.specs.Answers.{AnswersOrShelfFails, SomeInputs};
 
 use crate::sources::{FoundSource, source_scene};
 use command_words::{CheckWords, FlatWords, GenerateWords, VerifyWords};
-use listing_answers::flat;
+use form_answers::{flat, verify};
 use outside_io::Shelf;
 use readable_runs::generate;
-use record_answers::verify;
 use run_answers::{Reply, check};
 use std::alloc::{AllocError, Global};
 

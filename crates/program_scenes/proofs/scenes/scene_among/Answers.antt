@@ -1,4 +1,4 @@
-use Rattle.node_counts.specs.program_texts.SeenTexts.{types_with}
+use Rattle.work_parts.specs.program_texts.SeenTexts.{types_with}
 use Rattle.program_scenes.proofs.SceneFound.{laid_out}
 use Rattle.program_scenes.proofs.scenes.scene_among.Goals as goal
 

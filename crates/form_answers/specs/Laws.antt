@@ -1,0 +1,31 @@
+-- Laws on what is replied about a scene and the file of a record.
+use Rattle.std.specs.Prelude.{◌≡◌, ℕ, List, codes}
+use Rattle.outside_io.specs.declared.shelf.NamedBytes.{NamedBytes}
+use Rattle.box_eval.specs.declared.flat.Flat.{Flat}
+use Rattle.flat_forms.specs.composition.Scenes.{Scene}
+use Rattle.flat_forms.specs.composition.TimedRuns.{TimedRun}
+use Rattle.flat_forms.specs.composition.Claims.{IsInstance}
+use Rattle.flat_forms.specs.field_flatten.Exactness.{IsExpanded, IsFlatOf}
+use Rattle.refute_check.specs.Answers.{IsRefutationText}
+use Rattle.command_replies.specs.Reply.{Answer}
+use Rattle.command_replies.specs.Replies.{done}
+use Rattle.form_answers.specs.RecordAnswers.{Verifies}
+
+-- a scene and the texts of a shelf have one reply at most
+abbrev pub OneVerdict : Type 0
+OneVerdict = (texts : List NamedBytes) (file : List ℕ) (scene : Scene) (reply other : Answer) → Verifies texts file scene reply →
+    Verifies texts file scene other → reply ≡ other
+
+-- and it can't be that they have none
+abbrev pub SomeVerdict : Type 0
+SomeVerdict = (texts : List NamedBytes) (file : List ℕ) (scene : Scene) → ((reply : Answer) → Verifies texts file scene reply → ⊥) → ⊥
+
+-- a scene with a refutation has no instance
+abbrev pub RefutedMeansNone : Type 0
+RefutedMeansNone = (scene : Scene) (flat : Flat) (text : List ℕ) → IsExpanded scene → IsFlatOf scene flat → IsRefutationText flat text →
+    (run : TimedRun) → IsInstance scene run → ⊥
+
+-- a scene about which `yes` is replied has no instance
+abbrev pub YesMeansNone : Type 0
+YesMeansNone = (texts : List NamedBytes) (file : List ℕ) (scene : Scene) → IsExpanded scene → Verifies texts file scene (done (codes "yes\n")) →
+    (run : TimedRun) → IsInstance scene run → ⊥

@@ -1,0 +1,6 @@
+pub mod Fetched
+pub mod Laws
+pub mod Lists
+pub mod RecordAnswers
+-- Crates below, for the crates above.
+pub use Rattle.box_eval.specs as box_eval

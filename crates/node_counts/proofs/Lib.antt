@@ -1,6 +1,0 @@
-mod Ends
-mod Nodes
-mod ArgumentLaws
-mod ArgumentSteps
-mod PhaseLaws
-mod WorkForms

@@ -1,6 +1,0 @@
-use Rattle.std.proofs.Common.{◌∙◌}
-use Rattle.node_counts.proofs.Nodes.{value_is}
-use Rattle.node_counts.proofs.objects.value_counts.Goals as goal
-
-pub returns : goal.returns
-returns c = λ ts path guards. c.with_own.ensures ∙ value_is ts path guards c.args.range.now c.args.last c.range_rules.result c.none.result c.none.ensures c.range_rules.ensures

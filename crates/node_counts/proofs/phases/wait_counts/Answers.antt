@@ -1,7 +1,0 @@
-use Rattle.std.proofs.Common.{◌∙◌}
-use Rattle.dsl_tree.specs.Views.{expr_tree}
-use Rattle.node_counts.proofs.PhaseLaws.{wait_is}
-use Rattle.node_counts.proofs.phases.wait_counts.Goals as goal
-
-pub returns : goal.returns
-returns c = λ ts call. c.with_own.ensures ∙ wait_is ts call (expr_tree c.args.node.now.elapsed) c.args.last c.value_tally.result c.value_tally.ensures

@@ -1,5 +1,0 @@
-use Rattle.record_answers.proofs.OneText.{one_verdict}
-use Rattle.record_answers.proofs.laws.one_verdict.Goals as goal
-
-pub returns : goal.returns
-returns c = one_verdict

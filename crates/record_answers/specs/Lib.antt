@@ -1,5 +1,0 @@
-pub mod Fetched
-pub mod Laws
-pub mod RecordAnswers
--- Crates below, for the crates above.
-pub use Rattle.box_eval.specs as box_eval

@@ -1,0 +1,8 @@
+pub mod MemberPaths
+pub mod ModifierLaws
+mod RangeEnds
+mod Nodes
+mod ArgumentLaws
+mod ArgumentSteps
+mod PhaseLaws
+mod WorkForms
