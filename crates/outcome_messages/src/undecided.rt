@@ -43,12 +43,17 @@ pub fn put_undecided(
 /// Puts that another seed may help, with the call for one if the words give none.
 fn put_seed(text: &mut String, words: &[String]) -> Result<(), AllocError> {
     text.push_str("  = help: another seed often decides it")?;
-    if words.iter().any(|word| word.as_str().starts_with("--seed")) {
+    if words.iter().any(|word| ends_options(word.as_str())) {
         return text.push_str("\n");
     }
     text.push_str(": `")?;
     put_call(text, words)?;
     text.push_str(" --seed 1`\n")
+}
+
+/// Whether no other seed can be put behind a word: it gives one, or ends the options.
+fn ends_options(word: &str) -> bool {
+    word == "--" || word.starts_with("--seed")
 }
 
 /// Whether vehicles drive in a source, and no line of it says where one starts on the road.
