@@ -67,17 +67,19 @@ pub fn keyword_help<'a>(
     }
 }
 
-/// The word before the place.
+/// The word before the place, or before a colon there.
 fn word_before<'a>(view: &View<'a>, source: &'a [u8]) -> Word<'a> {
-    let text = last_word(view.before);
-    let end = view
-        .above
-        .len()
-        .saturating_add(view.before.trim_end().len());
+    let before = view.before.trim_end();
+    let (before, back) = match before.strip_suffix(':') {
+        Some(before) => (before.trim_end(), 2),
+        None => (before, 1),
+    };
+    let text = last_word(before);
+    let end = view.above.len().saturating_add(before.len());
     Word {
         source,
         at: end.saturating_sub(text.len()),
-        back: 1,
+        back,
         text,
     }
 }

@@ -48,15 +48,20 @@ fn unit_help(
         write!(text, "A unit near `{unit}` is `{near}`. ")?;
     }
     text.push_str("The units are")?;
-    let mut mark = " ";
-    for unit in units.iter().take(TOLD) {
-        write!(text, "{mark}`{unit}`")?;
-        mark = ", ";
-    }
+    put_units(&mut text, units.get(..TOLD).unwrap_or(units.as_slice()))?;
     text.push_str(
         ".\nOthers are declared by `unit`, as in `unit cm of length is SI(m: 1, factor: 0.01)`.\n",
     )?;
     Ok(Some(Help::of(text)))
+}
+
+fn put_units(text: &mut String, units: &[&str]) -> Result<(), AllocError> {
+    let mut mark = " ";
+    for unit in units {
+        write!(text, "{mark}`{unit}`")?;
+        mark = ", ";
+    }
+    Ok(())
 }
 
 /// What is said of a scenario that isn't declared: which scenarios are.

@@ -128,13 +128,16 @@ fn has_relation(text: &str) -> bool {
 
 /// The end of a text from the last bracket, comma, `and`, `or` or `=>` on.
 fn open_part(text: &str) -> &str {
-    let mut part = text;
-    for mark in ["(", ",", ")", " and ", " or ", "=>"] {
-        if let Some((_, end)) = part.rsplit_once(mark) {
-            part = end;
-        }
+    let part = after_last(after_last(after_last(text, "("), ")"), ",");
+    after_last(after_last(after_last(part, " and "), " or "), "=>")
+}
+
+/// The end of a text behind the last mark of this kind. The whole text if it has none.
+fn after_last<'a>(text: &'a str, mark: &str) -> &'a str {
+    match text.rsplit_once(mark) {
+        Some((_, end)) => end,
+        None => text,
     }
-    part
 }
 
 /// A case: what is said of a fault of this code if all tests hold.

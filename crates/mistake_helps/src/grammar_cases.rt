@@ -234,4 +234,10 @@ pub const GRAMMAR: &[Case] = cases![
         [Test::Operand, Test::AfterWord(MODIFIERS)],
         "What a modifier asks for stands in brackets: `{last}({rest})`.",
     ),
+    (
+        Syntax,
+        [Test::LineWord(&["import"])],
+        "The name of a file stands in quotes: `import \"parts/units.osc\"`. The library is imported by",
+        "`import osc.standard`.",
+    ),
 ];

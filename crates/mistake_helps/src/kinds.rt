@@ -299,12 +299,24 @@ fn put_unit(
         "Write a unit of "
     })?;
     write!(text, "{of}: ")?;
+    let units = units_of(alloc, scope.names, of)?;
+    put_units(text, digits, first_of(units.as_slice()))?;
+    text.push_str(".\n")
+}
+
+/// The first units of many.
+fn first_of<'s, 'a>(units: &'s [&'a str]) -> &'s [&'a str] {
+    units.get(..UNITS).unwrap_or(units)
+}
+
+/// Puts digits with each of some units.
+fn put_units(text: &mut String, digits: &str, units: &[&str]) -> Result<(), AllocError> {
     let mut mark = "";
-    for unit in units_of(alloc, scope.names, of)?.iter().take(UNITS) {
+    for unit in units {
         write!(text, "{mark}`{digits}{unit}`")?;
         mark = ", ";
     }
-    text.push_str(".\n")
+    Ok(())
 }
 
 fn put_plain(text: &mut String, written: &str) -> Result<(), AllocError> {

@@ -1,6 +1,6 @@
 //! Why there is no run: the constraints that the record needs, and what the setting excludes.
 
-use crate::limits::{Excluded, excluded, is_duration};
+use crate::limits::{Exclusion, excluded, is_duration};
 use crate::places::{RulePlace, closed_places};
 use crate::setting::{Asked, put_setting};
 use diagnostics::{ClosedRules, Spot, bytes_of, gutter_of, line_start, put_site, source_of};
@@ -90,7 +90,7 @@ fn excluded_at(
     asked: &Asked<'_>,
     place: RulePlace<'_>,
     kept: &mut MemoryShelf,
-) -> Result<Option<Excluded>, AllocError> {
+) -> Result<Option<Exclusion>, AllocError> {
     if place.file == LIBRARY {
         return Ok(None);
     }
@@ -113,7 +113,7 @@ fn put_excluded(
     alloc: Global,
     text: &mut String,
     place: RulePlace<'_>,
-    excluded: &Excluded,
+    excluded: &Exclusion,
     kept: &mut MemoryShelf,
 ) -> Result<(), AllocError> {
     put_place(alloc, text, place, excluded.label.as_str(), kept)?;
@@ -183,7 +183,7 @@ fn put_none_needed(text: &mut String) -> Result<(), AllocError> {
     )
 }
 
-/// Puts which initial values of the library the record needs besides.
+/// Puts what of the library the record needs besides.
 fn put_library(
     alloc: Global,
     text: &mut String,
@@ -191,24 +191,27 @@ fn put_library(
     kept: &mut MemoryShelf,
 ) -> Result<(), AllocError> {
     let bytes = source_of(alloc, LIBRARY, kept)?;
+    let mut mark = "  = note: they also need what the library says of each `vehicle`: ";
     for place in places {
         if place.file == LIBRARY {
             if let Some(view) = view_at(bytes_of(&bytes), *place) {
-                put_default(text, &view)?;
+                put_declared(text, mark, &view)?;
+                mark = ", ";
             }
         }
+    }
+    if mark == ", " {
+        text.push_str("\n")?;
     }
     Ok(())
 }
 
-/// Puts the field whose initial value stands at a place of the library.
-fn put_default(text: &mut String, view: &View<'_>) -> Result<(), AllocError> {
-    if !view.before.trim_end().ends_with('=') {
-        return Ok(());
+/// Puts the initial value or the constraint that stands at a place of the library.
+fn put_declared(text: &mut String, mark: &str, view: &View<'_>) -> Result<(), AllocError> {
+    let (before, value, rest) = (view.before.trim(), view.number(), view.rest());
+    if before.ends_with('=') {
+        write!(text, "{mark}`{before} {value}`")
+    } else {
+        write!(text, "{mark}`{rest}`")
     }
-    let (before, value) = (view.before.trim(), view.number());
-    write!(
-        text,
-        "  = note: they also need the default `{before} {value}` of the library's `vehicle`\n"
-    )
 }

@@ -15,7 +15,7 @@ const MOST_ROAD: i64 = 10_000;
 
 /// What a limit of the setting excludes.
 #[derive(Debug, Drop)]
-pub struct Excluded {
+pub struct Exclusion {
     /// What is asked for, and what the limit is.
     pub label: String,
     /// What would admit it.
@@ -36,7 +36,7 @@ pub fn excluded(
     alloc: Global,
     view: &View<'_>,
     setting: Setting,
-) -> Result<Option<Excluded>, AllocError> {
+) -> Result<Option<Exclusion>, AllocError> {
     let Some((asks, text)) = asked_at(view) else {
         return Ok(None);
     };
@@ -81,7 +81,7 @@ fn asked_at<'a>(view: &View<'a>) -> Option<(Asks, &'a str)> {
 }
 
 /// A duration that is longer than a run may be.
-fn long_duration(alloc: Global, ends: Ends, ticks: u32) -> Result<Option<Excluded>, AllocError> {
+fn long_duration(alloc: Global, ends: Ends, ticks: u32) -> Result<Option<Exclusion>, AllocError> {
     let needed = ends.low.saturating_add(99) / 100;
     if needed <= i64::from(ticks) {
         return Ok(None);
@@ -97,16 +97,16 @@ fn long_duration(alloc: Global, ends: Ends, ticks: u32) -> Result<Option<Exclude
     } else {
         write!(cure, "no run is longer than 60 s (`--ticks {MOST_TICKS}`)")?;
     }
-    Ok(Some(Excluded { label, cure }))
+    Ok(Some(Exclusion { label, cure }))
 }
 
 /// A lane that the road doesn't have.
-fn no_lane(alloc: Global, ends: Ends, lanes: u32) -> Result<Option<Excluded>, AllocError> {
+fn no_lane(alloc: Global, ends: Ends, lanes: u32) -> Result<Option<Exclusion>, AllocError> {
     let least = ends.low.saturating_add(999) / 1000;
     if ends.high < 1000 {
         let label = String::from_str(alloc, "lanes count from 1, the rightmost")?;
         let cure = String::from_str(alloc, "write a lane from 1 on")?;
-        return Ok(Some(Excluded { label, cure }));
+        return Ok(Some(Exclusion { label, cure }));
     }
     if least <= i64::from(lanes) {
         return Ok(None);
@@ -118,11 +118,11 @@ fn no_lane(alloc: Global, ends: Ends, lanes: u32) -> Result<Option<Excluded>, Al
     } else {
         write!(cure, "no road has more than {MOST_LANES} lanes")?;
     }
-    Ok(Some(Excluded { label, cure }))
+    Ok(Some(Exclusion { label, cure }))
 }
 
 /// A position or a distance that is longer than the road.
-fn long_way(alloc: Global, ends: Ends, road: u32) -> Result<Option<Excluded>, AllocError> {
+fn long_way(alloc: Global, ends: Ends, road: u32) -> Result<Option<Exclusion>, AllocError> {
     let least = ends.low.saturating_add(999) / 1000;
     if least <= i64::from(road) {
         return Ok(None);
@@ -136,5 +136,5 @@ fn long_way(alloc: Global, ends: Ends, road: u32) -> Result<Option<Excluded>, Al
     } else {
         write!(cure, "no road is longer than {MOST_ROAD} m")?;
     }
-    Ok(Some(Excluded { label, cure }))
+    Ok(Some(Exclusion { label, cure }))
 }

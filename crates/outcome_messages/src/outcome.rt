@@ -119,7 +119,7 @@ fn put_answer(
             put_record(text, outcome, "shows it, and `osc verify` checks that")
         }
         (Command::Generate, 2) => {
-            put_undecided(alloc, text, asked, kept)?;
+            put_undecided(alloc, text, asked, outcome.words, kept)?;
             put_record(text, outcome, "says what was tried")
         }
         (Command::Check, 1) => put_failed(alloc, text, asked, line, kept),

@@ -10,8 +10,7 @@ pub struct Asked<'a> {
     pub command: Command,
     pub source: Source<'a>,
     pub setting: Setting,
-    /// Of `generate` the seed and the most cuts.
-    pub seed: u64,
+    /// Of `generate` the most cuts.
     pub cuts: u32,
     /// Of `check` and `verify` the file of the run or the record.
     pub file: &'a str,
@@ -32,7 +31,6 @@ pub fn asked_in(alloc: Global, words: &[String]) -> Result<Option<Asked<'_>>, Al
             command: Command::Generate,
             source: asked.source,
             setting: asked.setting,
-            seed: asked.seed,
             cuts: asked.cuts,
             file: "",
         },
@@ -40,7 +38,6 @@ pub fn asked_in(alloc: Global, words: &[String]) -> Result<Option<Asked<'_>>, Al
             command: Command::Check,
             source: asked.source,
             setting: asked.setting,
-            seed: 0,
             cuts: 0,
             file: asked.run,
         },
@@ -48,7 +45,6 @@ pub fn asked_in(alloc: Global, words: &[String]) -> Result<Option<Asked<'_>>, Al
             command: Command::Verify,
             source: asked.source,
             setting: asked.setting,
-            seed: 0,
             cuts: 0,
             file: asked.record,
         },

@@ -1,6 +1,6 @@
 //! What helps if a search is undecided.
 
-use crate::setting::{Asked, put_setting};
+use crate::setting::{Asked, put_call, put_setting};
 use diagnostics::{bytes_of, put_help, source_of};
 use outside_io::MemoryShelf;
 use std::alloc::{AllocError, Global};
@@ -13,6 +13,7 @@ pub fn put_undecided(
     alloc: Global,
     text: &mut String,
     asked: &Asked<'_>,
+    words: &[String],
     kept: &mut MemoryShelf,
 ) -> Result<(), AllocError> {
     let (scenario, file, cuts) = (asked.source.scenario, asked.source.file, asked.cuts);
@@ -22,11 +23,7 @@ pub fn put_undecided(
     )?;
     put_setting(text, asked.setting)?;
     text.push_str("\n")?;
-    let seed = asked.seed.wrapping_add(1);
-    write!(
-        text,
-        "  = help: another seed often decides it, as `osc generate {file} {scenario} --seed {seed}`\n"
-    )?;
+    put_seed(text, words)?;
     if drives_without_start(alloc, file, kept)? {
         put_help(
             text,
@@ -41,6 +38,22 @@ pub fn put_undecided(
         )?;
     }
     Ok(())
+}
+
+/// Puts that another seed may help, with the call for one if the words give none.
+fn put_seed(text: &mut String, words: &[String]) -> Result<(), AllocError> {
+    text.push_str("  = help: another seed often decides it")?;
+    if words.iter().any(|word| ends_options(word.as_str())) {
+        return text.push_str("\n");
+    }
+    text.push_str(": `")?;
+    put_call(text, words)?;
+    text.push_str(" --seed 1`\n")
+}
+
+/// Whether no other seed can be put behind a word: it gives one, or ends the options.
+fn ends_options(word: &str) -> bool {
+    word == "--" || word.starts_with("--seed")
 }
 
 /// Whether vehicles drive in a source, and no line of it says where one starts on the road.
