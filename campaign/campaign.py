@@ -164,8 +164,9 @@ def read_scenario(value):
     expect = it.get("expect", "run")
     if expect not in ("run", "none"):
         raise Wrong(f"scenarios: expect is run or none, and not {expect!r}")
-    stem = os.path.splitext(os.path.basename(it["file"]))[0]
-    return named(it.get("name", stem), "scenarios: name"), it["file"], str(it.get("scenario", "top")), expect
+    scenario = str(it.get("scenario", "top"))
+    usual = os.path.splitext(os.path.basename(it["file"]))[0] if scenario == "top" else scenario.replace(".", "-")
+    return named(it.get("name", usual), "scenarios: name"), it["file"], scenario, expect
 
 
 def read_setting(value):

@@ -190,13 +190,14 @@ def extreme(campaign, row, names, tick, own, ahead):
 def measured_part(campaign, parts):
     lines = []
     for group, cuts, rows in parts:
-        gaps = [row["gap"][0] / 1e6 for row in rows if row.get("gap")]
-        times = [row["time"][0] / 1e3 for row in rows if row.get("time")]
-        if gaps:
-            charts = [pictures.histogram(gaps, "least gap of a run, m")]
-            charts += [pictures.histogram(times, f"least time to collision, s ({len(times):,} of {len(gaps):,} runs have one)")] if times else []
+        runs = [row for row in rows if row["outcome"] == "run"]
+        charts = []
+        for measure, name, scale in (("gap", "least gap of a run, m", 1e6), ("time", "least time to collision of a run, s", 1e3)):
+            values = [row[measure][0] / scale for row in runs if row[measure]]
+            charts += [pictures.histogram(values, f"{name} ({len(values):,} of {len(runs):,} runs have one)")] if values else []
+        if charts:
             lines.append(f'<h3>{escape(group.name)}, {escape(group.setting)}, {cuts:,} cuts</h3><div class="row">{"".join(charts)}</div>'
-                         + extremes(campaign, rows))
+                         + extremes(campaign, runs))
     note = ('<p class="soft">The gap is the distance of the positions of a vehicle and of the next one ahead in its lane, at a tick. The time '
             "to collision is the time in which the gap would be gone at their speeds. There is none if the vehicle isn't faster than the one "
             "ahead.</p>")
