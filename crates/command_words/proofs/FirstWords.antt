@@ -5,7 +5,7 @@ use Rattle.std.proofs.lemmas.Slice.Eq.{bytes_eq-Decides}
 use Rattle.clap.specs.Walk.{Text}
 use Rattle.command_words.specs.Taken.{form_of}
 use Rattle.command_words.specs.Texts.{general_help, version_text}
-use Rattle.command_words.specs.Words.{Help, Refused, explain_wanted, request, wanted}
+use Rattle.command_words.specs.Words.{Help, Refused, explain_wanted, help_named, request, wanted}
 use Rattle.command_words.specs.declared.commands.CommandName.{CommandName}
 use Rattle.command_words.specs.declared.commands.CommandName.TheVariants as command
 
@@ -20,11 +20,14 @@ pub no_word : request [] ≡ Refused
 unfolding request
 no_word = refl
 
-pub help_word : (first : Text) (rest : List Text) → (first ≡ codes "help") ⊎ ((first ≡ codes "--help") ⊎ (first ≡ codes "-h")) → request (first ∷ rest) ≡ Help general_help
+pub help_word : (first : Text) (rest : List Text) → first ≡ codes "help" → request (first ∷ rest) ≡ Help (help_named rest)
 unfolding request
-help_word first rest (inl e) = rw e refl
-help_word first rest (inr (inl e)) = rw e refl
-help_word first rest (inr (inr e)) = rw e refl
+help_word first rest e = rw e refl
+
+pub help_option : (first : Text) (rest : List Text) → (first ≡ codes "--help") ⊎ (first ≡ codes "-h") → request (first ∷ rest) ≡ Help general_help
+unfolding request
+help_option first rest (inl e) = rw e refl
+help_option first rest (inr e) = rw e refl
 
 pub version_word : (first : Text) (rest : List Text) → (first ≡ codes "--version") ⊎ (first ≡ codes "-V") → request (first ∷ rest) ≡ Help version_text
 unfolding request

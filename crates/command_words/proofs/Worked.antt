@@ -198,8 +198,8 @@ help_of_make : request (codes "make" ∷ codes "-h" ∷ []) ≡ Help make_help
 unfolding request wanted make clap_on_literals
 help_of_make = refl
 
--- the general help and the version, whatever follows
-help : request (codes "help" ∷ codes "generate" ∷ []) ≡ Help general_help
+-- the help of a command by its name, the general help, and the version
+help : request (codes "help" ∷ codes "generate" ∷ []) ≡ Help generate_help
 unfolding request
 help = refl
 

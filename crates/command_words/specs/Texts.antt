@@ -20,7 +20,7 @@ general_help = lined (
     ∷ codes "  osc flat FILE SCENARIO [OPTIONS]"
     ∷ codes "  osc make N"
     ∷ codes "  osc explain [CODE]"
-    ∷ codes "  osc help"
+    ∷ codes "  osc help [COMMAND]"
     ∷ codes "  osc --version"
     ∷ []
     ∷ codes "Commands:"
@@ -30,7 +30,7 @@ general_help = lined (
     ∷ codes "  flat       lists the slots and rules of a scenario: osc flat --help"
     ∷ codes "  make       writes a run of a made scenario with N vehicles: osc make --help"
     ∷ codes "  explain    writes what a code means, for example 201, or lists all codes"
-    ∷ codes "  help       writes this text; so do --help and -h"
+    ∷ codes "  help       writes this text, or the help of a command; --help and -h this text"
     ∷ codes "  --version  writes the version; so does -V"
     ∷ []
     ∷ codes "Statuses, and what osc writes to standard output:"

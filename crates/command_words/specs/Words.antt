@@ -136,6 +136,20 @@ make_form = record {
 
 -- ---- Help and the version
 
+-- the help of the command that a word names, or else the general help
+abbrev pub help_of_word : Text → Text
+help_of_word word = if bytes_eq word (codes "generate") then generate_help
+    else if bytes_eq word (codes "check") then check_help
+    else if bytes_eq word (codes "verify") then verify_help
+    else if bytes_eq word (codes "flat") then flat_help
+    else if bytes_eq word (codes "make") then make_help
+    else general_help
+
+-- the help that the words after `help` ask for; those after the first aren't read
+abbrev pub help_named : List Text → Text
+help_named [] = general_help
+help_named (word ∷ rest) = help_of_word word
+
 abbrev pub is_help_word : Text → Bool
 is_help_word word =
     bytes_eq word (codes "help") || bytes_eq word (codes "--help") || bytes_eq word (codes "-h")
@@ -161,10 +175,11 @@ explain_wanted _ = Refused
 
 -- ---- All words
 
--- the first word picks; after one that asks for the general help or the version nothing is read
+-- the first word picks; after `--help`, `-h` and one that asks for the version nothing is read
 unfoldable pub request : List Text → Wanted
 request [] = Refused
-request (first ∷ rest) = if is_help_word first then Help general_help
+request (first ∷ rest) = if bytes_eq first (codes "help") then Help (help_named rest)
+    else if is_help_word first then Help general_help
     else if is_version_word first then Help version_text
     else if bytes_eq first (codes "generate") then wanted generate_form rest
     else if bytes_eq first (codes "check") then wanted check_form rest

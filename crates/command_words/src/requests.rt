@@ -1,10 +1,12 @@
 ghost use Rattle.std.specs.Prelude.{◌≡◌, IfOk, map, string_bytes};
 ghost use Rattle.command_words.specs.Seen.{seen};
-ghost use Rattle.command_words.specs.Words.{HasRanges, request};
+ghost use Rattle.command_words.specs.Words.{HasRanges, help_named, help_of_word, request};
 
 use crate::commands::{CommandName, read_command};
 use crate::explain::read_explain;
-use crate::texts::{general_help, version_text};
+use crate::texts::{
+    check_help, flat_help, general_help, generate_help, make_help, verify_help, version_text,
+};
 use fault_texts::Topic;
 use std::alloc::{AllocError, Global};
 
@@ -105,7 +107,8 @@ pub fn read_words(alloc: Global, words: &[String]) -> Result<Request<'_>, AllocE
         return Ok(Request::Refused);
     };
     match first.as_str() {
-        "help" | "--help" | "-h" => Ok(Request::Help(general_help())),
+        "help" => Ok(Request::Help(help_named(rest))),
+        "--help" | "-h" => Ok(Request::Help(general_help())),
         "--version" | "-V" => Ok(Request::Help(version_text())),
         "generate" => read_command(alloc, CommandName::Generate, rest),
         "check" => read_command(alloc, CommandName::Check, rest),
@@ -114,5 +117,29 @@ pub fn read_words(alloc: Global, words: &[String]) -> Result<Request<'_>, AllocE
         "make" => read_command(alloc, CommandName::Make, rest),
         "explain" => Ok(read_explain(rest)),
         _ => Ok(Request::Refused),
+    }
+}
+
+/// The help that the words after `help` ask for: that of the command that the first of them names, or the general help.
+fn help_named(words: &[String]) -> &'static str
+    ensures { result.now ≡ help_named (map string_bytes words.now) }
+{
+    match words {
+        [] => general_help(),
+        [word, ..] => help_of_word(word.as_str()),
+    }
+}
+
+/// The help of the command that a word names, or the general help.
+fn help_of_word(word: &str) -> &'static str
+    ensures { result.now ≡ help_of_word word.now }
+{
+    match word {
+        "generate" => generate_help(),
+        "check" => check_help(),
+        "verify" => verify_help(),
+        "flat" => flat_help(),
+        "make" => make_help(),
+        _ => general_help(),
     }
 }

@@ -20,11 +20,18 @@ status_number Status.Arguments = 9
 abbrev pub digit : ℕ → Option ℕ
 digit byte = if nat_le 48 byte && nat_le byte 57 then Some (byte - 48) else None
 
--- the number that one digit or three digits write
+-- the number that three digits write
+abbrev pub three_digits : ℕ → ℕ → ℕ → Option ℕ
+three_digits a b c =
+    option_and_then (λ a. option_and_then (λ b. option_map (λ c. 100 * a + 10 * b + c) (digit c)) (digit b)) (digit a)
+
+-- the number that a word names: one digit, three digits, `E` and three digits, or three digits in `error[...]`, as messages have them
 abbrev pub number_in : List ℕ → Option ℕ
 number_in (a ∷ []) = digit a
-number_in (a ∷ b ∷ c ∷ []) =
-    option_and_then (λ a. option_and_then (λ b. option_map (λ c. 100 * a + 10 * b + c) (digit c)) (digit b)) (digit a)
+number_in (a ∷ b ∷ c ∷ []) = three_digits a b c
+number_in (e ∷ a ∷ b ∷ c ∷ []) = if e == 69 then three_digits a b c else None
+number_in (e ∷ r ∷ s ∷ o ∷ t ∷ open_mark ∷ a ∷ b ∷ c ∷ close_mark ∷ []) =
+    if e == 101 && (r == 114 && (s == 114 && (o == 111 && (t == 114 && (open_mark == 91 && close_mark == 93))))) then three_digits a b c else None
 number_in _ = None
 
 -- the code that is printed as this number

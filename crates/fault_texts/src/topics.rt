@@ -80,7 +80,7 @@ pub(crate) const STATUSES: [Status; 6] = [
     Status::Arguments,
 ];
 
-/// The topic whose number a word is, written with its digits alone. `None` if it is the number of no topic.
+/// The topic that a word names by its number: `201`, `E201` or `error[201]`. `None` if no topic has it.
 pub fn topic_named(word: &str) -> Option<Topic>
     ensures { result ≡ topics.topic_named word.now }
 {
@@ -106,18 +106,26 @@ fn status_numbered(number: u16) -> Option<Status>
         .find(|status| u16::from(status.number()) == number)
 }
 
-/// The number that one digit or three digits write.
+/// The number that a word names: one digit, three digits, `E` and three digits, or three digits in `error[...]`, as messages have
+/// them.
 fn number_in(word: &[u8]) -> Option<u16>
     ensures { result ≡ topics.number_in word.now }
 {
     match word {
         [a] => digit(*a),
-        [a, b, c] => {
-            let (a, b, c) = (digit(*a)?, digit(*b)?, digit(*c)?);
-            Some(100 * a + 10 * b + c)
-        }
+        [a, b, c] => three_digits(*a, *b, *c),
+        [b'E', a, b, c] => three_digits(*a, *b, *c),
+        [b'e', b'r', b'r', b'o', b'r', b'[', a, b, c, b']'] => three_digits(*a, *b, *c),
         _ => None,
     }
+}
+
+/// The number that three digits write.
+fn three_digits(a: u8, b: u8, c: u8) -> Option<u16>
+    ensures { result ≡ topics.three_digits a b c }
+{
+    let (a, b, c) = (digit(a)?, digit(b)?, digit(c)?);
+    Some(100 * a + 10 * b + c)
 }
 
 fn digit(byte: u8) -> Option<u16>

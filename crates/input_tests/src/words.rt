@@ -85,6 +85,9 @@ fn reads_words(rt: HostRuntime) -> io::Result<()> {
         ("explain", "all topics"),
         ("explain --help", "all topics"),
         ("explain 201", "Fault(Syntax)"),
+        ("explain E201", "Fault(Syntax)"),
+        ("explain error[201]", "Fault(Syntax)"),
+        ("explain e201", "refused"),
         ("explain 7", "Status(Sink)"),
         ("explain 3", "refused"),
         ("explain 200", "refused"),
@@ -92,6 +95,7 @@ fn reads_words(rt: HostRuntime) -> io::Result<()> {
         ("explain 201 202", "refused"),
         ("", "refused"),
         ("take 1", "refused"),
+        ("help make", "help: For the statuses: osc help"),
         ("--version", "help: osc 0.1.0"),
     ];
     for (line, want) in rows {

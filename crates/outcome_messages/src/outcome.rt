@@ -98,7 +98,7 @@ pub fn outcome_message(
             put_imports(alloc, &mut text, asked.source.file, kept)?;
             put_answer(alloc, &mut text, &asked, outcome, listing, kept)?;
         }
-        None => put_other(&mut text, outcome.words, outcome.number)?,
+        None => put_made(&mut text, outcome.number)?,
     }
     Ok(text)
 }
@@ -157,21 +157,6 @@ fn put_open(text: &mut String, asked: &Asked<'_>, line: &str) -> Result<(), Allo
         "undecided: each line of the record in `{file}` is right, and after its {cuts} cuts `{scenario}` may still have\n"
     )?;
     text.push_str("a run\n")
-}
-
-/// Puts what there is to say of `make`, and of `help` with the name of a command.
-fn put_other(text: &mut String, words: &[String], number: u8) -> Result<(), AllocError> {
-    let second = match words.get(1) {
-        Some(word) => word.as_str(),
-        None => "",
-    };
-    match second {
-        "generate" | "check" | "verify" | "flat" | "make" if number == 0 => write!(
-            text,
-            "note: this is the help for all commands; that of `{second}` is `osc {second} --help`\n"
-        ),
-        _ => put_made(text, number),
-    }
 }
 
 /// Puts what there is to say of `make`.

@@ -7,7 +7,7 @@ use Rattle.command_words.specs.Words.{Help, request, wanted}
 use Rattle.command_words.specs.declared.commands.CommandName.{CommandName}
 use Rattle.command_words.specs.declared.commands.CommandName.TheVariants as command
 use Rattle.command_words.specs.declared.requests.Request.{Request}
-use Rattle.command_words.proofs.FirstWords.{command_word, explain_word, help_word, no_word, unknown_word, version_word, word_of}
+use Rattle.command_words.proofs.FirstWords.{command_word, explain_word, help_option, help_word, no_word, unknown_word, version_word, word_of}
 use Rattle.command_words.proofs.requests.read_words.Goals as goal
 
 none_left : {X : Type 0} (xs : List X) → length xs ≡ 0 → xs ≡ []
@@ -69,12 +69,17 @@ returns-in_default-as_str-clause-request c =
     sym (unknown_word c.as_str.result.now (map string_bytes c.in-Some.rest.now) other.not-help other.not-text other.not-text-2 other.not-text-3 other.not-text-4 other.not-generate other.not-check other.not-verify other.not-flat other.not-make other.not-explain)
     ∙ ap request words
 
-pub returns-in-text-clause-request : goal.returns-in-text-clause-request
-returns-in-text-clause-request c =
+pub returns-in-text-2-clause-request : goal.returns-in-text-2-clause-request
+returns-in-text-2-clause-request c =
     let words = words_are c.args.words.now c.in-Some.rest.now c.in-Some.first.now c.as_str.result.now c.in-Some.ensures.cases.0 c.as_str.ensures.value in
-    ap Help c.version_text.ensures ∙ sym (version_word c.as_str.result.now (map string_bytes c.in-Some.rest.now) c.in-text.is) ∙ ap request words
+    ap Help c.version_text.ensures ∙ sym (version_word c.as_str.result.now (map string_bytes c.in-Some.rest.now) c.in-text-2.is) ∙ ap request words
 
 pub returns-in-help-clause-request : goal.returns-in-help-clause-request
 returns-in-help-clause-request c =
     let words = words_are c.args.words.now c.in-Some.rest.now c.in-Some.first.now c.as_str.result.now c.in-Some.ensures.cases.0 c.as_str.ensures.value in
-    ap Help c.general_help.ensures ∙ sym (help_word c.as_str.result.now (map string_bytes c.in-Some.rest.now) c.in-help.is) ∙ ap request words
+    ap Help c.help_named.ensures ∙ sym (help_word c.as_str.result.now (map string_bytes c.in-Some.rest.now) c.in-help.is) ∙ ap request words
+
+pub returns-in-text-clause-request : goal.returns-in-text-clause-request
+returns-in-text-clause-request c =
+    let words = words_are c.args.words.now c.in-Some.rest.now c.in-Some.first.now c.as_str.result.now c.in-Some.ensures.cases.0 c.as_str.ensures.value in
+    ap Help c.general_help.ensures ∙ sym (help_option c.as_str.result.now (map string_bytes c.in-Some.rest.now) c.in-text.is) ∙ ap request words
