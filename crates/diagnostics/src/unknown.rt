@@ -102,14 +102,20 @@ fn put_near(
 
 fn put_list(text: &mut String, names: &[String]) -> Result<(), AllocError> {
     text.push_str("The scenarios are")?;
-    let mut mark = " ";
-    for name in names.iter().take(TOLD) {
-        let name = name.as_str();
-        write!(text, "{mark}`{name}`")?;
-        mark = ", ";
-    }
+    put_names(text, names.get(..TOLD).unwrap_or(names))?;
     if names.len() > TOLD {
         text.push_str(" and others")?;
     }
     text.push_str(".\n")
+}
+
+/// Puts names, with commas between them.
+fn put_names(text: &mut String, names: &[String]) -> Result<(), AllocError> {
+    let mut mark = " ";
+    for name in names {
+        let name = name.as_str();
+        write!(text, "{mark}`{name}`")?;
+        mark = ", ";
+    }
+    Ok(())
 }
