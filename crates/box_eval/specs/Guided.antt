@@ -57,8 +57,8 @@ abbrev pub is_whole_at : Side → List Pair → ℕ → ℤ → Bool
 is_whole_at Low ends slot v = int_le (high_at ends slot) (v +ℤ pos 1)
 is_whole_at High ends slot v = int_le v (low_at ends slot)
 
--- a rule is false on no longer first part that leaves the second part a value;
--- here on the next longer one, which says this too, since False stays False on smaller boxes
+-- the first part is the longest on which the rule is false: with one value more the rule isn't false, or the second part has
+-- no value left (one value more is enough to ask: a rule that is false on a box is false on each smaller box)
 abbrev pub is_longest : List Rule → List Pair → Cut → ℕ → Bool
 is_longest rules ends cut rule = is_whole_at cut.side ends cut.slot cut.value || not (may_close rules (longer_at cut.side ends cut.slot cut.value) rule)
 

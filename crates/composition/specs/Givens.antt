@@ -161,7 +161,7 @@ value_tree of (ConditionValue.Truth place value) = ExprTree.Truth place value
 value_tree of (ConditionValue.Name name) = ExprTree.EnumName of name
 value_tree of (ConditionValue.EnumName enum_name member) = ExprTree.EnumName of member
 
--- `it.f == v` for a field that is declared with a type of which the condition asks it, at the type's name
+-- the condition `f == v` of the field's declared type, as a constraint at the type's name
 abbrev pub given_condition : Types → FieldHere → Place → HeirCondition → Field → Given
 given_condition ts f place c looked_at =
     given_keep ts f.here f.here.object f.under place Strength.Hard

@@ -1,6 +1,6 @@
 //! The earlier declaration of a name that is declared twice.
 
-use crate::told::Spot;
+use message_parts::Spot;
 use mistake_helps::{Declared, first_of};
 use name_scope::Program;
 

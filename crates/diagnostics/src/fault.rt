@@ -1,16 +1,17 @@
 //! The message for a fault of a source.
 
 use crate::declared::earlier;
-use crate::excerpt::line_start;
 use crate::expected::expected;
-use crate::kept_files::{bytes_of, program_of, source_in, source_of};
 use crate::keywords::keyword_help;
-use crate::message::{gutter_of, put_explain, put_help, put_site};
-use crate::told::Spot;
 use crate::unknown::{scenario_help, unknown_help};
 use dsl_tree::QName;
 use fault_texts::fault_text;
-use mistake_helps::{Declared, Help, View, declared_names, mistake_help, type_around};
+use message_parts::{
+    Spot, bytes_of, gutter_of, line_start, program_of, put_explain, put_help, put_site, source_in,
+    source_of,
+};
+use mistake_cases::{Help, View};
+use mistake_helps::{Declared, declared_names, mistake_help, type_around};
 use name_scope::Program;
 use osc_base::FaultCode;
 use outside_io::MemoryShelf;

@@ -1,7 +1,7 @@
 //! What is said of a word that is near a word of the language, where that one may stand.
 
 use crate::expected::takes;
-use mistake_helps::{Help, View, is_name, last_word, nearest_of};
+use mistake_cases::{Help, View, is_name, last_word, nearest_of};
 use std::alloc::{AllocError, Global};
 
 /// The words of the language that users misspell: those of three letters and more.

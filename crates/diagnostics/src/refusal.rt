@@ -1,10 +1,8 @@
 //! The message for a call that was refused.
 
 use crate::fault::fault_message;
-use crate::message::{put_explain, put_help};
-use crate::told::{Told, told_by};
-use crate::words::words_message;
 use fault_texts::{Status, status_text};
+use message_parts::{Told, put_explain, put_help, told_by, words_message};
 use outside_io::MemoryShelf;
 use std::alloc::{AllocError, Global};
 

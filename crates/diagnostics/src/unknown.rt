@@ -1,8 +1,7 @@
 //! What is said of a name that isn't declared.
 
-use mistake_helps::{
-    Declared, Help, View, all_units, is_number, nearest_name, nearest_of, scenarios, unit_of,
-};
+use mistake_cases::{Help, View, is_number, nearest_of, unit_of};
+use mistake_helps::{Declared, all_units, nearest_name, scenarios};
 use name_scope::Program;
 use std::alloc::{AllocError, Global};
 

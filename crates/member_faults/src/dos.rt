@@ -40,7 +40,7 @@ pub struct AfterDos {
     pub is_later: bool,
 }
 
-/// Faults of a member that is a `do`, seen from inside of so many conditional subtypes.
+/// Faults of a member that is a `do`. `inside` is how many of the outermost conditions are met already.
 fn with_listed_do(
     form: Form<'_>,
     so_far: AfterDos,
@@ -61,7 +61,8 @@ fn with_listed_do(
     }
 }
 
-/// Faults of each `do` among some members more of a type of this form, seen from inside of so many conditional subtypes.
+/// Faults of each `do` among further members of a type of this form.
+/// `inside` is how many of the outermost conditions are met already.
 pub fn with_dos(
     form: Form<'_>,
     so_far: AfterDos,

@@ -39,7 +39,7 @@ fn if_named<'l>(field: &'l FieldDecl, under: &'l [TypeId], name: &str) -> Option
     }
 }
 
-/// The field of that name that a member declares, seen from inside of so many conditional subtypes.
+/// The field of that name that a member declares. `inside` is how many of the outermost conditions are met already.
 fn field_in<'l>(listed: &'l ListedMember<'_>, inside: usize, name: &str) -> Option<FieldHit<'l>>
     ensures { option_map seen_hit result ≡ field_declared name.now (under_inside inside (seen_listed listed.entry.now)) }
 {
@@ -49,7 +49,7 @@ fn field_in<'l>(listed: &'l ListedMember<'_>, inside: usize, name: &str) -> Opti
     }
 }
 
-/// The first field of that name among members, seen from inside of so many conditional subtypes.
+/// The first field of that name among members. `inside` is how many of the outermost conditions are met already.
 fn field_among<'l>(
     members: &'l [ListedMember<'_>],
     inside: usize,
@@ -66,7 +66,7 @@ fn field_among<'l>(
     None
 }
 
-/// The field of that name that the member of that number declares, seen from inside of so many conditional subtypes.
+/// The field of that name that the member of that number declares. `inside` is how many of its outermost conditions are met.
 fn field_at<'l>(
     members: &'l [ListedMember<'_>],
     number: usize,

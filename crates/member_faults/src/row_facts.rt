@@ -140,7 +140,7 @@ fn is_distinct_row(places: &[NamePlaces<'_>], row: usize) -> bool
     }
 }
 
-/// What is known of the row of that number and what is in front of it, given its names and what is known of its front.
+/// The facts of row `n` with its prefix, from the facts of the prefix and the row's own names.
 fn facts_with(
     heads: &Heads,
     places: &[NamePlaces<'_>],

@@ -1,6 +1,7 @@
 //! Calls of `command` as the program makes them, over a shelf and a sink in memory.
 
-use diagnostics::{NotedShelf, NotedSink, refusal_message};
+use diagnostics::refusal_message;
+use message_parts::{NotedShelf, NotedSink};
 use osc_base::Row;
 use outside_io::{MemoryShelf, MemorySink, Shelf};
 use scenario_tool::command;

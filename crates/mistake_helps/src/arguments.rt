@@ -1,9 +1,6 @@
 //! What is said of an argument that isn't taken: which one it is, and what is taken in its place.
 
-use crate::form::Help;
-use crate::nearest::nearest_of;
-use crate::text_parts::{first_word, is_name, last_word};
-use crate::view::View;
+use mistake_cases::{Help, View, first_word, is_name, last_word, nearest_of};
 use osc_base::FaultCode;
 use std::alloc::{AllocError, Global};
 

@@ -2,13 +2,11 @@
 //!
 //! Only operands are told that are a literal or a path, since their kind is known without a reading of the expression.
 
-use crate::form::Help;
 use crate::program_names::{
     Declared, has_units, type_of_field, type_of_member, type_of_unit, units_of,
 };
-use crate::text_parts::{digits_of, first_part, is_number, last_part, last_word, unit_of};
-use crate::view::View;
 use dsl_tree::QName;
+use mistake_cases::{Help, View, digits_of, first_part, is_number, last_part, last_word, unit_of};
 use osc_base::FaultCode;
 use std::alloc::{AllocError, Global};
 

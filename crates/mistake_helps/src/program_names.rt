@@ -1,9 +1,9 @@
 //! The names that a program declares.
 
-use crate::nearest::Nearest;
 use dsl_tree::{
     CompoundDecl, CompoundKind, Declaration, EnumItem, FieldDecl, File, Ident, Member, QName,
 };
+use mistake_cases::Nearest;
 use name_scope::Program;
 use std::alloc::{AllocError, Global};
 

@@ -3,8 +3,9 @@
 //! error. It is made of what was read and written: no file is read twice.
 #![tactic(auto)]
 
-use diagnostics::{NotedShelf, NotedSink, refusal_message, status_message};
+use diagnostics::{refusal_message, status_message};
 use fault_texts::Status;
+use message_parts::{NotedShelf, NotedSink};
 use osc_base::Row;
 use outcome_messages::{Outcome, listing_words, outcome_message};
 use outside_io::{FileShelf, MemoryShelf, MemorySink, OutSink};

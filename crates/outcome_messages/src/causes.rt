@@ -1,12 +1,11 @@
 //! Why there is no run: the constraints that the record needs, and what the setting excludes.
 
-use crate::limits::{Exclusion, excluded, is_duration};
-use crate::places::{RulePlace, closed_places};
-use crate::setting::{Asked, put_setting};
-use diagnostics::{ClosedRules, Spot, bytes_of, gutter_of, line_start, put_site, source_of};
-use mistake_helps::View;
-use osc_base::FaultCode;
+use crate::closed_places::closed_places;
+use crate::limits::{Exclusion, excluded};
+use message_parts::{ClosedRules, bytes_of, source_of};
+use mistake_cases::View;
 use outside_io::MemoryShelf;
+use run_messages::{Asked, RulePlace, is_duration, put_place, put_setting, view_at};
 use std::alloc::{AllocError, Global};
 
 /// The most ticks of a setting.
@@ -101,14 +100,6 @@ fn excluded_at(
     }
 }
 
-/// The text around a place. A view is of a fault; here its code is of no use.
-pub fn view_at<'a>(source: Option<&'a [u8]>, place: RulePlace<'_>) -> Option<View<'a>> {
-    let source = source?;
-    let start = line_start(source, place.line)?;
-    let at = start.saturating_add((place.column as usize).saturating_sub(1));
-    View::new(FaultCode::Syntax, source, start, at)
-}
-
 fn put_excluded(
     alloc: Global,
     text: &mut String,
@@ -119,31 +110,6 @@ fn put_excluded(
     put_place(alloc, text, place, excluded.label.as_str(), kept)?;
     let cure = excluded.cure.as_str();
     write!(text, "  = help: {cure}\n")
-}
-
-/// Puts the place of a rule with the line of its source, and what there is to say of it.
-pub fn put_place(
-    alloc: Global,
-    text: &mut String,
-    place: RulePlace<'_>,
-    label: &str,
-    kept: &mut MemoryShelf,
-) -> Result<(), AllocError> {
-    let spot = Spot {
-        code: FaultCode::Syntax,
-        file: place.file,
-        line: place.line,
-        column: place.column,
-    };
-    let bytes = source_of(alloc, place.file, kept)?;
-    put_site(
-        alloc,
-        text,
-        gutter_of(place.line),
-        &spot,
-        bytes_of(&bytes),
-        label,
-    )
 }
 
 /// Puts the places of the user's files that the record needs.

@@ -1,7 +1,7 @@
 //! A warning of an import that brings the library under another name than its own.
 
-use diagnostics::{bytes_of, source_of};
-use mistake_helps::first_part;
+use message_parts::{bytes_of, source_of};
+use mistake_cases::first_part;
 use outside_io::MemoryShelf;
 use std::alloc::{AllocError, Global};
 

@@ -5,19 +5,12 @@
 //! safely. It says nothing that isn't known from the answer, the files that were read, and the listing of `flat`.
 #![tactic(auto)]
 
-mod asked_value;
 mod causes;
-mod clause;
-mod decimals;
+mod closed_places;
 mod imports;
 mod limits;
-mod modifier;
-mod motion;
 mod outcome;
-mod places;
-mod read_values;
-mod run_parts;
-mod setting;
+mod refuted;
 mod undecided;
 
 pub use outcome::{Outcome, listing_words, outcome_message};

@@ -1,9 +1,8 @@
 //! Constraints that a limit of the setting makes impossible, whatever else the source says.
 
-use crate::asked_value::{Ends, ends_in};
-use crate::decimals::put_decimal;
 use command_words::Setting;
-use mistake_helps::{View, last_word};
+use mistake_cases::View;
+use run_messages::{Asks, Ends, asked_at, ends_in, put_decimal};
 use std::alloc::{AllocError, Global};
 
 /// The greatest values of the options.
@@ -22,15 +21,6 @@ pub struct Exclusion {
     pub cure: String,
 }
 
-/// What is asked for at a place.
-#[derive(Debug, Clone, Copy)]
-enum Asks {
-    Duration,
-    Lane,
-    /// A position, or a distance between two.
-    Length,
-}
-
 /// Why no setting of these limits admits what is asked for at a place. `None` if it may, or if it isn't known.
 pub fn excluded(
     alloc: Global,
@@ -47,36 +37,6 @@ pub fn excluded(
         Asks::Duration => long_duration(alloc, ends, setting.ticks),
         Asks::Lane => no_lane(alloc, ends, setting.lanes),
         Asks::Length => long_way(alloc, ends, setting.road),
-    }
-}
-
-/// Whether a duration is asked for at a place.
-pub fn is_duration(view: &View<'_>) -> bool {
-    matches!(asked_at(view), Some((Asks::Duration, _)))
-}
-
-/// What is asked for at a place, and the text that says how much.
-fn asked_at<'a>(view: &View<'a>) -> Option<(Asks, &'a str)> {
-    let before = view.before.trim_end();
-    if let Some(head) = before.strip_suffix(':') {
-        return if last_word(head) == "duration" {
-            Some((Asks::Duration, view.onward))
-        } else {
-            None
-        };
-    }
-    if let Some(head) = before.strip_suffix('(') {
-        return if last_word(head) == "elapsed" {
-            Some((Asks::Duration, view.onward))
-        } else {
-            None
-        };
-    }
-    let value = view.behind().strip_prefix('(')?.trim_start();
-    match view.word() {
-        "lane" => Some((Asks::Lane, value)),
-        "position" => Some((Asks::Length, value)),
-        _ => None,
     }
 }
 

@@ -1,10 +1,10 @@
 use crate::causes::put_no_run;
-use crate::clause::{put_failed, put_refuted};
 use crate::imports::put_imports;
-use crate::setting::{Asked, Command, asked_in, put_call};
+use crate::refuted::put_refuted;
 use crate::undecided::put_undecided;
-use diagnostics::ClosedRules;
+use message_parts::ClosedRules;
 use outside_io::MemoryShelf;
+use run_messages::{Asked, Command, asked_in, put_call, put_failed};
 use std::alloc::{AllocError, Global};
 
 /// More slots and rules than a scenario has of which the listing is made again for a message.

@@ -1,8 +1,8 @@
 //! What helps if a search is undecided.
 
-use crate::setting::{Asked, put_call, put_setting};
-use diagnostics::{bytes_of, put_help, source_of};
+use message_parts::{bytes_of, put_help, source_of};
 use outside_io::MemoryShelf;
+use run_messages::{Asked, put_call, put_setting};
 use std::alloc::{AllocError, Global};
 
 /// The most cuts of a search.

@@ -34,7 +34,7 @@ fn push_names<'a>(
     Ok(())
 }
 
-/// Puts the fields that a member declares at the end, seen from inside of so many conditional subtypes.
+/// Appends the fields that a member declares. `inside` is how many of the outermost conditions are met already.
 fn push_fields<'a>(
     into: &mut Vec<TypeField<'a>>,
     listed: &'a ListedMember<'a>,
@@ -51,7 +51,7 @@ fn push_fields<'a>(
     }
 }
 
-/// Puts the fields that members declare at the end, name by name, seen from inside of so many conditional subtypes.
+/// Appends the fields that members declare, name by name. `inside` is how many of the outermost conditions are met already.
 pub(crate) fn push_all<'a>(
     into: &mut Vec<TypeField<'a>>,
     members: &'a [ListedMember<'a>],
@@ -65,7 +65,7 @@ pub(crate) fn push_all<'a>(
     Ok(())
 }
 
-/// The field of that name, if the member declares fields, seen from inside of so many conditional subtypes.
+/// The field of that name, if the member declares fields. `inside` is how many of the outermost conditions are met already.
 pub(crate) fn field_of<'a>(
     listed: &'a ListedMember<'a>,
     name: &'a Ident,
@@ -84,7 +84,7 @@ pub(crate) fn field_of<'a>(
     }
 }
 
-/// The `do` that a member is, seen from inside of so many conditional subtypes.
+/// The `do` that a member is. `inside` is how many of the outermost conditions are met already.
 pub(crate) fn do_of<'a>(listed: &'a ListedMember<'a>, inside: usize) -> Option<TypeDo<'a>>
     ensures { option_map seen_do result ≡ do_declared (under_inside inside (seen_listed listed.entry.now)) (seen_listed listed.entry.now).written.member }
 {

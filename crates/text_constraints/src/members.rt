@@ -184,8 +184,8 @@ fn push_own_rule(
     push_rule(alloc, texts.types(), &text, &owner, into, rule)
 }
 
-/// Puts what a field of the object gives at the end. The scope is that of the member's text. The member is seen from inside of
-/// so many of the conditional subtypes that it is under.
+/// Appends the constraints that a field of the object gives. The scope is that of the member's text.
+/// `inside` is how many of the outermost conditions are met already.
 fn push_field(
     alloc: Global,
     texts: &ProgramTexts<'_>,
@@ -243,8 +243,8 @@ fn push_member_rule(
     push_own_rule(alloc, texts, standing, &own, under.as_slice(), into, rule)
 }
 
-/// Puts what a member of the object gives at the end. The scope is that of the member's text. The member is seen from inside of
-/// so many of the conditional subtypes that it is under.
+/// Appends the constraints that a member of the object gives. The scope is that of the member's text.
+/// `inside` is how many of the outermost conditions are met already.
 fn push_member(
     alloc: Global,
     texts: &ProgramTexts<'_>,
@@ -301,8 +301,8 @@ fn labels_for<'t>(
     text_labels(alloc, texts, holder)
 }
 
-/// Puts what a member of the object gives at the end, given the labels of the member's text. It is seen from inside of so many
-/// of the conditional subtypes that it is under.
+/// Appends the constraints that a member of the object gives, given the labels of the member's text.
+/// `inside` is how many of the outermost conditions are met already.
 fn push_labelled(
     alloc: Global,
     texts: &ProgramTexts<'_>,
@@ -318,7 +318,7 @@ fn push_labelled(
     push_member(alloc, texts, standing, &scope, listed, inside, into)
 }
 
-/// Puts what members of the object give at the end, seen from inside of so many of the conditional subtypes that they are under.
+/// Appends the constraints that members of the object give. `inside` is how many of the outermost conditions are met already.
 /// Labels that are made for a text serve all members in a row.
 fn push_members(
     alloc: Global,

@@ -239,8 +239,7 @@ impl Ancestors {
         }
     }
 
-    /// The type from which on there are no more types than from that base on. It is the base itself if this is one of
-    /// the types from `of` on.
+    /// The ancestor of `of` at the depth of `base`. It is `base` itself exactly if `base` is an ancestor of `of`.
     fn reached(&self, heads: &[Head], base: TypeId, of: TypeId) -> TypeId
         requires { entries_fit heads.now self.now.entries.items ≡ true }
         ensures { has base (line_from heads.now self.now.entries.items of) ≡ nat_eq base result }

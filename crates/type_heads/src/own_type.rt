@@ -25,7 +25,7 @@ pub enum BasicType {
     Chars,
 }
 
-/// A type as it is declared. That of a compound has the numbers of its file and of its declaration there.
+/// A type as it is declared. A compound has the number of its file, and of its declaration in that file.
 #[derive(Clone, Copy)]
 pub enum OwnType<'a> {
     Basic(BasicType),

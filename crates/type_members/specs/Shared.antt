@@ -20,7 +20,7 @@ parts_at rows parts = flat_map (part_at rows) parts
 abbrev pub list_at : {X : Type 0} → List (List Part) → List (List X) → Span → List X
 list_at fronts rows s = parts_at rows (slice_index_or fronts s.row []) ++ take s.len (slice_index_or rows s.row [])
 
--- a member, seen from inside of the first of the conditional subtypes that it is under
+-- a member without so many of its outermost conditions, which are met already
 abbrev pub under_inside : ℕ → Member → Member
 under_inside count m = record m { under = drop count m.under }
 
@@ -40,7 +40,7 @@ members_at fronts rows s = members_in_parts rows (slice_index_or fronts s.row []
 abbrev pub place_parts : List (List Part) → Span → List Part
 place_parts fronts s = slice_index_or fronts s.row [] ++ record { row = s.row; from = 0; to = s.len; inside = 0 } ∷ []
 
--- a part from one place to another, seen from inside of one conditional subtype more
+-- a part from one place to another, with one condition more that is met already
 abbrev pub inner_part : Part → Cut → Part
 inner_part p cut = record { row = p.row; from = cut.from; to = cut.to; inside = p.inside + 1 }
 
@@ -48,7 +48,7 @@ inner_part p cut = record { row = p.row; from = cut.from; to = cut.to; inside = 
 abbrev pub around : Part → Cut → List Part
 around p cut = record p { to = cut.from } ∷ record p { from = cut.to } ∷ []
 
--- what is cut out of one of some parts comes after all, seen from inside of one conditional subtype more
+-- what is cut out of one of some parts comes after all, with one condition more that is met already
 abbrev pub moved : List Part → Cut → List Part
 moved parts cut =
     option_map_or (λ (p : Part). (take cut.part parts ++ around p cut ++ drop (cut.part + 1) parts) ++ inner_part p cut ∷ []) (slice_get parts cut.part) []

@@ -13,7 +13,7 @@ use crate::places::Part;
 use crate::rows::{Cut, MemberRow};
 use type_heads::TypeId;
 
-/// Whether a type is the first of the conditional subtypes that a member is under, seen from inside of so many.
+/// Whether a type is the first of the conditional subtypes that a member is under, without the outermost `inside`.
 fn is_within_type(member: &ListedMember<'_>, inside: usize, of: TypeId) -> bool
     ensures { result ≡ is_within of (under_inside inside (seen_listed member.now)) }
 {
@@ -171,7 +171,7 @@ fn part_of(parts: &[Part], hole: &Hole) -> Option<usize> {
     None
 }
 
-/// Whether a member is under no conditional subtype, seen from inside of so many.
+/// Whether a member is under no conditional subtype but the outermost `inside`.
 fn is_free(member: &ListedMember<'_>, inside: usize) -> bool
     ensures { result ≡ is_under_none (under_inside inside (seen_listed member.now)) }
 {

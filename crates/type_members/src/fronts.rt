@@ -156,8 +156,7 @@ fn push_parts(into: &mut Vec<Part>, parts: &[Part]) -> Result<(), AllocError>
     Ok(())
 }
 
-/// What is cut out of a part, seen from inside of one conditional subtype more. There are never so many that they can't be
-/// counted.
+/// What is cut out of a part, with one condition more that is met already. There are never so many that they can't be counted.
 fn inner_part(part: &Part, cut: &Cut) -> Result<Part, AllocError>
     ensures { IfOk result (λ inner. inner ≡ inner_of part.now cut.now) }
 {

@@ -17,7 +17,7 @@ pub struct ListedMember<'a> {
 impl<'a> ListedMember<'a> {
     ghost use Rattle.std.specs.Prelude.{◌≡◌, drop};
 
-    /// The conditional subtypes that a member is under, seen from inside of the first so many of them.
+    /// The conditional subtypes that a member is under, without the outermost `inside`, whose conditions are met already.
     pub fn under_inside(&self, inside: usize) -> &[TypeId]
         ensures { result.now ≡ drop inside self.now.under }
     {

@@ -9,8 +9,8 @@ use crate::rows::{MemberRow, RowEnd};
 use std::alloc::{AllocError, Global};
 use type_heads::TypeId;
 
-/// What stands in a row from one place to another, seen from inside of the first `inside` of the conditional subtypes that its
-/// members are under. Places are counted from 0, and the second isn't part of it.
+/// The members of a row from one place to another. `inside` is how many of their outermost conditions are met already. Places are
+/// counted from 0, and the second isn't part of it.
 #[derive(Clone, Copy)]
 pub struct Part {
     pub row: usize,

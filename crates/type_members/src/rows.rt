@@ -26,7 +26,7 @@ pub struct RowEnd {
     pub depth: usize,
 }
 
-/// What is cut out of one of some parts, from one place of its row to another.
+/// The range `from..to` of its row that is removed from the part of that number.
 #[derive(Clone, Copy)]
 pub struct Cut {
     pub part: usize,

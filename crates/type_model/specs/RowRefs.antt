@@ -19,7 +19,7 @@ ref_of m = record {
   depth = length m.under;
 }
 
--- what is told of a member, seen from inside of the first of the conditional subtypes that it is under
+-- what is told of a member without so many of its outermost conditions, which are met already
 abbrev pub told_inside : ℕ → RowRef → MemberAt
 told_inside count r = record (shown_member r.at) { under = cond (nat_lt count r.depth) r.at.under None }
 

@@ -146,7 +146,7 @@ fn own_refs<'r>(rows: &'r [Row<RowRef>], span: &Span) -> &'r [RowRef]
     }
 }
 
-/// Where a member is written, seen from inside of the first so many of the conditional subtypes that it is under.
+/// Where a member is written. `inside` is how many of the outermost conditions are met already.
 fn ref_inside(kept: &RowRef, inside: usize) -> MemberRef
     ensures { shown_member result ≡ told_inside inside kept.now }
 {
@@ -162,7 +162,7 @@ fn ref_inside(kept: &RowRef, inside: usize) -> MemberRef
     }
 }
 
-/// Puts at the end where members are written, seen from inside of the first so many of the conditional subtypes.
+/// Appends where members are written. `inside` is how many of the outermost conditions are met already.
 fn push_inside(
     refs: &mut Vec<MemberRef>,
     members: &[RowRef],

@@ -39,7 +39,7 @@ fn in_order(rt: HostRuntime) -> Result<(), Fail> {
     Ok(())
 }
 
-/// Writes each member as the type that holds it, and how many conditional subtypes it is under, seen from inside of so many.
+/// Writes each member as the type that holds it, and how many conditional subtypes it is under, without the outermost `inside`.
 fn push_holders(
     alloc: Global,
     text: &mut String,

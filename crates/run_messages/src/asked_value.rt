@@ -1,6 +1,6 @@
 //! Numbers that a source writes out.
 
-use mistake_helps::{first_part, is_number, unit_of};
+use mistake_cases::{first_part, is_number, unit_of};
 
 /// Two ends, in thousandths.
 #[derive(Debug, Clone, Copy, PartialEq, Eq)]

@@ -3,8 +3,9 @@
 use crate::decimals::put_decimal;
 use crate::run_parts::value_of;
 use crate::setting::Asked;
-use diagnostics::load_kept;
-use mistake_helps::{Declared, View, declared_names, first_part, is_name, type_of_member};
+use message_parts::load_kept;
+use mistake_cases::{View, first_part, is_name};
+use mistake_helps::{Declared, declared_names, type_of_member};
 use outside_io::MemoryShelf;
 use serde_json::Value;
 use std::alloc::{AllocError, Global};

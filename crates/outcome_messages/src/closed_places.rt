@@ -1,18 +1,11 @@
 //! The places of the rules that a record is closed by, from the listing of `flat`.
 
-use diagnostics::ClosedRules;
+use message_parts::ClosedRules;
+use run_messages::{RulePlace, place_in};
 use std::alloc::{AllocError, Global};
 
 /// How many places are gathered.
 const MOST: usize = 64;
-
-/// A place of a source, as the listing has it.
-#[derive(Debug, Clone, Copy, PartialEq, Eq)]
-pub struct RulePlace<'a> {
-    pub file: &'a str,
-    pub line: u32,
-    pub column: u32,
-}
 
 /// The places of the rules of a listing that are closed by, each once, in the order of the rules.
 pub fn closed_places<'a>(
@@ -54,15 +47,4 @@ fn place_of_rule(line: &str) -> Option<RulePlace<'_>> {
         "modifier" => place_in(rest.rsplit_once(' ')?.0),
         _ => None,
     }
-}
-
-/// The place that a text `FILE:LINE:COLUMN` names.
-pub fn place_in(text: &str) -> Option<RulePlace<'_>> {
-    let (rest, column) = text.rsplit_once(':')?;
-    let (file, line) = rest.rsplit_once(':')?;
-    Some(RulePlace {
-        file,
-        line: line.parse().ok()?,
-        column: column.parse().ok()?,
-    })
 }

@@ -1,17 +1,16 @@
-//! Why a run is no instance, or a record isn't right, in words.
+//! Why a run is no instance, in words.
 
-use crate::causes::{put_place, view_at};
+use crate::asks::is_duration;
 use crate::decimals::{put_decimal, put_tick};
-use crate::limits::is_duration;
 use crate::modifier::wrong_modifier;
 use crate::motion::wrong_motion;
-use crate::places::{RulePlace, place_in};
+use crate::places::{RulePlace, place_in, put_place, view_at};
 use crate::read_values::put_values;
 use crate::run_parts::{Sample, end_of, item_of, number_at, sample_at, samples_of, span_of};
 use crate::setting::Asked;
 use command_words::Setting;
-use diagnostics::{bytes_of, source_of};
-use mistake_helps::View;
+use message_parts::{bytes_of, source_of};
+use mistake_cases::View;
 use outside_io::MemoryShelf;
 use serde_json::Value;
 use std::alloc::{AllocError, Global};
@@ -322,40 +321,4 @@ fn put_listed(text: &mut String, run: &Value, path: &str) -> Result<(), AllocErr
         text,
         "it has no `{path}`: it may be a run of another scenario, or of another version of the source"
     )
-}
-
-/// Puts why a record isn't right, of the line `no LINE`.
-pub fn put_refuted(
-    alloc: Global,
-    text: &mut String,
-    asked: &Asked<'_>,
-    line: &str,
-    kept: &mut MemoryShelf,
-) -> Result<(), AllocError> {
-    let number = line.trim_end().strip_prefix("no ").unwrap_or("");
-    let Ok(number) = number.parse::<usize>() else {
-        return Ok(());
-    };
-    let (file, scenario) = (asked.file, asked.source.scenario);
-    write!(
-        text,
-        "not right: line {number} of the record in `{file}` isn't accepted for `{scenario}`\n"
-    )?;
-    let bytes = source_of(alloc, file, kept)?;
-    if let Some(written) = bytes_of(&bytes).and_then(|bytes| line_of(bytes, number)) {
-        write!(text, "  = note: it is `{written}`\n")?;
-    }
-    if number <= 4 {
-        text.push_str(
-            "  = help: a record is of one source and one setting: give the `--ticks`, `--lanes` and `--road` with which it\n",
-        )?;
-        text.push_str("          was written\n")?;
-    }
-    Ok(())
-}
-
-/// A line of a text, counted from 1.
-fn line_of(bytes: &[u8], number: usize) -> Option<&str> {
-    let text = str::from_utf8(bytes).ok()?;
-    text.lines().nth(number.checked_sub(1)?)
 }

@@ -6,7 +6,8 @@
 use crate::asked_value::{Ends, ends_in};
 use crate::decimals::{put_decimal, put_tick};
 use crate::run_parts::{Sample, sample_at, samples_of, span_of, value_of};
-use mistake_helps::{Argument, View, arguments_in, first_part, indentation, is_name, last_part};
+use mistake_cases::{View, first_part, indentation, is_name, last_part};
+use mistake_helps::{Argument, arguments_in};
 use serde_json::Value;
 use std::alloc::{AllocError, Global};
 

@@ -7,7 +7,7 @@ use command_words::{
     Request, check_help, flat_help, general_help, generate_help, make_help, read_words, verify_help,
 };
 use fault_texts::{Status, Topic, topic_named};
-use mistake_helps::Nearest;
+use mistake_cases::Nearest;
 use std::alloc::{AllocError, Global};
 
 /// The most words that are looked at.
