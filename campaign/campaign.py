@@ -9,7 +9,7 @@ from dataclasses import dataclass
 TOP = os.path.dirname(os.path.dirname(os.path.realpath(__file__)))
 KEYS = {"program", "out", "batch", "export", "scenarios", "settings", "seeds", "cuts"}
 SCENARIO_KEYS = {"file", "scenario", "name", "expect"}
-SETTING_KEYS = {"name", "ticks", "lanes", "road"}
+SETTING_KEYS = {"name", "ticks", "lanes", "road", "tick"}
 FORMS = ("csv", "xosc", "xodr", "html")
 NAME = r"[A-Za-z0-9_-]+"
 
@@ -172,7 +172,7 @@ def read_scenario(value):
 def read_setting(value):
     """The name of a setting, and its options."""
     it = table(value, SETTING_KEYS, "settings")
-    options = tuple(f"--{key}={whole(it[key], f'settings: {key}', 1, 10000)}" for key in ("ticks", "lanes", "road") if key in it)
+    options = tuple(f"--{key}={whole(it[key], f'settings: {key}', 1, 10000)}" for key in ("ticks", "lanes", "road", "tick") if key in it)
     return named(it.get("name", "default"), "settings: name"), options
 
 

@@ -78,7 +78,7 @@ class Batch:
         if checked.returncode:
             return {"outcome": "error", "message": f"check of {path}: {message(checked)}"}
         run = json.loads(text)
-        found = {"outcome": "run", "end": run["end"], "digest": hashlib.sha256(text).hexdigest()[:12], "values": dict(run["values"])}
+        found = {"outcome": "run", "end": run["end"], "tick": run.get("tick", 100), "digest": hashlib.sha256(text).hexdigest()[:12], "values": dict(run["values"])}
         return {**found, "gap": least_gap(run), "time": least_time(run), **self.export(seed, is_new=True)}
 
     def export(self, seed, is_new=False):

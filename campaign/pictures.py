@@ -60,37 +60,38 @@ def run(of, tick):
     ahead = [(name, [(it[1] - base[1]) / 1e6 for it, base in zip(samples, first)]) for name, samples in traces]
     speeds = [(name, [it[2] / 1e3 for it in samples]) for name, samples in traces]
     lanes = [(name, [it[0] for it in samples]) for name, samples in traces]
-    charts = [chart(ahead, tick, f"ahead of {traces[0][0]}, m", 0, False), chart(speeds, tick, "speed, m/s", 310, True),
-              chart(lanes, tick, "lane", 620, True)]
+    seconds = of.get("tick", 100) / 1000
+    charts = [chart(ahead, tick, seconds, f"ahead of {traces[0][0]}, m", 0, False), chart(speeds, tick, seconds, "speed, m/s", 310, True),
+              chart(lanes, tick, seconds, "lane", 620, True)]
     names = [f'<circle cx="{8 + 120 * k}" cy="10" r="5" fill="{colour}"/>{label(18 + 120 * k, 14, name)}'
              for k, ((name, _), colour) in enumerate(zip(traces, COLOURS))]
     others = len(of["traces"]) - len(traces)
     more = [label(8 + 120 * len(traces), 14, f"and {others} others")] if others else []
-    above, height = road(traces, tick)
+    above, height = road(traces, tick, seconds)
     return svg(920, 175 + height, *names, *more, *above, f'<g transform="translate(0 {30 + height})">', *charts, "</g>")
 
 
-def road(traces, tick):
+def road(traces, tick, seconds):
     """The lanes from above at a tick, with the way of a second before and after it; and how high that is."""
-    count = max(it[0] for _, samples in traces for it in samples)
-    near = [it[1] / 1e6 for _, samples in traces for it in samples[max(tick - 10, 0):tick + 11]]
+    count, around = max(it[0] for _, samples in traces for it in samples), round(1 / seconds)
+    near = [it[1] / 1e6 for _, samples in traces for it in samples[max(tick - around, 0):tick + around + 1]]
     low, scale = min(near) - 5, 880 / (max(near) - min(near) + 10)
     place = lambda it: (20 + (it[1] / 1e6 - low) * scale, 34 + 26 * (count - it[0]) + 13)  # noqa: E731 (it is used in this function alone)
     parts = [f'<rect x="20" y="34" width="880" height="{26 * count}" fill="var(--area)"/>']
     parts += [line(20, 34 + 26 * k, 900, 34 + 26 * k, 'stroke-dasharray="14 10"' if 0 < k < count else "") for k in range(count + 1)]
     for (name, samples), colour in zip(traces, COLOURS):
-        way = " ".join("{:.1f},{:.1f}".format(*place(it)) for it in samples[max(tick - 10, 0):tick + 11])
+        way = " ".join("{:.1f},{:.1f}".format(*place(it)) for it in samples[max(tick - around, 0):tick + around + 1])
         x, y = place(samples[tick])
         parts.append(f'<polyline points="{way}" fill="none" stroke="{colour}" stroke-opacity="0.45" stroke-width="2"/>'
                      f'<path d="M{x:.1f} {y:.1f} l-11 -6 v12 z" fill="{colour}"><title>{escape(name)}</title></path>')
     high = 34 + 26 * count
     parts += [label(16, 34 + 26 * k + 17, str(count - k), "end") for k in range(count)]
-    parts += [label(20, high + 14, f"{low:.0f} m"), label(460, high + 14, f"from above at {tick / 10:.1f} s, driving to the right", "middle"),
+    parts += [label(20, high + 14, f"{low:.0f} m"), label(460, high + 14, f"from above at {tick * seconds:.2f} s, driving to the right", "middle"),
               label(900, high + 14, f"{low + 880 / scale:.0f} m", "end")]
     return parts, high
 
 
-def chart(lines, tick, title, left, stepped):
+def chart(lines, tick, seconds, title, left, stepped):
     """Some values over the ticks, with a mark at one tick."""
     values = [it for _, its in lines for it in its]
     low, high = min(values), max(values)
@@ -100,7 +101,7 @@ def chart(lines, tick, title, left, stepped):
     parts = [line(left + 44, 110, left + 280, 110), line(left + 44, 20, left + 44, 110),
              line(across(tick), 20, across(tick), 110, 'stroke-dasharray="3 3"'), label(left + 44, 12, title),
              label(left + 38, 26, plain(high), "end"), label(left + 38, 110, plain(low), "end"),
-             label(left + 44, 125, "0 s"), label(left + 280, 125, f"{ticks / 10:.1f} s", "end")]
+             label(left + 44, 125, "0 s"), label(left + 280, 125, f"{ticks * seconds:.1f} s", "end")]
     for (_, its), colour in zip(lines, COLOURS):
         points = [(t, v) for k, v in enumerate(its) for t in ([k, k + 1] if stepped and k < len(its) - 1 else [k])]
         way = " ".join(f"{across(t):.1f},{up(v):.1f}" for t, v in points)

@@ -82,7 +82,7 @@ def write_summary(rows, path):
         lines = csv.writer(file)
         lines.writerow([*PLAIN, *[f"field.{it}" for it in fields]])
         for row in rows:
-            end = f"{row['end'] / 10:.1f}" if "end" in row else ""
+            end = f"{row['end'] * row.get('tick', 100) / 1e3:.3f}" if "end" in row else ""
             plain = [row["scenario"], row["setting"], row["cuts"], row["seed"], row["outcome"], row.get("status", ""), row.get("seconds", ""),
                      end, metres(row), seconds(row), row.get("message", "").partition("\n")[0]]
             lines.writerow([*plain, *[row.get("values", {}).get(it, "") for it in fields]])
@@ -183,7 +183,7 @@ def extreme(campaign, row, names, tick, own, ahead):
     path = f"{campaign.out}/runs/{row['scenario']}/{row['setting']}/{row['cuts']}/seed-{row['seed']}.json"
     with open(path, encoding="utf-8") as file:
         run = json.load(file)
-    return (f"<figure><figcaption>The {' and the '.join(names)}: seed {row['seed']}, {escape(own)} behind {escape(ahead)} at {tick / 10:.1f} s. "
+    return (f"<figure><figcaption>The {' and the '.join(names)}: seed {row['seed']}, {escape(own)} behind {escape(ahead)} at {tick * run.get('tick', 100) / 1e3:.2f} s. "
             f"<code>{escape(path)}</code></figcaption>{pictures.run(run, tick)}</figure>")
 
 

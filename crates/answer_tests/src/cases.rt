@@ -31,7 +31,7 @@ impl Wanted {
         Ok(match self {
             Wanted::Values(values) => {
                 let run = format!(in alloc;
-                    "0 {{\"choices\":[],\"end\":0,\"form\":1,\"phases\":[],\"traces\":[],\"values\":{values}}}\n"
+                    "0 {{\"choices\":[],\"end\":0,\"form\":2,\"phases\":[],\"tick\":100,\"traces\":[],\"values\":{values}}}\n"
                 )?;
                 got == run.as_str()
             }

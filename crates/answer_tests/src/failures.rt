@@ -31,7 +31,7 @@ fn a_shelf_that_fails_at_each_call(rt: HostRuntime) -> Result<(), Fail> {
         } else if call < 6 {
             "6 shelf b.osc\n"
         } else {
-            "0 {\"choices\":[],\"end\":0,\"form\":1,\"phases\":[],\"traces\":[],\"values\":[[\"x.n\",7]]}\n"
+            "0 {\"choices\":[],\"end\":0,\"form\":2,\"phases\":[],\"tick\":100,\"traces\":[],\"values\":[[\"x.n\",7]]}\n"
         };
         assert_eq!(rt; got.as_str(), want, "call {call}");
     }
@@ -72,7 +72,7 @@ fn a_path_of_1001_steps(rt: HostRuntime) -> Result<(), Fail> {
     let got = answer_to(rt.alloc(), "generate main.osc top", source.as_str(), "")?;
     let got = got.as_str();
     let front =
-        "0 {\"choices\":[],\"end\":0,\"form\":1,\"phases\":[],\"traces\":[],\"values\":[[\"x.n.n";
+        "0 {\"choices\":[],\"end\":0,\"form\":2,\"phases\":[],\"tick\":100,\"traces\":[],\"values\":[[\"x.n.n";
     assert!(rt; got.starts_with(front), "{got}");
     assert_eq!(rt; count_of(got, b'.'), 1000);
     Ok(())

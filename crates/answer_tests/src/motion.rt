@@ -18,7 +18,7 @@ scenario top:
 ",
         setting: "--ticks 1",
         wanted: Wanted::Whole(
-            "0 {\"choices\":[],\"end\":1,\"form\":1,\"phases\":[[\"do\",0,1]],\"traces\":[[\"ego\",[[2,5000000,10000],[3,6000000,11000]]]],\"values\":[[\"ego.max_speed\",50000],[\"ego.max_acceleration\",10000]]}\n",
+            "0 {\"choices\":[],\"end\":1,\"form\":2,\"phases\":[[\"do\",0,1]],\"tick\":100,\"traces\":[[\"ego\",[[2,5000000,10000],[3,6000000,11000]]]],\"values\":[[\"ego.max_speed\",50000],[\"ego.max_acceleration\",10000]]}\n",
         ),
     },
     Case {
@@ -37,7 +37,7 @@ scenario top:
 ",
         setting: "--ticks 1 --lanes 2",
         wanted: Wanted::Whole(
-            "0 {\"choices\":[],\"end\":1,\"form\":1,\"phases\":[[\"do\",0,1]],\"traces\":[[\"ego\",[[2,5000000,10000],[1,6000000,10500]]]],\"values\":[[\"ego.max_speed\",50000],[\"ego.max_acceleration\",10000],[\"cruise\",10000]]}\n",
+            "0 {\"choices\":[],\"end\":1,\"form\":2,\"phases\":[[\"do\",0,1]],\"tick\":100,\"traces\":[[\"ego\",[[2,5000000,10000],[1,6000000,10500]]]],\"values\":[[\"ego.max_speed\",50000],[\"ego.max_acceleration\",10000],[\"cruise\",10000]]}\n",
         ),
     },
 ];
@@ -68,7 +68,7 @@ scenario top:
 ",
         setting: "--ticks 1",
         wanted: Wanted::Whole(
-            "0 {\"choices\":[],\"end\":1,\"form\":1,\"phases\":[[\"do\",0,1],[\"do[0]\",0,1],[\"do[1]\",0,1]],\"traces\":[[\"ego\",[[2,50000000,10000],[2,51000000,10000]]],[\"npc\",[[3,70000000,11000],[2,71100000,10000]]]],\"values\":[[\"ego.max_speed\",50000],[\"ego.max_acceleration\",10000],[\"npc.max_speed\",50000],[\"npc.max_acceleration\",10000]]}\n",
+            "0 {\"choices\":[],\"end\":1,\"form\":2,\"phases\":[[\"do\",0,1],[\"do[0]\",0,1],[\"do[1]\",0,1]],\"tick\":100,\"traces\":[[\"ego\",[[2,50000000,10000],[2,51000000,10000]]],[\"npc\",[[3,70000000,11000],[2,71100000,10000]]]],\"values\":[[\"ego.max_speed\",50000],[\"ego.max_acceleration\",10000],[\"npc.max_speed\",50000],[\"npc.max_acceleration\",10000]]}\n",
         ),
     },
     Case {
@@ -92,7 +92,7 @@ scenario top:
 ",
         setting: "--ticks 1",
         wanted: Wanted::Whole(
-            "0 {\"choices\":[],\"end\":1,\"form\":1,\"phases\":[[\"do\",0,1],[\"do[0]\",0,1],[\"do[1]\",0,1]],\"traces\":[[\"ego\",[[2,50000000,10000],[2,51000000,10000]]],[\"npc\",[[1,30000000,9000],[1,30900000,9500]]]],\"values\":[[\"ego.max_speed\",50000],[\"ego.max_acceleration\",10000],[\"npc.max_speed\",50000],[\"npc.max_acceleration\",10000]]}\n",
+            "0 {\"choices\":[],\"end\":1,\"form\":2,\"phases\":[[\"do\",0,1],[\"do[0]\",0,1],[\"do[1]\",0,1]],\"tick\":100,\"traces\":[[\"ego\",[[2,50000000,10000],[2,51000000,10000]]],[\"npc\",[[1,30000000,9000],[1,30900000,9500]]]],\"values\":[[\"ego.max_speed\",50000],[\"ego.max_acceleration\",10000],[\"npc.max_speed\",50000],[\"npc.max_acceleration\",10000]]}\n",
         ),
     },
 ];
@@ -119,7 +119,7 @@ scenario top:
 ",
         setting: "--ticks 1 --lanes 1",
         wanted: Wanted::Whole(
-            "0 {\"choices\":[],\"end\":1,\"form\":1,\"phases\":[[\"do\",0,1]],\"traces\":[[\"t\",[[1,0,5000],[1,500000,5000]]]],\"values\":[[\"t.max_speed\",5000],[\"t.max_acceleration\",10000],[\"t.load\",2]]}\n",
+            "0 {\"choices\":[],\"end\":1,\"form\":2,\"phases\":[[\"do\",0,1]],\"tick\":100,\"traces\":[[\"t\",[[1,0,5000],[1,500000,5000]]]],\"values\":[[\"t.max_speed\",5000],[\"t.max_acceleration\",10000],[\"t.load\",2]]}\n",
         ),
     },
     Case {
@@ -141,7 +141,7 @@ scenario top:
 ",
         setting: "--ticks 1 --lanes 1",
         wanted: Wanted::Whole(
-            "0 {\"choices\":[],\"end\":1,\"form\":1,\"phases\":[[\"do\",0,1],[\"do[0]\",0,1],[\"do[0].do\",0,1],[\"do[1]\",0,1]],\"traces\":[[\"a\",[[1,1000000,20000],[1,3000000,19000]]],[\"b\",[[1,1000000,20000],[1,3000000,19000]]]],\"values\":[[\"a.max_speed\",50000],[\"a.max_acceleration\",10000],[\"b.max_speed\",50000],[\"b.max_acceleration\",10000]]}\n",
+            "0 {\"choices\":[],\"end\":1,\"form\":2,\"phases\":[[\"do\",0,1],[\"do[0]\",0,1],[\"do[0].do\",0,1],[\"do[1]\",0,1]],\"tick\":100,\"traces\":[[\"a\",[[1,1000000,20000],[1,3000000,19000]]],[\"b\",[[1,1000000,20000],[1,3000000,19000]]]],\"values\":[[\"a.max_speed\",50000],[\"a.max_acceleration\",10000],[\"b.max_speed\",50000],[\"b.max_acceleration\",10000]]}\n",
         ),
     },
     Case {
@@ -155,7 +155,7 @@ scenario top:
 ",
         setting: "--ticks 1 --lanes 1",
         wanted: Wanted::Ends(
-            r#"0 {"choices":[],"end":1,"form":1,"phases":[["do",0,1]],"traces":[["p.lead",[[1,"#,
+            r#"0 {"choices":[],"end":1,"form":2,"phases":[["do",0,1]],"tick":100,"traces":[["p.lead",[[1,"#,
             "]]]],\"values\":[[\"p.lead.max_speed\",50000],[\"p.lead.max_acceleration\",10000],[\"p.tail.max_speed\",50000],[\"p.tail.max_acceleration\",10000]]}\n",
             17,
         ),
@@ -173,7 +173,7 @@ scenario top:
 ",
         setting: "--ticks 3 --lanes 1 --road 8",
         wanted: Wanted::Whole(
-            "0 {\"choices\":[],\"end\":3,\"form\":1,\"phases\":[[\"do\",0,3],[\"do[0]\",0,1],[\"do[1]\",1,3]],\"traces\":[[\"ego\",[[1,0,25000],[1,2500000,25000],[1,5000000,25000],[1,7500000,25000]]]],\"values\":[[\"ego.max_speed\",50000],[\"ego.max_acceleration\",0]]}\n",
+            "0 {\"choices\":[],\"end\":3,\"form\":2,\"phases\":[[\"do\",0,3],[\"do[0]\",0,1],[\"do[1]\",1,3]],\"tick\":100,\"traces\":[[\"ego\",[[1,0,25000],[1,2500000,25000],[1,5000000,25000],[1,7500000,25000]]]],\"values\":[[\"ego.max_speed\",50000],[\"ego.max_acceleration\",0]]}\n",
         ),
     },
 ];
@@ -194,7 +194,9 @@ scenario top:
     let got = answer_to(rt.alloc(), line, source, "")?;
     let got = got.as_str();
     assert!(rt;
-        got.starts_with(r#"0 {"choices":[],"end":0,"form":1,"phases":[],"traces":[["ego",[["#),
+        got.starts_with(
+            r#"0 {"choices":[],"end":0,"form":2,"phases":[],"tick":100,"traces":[["ego",[["#
+        ),
         "{got}"
     );
     assert!(rt;
@@ -237,7 +239,7 @@ scenario top:
 fn front_of_the_cut_in(alloc: Global) -> Result<String, AllocError> {
     let mut front = String::from_str(
         alloc,
-        "0 {\"choices\":[],\"end\":60,\"form\":1,\"phases\":[[\"do\",0,60],[\"do[0]\",0,30],[\"do[0][0]\",0,30],[\"do[0][1]\",0,30],[\"do[1]\",30,60],[\"do[1][0]\",30,60],[\"do[1][1]\",30,60]],\"traces\":[[\"ego\",[",
+        "0 {\"choices\":[],\"end\":60,\"form\":2,\"phases\":[[\"do\",0,60],[\"do[0]\",0,30],[\"do[0][0]\",0,30],[\"do[0][1]\",0,30],[\"do[1]\",30,60],[\"do[1][0]\",30,60],[\"do[1][1]\",30,60]],\"tick\":100,\"traces\":[[\"ego\",[",
     )?;
     for tick in 0..60u32 {
         write!(front, "[1,{},20000],", 100_000_000 + 2_000_000 * tick)?;

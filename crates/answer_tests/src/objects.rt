@@ -89,7 +89,7 @@ scenario top:
 ",
         setting: "--ticks 1 --lanes 1",
         wanted: Wanted::Ends(
-            r#"0 {"choices":[],"end":0,"form":1,"phases":[],"traces":[["p.who",[[1,"#,
+            r#"0 {"choices":[],"end":0,"form":2,"phases":[],"tick":100,"traces":[["p.who",[[1,"#,
             "]]]],\"values\":[[\"p.taken\",1],[\"p.who.max_speed\",50000],[\"p.who.max_acceleration\",10000],[\"q.taken\",0]]}\n",
             11,
         ),
@@ -122,7 +122,7 @@ scenario top:
 ",
         setting: "--ticks 2",
         wanted: Wanted::Whole(
-            "0 {\"choices\":[],\"end\":2,\"form\":1,\"phases\":[[\"do\",0,2],[\"do[0]\",0,1],[\"do[1]\",1,2]],\"traces\":[],\"values\":[[\"r.tall\",1],[\"r.arm\",4],[\"do[0].fast\",1],[\"do[0].n\",3],[\"do[1].fast\",0]]}\n",
+            "0 {\"choices\":[],\"end\":2,\"form\":2,\"phases\":[[\"do\",0,2],[\"do[0]\",0,1],[\"do[1]\",1,2]],\"tick\":100,\"traces\":[],\"values\":[[\"r.tall\",1],[\"r.arm\",4],[\"do[0].fast\",1],[\"do[0].n\",3],[\"do[1].fast\",0]]}\n",
         ),
     },
     Case {
@@ -140,7 +140,7 @@ scenario top:
 ",
         setting: "--ticks 2",
         wanted: Wanted::Whole(
-            "0 {\"choices\":[],\"end\":2,\"form\":1,\"phases\":[[\"do\",0,2],[\"do[0]\",0,1],[\"do[1]\",1,2]],\"traces\":[],\"values\":[[\"c.x\",1],[\"do[0].f\",1],[\"do[1].f\",1]]}\n",
+            "0 {\"choices\":[],\"end\":2,\"form\":2,\"phases\":[[\"do\",0,2],[\"do[0]\",0,1],[\"do[1]\",1,2]],\"tick\":100,\"traces\":[],\"values\":[[\"c.x\",1],[\"do[0].f\",1],[\"do[1].f\",1]]}\n",
         ),
     },
 ];
@@ -215,7 +215,7 @@ scenario top:
 ",
         setting: "--ticks 3",
         wanted: Wanted::Whole(
-            "0 {\"choices\":[],\"end\":3,\"form\":1,\"phases\":[[\"do\",0,3],[\"do[0]\",0,1],[\"do[1]\",1,2],[\"do[2]\",2,3]],\"traces\":[],\"values\":[[\"a.load\",5],[\"a.age\",9],[\"b.load\",5],[\"b.age\",9],[\"b.arm\",1],[\"do[0].n\",5],[\"do[0].k\",6],[\"do[1].n\",8],[\"do[2].n\",5],[\"do[2].k\",6],[\"do[2].m\",7]]}\n",
+            "0 {\"choices\":[],\"end\":3,\"form\":2,\"phases\":[[\"do\",0,3],[\"do[0]\",0,1],[\"do[1]\",1,2],[\"do[2]\",2,3]],\"tick\":100,\"traces\":[],\"values\":[[\"a.load\",5],[\"a.age\",9],[\"b.load\",5],[\"b.age\",9],[\"b.arm\",1],[\"do[0].n\",5],[\"do[0].k\",6],[\"do[1].n\",8],[\"do[2].n\",5],[\"do[2].k\",6],[\"do[2].m\",7]]}\n",
         ),
     },
     Case {
@@ -234,7 +234,7 @@ scenario top:
 ",
         setting: "--ticks 10",
         wanted: Wanted::Whole(
-            "0 {\"choices\":[],\"end\":3,\"form\":1,\"phases\":[[\"do\",0,3],[\"do[0]\",0,2],[\"do[1]\",2,3]],\"traces\":[],\"values\":[[\"r.load\",5],[\"do[0].weight\",4]]}\n",
+            "0 {\"choices\":[],\"end\":3,\"form\":2,\"phases\":[[\"do\",0,3],[\"do[0]\",0,2],[\"do[1]\",2,3]],\"tick\":100,\"traces\":[],\"values\":[[\"r.load\",5],[\"do[0].weight\",4]]}\n",
         ),
     },
 ];
@@ -258,7 +258,7 @@ scenario top:
 ",
         setting: "--ticks 1",
         wanted: Wanted::Whole(
-            "0 {\"choices\":[],\"end\":1,\"form\":1,\"phases\":[[\"do\",0,1]],\"traces\":[],\"values\":[[\"x.load\",1],[\"y.load\",0]]}\n",
+            "0 {\"choices\":[],\"end\":1,\"form\":2,\"phases\":[[\"do\",0,1]],\"tick\":100,\"traces\":[],\"values\":[[\"x.load\",1],[\"y.load\",0]]}\n",
         ),
     },
     Case {
@@ -284,7 +284,7 @@ scenario top:
 ",
         setting: "--ticks 2",
         wanted: Wanted::Whole(
-            "0 {\"choices\":[],\"end\":2,\"form\":1,\"phases\":[[\"do\",0,2],[\"do.do\",0,2],[\"do.do[0]\",0,1],[\"do.do[1]\",1,2]],\"traces\":[],\"values\":[[\"r.load\",2],[\"i.n\",2],[\"do.two.n\",2],[\"do.two.m\",1]]}\n",
+            "0 {\"choices\":[],\"end\":2,\"form\":2,\"phases\":[[\"do\",0,2],[\"do.do\",0,2],[\"do.do[0]\",0,1],[\"do.do[1]\",1,2]],\"tick\":100,\"traces\":[],\"values\":[[\"r.load\",2],[\"i.n\",2],[\"do.two.n\",2],[\"do.two.m\",1]]}\n",
         ),
     },
     Case {
@@ -301,7 +301,7 @@ scenario top:
 ",
         setting: "--ticks 1",
         wanted: Wanted::Whole(
-            "0 {\"choices\":[],\"end\":1,\"form\":1,\"phases\":[[\"do\",0,1]],\"traces\":[],\"values\":[[\"c\",4],[\"do.n\",4],[\"do.m\",7],[\"do.k\",500],[\"do.s\",\"x\"],[\"do.b\",1]]}\n",
+            "0 {\"choices\":[],\"end\":1,\"form\":2,\"phases\":[[\"do\",0,1]],\"tick\":100,\"traces\":[],\"values\":[[\"c\",4],[\"do.n\",4],[\"do.m\",7],[\"do.k\",500],[\"do.s\",\"x\"],[\"do.b\",1]]}\n",
         ),
     },
     Case {
@@ -316,7 +316,7 @@ scenario top:
 ",
         setting: "--ticks 1",
         wanted: Wanted::Ends(
-            r#"0 {"choices":[],"end":1,"form":1,"phases":[["do",0,1],["do.do",0,1]],"traces":[["ego",[["#,
+            r#"0 {"choices":[],"end":1,"form":2,"phases":[["do",0,1],["do.do",0,1]],"tick":100,"traces":[["ego",[["#,
             "]]]],\"values\":[[\"ego.max_speed\",30000],[\"ego.max_acceleration\",10000]]}\n",
             12,
         ),
@@ -346,7 +346,7 @@ scenario robot.tour:
             (
                 "generate main.osc robot.tour --ticks 1",
                 source,
-                "0 {\"choices\":[],\"end\":1,\"form\":1,\"phases\":[[\"do\",0,1]],\"traces\":[],\"values\":[[\"actor.load\",3],[\"do.weight\",3]]}\n",
+                "0 {\"choices\":[],\"end\":1,\"form\":2,\"phases\":[[\"do\",0,1]],\"tick\":100,\"traces\":[],\"values\":[[\"actor.load\",3],[\"do.weight\",3]]}\n",
             ),
             (
                 "flat main.osc robot.tour --ticks 1",

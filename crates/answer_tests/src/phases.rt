@@ -13,7 +13,7 @@ scenario top:
 ",
         setting: "--ticks 9",
         wanted: Wanted::Whole(
-            "0 {\"choices\":[],\"end\":3,\"form\":1,\"phases\":[[\"do\",0,3],[\"do[0]\",0,2],[\"do[1]\",0,3]],\"traces\":[],\"values\":[]}\n",
+            "0 {\"choices\":[],\"end\":3,\"form\":2,\"phases\":[[\"do\",0,3],[\"do[0]\",0,2],[\"do[1]\",0,3]],\"tick\":100,\"traces\":[],\"values\":[]}\n",
         ),
     },
     Case {
@@ -25,7 +25,7 @@ scenario top:
 ",
         setting: "--ticks 9",
         wanted: Wanted::Whole(
-            "0 {\"choices\":[],\"end\":3,\"form\":1,\"phases\":[[\"do\",0,3],[\"do[0]\",0,2],[\"do[1]\",0,3]],\"traces\":[],\"values\":[]}\n",
+            "0 {\"choices\":[],\"end\":3,\"form\":2,\"phases\":[[\"do\",0,3],[\"do[0]\",0,2],[\"do[1]\",0,3]],\"tick\":100,\"traces\":[],\"values\":[]}\n",
         ),
     },
     Case {
@@ -37,7 +37,7 @@ scenario top:
 ",
         setting: "--ticks 9",
         wanted: Wanted::Whole(
-            "0 {\"choices\":[],\"end\":3,\"form\":1,\"phases\":[[\"do\",0,3],[\"do[0]\",1,3],[\"do[1]\",0,3]],\"traces\":[],\"values\":[]}\n",
+            "0 {\"choices\":[],\"end\":3,\"form\":2,\"phases\":[[\"do\",0,3],[\"do[0]\",1,3],[\"do[1]\",0,3]],\"tick\":100,\"traces\":[],\"values\":[]}\n",
         ),
     },
     Case {
@@ -49,7 +49,7 @@ scenario top:
 ",
         setting: "--ticks 9",
         wanted: Wanted::Whole(
-            "0 {\"choices\":[],\"end\":3,\"form\":1,\"phases\":[[\"do\",0,3],[\"do[0]\",0,3],[\"do[1]\",0,3]],\"traces\":[],\"values\":[]}\n",
+            "0 {\"choices\":[],\"end\":3,\"form\":2,\"phases\":[[\"do\",0,3],[\"do[0]\",0,3],[\"do[1]\",0,3]],\"tick\":100,\"traces\":[],\"values\":[]}\n",
         ),
     },
     Case {
@@ -61,8 +61,8 @@ scenario top:
 ",
         setting: "--ticks 9",
         wanted: Wanted::Ends(
-            r#"0 {"choices":[],"end":5,"form":1,"phases":[["do",0,5],["do[0]","#,
-            "]],\"traces\":[],\"values\":[]}\n",
+            r#"0 {"choices":[],"end":5,"form":2,"phases":[["do",0,5],["do[0]","#,
+            "]],\"tick\":100,\"traces\":[],\"values\":[]}\n",
             9,
         ),
     },
@@ -115,7 +115,7 @@ scenario top:
 ",
         setting: "--ticks 9",
         wanted: Wanted::Whole(
-            "0 {\"choices\":[[\"do[1]\",1]],\"end\":5,\"form\":1,\"phases\":[[\"do\",0,5],[\"do[0]\",0,2],[\"do[1]\",2,5],[\"do[1][1]\",2,5]],\"traces\":[],\"values\":[]}\n",
+            "0 {\"choices\":[[\"do[1]\",1]],\"end\":5,\"form\":2,\"phases\":[[\"do\",0,5],[\"do[0]\",0,2],[\"do[1]\",2,5],[\"do[1][1]\",2,5]],\"tick\":100,\"traces\":[],\"values\":[]}\n",
         ),
     },
     Case {
@@ -129,7 +129,7 @@ scenario top:
 ",
         setting: "--ticks 9",
         wanted: Wanted::Whole(
-            "0 {\"choices\":[],\"end\":5,\"form\":1,\"phases\":[[\"do\",0,5],[\"do[0]\",0,3],[\"do[1]\",3,5]],\"traces\":[],\"values\":[]}\n",
+            "0 {\"choices\":[],\"end\":5,\"form\":2,\"phases\":[[\"do\",0,5],[\"do[0]\",0,3],[\"do[1]\",3,5]],\"tick\":100,\"traces\":[],\"values\":[]}\n",
         ),
     },
     Case {
@@ -149,7 +149,7 @@ scenario top:
 ",
         setting: "--ticks 20",
         wanted: Wanted::Whole(
-            "0 {\"choices\":[],\"end\":15,\"form\":1,\"phases\":[[\"do\",0,15],[\"do[0]\",0,2],[\"do[1]\",2,5],[\"do[2]\",5,9],[\"do[3]\",9,10],[\"do[4]\",10,15]],\"traces\":[],\"values\":[]}\n",
+            "0 {\"choices\":[],\"end\":15,\"form\":2,\"phases\":[[\"do\",0,15],[\"do[0]\",0,2],[\"do[1]\",2,5],[\"do[2]\",5,9],[\"do[3]\",9,10],[\"do[4]\",10,15]],\"tick\":100,\"traces\":[],\"values\":[]}\n",
         ),
     },
     Case {
@@ -173,7 +173,7 @@ scenario top:
 ",
         setting: "--ticks 7",
         wanted: Wanted::Whole(
-            "0 {\"choices\":[],\"end\":7,\"form\":1,\"phases\":[[\"do\",0,7],[\"do[0]\",0,3],[\"do[0].do\",0,3],[\"do[0].do[0]\",0,1],[\"do[0].do[1]\",1,3],[\"do[0].do[1][0]\",1,2],[\"do[0].do[1][1]\",1,3],[\"do[1]\",3,4],[\"do[2]\",4,7],[\"do[2].do\",4,7],[\"do[2].do[0]\",4,5],[\"do[2].do[1]\",5,7],[\"do[2].do[1][0]\",5,6],[\"do[2].do[1][1]\",5,7]],\"traces\":[],\"values\":[[\"do[0].n\",1],[\"do[1].t\",100],[\"do[2].n\",2]]}\n",
+            "0 {\"choices\":[],\"end\":7,\"form\":2,\"phases\":[[\"do\",0,7],[\"do[0]\",0,3],[\"do[0].do\",0,3],[\"do[0].do[0]\",0,1],[\"do[0].do[1]\",1,3],[\"do[0].do[1][0]\",1,2],[\"do[0].do[1][1]\",1,3],[\"do[1]\",3,4],[\"do[2]\",4,7],[\"do[2].do\",4,7],[\"do[2].do[0]\",4,5],[\"do[2].do[1]\",5,7],[\"do[2].do[1][0]\",5,6],[\"do[2].do[1][1]\",5,7]],\"tick\":100,\"traces\":[],\"values\":[[\"do[0].n\",1],[\"do[1].t\",100],[\"do[2].n\",2]]}\n",
         ),
     },
 ];
@@ -195,7 +195,7 @@ scenario top:
 ",
         setting: "--ticks 10",
         wanted: Wanted::Ends(
-            r#"0 {"choices":[["do",1]],"end":1,"form":1,"phases":[["do",0,1],["do[1]",0,1]],"traces":[["ego",[["#,
+            r#"0 {"choices":[["do",1]],"end":1,"form":2,"phases":[["do",0,1],["do[1]",0,1]],"tick":100,"traces":[["ego",[["#,
             "]]]],\"values\":[[\"ego.max_speed\",50000],[\"ego.max_acceleration\",10000]]}\n",
             14,
         ),
@@ -219,7 +219,7 @@ scenario top:
 ",
         setting: "--ticks 1",
         wanted: Wanted::Whole(
-            "0 {\"choices\":[[\"do\",1],[\"do[1]\",1]],\"end\":1,\"form\":1,\"phases\":[[\"do\",0,1],[\"do[1]\",0,1],[\"do[1][1]\",0,1]],\"traces\":[],\"values\":[[\"x\",3],[\"do[1][1].n\",3]]}\n",
+            "0 {\"choices\":[[\"do\",1],[\"do[1]\",1]],\"end\":1,\"form\":2,\"phases\":[[\"do\",0,1],[\"do[1]\",0,1],[\"do[1][1]\",0,1]],\"tick\":100,\"traces\":[],\"values\":[[\"x\",3],[\"do[1][1].n\",3]]}\n",
         ),
     },
     Case {
@@ -235,7 +235,7 @@ scenario top:
 ",
         setting: "--ticks 3",
         wanted: Wanted::Whole(
-            "0 {\"choices\":[[\"do\",0]],\"end\":3,\"form\":1,\"phases\":[[\"do\",0,3],[\"do[0]\",0,3],[\"do[0][0]\",0,2],[\"do[0][1]\",2,3]],\"traces\":[],\"values\":[[\"do[0][1].t\",200]]}\n",
+            "0 {\"choices\":[[\"do\",0]],\"end\":3,\"form\":2,\"phases\":[[\"do\",0,3],[\"do[0]\",0,3],[\"do[0][0]\",0,2],[\"do[0][1]\",2,3]],\"tick\":100,\"traces\":[],\"values\":[[\"do[0][1].t\",200]]}\n",
         ),
     },
     Case {

@@ -57,7 +57,7 @@ fn a_search_with_too_few_cuts(rt: HostRuntime) -> Result<(), Fail> {
         ),
         (
             "2",
-            "0 {\"choices\":[],\"end\":0,\"form\":1,\"phases\":[],\"traces\":[],\"values\":[[\"x\",3]]}\n",
+            "0 {\"choices\":[],\"end\":0,\"form\":2,\"phases\":[],\"tick\":100,\"traces\":[],\"values\":[[\"x\",3]]}\n",
         ),
     ];
     let alloc = rt.alloc();

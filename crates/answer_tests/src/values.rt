@@ -251,7 +251,7 @@ scenario top:
 ",
         setting: "--ticks 1",
         wanted: Wanted::Whole(
-            "0 {\"choices\":[],\"end\":1,\"form\":1,\"phases\":[[\"do\",0,1]],\"traces\":[],\"values\":[[\"mine.load\",3]]}\n",
+            "0 {\"choices\":[],\"end\":1,\"form\":2,\"phases\":[[\"do\",0,1]],\"tick\":100,\"traces\":[],\"values\":[[\"mine.load\",3]]}\n",
         ),
     },
     Case {
@@ -265,7 +265,7 @@ scenario top:
 ",
         setting: "--ticks 1",
         wanted: Wanted::Whole(
-            "0 {\"choices\":[],\"end\":1,\"form\":1,\"phases\":[[\"do\",0,1]],\"traces\":[],\"values\":[[\"mine.load\",5]]}\n",
+            "0 {\"choices\":[],\"end\":1,\"form\":2,\"phases\":[[\"do\",0,1]],\"tick\":100,\"traces\":[],\"values\":[[\"mine.load\",5]]}\n",
         ),
     },
 ];
@@ -346,7 +346,7 @@ scenario top:
 ",
         setting: "--ticks 1",
         wanted: Wanted::Whole(
-            "0 {\"choices\":[],\"end\":1,\"form\":1,\"phases\":[[\"do\",0,1]],\"traces\":[],\"values\":[[\"r.load\",3]]}\n",
+            "0 {\"choices\":[],\"end\":1,\"form\":2,\"phases\":[[\"do\",0,1]],\"tick\":100,\"traces\":[],\"values\":[[\"r.load\",3]]}\n",
         ),
     },
 ];

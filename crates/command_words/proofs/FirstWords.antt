@@ -41,6 +41,7 @@ word_of command.Check = codes "check"
 word_of command.Verify = codes "verify"
 word_of command.Flat = codes "flat"
 word_of command.Make = codes "make"
+word_of command.Migrate = codes "migrate"
 
 pub command_word : (name : CommandName) (first : Text) (rest : List Text) → first ≡ word_of name → request (first ∷ rest) ≡ wanted (form_of name) rest
 unfolding request
@@ -49,6 +50,7 @@ command_word command.Check first rest e = rw e refl
 command_word command.Verify first rest e = rw e refl
 command_word command.Flat first rest e = rw e refl
 command_word command.Make first rest e = rw e refl
+command_word command.Migrate first rest e = rw e refl
 
 pub explain_word : (first : Text) (rest : List Text) → first ≡ codes "explain" → request (first ∷ rest) ≡ explain_wanted rest
 unfolding request
@@ -56,7 +58,7 @@ explain_word first rest e = rw e refl
 
 pub unknown_word : (first : Text) (rest : List Text) → (first ≡ codes "help" → ⊥) → (first ≡ codes "--help" → ⊥) → (first ≡ codes "-h" → ⊥)
     → (first ≡ codes "--version" → ⊥) → (first ≡ codes "-V" → ⊥) → (first ≡ codes "generate" → ⊥) → (first ≡ codes "check" → ⊥) → (first ≡ codes "verify" → ⊥)
-    → (first ≡ codes "flat" → ⊥) → (first ≡ codes "make" → ⊥) → (first ≡ codes "explain" → ⊥) → request (first ∷ rest) ≡ Refused
+    → (first ≡ codes "flat" → ⊥) → (first ≡ codes "make" → ⊥) → (first ≡ codes "migrate" → ⊥) → (first ≡ codes "explain" → ⊥) → request (first ∷ rest) ≡ Refused
 unfolding request
-unknown_word first rest a b c d e f g h k l m =
-    rw (other_word _ _ a, other_word _ _ b, other_word _ _ c, other_word _ _ d, other_word _ _ e, other_word _ _ f, other_word _ _ g, other_word _ _ h, other_word _ _ k, other_word _ _ l, other_word _ _ m) refl
+unknown_word first rest a b c d e f g h k l m n =
+    rw (other_word _ _ a, other_word _ _ b, other_word _ _ c, other_word _ _ d, other_word _ _ e, other_word _ _ f, other_word _ _ g, other_word _ _ h, other_word _ _ k, other_word _ _ l, other_word _ _ m, other_word _ _ n) refl

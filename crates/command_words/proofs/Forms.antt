@@ -8,27 +8,29 @@ use Rattle.clap.specs.declared.parser.matches.Found.{Found}
 use Rattle.command_words.specs.Match.{matched_in, number_rule}
 use Rattle.command_words.specs.Parse.{HoldsNumber, held, is_leaf}
 use Rattle.command_words.specs.Taken.{HoldsNumbers, HoldsSetting, form_of}
-use Rattle.command_words.specs.Words.{Form, Wanted, by_fault, check, flat, generate, make, verify, wanted}
+use Rattle.command_words.specs.Words.{Form, Wanted, by_fault, check, flat, generate, make, migrate, verify, wanted}
 use Rattle.command_words.specs.declared.commands.CommandName.{CommandName}
 use Rattle.command_words.specs.declared.commands.CommandName.TheVariants as command
 use Rattle.command_words.proofs.Matched.{held_is}
 use Rattle.command_words.proofs.ValueReads.{is_named_once, is_plain_command, number_found, number_word_found}
 
 pub is_simple : (name : CommandName) → is_simple_and_free (form_of name).definition ≡ true
-unfolding generate check verify flat make
+unfolding generate check verify flat make migrate
 is_simple command.Generate = refl
 is_simple command.Check = refl
 is_simple command.Verify = refl
 is_simple command.Flat = refl
 is_simple command.Make = refl
+is_simple command.Migrate = refl
 
 pub has_no_subcommands : (name : CommandName) → is_leaf (form_of name).definition ≡ true
-unfolding generate check verify flat make
+unfolding generate check verify flat make migrate
 has_no_subcommands command.Generate = refl
 has_no_subcommands command.Check = refl
 has_no_subcommands command.Verify = refl
 has_no_subcommands command.Flat = refl
 has_no_subcommands command.Make = refl
+has_no_subcommands command.Migrate = refl
 
 -- ---- numbers are in their ranges
 
@@ -42,25 +44,27 @@ module _ (c : Command) (form : App) (m : ArgMatches) (same : app_of c ≡ form) 
   option_held name least most default has = number_found c form m name least most default same p plain has.0 has.1
 
   setting_held : HasOption form (codes "ticks") 1 600 (codes "100") → HasOption form (codes "lanes") 1 8 (codes "3") → HasOption form (codes "road") 1 10000 (codes "1000")
-      → HoldsSetting (found_of m)
-  setting_held ticks lanes road = record {
+      → HasOption form (codes "tick") 10 1000 (codes "100") → HoldsSetting (found_of m)
+  setting_held ticks lanes road tick = record {
     ticks = option_held (codes "ticks") 1 600 (codes "100") ticks;
     lanes = option_held (codes "lanes") 1 8 (codes "3") lanes;
     road = option_held (codes "road") 1 10000 (codes "1000") road;
+    tick = option_held (codes "tick") 10 1000 (codes "100") tick;
   }
 
 -- if a parse takes the words, each number is in its range
 pub holds_numbers : (name : CommandName) (c : Command) (m : ArgMatches) → app_of c ≡ (form_of name).definition → IsParsedFrom c m → HoldsNumbers name (found_of m)
-unfolding generate check verify flat make
+unfolding generate check verify flat make migrate
 holds_numbers command.Generate c m same p = record {
-  setting = setting_held c generate m same p refl (refl, refl) (refl, refl) (refl, refl);
+  setting = setting_held c generate m same p refl (refl, refl) (refl, refl) (refl, refl) (refl, refl);
   seed = option_held c generate m same p refl (codes "seed") 0 18446744073709551615 (codes "0") (refl, refl);
   cuts = option_held c generate m same p refl (codes "cuts") 1 1000000 (codes "200000") (refl, refl);
 }
-holds_numbers command.Check c m same p = setting_held c check m same p refl (refl, refl) (refl, refl) (refl, refl)
-holds_numbers command.Verify c m same p = setting_held c verify m same p refl (refl, refl) (refl, refl) (refl, refl)
-holds_numbers command.Flat c m same p = setting_held c flat m same p refl (refl, refl) (refl, refl) (refl, refl)
+holds_numbers command.Check c m same p = setting_held c check m same p refl (refl, refl) (refl, refl) (refl, refl) (refl, refl)
+holds_numbers command.Verify c m same p = setting_held c verify m same p refl (refl, refl) (refl, refl) (refl, refl) (refl, refl)
+holds_numbers command.Flat c m same p = setting_held c flat m same p refl (refl, refl) (refl, refl) (refl, refl) (refl, refl)
 holds_numbers command.Make c m same p = number_word_found c make m (codes "N") 1 16 same p refl refl refl refl
+holds_numbers command.Migrate c m same p = tt
 
 -- ---- what words ask for
 

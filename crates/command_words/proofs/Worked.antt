@@ -8,15 +8,15 @@ use Rattle.fault_texts.specs.declared.topics.Status.{Status}
 use Rattle.fault_texts.specs.declared.topics.Topic.{Topic}
 use Rattle.command_words.specs.Match.{number_in, text_in}
 use Rattle.command_words.specs.Shared.{Source}
-use Rattle.command_words.specs.Texts.{check_help, flat_help, general_help, generate_help, make_help, verify_help, version_text}
-use Rattle.command_words.specs.Words.{Wanted, Help, Generate, Check, Verify, Flat, Make, Refused, check, explain_wanted, flat, generate, make, request, topic_wanted, verify, wanted}
+use Rattle.command_words.specs.Texts.{check_help, flat_help, general_help, generate_help, make_help, migrate_help, verify_help, version_text}
+use Rattle.command_words.specs.Words.{Wanted, Help, Generate, Check, Verify, Flat, Make, Migrate, Refused, check, explain_wanted, flat, generate, make, migrate, request, topic_wanted, verify, wanted}
 use Rattle.command_words.specs.declared.requests.Setting.{Setting}
 
 -- a run of `top` of `a.osc`, with these numbers
-abbrev run : ℕ → ℕ → ℕ → ℕ → ℕ → Wanted
-run ticks lanes road seed cuts = Generate (record {
+abbrev run : ℕ → ℕ → ℕ → ℕ → ℕ → ℕ → Wanted
+run ticks lanes road tick seed cuts = Generate (record {
   source = record { file = codes "a.osc"; scenario = codes "top" };
-  setting = record { ticks = ticks; lanes = lanes; road = road };
+  setting = record { ticks = ticks; lanes = lanes; road = road; tick = tick };
   seed = seed;
   cuts = cuts;
 })
@@ -25,7 +25,7 @@ run ticks lanes road seed cuts = Generate (record {
 abbrev by_default : Text → Text → Wanted
 by_default file scenario = Generate (record {
   source = record { file = file; scenario = scenario };
-  setting = record { ticks = 100; lanes = 3; road = 1000 };
+  setting = record { ticks = 100; lanes = 3; road = 1000; tick = 100 };
   seed = 0;
   cuts = 200000;
 })
@@ -35,21 +35,21 @@ abbrev of_top : List Text → Wanted
 of_top words = request (codes "generate" ∷ codes "a.osc" ∷ codes "top" ∷ words)
 
 -- options that aren't given have their defaults
-defaults : of_top [] ≡ run 100 3 1000 0 200000
+defaults : of_top [] ≡ run 100 3 1000 100 0 200000
 unfolding request wanted text_in number_in generate clap_on_literals
 defaults = refl
 
 -- each option can be given, also before the other words and with `=`
-all_given : request (codes "generate" ∷ codes "--ticks=600" ∷ codes "a.osc" ∷ codes "--lanes" ∷ codes "8" ∷ codes "--road" ∷ codes "10000" ∷ codes "top" ∷ codes "--seed" ∷ codes "18446744073709551615" ∷ codes "--cuts" ∷ codes "1000000" ∷ []) ≡ run 600 8 10000 18446744073709551615 1000000
+all_given : request (codes "generate" ∷ codes "--ticks=600" ∷ codes "a.osc" ∷ codes "--lanes" ∷ codes "8" ∷ codes "--road" ∷ codes "10000" ∷ codes "--tick=1000" ∷ codes "top" ∷ codes "--seed" ∷ codes "18446744073709551615" ∷ codes "--cuts" ∷ codes "1000000" ∷ []) ≡ run 600 8 10000 1000 18446744073709551615 1000000
 unfolding request wanted text_in number_in generate clap_on_literals
 all_given = refl
 
 -- zeros and a plus before a number are passed over
-zeros : of_top (codes "--ticks" ∷ codes "005" ∷ []) ≡ run 5 3 1000 0 200000
+zeros : of_top (codes "--ticks" ∷ codes "005" ∷ []) ≡ run 5 3 1000 100 0 200000
 unfolding request wanted text_in number_in generate clap_on_literals
 zeros = refl
 
-plus : of_top (codes "--ticks" ∷ codes "+5" ∷ []) ≡ run 5 3 1000 0 200000
+plus : of_top (codes "--ticks" ∷ codes "+5" ∷ []) ≡ run 5 3 1000 100 0 200000
 unfolding request wanted text_in number_in generate clap_on_literals
 plus = refl
 
@@ -65,6 +65,14 @@ more_ticks = refl
 more_lanes : of_top (codes "--lanes" ∷ codes "9" ∷ []) ≡ Refused
 unfolding request wanted generate clap_on_literals
 more_lanes = refl
+
+short_tick : of_top (codes "--tick" ∷ codes "9" ∷ []) ≡ Refused
+unfolding request wanted generate clap_on_literals
+short_tick = refl
+
+long_tick : of_top (codes "--tick" ∷ codes "1001" ∷ []) ≡ Refused
+unfolding request wanted generate clap_on_literals
+long_tick = refl
 
 negative_seed : of_top (codes "--seed=-1" ∷ []) ≡ Refused
 unfolding request wanted generate clap_on_literals
@@ -83,7 +91,7 @@ no_number : of_top (codes "--ticks" ∷ []) ≡ Refused
 unfolding request wanted generate clap_on_literals
 no_number = refl
 
-cut_short : of_top (codes "--tick" ∷ codes "5" ∷ []) ≡ Refused
+cut_short : of_top (codes "--tic" ∷ codes "50" ∷ []) ≡ Refused
 unfolding request wanted generate clap_on_literals
 cut_short = refl
 
@@ -133,15 +141,15 @@ abbrev top : Source
 top = record { file = codes "a.osc"; scenario = codes "top" }
 
 abbrev usual : Setting
-usual = record { ticks = 100; lanes = 3; road = 1000 }
+usual = record { ticks = 100; lanes = 3; road = 1000; tick = 100 }
 
 -- each has the options of a setting, and no other; the file of a run or of a record is the third word
 check_defaults : request (codes "check" ∷ codes "a.osc" ∷ codes "top" ∷ codes "r" ∷ []) ≡ Check (record { source = top; run = codes "r"; setting = usual })
 unfolding request wanted text_in number_in check clap_on_literals
 check_defaults = refl
 
-verify_given : request (codes "verify" ∷ codes "--road=9" ∷ codes "a.osc" ∷ codes "top" ∷ codes "--lanes" ∷ codes "1" ∷ codes "r" ∷ codes "--ticks" ∷ codes "7" ∷ [])
-    ≡ Verify (record { source = top; «record» = codes "r"; setting = record { ticks = 7; lanes = 1; road = 9 } })
+verify_given : request (codes "verify" ∷ codes "--road=9" ∷ codes "a.osc" ∷ codes "top" ∷ codes "--lanes" ∷ codes "1" ∷ codes "r" ∷ codes "--ticks" ∷ codes "7" ∷ codes "--tick" ∷ codes "20" ∷ [])
+    ≡ Verify (record { source = top; «record» = codes "r"; setting = record { ticks = 7; lanes = 1; road = 9; tick = 20 } })
 unfolding request wanted text_in number_in verify clap_on_literals
 verify_given = refl
 
@@ -197,6 +205,27 @@ make_ticks = refl
 help_of_make : request (codes "make" ∷ codes "-h" ∷ []) ≡ Help make_help
 unfolding request wanted make clap_on_literals
 help_of_make = refl
+
+-- `migrate` takes one file, and no option but help
+migrate_run : request (codes "migrate" ∷ codes "r" ∷ []) ≡ Migrate (record { run = codes "r" })
+unfolding request wanted text_in migrate clap_on_literals
+migrate_run = refl
+
+migrate_nothing : request (codes "migrate" ∷ []) ≡ Refused
+unfolding request wanted migrate clap_on_literals
+migrate_nothing = refl
+
+migrate_second : request (codes "migrate" ∷ codes "r" ∷ codes "s" ∷ []) ≡ Refused
+unfolding request wanted migrate clap_on_literals
+migrate_second = refl
+
+migrate_tick : request (codes "migrate" ∷ codes "r" ∷ codes "--tick" ∷ codes "50" ∷ []) ≡ Refused
+unfolding request wanted migrate clap_on_literals
+migrate_tick = refl
+
+help_of_migrate : request (codes "migrate" ∷ codes "--help" ∷ []) ≡ Help migrate_help
+unfolding request wanted migrate clap_on_literals
+help_of_migrate = refl
 
 -- the help of a command by its name, the general help, and the version
 help : request (codes "help" ∷ codes "generate" ∷ []) ≡ Help generate_help
@@ -264,6 +293,6 @@ abbrev is_narrow : ℕ → Text → Bool
 is_narrow n [] = true
 is_narrow n (byte ∷ rest) = nat_le n 80 && is_narrow (if byte == 10 then 0 else (n + 1)) rest
 
-narrow : (is_narrow 0 general_help && (is_narrow 0 generate_help && (is_narrow 0 check_help && (is_narrow 0 verify_help && (is_narrow 0 flat_help && is_narrow 0 make_help))))) ≡ true
-unfolding general_help generate_help check_help verify_help flat_help make_help
+narrow : (is_narrow 0 general_help && (is_narrow 0 generate_help && (is_narrow 0 check_help && (is_narrow 0 verify_help && (is_narrow 0 flat_help && (is_narrow 0 make_help && is_narrow 0 migrate_help)))))) ≡ true
+unfolding general_help generate_help check_help verify_help flat_help make_help migrate_help
 narrow = refl

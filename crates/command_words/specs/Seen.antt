@@ -1,12 +1,13 @@
 -- What a contract sees of the requests of the code.
 use Rattle.fault_texts.specs.Explained.{explanation, topic_list}
 use Rattle.command_words.specs.Shared.{Source}
-use Rattle.command_words.specs.Words.{CheckAsked, FlatAsked, GenerateAsked, MakeAsked, VerifyAsked, Wanted}
-use Rattle.command_words.specs.Words.{Help, Generate, Check, Verify, Flat, Make, Refused}
+use Rattle.command_words.specs.Words.{CheckAsked, FlatAsked, GenerateAsked, MakeAsked, MigrateAsked, VerifyAsked, Wanted}
+use Rattle.command_words.specs.Words.{Help, Generate, Check, Verify, Flat, Make, Migrate, Refused}
 use Rattle.command_words.specs.declared.requests.CheckWords.{CheckWords}
 use Rattle.command_words.specs.declared.requests.FlatWords.{FlatWords}
 use Rattle.command_words.specs.declared.requests.GenerateWords.{GenerateWords}
 use Rattle.command_words.specs.declared.requests.MakeWords.{MakeWords}
+use Rattle.command_words.specs.declared.requests.MigrateWords.{MigrateWords}
 use Rattle.command_words.specs.declared.requests.Request.{Request}
 use Rattle.command_words.specs.declared.requests.Request.TheVariants as request
 use Rattle.command_words.specs.declared.requests.Source as words
@@ -43,6 +44,9 @@ flattened_by words = record { source = source_by words.source; setting = words.s
 abbrev pub made_by : MakeWords → MakeAsked
 made_by words = record { count = words.count }
 
+abbrev pub migrated_by : MigrateWords → MigrateAsked
+migrated_by words = record { run = words.run.now }
+
 abbrev pub seen : Request → Wanted
 seen (request.Help text) = Help text.now
 seen request.Topics = Help topic_list
@@ -52,4 +56,5 @@ seen (request.Check words) = Check (checked_by words)
 seen (request.Verify words) = Verify (verified_by words)
 seen (request.Flat words) = Flat (flattened_by words)
 seen (request.Make words) = Make (made_by words)
+seen (request.Migrate words) = Migrate (migrated_by words)
 seen request.Refused = Refused

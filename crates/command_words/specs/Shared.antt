@@ -18,6 +18,7 @@ abbrev pub setting_rules : List Rule
 setting_rules = number_rule (codes "ticks") 1 600 (codes "100")
     ∷ number_rule (codes "lanes") 1 8 (codes "3")
     ∷ number_rule (codes "road") 1 10000 (codes "1000")
+    ∷ number_rule (codes "tick") 10 1000 (codes "100")
     ∷ []
 
 -- the command `name` with the words of a source, further words, the options of a setting, and further options
@@ -37,6 +38,7 @@ setting_matched matched = record {
   ticks = matched.number (codes "ticks");
   lanes = matched.number (codes "lanes");
   road = matched.number (codes "road");
+  tick = matched.number (codes "tick");
 }
 
 -- each number of a setting is within the range of its option
@@ -44,3 +46,4 @@ pub record IsSettingInRanges (setting : Setting) : Type 0 where
   pub ticks_range : (1 ≤ setting.ticks) × (setting.ticks ≤ 600)
   pub lanes_range : (1 ≤ setting.lanes) × (setting.lanes ≤ 8)
   pub road_range : (1 ≤ setting.road) × (setting.road ≤ 10000)
+  pub tick_range : (10 ≤ setting.tick) × (setting.tick ≤ 1000)

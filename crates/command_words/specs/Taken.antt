@@ -1,8 +1,8 @@
 -- The commands of the code, and what was found for their words.
-use Rattle.std.specs.Prelude.{codes}
+use Rattle.std.specs.Prelude.{codes, ⊤}
 use Rattle.clap.specs.declared.parser.matches.Found.{Found}
 use Rattle.command_words.specs.Parse.{HoldsNumber}
-use Rattle.command_words.specs.Words.{Form, check_form, flat_form, generate_form, make_form, verify_form}
+use Rattle.command_words.specs.Words.{Form, check_form, flat_form, generate_form, make_form, migrate_form, verify_form}
 use Rattle.command_words.specs.declared.commands.CommandName.{CommandName}
 use Rattle.command_words.specs.declared.commands.CommandName.TheVariants as command
 
@@ -13,12 +13,14 @@ form_of command.Check = check_form
 form_of command.Verify = verify_form
 form_of command.Flat = flat_form
 form_of command.Make = make_form
+form_of command.Migrate = migrate_form
 
 -- each option of a setting holds a number in its range
 pub record HoldsSetting (found : Found) : Type 0 where
   pub ticks : HoldsNumber found (codes "ticks") 1 600
   pub lanes : HoldsNumber found (codes "lanes") 1 8
   pub road : HoldsNumber found (codes "road") 1 10000
+  pub tick : HoldsNumber found (codes "tick") 10 1000
 
 -- each option of `generate` holds a number in its range
 pub record HoldsGenerate (found : Found) : Type 0 where
@@ -33,3 +35,4 @@ HoldsNumbers command.Check found = HoldsSetting found
 HoldsNumbers command.Verify found = HoldsSetting found
 HoldsNumbers command.Flat found = HoldsSetting found
 HoldsNumbers command.Make found = HoldsNumber found (codes "N") 1 16
+HoldsNumbers command.Migrate found = ⊤

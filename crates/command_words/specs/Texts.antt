@@ -19,6 +19,7 @@ general_help = lined (
     ∷ codes "  osc verify FILE SCENARIO RECORD [OPTIONS]"
     ∷ codes "  osc flat FILE SCENARIO [OPTIONS]"
     ∷ codes "  osc make N"
+    ∷ codes "  osc migrate RUN"
     ∷ codes "  osc explain [CODE]"
     ∷ codes "  osc help [COMMAND]"
     ∷ codes "  osc --version"
@@ -29,6 +30,7 @@ general_help = lined (
     ∷ codes "  verify     says whether a record is right; its words: osc verify --help"
     ∷ codes "  flat       lists the slots and rules of a scenario: osc flat --help"
     ∷ codes "  make       writes a run of a made scenario with N vehicles: osc make --help"
+    ∷ codes "  migrate    writes a run as text of form 2: osc migrate --help"
     ∷ codes "  explain    writes what a code means, for example 201, or lists all codes"
     ∷ codes "  help       writes this text, or the help of a command; --help and -h this text"
     ∷ codes "  --version  writes the version; so does -V"
@@ -79,8 +81,8 @@ source_lines = codes "Words:"
 
 abbrev setting_lines : List (List ℕ)
 setting_lines = codes "Options, each at most once, as --ticks N or --ticks=N:"
-    ∷ codes "  --ticks N  the last tick that a run may have, of 0.1 seconds each:"
-    ∷ codes "             1 to 600, default 100"
+    ∷ codes "  --ticks N  the last tick that a run may have: 1 to 600, default 100"
+    ∷ codes "  --tick N   the length of a tick in milliseconds: 10 to 1000, default 100"
     ∷ codes "  --lanes N  the lanes of the road: 1 to 8, default 3"
     ∷ codes "  --road N   the length of the road in metres: 1 to 10000, default 1000"
     ∷ []
@@ -200,6 +202,30 @@ make_help = lined (
     ∷ []
     ∷ codes "where P is the number of phases of the run, and E is its end. Without a run, osc"
     ∷ codes "writes a record in place of both, as osc generate does."
+    ∷ []
+    ∷ codes "For the statuses: osc help"
+    ∷ [])
+
+-- the word of `migrate`
+unfoldable pub migrate_help : List ℕ
+migrate_help = lined (
+    codes "osc migrate reads a run and writes it to standard output as text of form 2, as"
+    ∷ codes "one line of JSON. It reads no source file."
+    ∷ []
+    ∷ codes "Usage:"
+    ∷ codes "  osc migrate RUN"
+    ∷ []
+    ∷ codes "Words:"
+    ∷ codes "  RUN        the file with the run, of form 1 or 2: JSON, at most"
+    ∷ codes "             16777216 bytes"
+    ∷ []
+    ∷ codes "Options:"
+    ∷ codes "  -h, --help writes this text"
+    ∷ []
+    ∷ codes "After --, each word is RUN, even if it begins with -."
+    ∷ []
+    ∷ codes "Text of form 2 tells the length of a tick in milliseconds. Text of form 1"
+    ∷ codes "doesn't: its ticks have 100 milliseconds."
     ∷ []
     ∷ codes "For the statuses: osc help"
     ∷ [])

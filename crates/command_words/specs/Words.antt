@@ -8,7 +8,7 @@ use Rattle.clap.specs.declared.error.kind.ErrorKind.TheVariants.{DisplayHelp}
 use Rattle.command_words.specs.Match.{Matched, command_of, matched_in, number_rule, number_word_rule, word_rule}
 use Rattle.command_words.specs.Shared.{IsSettingInRanges, Source, scene_command, setting_matched, source_matched}
 use Rattle.command_words.specs.declared.requests.Setting.{Setting}
-use Rattle.command_words.specs.Texts.{check_help, flat_help, general_help, generate_help, make_help, verify_help, version_text}
+use Rattle.command_words.specs.Texts.{check_help, flat_help, general_help, generate_help, make_help, migrate_help, verify_help, version_text}
 
 -- what `generate` is asked for: a run of this scenario in this setting, found by a search with this seed and at most so many cuts
 pub record GenerateAsked : Type 0 where
@@ -38,6 +38,10 @@ pub record FlatAsked : Type 0 where
 pub record MakeAsked : Type 0 where
   pub count : ℕ
 
+-- what `migrate` is asked for: the run in this file, as text of form 2
+pub record MigrateAsked : Type 0 where
+  pub run : Text
+
 -- a text that needs no file (of help, of the version, of a code), what a command is asked for, or nothing that is known
 pub data Wanted : Type 0 where
   Help : Text → Wanted
@@ -46,6 +50,7 @@ pub data Wanted : Type 0 where
   Verify : VerifyAsked → Wanted
   Flat : FlatAsked → Wanted
   Make : MakeAsked → Wanted
+  Migrate : MigrateAsked → Wanted
   Refused : Wanted
 
 -- ---- Commands
@@ -134,6 +139,16 @@ make_form = record {
   asked = λ matched. Make (record { count = matched.number (codes "N") });
 }
 
+unfoldable pub migrate : App
+migrate = command_of (codes "migrate") (word_rule (codes "RUN") ∷ [])
+
+abbrev pub migrate_form : Form
+migrate_form = record {
+  definition = migrate;
+  help = migrate_help;
+  asked = λ matched. Migrate (record { run = matched.text (codes "RUN") });
+}
+
 -- ---- Help and the version
 
 -- the help of the command that a word names, or else the general help
@@ -143,6 +158,7 @@ help_of_word word = if bytes_eq word (codes "generate") then generate_help
     else if bytes_eq word (codes "verify") then verify_help
     else if bytes_eq word (codes "flat") then flat_help
     else if bytes_eq word (codes "make") then make_help
+    else if bytes_eq word (codes "migrate") then migrate_help
     else general_help
 
 -- the help that the words after `help` ask for; those after the first aren't read
@@ -186,6 +202,7 @@ request (first ∷ rest) = if bytes_eq first (codes "help") then Help (help_name
     else if bytes_eq first (codes "verify") then wanted verify_form rest
     else if bytes_eq first (codes "flat") then wanted flat_form rest
     else if bytes_eq first (codes "make") then wanted make_form rest
+    else if bytes_eq first (codes "migrate") then wanted migrate_form rest
     else if bytes_eq first (codes "explain") then explain_wanted rest
     else Refused
 
@@ -209,4 +226,5 @@ HasRanges (Check asked) = IsSettingInRanges asked.setting
 HasRanges (Verify asked) = IsSettingInRanges asked.setting
 HasRanges (Flat asked) = IsSettingInRanges asked.setting
 HasRanges (Make asked) = IsMakeInRange asked
+HasRanges (Migrate asked) = ⊤
 HasRanges Refused = ⊤

@@ -6,14 +6,16 @@ ghost use Rattle.command_words.specs.Parse.{held};
 ghost use Rattle.command_words.specs.Seen.{seen};
 ghost use Rattle.command_words.specs.Shared.{scene_command};
 ghost use Rattle.command_words.specs.Taken.{HoldsNumbers, form_of};
-ghost use Rattle.command_words.specs.Words.{HasRanges, generate, make, wanted};
+ghost use Rattle.command_words.specs.Words.{HasRanges, generate, make, migrate, wanted};
 
 use crate::parse::{
-    Parsed, bare_command, number, number_of, number_word, parse, small_number_of, text_of,
+    Parsed, bare_command, number, number_of, number_word, parse, small_number_of, text_of, word,
 };
-use crate::requests::{CheckWords, FlatWords, GenerateWords, MakeWords, Request, VerifyWords};
+use crate::requests::{
+    CheckWords, FlatWords, GenerateWords, MakeWords, MigrateWords, Request, VerifyWords,
+};
 use crate::shared::{file_command, scene_command, setting_of, source_of};
-use crate::texts::{check_help, flat_help, generate_help, make_help, verify_help};
+use crate::texts::{check_help, flat_help, generate_help, make_help, migrate_help, verify_help};
 use clap::{ArgMatches, Command};
 use std::alloc::{AllocError, Global};
 
@@ -25,6 +27,7 @@ pub enum CommandName {
     Verify,
     Flat,
     Make,
+    Migrate,
 }
 
 /// Reads the words after the name of a command.
@@ -54,6 +57,7 @@ fn definition_of<'a>(alloc: Global, name: CommandName) -> Result<Command<'a>, Al
         CommandName::Verify => file_command(alloc, "verify", "RECORD"),
         CommandName::Flat => scene_command(alloc, "flat"),
         CommandName::Make => make_command(alloc),
+        CommandName::Migrate => migrate_command(alloc),
     }
 }
 
@@ -71,6 +75,12 @@ fn make_command<'a>(alloc: Global) -> Result<Command<'a>, AllocError>
     bare_command(alloc, "make").arg(number_word(alloc, "N", 1, 16))
 }
 
+fn migrate_command<'a>(alloc: Global) -> Result<Command<'a>, AllocError>
+    ensures { IfOk result (λ c. app_of c ≡ migrate) }
+{
+    bare_command(alloc, "migrate").arg(word(alloc, "RUN"))
+}
+
 /// The words and options of a command.
 fn help_of(name: CommandName) -> &'static str
     ensures { result.now ≡ (form_of name).help }
@@ -81,6 +91,7 @@ fn help_of(name: CommandName) -> &'static str
         CommandName::Verify => verify_help(),
         CommandName::Flat => flat_help(),
         CommandName::Make => make_help(),
+        CommandName::Migrate => migrate_help(),
     }
 }
 
@@ -113,6 +124,9 @@ fn taken<'a>(name: CommandName, matches: &ArgMatches<'a>) -> Request<'a>
         }),
         CommandName::Make => Request::Make(MakeWords {
             count: small_number_of(matches, "N"),
+        }),
+        CommandName::Migrate => Request::Migrate(MigrateWords {
+            run: text_of(matches, "RUN"),
         }),
     }
 }

@@ -9,9 +9,10 @@ mod shared;
 mod texts;
 
 pub use requests::{
-    CheckWords, FlatWords, GenerateWords, MakeWords, Request, Setting, Source, VerifyWords,
-    read_words,
+    CheckWords, FlatWords, GenerateWords, MakeWords, MigrateWords, Request, Setting, Source,
+    VerifyWords, read_words,
 };
 pub use texts::{
-    check_help, flat_help, general_help, generate_help, make_help, verify_help, version_text,
+    check_help, flat_help, general_help, generate_help, make_help, migrate_help, verify_help,
+    version_text,
 };

@@ -5,7 +5,8 @@ ghost use Rattle.command_words.specs.Words.{HasRanges, help_named, help_of_word,
 use crate::commands::{CommandName, read_command};
 use crate::explain::read_explain;
 use crate::texts::{
-    check_help, flat_help, general_help, generate_help, make_help, verify_help, version_text,
+    check_help, flat_help, general_help, generate_help, make_help, migrate_help, verify_help,
+    version_text,
 };
 use fault_texts::Topic;
 use std::alloc::{AllocError, Global};
@@ -29,6 +30,8 @@ pub enum Request<'a> {
     Flat(FlatWords<'a>),
     /// A run of a made source is to be written.
     Make(MakeWords),
+    /// A run is to be written as text of form 2.
+    Migrate(MigrateWords<'a>),
     /// The words ask for nothing that is known.
     Refused,
 }
@@ -51,6 +54,8 @@ pub struct Setting {
     pub lanes: u32,
     /// The length of the road in metres, 1 to 10000.
     pub road: u32,
+    /// The length of a tick in milliseconds, 10 to 1000.
+    pub tick: u32,
 }
 
 /// What the words after `generate` ask for.
@@ -96,6 +101,13 @@ pub struct MakeWords {
     pub count: u32,
 }
 
+/// What the words after `migrate` ask for.
+#[derive(Debug, Clone, Copy)]
+pub struct MigrateWords<'a> {
+    /// The name of the file with the run. It may be any text, even an empty one.
+    pub run: &'a str,
+}
+
 /// Reads the words after the program's name.
 ///
 /// Out of memory is its only error.
@@ -115,6 +127,7 @@ pub fn read_words(alloc: Global, words: &[String]) -> Result<Request<'_>, AllocE
         "verify" => read_command(alloc, CommandName::Verify, rest),
         "flat" => read_command(alloc, CommandName::Flat, rest),
         "make" => read_command(alloc, CommandName::Make, rest),
+        "migrate" => read_command(alloc, CommandName::Migrate, rest),
         "explain" => Ok(read_explain(rest)),
         _ => Ok(Request::Refused),
     }
@@ -140,6 +153,7 @@ fn help_of_word(word: &str) -> &'static str
         "verify" => verify_help(),
         "flat" => flat_help(),
         "make" => make_help(),
+        "migrate" => migrate_help(),
         _ => general_help(),
     }
 }

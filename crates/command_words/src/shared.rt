@@ -47,7 +47,8 @@ fn add_setting<'a>(alloc: Global, command: Command<'a>) -> Result<Command<'a>, A
 {
     let with_ticks = command.arg(number(alloc, "ticks", 1, 600, "100"))?;
     let with_lanes = with_ticks.arg(number(alloc, "lanes", 1, 8, "3"))?;
-    with_lanes.arg(number(alloc, "road", 1, 10_000, "1000"))
+    let with_road = with_lanes.arg(number(alloc, "road", 1, 10_000, "1000"))?;
+    with_road.arg(number(alloc, "tick", 10, 1000, "100"))
 }
 
 /// The source that was matched.
@@ -70,5 +71,6 @@ pub fn setting_of(matches: &ArgMatches<'_>) -> Setting
         ticks: small_number_of(matches, "ticks"),
         lanes: small_number_of(matches, "lanes"),
         road: small_number_of(matches, "road"),
+        tick: small_number_of(matches, "tick"),
     }
 }

@@ -1,5 +1,5 @@
 ghost use Rattle.std.specs.Prelude.{◌≡◌};
-ghost use Rattle.command_words.specs.Texts.{check_help, flat_help, general_help, generate_help, make_help, verify_help, version_text};
+ghost use Rattle.command_words.specs.Texts.{check_help, flat_help, general_help, generate_help, make_help, migrate_help, verify_help, version_text};
 
 const GENERAL_HELP: &str = concat!(
     "osc reads a scenario of driving, written in a profile of OpenSCENARIO DSL 2.1,\n",
@@ -12,6 +12,7 @@ const GENERAL_HELP: &str = concat!(
     "  osc verify FILE SCENARIO RECORD [OPTIONS]\n",
     "  osc flat FILE SCENARIO [OPTIONS]\n",
     "  osc make N\n",
+    "  osc migrate RUN\n",
     "  osc explain [CODE]\n",
     "  osc help [COMMAND]\n",
     "  osc --version\n",
@@ -22,6 +23,7 @@ const GENERAL_HELP: &str = concat!(
     "  verify     says whether a record is right; its words: osc verify --help\n",
     "  flat       lists the slots and rules of a scenario: osc flat --help\n",
     "  make       writes a run of a made scenario with N vehicles: osc make --help\n",
+    "  migrate    writes a run as text of form 2: osc migrate --help\n",
     "  explain    writes what a code means, for example 201, or lists all codes\n",
     "  help       writes this text, or the help of a command; --help and -h this text\n",
     "  --version  writes the version; so does -V\n",
@@ -70,8 +72,8 @@ macro_rules! scene_help {
             $($word, "\n",)*
             "\n",
             "Options, each at most once, as --ticks N or --ticks=N:\n",
-            "  --ticks N  the last tick that a run may have, of 0.1 seconds each:\n",
-            "             1 to 600, default 100\n",
+            "  --ticks N  the last tick that a run may have: 1 to 600, default 100\n",
+            "  --tick N   the length of a tick in milliseconds: 10 to 1000, default 100\n",
             "  --lanes N  the lanes of the road: 1 to 8, default 3\n",
             "  --road N   the length of the road in metres: 1 to 10000, default 1000\n",
             $($option, "\n",)*
@@ -192,6 +194,28 @@ const MAKE_HELP: &str = concat!(
     "For the statuses: osc help\n",
 );
 
+const MIGRATE_HELP: &str = concat!(
+    "osc migrate reads a run and writes it to standard output as text of form 2, as\n",
+    "one line of JSON. It reads no source file.\n",
+    "\n",
+    "Usage:\n",
+    "  osc migrate RUN\n",
+    "\n",
+    "Words:\n",
+    "  RUN        the file with the run, of form 1 or 2: JSON, at most\n",
+    "             16777216 bytes\n",
+    "\n",
+    "Options:\n",
+    "  -h, --help writes this text\n",
+    "\n",
+    "After --, each word is RUN, even if it begins with -.\n",
+    "\n",
+    "Text of form 2 tells the length of a tick in milliseconds. Text of form 1\n",
+    "doesn't: its ticks have 100 milliseconds.\n",
+    "\n",
+    "For the statuses: osc help\n",
+);
+
 const VERSION_TEXT: &str = "osc 0.1.0\n";
 
 /// What `osc` does, its commands, and the statuses of all of them.
@@ -236,6 +260,13 @@ pub fn make_help() -> &'static str
     ensures { result.now ≡ make_help }
 {
     MAKE_HELP
+}
+
+/// The word of `osc migrate`, and what it writes.
+pub fn migrate_help() -> &'static str
+    ensures { result.now ≡ migrate_help }
+{
+    MIGRATE_HELP
 }
 
 /// The program's name and version, as one line.

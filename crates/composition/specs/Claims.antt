@@ -11,7 +11,8 @@ use Rattle.composition.specs.declared.setting.Setting.{Setting}
 use Rattle.composition.specs.declared.run.Choice.{Choice}
 use Rattle.composition.specs.declared.run.Span.{Span}
 use Rattle.composition.specs.declared.run.Value.{Value}
-use Rattle.composition.specs.TimedRuns.{TimedRun, span_in}
+use Rattle.composition.specs.declared.run.Run.{Run}
+use Rattle.composition.specs.RunParts.{span_in}
 use Rattle.composition.specs.Scenes.{Scene, choices, values, phases, vehicles, root_do, has_root_do}
 use Rattle.composition.specs.There.{is_there}
 use Rattle.composition.specs.Ranges.{lies_between, in_range}
@@ -43,11 +44,11 @@ listed (wanted ∷ others) [] = claim Clause.Listed wanted false ∷ []
 listed (wanted ∷ others) (given ∷ more) = claim Clause.Listed wanted (same_path wanted given) ∷ listed others more
 
 -- those of some paths that are there
-abbrev pub those_there : Scene → TimedRun → List Path → List Path
+abbrev pub those_there : Scene → Run → List Path → List Path
 those_there scene run paths = filter (is_there scene run) paths
 
 -- the paths of all four lists, then the lengths of the traces
-abbrev pub listed_claims : Scene → TimedRun → List Claim
+abbrev pub listed_claims : Scene → Run → List Claim
 listed_claims scene run =
     listed (those_there scene run (map (λ c. c.path) (choices scene))) (map (λ c. c.path) run.choices)
     ++ listed (those_there scene run (map (λ v. v.path) (values scene))) (map (λ v. v.path) run.values)
@@ -58,11 +59,11 @@ listed_claims scene run =
 -- ---- end: the run has the setting's tick, ends within its ticks and together with `do`, or at once without one
 
 -- the run ends when the `do` of the named scenario does, or at tick 0 without one
-abbrev pub ends_with_root_do : Scene → TimedRun → Bool
+abbrev pub ends_with_root_do : Scene → Run → Bool
 ends_with_root_do scene run = cond (has_root_do scene) (option_map_or (λ s. nat_eq run.end s.end) (span_in run root_do) false) (nat_eq run.end 0)
 
 -- what is claimed of the end, at the `do` or at the root
-abbrev pub end_claim : Scene → TimedRun → Claim
+abbrev pub end_claim : Scene → Run → Claim
 end_claim scene run =
     claim Clause.End (cond (has_root_do scene) root_do root)
     (nat_eq run.tick scene.setting.tick && (nat_le run.end scene.setting.ticks && ends_with_root_do scene run))
@@ -95,7 +96,7 @@ abbrev pub span_in_range : Setting → Span → Bool
 span_in_range setting s = nat_le s.start s.end && nat_le s.end setting.ticks
 
 -- choices, values, phases and samples, in this order
-abbrev pub bounds_claims : Scene → TimedRun → List Claim
+abbrev pub bounds_claims : Scene → Run → List Claim
 bounds_claims scene run =
     map (λ c. claim Clause.Bounds c.path (choice_in_range scene c)) run.choices
     ++ map (λ v. claim Clause.Bounds v.path (value_in_range scene v)) run.values
@@ -114,13 +115,13 @@ item_claim (OfModifier m tick) holds = claim_at Clause.Modifier m.phase m.place 
 item_claim (OfMotion vehicle tick) holds = claim Clause.Motion vehicle holds ∷ []
 
 -- the claims of some items
-abbrev pub item_claims : Scene → TimedRun → List Item → List Claim
+abbrev pub item_claims : Scene → Run → List Item → List Claim
 item_claims scene run these = flat_map (λ i. item_claim i (item_holds scene run i)) these
 
 -- ---- all claims
 
 -- the lists, the end and the bounds come first, then the hard constraints, then all other items
-abbrev pub claims : Scene → TimedRun → List Claim
+abbrev pub claims : Scene → Run → List Claim
 claims scene run =
     listed_claims scene run
     ++ end_claim scene run ∷ []
@@ -129,9 +130,9 @@ claims scene run =
     ++ item_claims scene run (filter (λ i. not (is_hard i)) (items scene))
 
 -- a run is an instance of a scene if every claim holds
-abbrev pub is_instance : Scene → TimedRun → Bool
+abbrev pub is_instance : Scene → Run → Bool
 is_instance scene run = list_all (λ c. c.holds) (claims scene run)
 
 -- the run is an instance of the scene
-abbrev pub IsInstance : Scene → TimedRun → Type 0
+abbrev pub IsInstance : Scene → Run → Type 0
 IsInstance scene run = is_instance scene run ≡ true

@@ -127,7 +127,7 @@ is_from_to low high n = nat_le low n && nat_le n high
 abbrev pub is_setting : Setting → Bool
 is_setting s =
     (is_from_to 1 600 s.ticks && (is_from_to 1 8 s.lanes && is_from_to 1 10000 s.road))
-    && (nat_le 1 s.tick && nat_le (s.ticks * s.tick) duration_reach)
+    && is_from_to 10 1000 s.tick
 
 -- ---- constraints and modifiers
 

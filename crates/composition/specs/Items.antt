@@ -15,7 +15,8 @@ use Rattle.expr_nodes.specs.Typed.{Typed}
 use Rattle.expr_nodes.specs.Value.{value}
 use Rattle.composition.specs.declared.spot.ValueRange.{ValueRange}
 use Rattle.composition.specs.declared.spot.PhaseSpot.{PhaseSpot}
-use Rattle.composition.specs.TimedRuns.{TimedRun, choice_in, held_in, span_in, sample_in}
+use Rattle.composition.specs.declared.run.Run.{Run}
+use Rattle.composition.specs.RunParts.{choice_in, held_in, span_in, sample_in}
 use Rattle.composition.specs.Scenes.{Scene, Occurrence, ModifierSpot, values, phases, vehicles, marks, root_do, max_speed, max_acceleration}
 use Rattle.composition.specs.There.{are_met, is_there, is_asked, is_number, modifier_presence}
 use Rattle.composition.specs.Numbers.{number_at, is_true}
@@ -27,35 +28,35 @@ use Rattle.composition.specs.Slots.{ticks_of}
 -- ---- constraints
 
 -- its expression is true; a `remove_default` has none
-abbrev pub is_satisfied : Scene → TimedRun → Occurrence → Bool
+abbrev pub is_satisfied : Scene → Run → Occurrence → Bool
 is_satisfied scene run o = option_map_or (is_true scene run) o.typed true
 
 -- a hard constraint that is there is true
-abbrev pub hard_holds : Scene → TimedRun → Occurrence → Bool
+abbrev pub hard_holds : Scene → Run → Occurrence → Bool
 hard_holds scene run o = not (is_asked scene run o) || is_satisfied scene run o
 
 -- the constraint of that number is there
-abbrev pub is_asked_number : Scene → TimedRun → ℕ → Bool
+abbrev pub is_asked_number : Scene → Run → ℕ → Bool
 is_asked_number scene run i = option_map_or (is_asked scene run) (slice_get scene.occurrences i) false
 
 -- some constraint of these numbers is there
-abbrev pub is_overridden : Scene → TimedRun → List ℕ → Bool
+abbrev pub is_overridden : Scene → Run → List ℕ → Bool
 is_overridden scene run later = list_any (is_asked_number scene run) later
 
 -- a default that is there is overridden by one of the later ones, or true
-abbrev pub default_holds : Scene → TimedRun → List ℕ → Occurrence → Bool
+abbrev pub default_holds : Scene → Run → List ℕ → Occurrence → Bool
 default_holds scene run later o = not (is_asked scene run o) || (is_overridden scene run later || is_satisfied scene run o)
 
 -- ---- enums with numbers left out
 
 -- a value that is there is one of the numbers
-abbrev pub typed_holds : Scene → TimedRun → Path → List ℤ → Bool
+abbrev pub typed_holds : Scene → Run → Path → List ℤ → Bool
 typed_holds scene run path numbers = not (is_there scene run path) || option_map_or (λ held. list_any (λ n. is_number n held) numbers) (held_in run path) false
 
 -- ---- phases
 
 -- the times that a run lists
-abbrev pub times_of : TimedRun → Times
+abbrev pub times_of : Run → Times
 times_of run = record {
   start = λ path. option_map_or (λ s. pos s.start) (span_in run path) (pos 0);
   end = λ path. option_map_or (λ s. pos s.end) (span_in run path) (pos 0);
@@ -63,7 +64,7 @@ times_of run = record {
 }
 
 -- a phase that is there is arranged
-abbrev pub arranged_holds : Scene → TimedRun → PhaseSpot → Bool
+abbrev pub arranged_holds : Scene → Run → PhaseSpot → Bool
 arranged_holds scene run phase = not (is_there scene run phase.path) || arranged (times_of run) (same_path phase.path root_do) phase
 
 -- ---- modifiers
@@ -73,11 +74,11 @@ abbrev pub still : Sample
 still = record { lane = pos 0; position = pos 0; speed = pos 0 }
 
 -- the samples that a run lists
-abbrev pub sample_of : TimedRun → Path → ℕ → Sample
+abbrev pub sample_of : Run → Path → ℕ → Sample
 sample_of run vehicle tick = unwrap_or (sample_in run vehicle tick) still
 
 -- an end of a modifier's range; a modifier without one doesn't ask for it
-abbrev pub end_value : Scene → TimedRun → Option Typed → Number
+abbrev pub end_value : Scene → Run → Option Typed → Number
 end_value scene run typed = unwrap_or (option_and_then (value (number_at scene run)) typed) (whole (pos 0))
 
 -- the other vehicle of a modifier; one without it doesn't ask for it
@@ -85,7 +86,7 @@ abbrev pub other_of : ModifierSpot → Path
 other_of m = unwrap_or m.other m.own
 
 -- a modifier that is there holds at a tick that is one of its moments
-abbrev pub modifier_holds : Scene → TimedRun → ModifierSpot → ℕ → Bool
+abbrev pub modifier_holds : Scene → Run → ModifierSpot → ℕ → Bool
 modifier_holds scene run m tick =
     let times = times_of run in
     not (are_met run (modifier_presence scene m) && is_moment m.moment (times.start m.phase) (times.end m.phase) (pos tick))
@@ -94,11 +95,11 @@ modifier_holds scene run m tick =
 -- ---- motion
 
 -- the number of a field, 0 if a run lists none
-abbrev pub field_number : Scene → TimedRun → Path → ℤ
+abbrev pub field_number : Scene → Run → Path → ℤ
 field_number scene run path = unwrap_or (number_at scene run path) (pos 0)
 
 -- the course that a run lists
-abbrev pub course_of : Scene → TimedRun → Path → Course
+abbrev pub course_of : Scene → Run → Path → Course
 course_of scene run vehicle = record {
   tick = run.tick;
   ticks = scene.setting.ticks;
@@ -109,7 +110,7 @@ course_of scene run vehicle = record {
 }
 
 -- a vehicle that is there moves as it may
-abbrev pub motion_holds : Scene → TimedRun → Path → ℕ → Bool
+abbrev pub motion_holds : Scene → Run → Path → ℕ → Bool
 motion_holds scene run vehicle tick = not (is_there scene run vehicle) || moves (course_of scene run vehicle) tick
 
 -- ---- all items
@@ -150,7 +151,7 @@ items scene =
     ++ flat_map (λ v. map (OfMotion v) (ticks_of scene.setting)) (vehicles scene)
 
 -- what an item asks is so in a run
-abbrev pub item_holds : Scene → TimedRun → Item → Bool
+abbrev pub item_holds : Scene → Run → Item → Bool
 item_holds scene run (OfHard o) = hard_holds scene run o
 item_holds scene run (OfDefault later o) = default_holds scene run later o
 item_holds scene run (OfTyped path numbers) = typed_holds scene run path numbers

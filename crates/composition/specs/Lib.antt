@@ -1,6 +1,6 @@
 pub mod Instance
 pub mod Calls
-pub mod TimedRuns
+pub mod RunParts
 pub mod Scenes
 pub mod SeenHomes
 pub mod SeenParts

@@ -10,7 +10,8 @@ use Rattle.expr_nodes.specs.osc_base.Comparisons.{same_number}
 use Rattle.expr_nodes.specs.Typed.{Typed, reads}
 use Rattle.composition.specs.declared.guard.Guard.{Guard}
 use Rattle.composition.specs.declared.run.Held.{Held}
-use Rattle.composition.specs.TimedRuns.{TimedRun, choice_in, held_in}
+use Rattle.composition.specs.declared.run.Run.{Run}
+use Rattle.composition.specs.RunParts.{choice_in, held_in}
 use Rattle.composition.specs.Scenes.{Scene, Occurrence, ModifierSpot, guards}
 
 -- ---- conditions
@@ -21,12 +22,12 @@ is_number n (Held.Number m) = same_number m n
 is_number n (Held.Chars text) = false
 
 -- a condition is met if the run's entry for its path says so; without an entry it isn't met
-abbrev pub is_met : TimedRun → Guard → Bool
+abbrev pub is_met : Run → Guard → Bool
 is_met run (Guard.Choice phase member) = option_map_or (nat_eq member) (choice_in run phase) false
 is_met run (Guard.Value path value) = option_map_or (is_number value) (held_in run path) false
 
 -- all conditions are met
-abbrev pub are_met : TimedRun → List Guard → Bool
+abbrev pub are_met : Run → List Guard → Bool
 are_met run conditions = list_all (is_met run) conditions
 
 -- one condition
@@ -47,7 +48,7 @@ once conditions = once_after [] conditions
 -- ---- spots, constraints and modifiers
 
 -- what stands at a path is there
-abbrev pub is_there : Scene → TimedRun → Path → Bool
+abbrev pub is_there : Scene → Run → Path → Bool
 is_there scene run path = are_met run (guards scene path)
 
 -- the paths that an expression reads, if there is one
@@ -72,5 +73,5 @@ abbrev pub modifier_presence : Scene → ModifierSpot → List Guard
 modifier_presence scene m = once (flat_map (guards scene) (m.phase ∷ m.own ∷ option_to_list m.other ++ read_by m.low ++ read_by m.high))
 
 -- a constraint is there
-abbrev pub is_asked : Scene → TimedRun → Occurrence → Bool
+abbrev pub is_asked : Scene → Run → Occurrence → Bool
 is_asked scene run o = are_met run (presence scene o)

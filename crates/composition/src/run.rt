@@ -40,13 +40,16 @@ pub struct Trace {
     pub samples: Row<Sample>,
 }
 
-/// One concrete run of a scenario: its choices, its last tick, its phases, the traces of its vehicles
-/// and the values of its fields. Each list is in the order in which the scenario is expanded.
+/// One concrete run of a scenario: its choices, its last tick, its phases, the length of its ticks, the
+/// traces of its vehicles and the values of its fields. Each list is in the order in which the scenario
+/// is expanded.
 #[derive(Drop)]
 pub struct Run {
     pub choices: Row<Choice>,
     pub end: u32,
     pub phases: Row<Span>,
+    /// The length of a tick in milliseconds.
+    pub tick: u32,
     pub traces: Row<Trace>,
     pub values: Row<Value>,
 }

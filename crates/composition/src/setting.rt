@@ -7,6 +7,6 @@ pub struct Setting {
     pub lanes: u32,
     /// The length of the road in metres, from 1 to 10000.
     pub road: u32,
-    /// The length of a tick in milliseconds.
+    /// The length of a tick in milliseconds, from 10 to 1000.
     pub tick: u32,
 }

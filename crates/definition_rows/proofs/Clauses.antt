@@ -4,7 +4,7 @@ use Rattle.osc_base.specs.LowestTerms.{gcd, lcm}
 use Rattle.osc_base.specs.Paths.{path_of}
 use Rattle.type_heads.specs.DeclaredTypes.{types_of}
 use Rattle.field_flatten.specs.composition.declared.clause.Clause.{Clause}
-use Rattle.field_flatten.specs.composition.TimedRuns.{TimedRun}
+use Rattle.field_flatten.specs.composition.declared.run.Run.{Run}
 use Rattle.definition_rows.proofs.Makers.{at, within, name, member, root, ego, whole, part, number, span, sample, trace, limits, values_only, checked, is_instance, fails, fails_at}
 use Rattle.definition_rows.proofs.Sources.{single_value, cargo_truck, cargo_car, removed_before}
 use Rattle.definition_rows.proofs.VehicleSources.{one_vehicle, robot, one_wait}
@@ -81,7 +81,7 @@ starts_late = refl
 -- ---- modifier and motion
 
 -- a vehicle at 10 metres a second for a tick, with the speed that it starts with, where that takes it, and the speed that it ends with
-driven : ℕ → ℕ → ℕ → TimedRun
+driven : ℕ → ℕ → ℕ → Run
 driven first position last = record {
   choices = [];
   end = 1;

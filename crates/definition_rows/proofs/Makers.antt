@@ -17,7 +17,7 @@ use Rattle.field_flatten.specs.composition.declared.run.Held.{Held}
 use Rattle.field_flatten.specs.composition.declared.run.Value.{Value}
 use Rattle.field_flatten.specs.composition.declared.run.Span.{Span}
 use Rattle.field_flatten.specs.composition.declared.run.Trace.{Trace}
-use Rattle.field_flatten.specs.composition.TimedRuns.{TimedRun}
+use Rattle.field_flatten.specs.composition.declared.run.Run.{Run}
 use Rattle.field_flatten.specs.composition.Scenes.{Scene}
 use Rattle.field_flatten.specs.composition.Expanded.{scene}
 use Rattle.field_flatten.specs.composition.SceneFaults.{named_scenario}
@@ -98,13 +98,13 @@ limits vehicle speed acceleration =
     ∷ []
 
 -- a run at tick 0 with values alone
-abbrev pub values_only : List Value → TimedRun
+abbrev pub values_only : List Value → Run
 values_only values = record { choices = []; end = 0; phases = []; tick = 100; traces = []; values = values }
 
 -- ---- answers
 
 -- what a check of the scenario `top` says of a run
-abbrev pub checked : Program → Setting → TimedRun → Option (Option Wrong)
+abbrev pub checked : Program → Setting → Run → Option (Option Wrong)
 checked p setting run = of_top p setting (λ sc. first_wrong sc run)
 
 abbrev pub is_instance : Option (Option Wrong)

@@ -8,19 +8,20 @@ use Rattle.osc_base.specs.Paths.{path_of, then_name}
 use Rattle.type_heads.specs.DeclaredTypes.{types_of}
 use Rattle.keep_rules.specs.Overriding.{overriders}
 use Rattle.box_eval.specs.Box.{pair}
-use Rattle.box_eval.specs.FlatRules.{Whole, Slot, Less, Times, AtMost, Equal, Both}
+use Rattle.box_eval.specs.FlatRules.{Whole, Slot, Less, Times, Always, AtMost, Equal, Both, Either, Not}
 use Rattle.field_flatten.specs.composition.declared.guard.Guard.{Guard}
 use Rattle.field_flatten.specs.composition.declared.setting.Setting.{Setting}
 use Rattle.field_flatten.specs.composition.declared.spot.PhaseKind.{PhaseKind}
-use Rattle.field_flatten.specs.composition.TimedRuns.{TimedRun}
-use Rattle.field_flatten.specs.composition.Scenes.{choices, values, phases, vehicles, guards, marks}
+use Rattle.field_flatten.specs.composition.declared.run.Run.{Run}
+use Rattle.field_flatten.specs.composition.Scenes.{choices, values, phases, vehicles, guards, marks, OfValue}
 use Rattle.field_flatten.specs.composition.Slots.{slot_names}
 use Rattle.field_flatten.specs.composition.Items.{rule_names}
 use Rattle.field_flatten.specs.composition.Homes.{home_of}
 use Rattle.field_flatten.specs.composition.Expanded.{scene}
 use Rattle.field_flatten.specs.composition.Invariants.{IsScene}
-use Rattle.field_flatten.specs.Ends.{bounds}
-use Rattle.field_flatten.specs.Rules.{rules}
+use Rattle.field_flatten.specs.Ends.{slot_in, bounds}
+use Rattle.field_flatten.specs.Shapes.{Layout}
+use Rattle.field_flatten.specs.Rules.{rules, kind_rules}
 use Rattle.field_flatten.specs.Points.{run_of, point_of}
 use Rattle.definition_rows.proofs.Makers.{at, within, of_top, name, ego, whole, part, chose, span, sample, trace, limits}
 use Rattle.definition_rows.proofs.Sources.{cargo_truck, removed_before}
@@ -109,6 +110,43 @@ wait_bounds : of_top one_wait fifty bounds ≡ Some (pair (pos 0) (pos 10) ∷ p
 unfolding fifty types_of gcd lcm
 wait_bounds = refl
 
+-- the slots of a whole and its two members
+of_two : Layout
+of_two = record {
+  slot = slot_in (SlotName.Start whole ∷ SlotName.End whole ∷ SlotName.Start (part 0) ∷ SlotName.End (part 0) ∷ SlotName.Start (part 1) ∷ SlotName.End (part 1) ∷ []);
+  source = λ path. OfValue;
+  end = Slot 1;
+  tick = 100;
+}
+
+-- each member has the span of the whole
+equal_rules :
+    kind_rules PhaseKind.Equal of_two whole (part 0 ∷ part 1 ∷ [])
+    ≡ Equal (Slot 2) (Slot 0) ∷ Equal (Slot 4) (Slot 0) ∷ Equal (Slot 3) (Slot 1) ∷ Equal (Slot 5) (Slot 1) ∷ []
+unfolding of_two
+equal_rules = refl
+
+-- each member starts with the whole, which ends with the last
+start_rules :
+    kind_rules PhaseKind.Start of_two whole (part 0 ∷ part 1 ∷ [])
+    ≡ Equal (Slot 2) (Slot 0) ∷ Equal (Slot 4) (Slot 0)
+    ∷ AtMost (Slot 3) (Slot 1) ∷ AtMost (Slot 5) (Slot 1) ∷ Either (Equal (Slot 3) (Slot 1)) (Equal (Slot 5) (Slot 1)) ∷ []
+unfolding of_two
+start_rules = refl
+
+-- a whole starts with the first member, and each ends with it
+end_rules :
+    kind_rules PhaseKind.End of_two whole (part 0 ∷ part 1 ∷ [])
+    ≡ AtMost (Slot 0) (Slot 2) ∷ AtMost (Slot 0) (Slot 4) ∷ Either (Equal (Slot 2) (Slot 0)) (Equal (Slot 4) (Slot 0))
+    ∷ Equal (Slot 3) (Slot 1) ∷ Equal (Slot 5) (Slot 1) ∷ []
+unfolding of_two
+end_rules = refl
+
+-- a whole without members is never arranged
+no_member_rules : kind_rules PhaseKind.Equal of_two whole [] ≡ Not Always ∷ Not Always ∷ []
+unfolding of_two
+no_member_rules = refl
+
 -- the constraints of the library's fields, the phase, the modifier and the motion at both ticks
 drive_rules :
     of_top one_vehicle (within 1) rule_names
@@ -127,7 +165,7 @@ drive_rules = refl
 
 -- ---- runs and points
 
-waits : TimedRun
+waits : Run
 waits = record {
   choices = chose whole 1 ∷ [];
   end = 1;

@@ -8,7 +8,7 @@ use Rattle.type_heads.specs.DeclaredTypes.{types_of}
 use Rattle.box_eval.specs.FlatRules.{holds_at}
 use Rattle.field_flatten.specs.composition.declared.clause.Clause.{Clause}
 use Rattle.field_flatten.specs.composition.declared.setting.Setting.{Setting}
-use Rattle.field_flatten.specs.composition.TimedRuns.{TimedRun}
+use Rattle.field_flatten.specs.composition.declared.run.Run.{Run}
 use Rattle.field_flatten.specs.Rules.{rules}
 use Rattle.definition_rows.proofs.Makers.{at, within, of_top, name, member, index, root, ego, whole, part, chose, number, span, sample, trace, limits, values_only, checked, is_instance, fails, fails_at}
 use Rattle.definition_rows.proofs.Sources.{single_value, no_value, import_cycle, cargo_truck, cargo_car, removed_before, removed_after, two_elements, overridden_argument}
@@ -17,7 +17,7 @@ use Rattle.definition_rows.proofs.CutInSource.{cut_in}
 
 -- ---- values
 
-x_is : ℕ → TimedRun
+x_is : ℕ → Run
 x_is n = values_only (number (name (codes "x") ∷ []) n ∷ [])
 
 single_value_is_3 : checked single_value (within 100) (x_is 3) ≡ is_instance
@@ -56,7 +56,7 @@ unfolding types_of gcd lcm
 import_cycle_is_not_8 = refl
 
 -- 30 kilometres an hour are 8.333 metres a second, to the nearest thousandth
-speed_is : ℕ → TimedRun
+speed_is : ℕ → Run
 speed_is n = values_only (number (name (codes "s") ∷ []) n ∷ [])
 
 kilometres_an_hour_is_8333 : checked kilometres_an_hour (within 100) (speed_is 8333) ≡ is_instance
@@ -69,11 +69,11 @@ kilometres_an_hour_is_not_8334 = refl
 
 -- ---- conditional subtypes
 
-kind_is : ℕ → TimedRun
+kind_is : ℕ → Run
 kind_is n = values_only (number (name (codes "b") ∷ name (codes "k") ∷ []) n ∷ [])
 
 -- a truck has the members of the conditional subtype, with their constraints
-loaded : ℕ → TimedRun
+loaded : ℕ → Run
 loaded n = values_only (number (name (codes "b") ∷ name (codes "k") ∷ []) 1 ∷ number (name (codes "b") ∷ name (codes "load") ∷ []) n ∷ [])
 
 truck_has_load : checked cargo_truck (within 100) (loaded 2) ≡ is_instance
@@ -90,7 +90,7 @@ car_has_no_load = refl
 
 -- ---- defaults
 
-n_is : ℕ → TimedRun
+n_is : ℕ → Run
 n_is n = values_only (number (name (codes "i") ∷ name (codes "n") ∷ []) n ∷ [])
 
 -- a `remove_default` overrides what stands before it alone
@@ -103,7 +103,7 @@ unfolding n_is types_of gcd lcm
 removed_after_frees = refl
 
 -- the elements of a list have defaults of their own
-elements_are : ℕ → ℕ → TimedRun
+elements_are : ℕ → ℕ → Run
 elements_are a b = values_only (number (name (codes "v") ∷ index 0 ∷ []) a ∷ number (name (codes "v") ∷ index 1 ∷ []) b ∷ [])
 
 second_element_overridden : checked two_elements (within 100) (elements_are 4 6) ≡ is_instance
@@ -117,7 +117,7 @@ first_element_stands = refl
 -- ---- arguments and other names
 
 -- the invoked scenario's constraint is about the argument, and stands after the argument's default
-load_is : ℕ → TimedRun
+load_is : ℕ → Run
 load_is n = record (values_only (number (name (codes "mine") ∷ name (codes "load") ∷ []) n ∷ [])) { end = 1; phases = span whole 0 1 ∷ [] }
 
 argument_overridden : checked overridden_argument (within 1) (load_is 3) ≡ is_instance
@@ -128,7 +128,7 @@ argument_default_gone : checked overridden_argument (within 1) (load_is 5) ≡ f
 unfolding load_is types_of gcd lcm
 argument_default_gone = refl
 
-passed : ℕ → TimedRun
+passed : ℕ → Run
 passed speed = record {
   choices = [];
   end = 1;
@@ -147,7 +147,7 @@ unfolding passed types_of gcd lcm
 other_name_is_not_50 = refl
 
 -- a constraint in an alternative that isn't chosen overrides nothing
-chosen : ℕ → TimedRun
+chosen : ℕ → Run
 chosen speed = record {
   choices = chose whole 1 ∷ [];
   end = 1;
@@ -168,7 +168,7 @@ not_chosen_overrides_nothing = refl
 -- ---- phases
 
 -- an action of two ticks, then a wait of one
-robot_run : ℕ → ℕ → TimedRun
+robot_run : ℕ → ℕ → Run
 robot_run middle weight = record (values_only (number (name (codes "r") ∷ name (codes "load") ∷ []) 5 ∷ number (name (codes "do") ∷ member 0 ∷ name (codes "weight") ∷ []) weight ∷ [])) {
   end = 3;
   phases = span whole 0 3 ∷ span (part 0) 0 2 ∷ span (part 1) middle 3 ∷ [];
@@ -185,7 +185,7 @@ robot_waits_too_long = refl
 
 -- ---- the length of a tick
 
-waited : ℕ → ℕ → TimedRun
+waited : ℕ → ℕ → Run
 waited tick end = record (values_only []) { tick = tick; end = end; phases = span whole 0 end ∷ [] }
 
 half_ticks : Setting
@@ -215,7 +215,7 @@ npc_sample t = sample 2 (80000000 + 2500000 * t) 25000
 npc : List ℕ
 npc = codes "npc"
 
-overtaken : Sample → TimedRun
+overtaken : Sample → Run
 overtaken last = record {
   choices = [];
   end = 60;

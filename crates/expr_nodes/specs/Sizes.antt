@@ -25,9 +25,9 @@ info_at place kind size = record { place = place; kind = kind; scale = size.scal
 abbrev pub field_reach : ℕ
 field_reach = greatest_value
 
--- the greatest duration, in thousandths of a second
+-- the greatest duration, in thousandths of a second: 600 ticks of a second each
 abbrev pub duration_reach : ℕ
-duration_reach = 60000
+duration_reach = 600000
 
 -- durations count thousandths of a second
 abbrev pub duration_scale : ℕ

@@ -14,8 +14,8 @@ const MOST: u128 = 0x100_0000_0000_0000_0000_0000_0000_0000;
 /// The greatest magnitude of what a field holds.
 const FIELD_REACH: u128 = 1_000_000_000;
 
-/// The greatest duration, in thousandths of a second.
-const DURATION_REACH: u128 = 60_000;
+/// The greatest duration, in thousandths of a second: 600 ticks of a second each.
+const DURATION_REACH: u128 = 600_000;
 
 /// Durations count thousandths of a second.
 const DURATION_SCALE: u128 = 1000;

@@ -1,7 +1,8 @@
 -- Phases: the rule is true at a point exactly if the phase is arranged in the point's run.
-use Rattle.std.proofs.Common.{◌≡◌, ℕ, ◌+◌, refl, sym, ap, ap₂, ◌∙◌, inl, inr, List, [], ◌∷◌, ◌++◌, Bool, true, false, ◌&&◌, ◌||◌, not, map, true≢false}
+use Rattle.std.proofs.Common.{◌≡◌, ℕ, ◌+◌, refl, sym, ap, ap₂, ◌∙◌, subst, inl, inr, List, [], ◌∷◌, ◌++◌, Bool, true, false, ◌&&◌, ◌||◌, not, map, arith, true≢false}
 use Rattle.std.specs.Prelude.{ℤ, pos, int_le, int_lt}
-use Rattle.std.specs.List.{list_all}
+use Rattle.std.specs.List.{list_any, list_all}
+use Rattle.std.proofs.lemmas.Int.{ints}
 use Rattle.osc_base.specs.declared.path.Path.{Path}
 use Rattle.osc_base.specs.declared.listing.SlotName.{SlotName}
 use Rattle.osc_base.specs.Comparisons.{same_number}
@@ -16,11 +17,11 @@ use Rattle.composition.specs.There.{same_guard}
 use Rattle.composition.specs.Arrangement.{Times, same_span, follow, is_least, is_greatest, all_same, overlap, starts_of, ends_of, covers, chosen_spans, by_kind, arranged}
 use Rattle.composition.specs.Invariants.{same_guards}
 use Rattle.field_flatten.specs.Shapes.{Layout, phase_start, phase_end}
-use Rattle.field_flatten.specs.Rules.{follow_rules, least_rules, greatest_rules, same_rules, overlap_rules, starts, ends, cover_rules, span_rule, chosen_rules, kind_rules, root_do_rules}
-use Rattle.field_flatten.proofs.Tests.{left_of, right_of, two_ways, under_one, In, all_append, all_map, any_map, map_same}
+use Rattle.field_flatten.specs.Rules.{follow_rules, least_rules, greatest_rules, together_rules, overlap_rules, starts, ends, cover_rules, span_rule, chosen_rules, kind_rules, root_do_rules}
+use Rattle.field_flatten.proofs.Tests.{left_of, right_of, both, same_truth, two_ways, under_one, In, all_at, all_from, any_at, any_from, all_append, all_map, any_map, map_same}
 use Rattle.field_flatten.proofs.Tests as T
 use Rattle.field_flatten.proofs.JoinedRows.{any_holds, under_holds}
-use Rattle.field_flatten.proofs.Presence.{guard_is}
+use Rattle.field_flatten.proofs.Presence.{same_number_is, same_number_self, guard_is}
 
 pub and_unit : (b : Bool) → (b && true) ≡ b
 and_unit true = refl
@@ -29,6 +30,18 @@ and_unit false = refl
 pub and_assoc : (a b c : Bool) → ((a && b) && c) ≡ (a && (b && c))
 and_assoc true b c = refl
 and_assoc false b c = refl
+
+and_swap : (a b c : Bool) → ((a && b) && c) ≡ ((a && c) && b)
+and_swap false b c = refl
+and_swap true true c = sym (and_unit c)
+and_swap true false true = refl
+and_swap true false false = refl
+
+and_cross : (a b c d : Bool) → ((a && b) && (c && d)) ≡ ((a && c) && (b && d))
+and_cross false b c d = refl
+and_cross true true c d = refl
+and_cross true false true d = refl
+and_cross true false false d = refl
 
 pub under_each : {A : Type 0} (b : Bool) (f : A → Bool) (xs : List A) → list_all (λ x. not b || f x) xs ≡ not b || list_all f xs
 under_each true f xs = refl
@@ -40,6 +53,53 @@ guards_are [] [] h = refl
 guards_are [] (y ∷ ys) h = absurd (true≢false (sym h))
 guards_are (x ∷ xs) [] h = absurd (true≢false (sym h))
 guards_are (x ∷ xs) (y ∷ ys) h = ap₂ (◌∷◌) (guard_is x y (left_of (same_guard x y) (same_guards xs ys) h)) (guards_are xs ys (right_of (same_guard x y) (same_guards xs ys) h))
+
+-- ---- rows of ticks
+
+-- there are ticks in a row, and each is one tick
+abbrev is_together : ℤ → List ℤ → Bool
+is_together tick [] = false
+is_together tick (t ∷ ts) = list_all (λ u. same_number u tick) (t ∷ ts)
+
+le_self : (z : ℤ) → int_le z z ≡ true
+le_self z = grind (arith, ints)
+
+-- if some of a row is a tick, and all are the first, each is that tick
+each_is : (tick t : ℤ) (ts : List ℤ) → list_any (λ u. same_number u tick) (t ∷ ts) ≡ true → list_all (same_number t) ts ≡ true → (v : ℤ) → In v (t ∷ ts) → v ≡ tick
+each_is tick t ts some same v i =
+    let a = any_at (λ u. same_number u tick) (t ∷ ts) some in
+    is_first v i ∙ sym (is_first a.0 a.1) ∙ same_number_is a.0 tick a.2
+  where
+    is_first : (w : ℤ) → In w (t ∷ ts) → w ≡ t
+    is_first w (inl e) = e
+    is_first w (inr j) = sym (same_number_is t w (all_at (same_number t) ts same w j))
+
+-- each of a row is a tick exactly if that tick is an end of the row and all are the same
+module _ (test : ℤ → Bool) (tick : ℤ) (own : test tick ≡ true) where
+  abbrev is_tick : ℤ → Bool
+  is_tick u = same_number u tick
+
+  from_each : (t : ℤ) (ts : List ℤ) → list_all is_tick (t ∷ ts) ≡ true → (list_all test (t ∷ ts) && list_any is_tick (t ∷ ts)) && list_all (same_number t) ts ≡ true
+  from_each t ts h =
+      both (list_all test (t ∷ ts) && list_any is_tick (t ∷ ts)) (list_all (same_number t) ts)
+      (both (list_all test (t ∷ ts)) (list_any is_tick (t ∷ ts)) (all_from test (t ∷ ts) (λ u i. subst (λ z. test z ≡ true) (sym (each u i)) own))
+      (any_from is_tick (t ∷ ts) t (inl refl) (all_at is_tick (t ∷ ts) h t (inl refl))))
+      (all_from (same_number t) ts (λ u i. subst (λ z. same_number t z ≡ true) (each t (inl refl) ∙ sym (each u (inr i))) (same_number_self t)))
+    where
+      each : (u : ℤ) → In u (t ∷ ts) → u ≡ tick
+      each u i = same_number_is u tick (all_at is_tick (t ∷ ts) h u i)
+
+  to_each : (t : ℤ) (ts : List ℤ) → (list_all test (t ∷ ts) && list_any is_tick (t ∷ ts)) && list_all (same_number t) ts ≡ true → list_all is_tick (t ∷ ts) ≡ true
+  to_each t ts h =
+      let end = left_of (list_all test (t ∷ ts) && list_any is_tick (t ∷ ts)) (list_all (same_number t) ts) h in
+      let same = right_of (list_all test (t ∷ ts) && list_any is_tick (t ∷ ts)) (list_all (same_number t) ts) h in
+      let some = right_of (list_all test (t ∷ ts)) (list_any is_tick (t ∷ ts)) end in
+      all_from is_tick (t ∷ ts) (λ u i. subst (λ z. is_tick z ≡ true) (sym (each_is tick t ts some same u i)) (same_number_self tick))
+
+  together_is : (ticks : List ℤ) → is_together tick ticks ≡ ((list_all test ticks && list_any is_tick ticks) && all_same ticks)
+  together_is [] = refl
+  together_is (t ∷ ts) =
+      same_truth (list_all is_tick (t ∷ ts)) ((list_all test (t ∷ ts) && list_any is_tick (t ∷ ts)) && list_all (same_number t) ts) (from_each t ts) (to_each t ts)
 
 -- ---- the parts of a phase's rule, and the times that a point gives
 
@@ -72,9 +132,9 @@ module _ (point : List ℤ) (at : Layout) where
       (and_unit (holds_at point (any_of (map (λ t. Equal t tick) ticks))) ∙ any_holds point (map (λ t. Equal t tick) ticks) ∙ any_map (holds_at point) (λ t. Equal t tick) ticks
       ∙ sym (any_map (λ t. same_number t (worth_at point tick)) (worth_at point) ticks))
 
-  same_holds : (ticks : List FlatTerm) → All (same_rules ticks) ≡ all_same (map (worth_at point) ticks)
-  same_holds [] = refl
-  same_holds (t ∷ ts) = all_map (holds_at point) (λ u. Equal t u) ts ∙ sym (all_map (same_number (worth_at point t)) (worth_at point) ts)
+  together_holds : (tick : FlatTerm) (ticks : List FlatTerm) → All (together_rules tick ticks) ≡ is_together (worth_at point tick) (map (worth_at point) ticks)
+  together_holds tick [] = refl
+  together_holds tick (t ∷ ts) = all_map (holds_at point) (λ u. Equal u tick) (t ∷ ts) ∙ sym (all_map (λ u. same_number u (worth_at point tick)) (worth_at point) (t ∷ ts))
 
   overlap_holds : (from to : List FlatTerm) → All (overlap_rules from to) ≡ overlap (map (worth_at point) from) (map (worth_at point) to)
   overlap_holds [] to = refl
@@ -90,11 +150,22 @@ module _ (point : List ℤ) (at : Layout) where
   ends_at [] = refl
   ends_at (m ∷ ms) = ap (λ xs. times_at.end m ∷ xs) (ends_at ms)
 
+  abbrev first_start : Path → List Path → Bool
+  first_start path members = is_least (times_at.start path) (starts_of times_at members)
+
+  abbrev last_end : Path → List Path → Bool
+  last_end path members = is_greatest (times_at.end path) (ends_of times_at members)
+
+  first_holds : (path : Path) (members : List Path) → All (least_rules (phase_start at path) (starts at members)) ≡ first_start path members
+  first_holds path members = least_holds (phase_start at path) (starts at members) ∙ ap (is_least (times_at.start path)) (starts_at members)
+
+  last_holds : (path : Path) (members : List Path) → All (greatest_rules (phase_end at path) (ends at members)) ≡ last_end path members
+  last_holds path members = greatest_holds (phase_end at path) (ends at members) ∙ ap (is_greatest (times_at.end path)) (ends_at members)
+
   cover_holds : (path : Path) (members : List Path) → All (cover_rules at path members) ≡ covers times_at path members
   cover_holds path members =
       all_append (holds_at point) (least_rules (phase_start at path) (starts at members)) (greatest_rules (phase_end at path) (ends at members))
-      ∙ ap₂ (◌&&◌) (least_holds (phase_start at path) (starts at members) ∙ ap (is_least (times_at.start path)) (starts_at members))
-      (greatest_holds (phase_end at path) (ends at members) ∙ ap (is_greatest (times_at.end path)) (ends_at members))
+      ∙ ap₂ (◌&&◌) (first_holds path members) (last_holds path members)
 
   chosen_holds : (path : Path) (k : ℕ) (members : List Path) → All (chosen_rules at path k members) ≡ chosen_spans times_at path k members
   chosen_holds path k [] = refl
@@ -103,20 +174,32 @@ module _ (point : List ℤ) (at : Layout) where
       ∙ ap (λ b. not b || same_span times_at m path) (and_unit (same_number (times_at.member path) (pos k))))
       (chosen_holds path (k + 1) ms)
 
-  start_same : (members : List Path) → All (same_rules (starts at members)) ≡ all_same (starts_of times_at members)
-  start_same members = same_holds (starts at members) ∙ ap all_same (starts_at members)
+  -- all members start with the whole
+  starts_hold : (path : Path) (members : List Path) → All (together_rules (phase_start at path) (starts at members)) ≡ (first_start path members && all_same (starts_of times_at members))
+  starts_hold path members =
+      together_holds (phase_start at path) (starts at members) ∙ ap (is_together (times_at.start path)) (starts_at members)
+      ∙ together_is (int_le (times_at.start path)) (times_at.start path) (le_self (times_at.start path)) (starts_of times_at members)
 
-  end_same : (members : List Path) → All (same_rules (ends at members)) ≡ all_same (ends_of times_at members)
-  end_same members = same_holds (ends at members) ∙ ap all_same (ends_at members)
+  -- all members end with the whole
+  ends_hold : (path : Path) (members : List Path) → All (together_rules (phase_end at path) (ends at members)) ≡ (last_end path members && all_same (ends_of times_at members))
+  ends_hold path members =
+      together_holds (phase_end at path) (ends at members) ∙ ap (is_together (times_at.end path)) (ends_at members)
+      ∙ together_is (λ t. int_le t (times_at.end path)) (times_at.end path) (le_self (times_at.end path)) (ends_of times_at members)
 
   kind_holds : (kind : PhaseKind) (path : Path) (members : List Path) → All (kind_rules kind at path members) ≡ by_kind kind times_at path members
   kind_holds PhaseKind.Serial path members = follow_holds (phase_start at path) (phase_end at path) members
-  kind_holds PhaseKind.Start path members = all_append (holds_at point) (cover_rules at path members) (same_rules (starts at members)) ∙ ap₂ (◌&&◌) (cover_holds path members) (start_same members)
-  kind_holds PhaseKind.End path members = all_append (holds_at point) (cover_rules at path members) (same_rules (ends at members)) ∙ ap₂ (◌&&◌) (cover_holds path members) (end_same members)
+  kind_holds PhaseKind.Start path members =
+      all_append (holds_at point) (together_rules (phase_start at path) (starts at members)) (greatest_rules (phase_end at path) (ends at members))
+      ∙ ap₂ (◌&&◌) (starts_hold path members) (last_holds path members)
+      ∙ and_swap (first_start path members) (all_same (starts_of times_at members)) (last_end path members)
+  kind_holds PhaseKind.End path members =
+      all_append (holds_at point) (least_rules (phase_start at path) (starts at members)) (together_rules (phase_end at path) (ends at members))
+      ∙ ap₂ (◌&&◌) (first_holds path members) (ends_hold path members)
+      ∙ sym (and_assoc (first_start path members) (last_end path members) (all_same (ends_of times_at members)))
   kind_holds PhaseKind.Equal path members =
-      all_append (holds_at point) (cover_rules at path members ++ same_rules (starts at members)) (same_rules (ends at members))
-      ∙ ap₂ (◌&&◌) (all_append (holds_at point) (cover_rules at path members) (same_rules (starts at members)) ∙ ap₂ (◌&&◌) (cover_holds path members) (start_same members)) (end_same members)
-      ∙ and_assoc (covers times_at path members) (all_same (starts_of times_at members)) (all_same (ends_of times_at members))
+      all_append (holds_at point) (together_rules (phase_start at path) (starts at members)) (together_rules (phase_end at path) (ends at members))
+      ∙ ap₂ (◌&&◌) (starts_hold path members) (ends_hold path members)
+      ∙ and_cross (first_start path members) (all_same (starts_of times_at members)) (last_end path members) (all_same (ends_of times_at members))
   kind_holds PhaseKind.Any path members =
       all_append (holds_at point) (cover_rules at path members) (overlap_rules (starts at members) (ends at members))
       ∙ ap₂ (◌&&◌) (cover_holds path members) (overlap_holds (starts at members) (ends at members) ∙ ap₂ overlap (starts_at members) (ends_at members))

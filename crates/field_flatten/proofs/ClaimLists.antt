@@ -5,7 +5,7 @@ use Rattle.std.specs.List.{list_all}
 use Rattle.osc_base.specs.declared.path.Path.{Path}
 use Rattle.osc_base.specs.Paths.{same_path}
 use Rattle.composition.specs.declared.clause.Clause.{Clause}
-use Rattle.composition.specs.TimedRuns.{TimedRun}
+use Rattle.composition.specs.declared.run.Run.{Run}
 use Rattle.composition.specs.declared.spot.ChoiceSpot.{ChoiceSpot}
 use Rattle.composition.specs.declared.spot.ValueSpot.{ValueSpot}
 use Rattle.composition.specs.declared.spot.PhaseSpot.{PhaseSpot}
@@ -39,7 +39,7 @@ soft_map make (x ∷ xs) f = ap₂ (λ b c. (b || (make x).holds) && c) (f x) (s
 appended : (xs ys : List Claim) → list_all soft_holds xs ≡ list_all holds_in xs → list_all soft_holds ys ≡ list_all holds_in ys → list_all soft_holds (xs ++ ys) ≡ list_all holds_in (xs ++ ys)
 appended xs ys p q = all_append soft_holds xs ys ∙ ap₂ (◌&&◌) p q ∙ sym (all_append holds_in xs ys)
 
-module _ (scene : Scene) (run : TimedRun) where
+module _ (scene : Scene) (run : Run) where
   soft_listed_claims : list_all soft_holds (listed_claims scene run) ≡ list_all holds_in (listed_claims scene run)
   soft_listed_claims =
       appended (choice_row scene run ++ value_row scene run ++ phase_row scene run ++ trace_row scene run) (length_row scene run)

@@ -14,7 +14,8 @@ use Rattle.composition.specs.expr_nodes.Sound.{is_sound, each_read}
 use Rattle.composition.specs.declared.guard.Guard.{Guard}
 use Rattle.composition.specs.declared.spot.ValueSpot.{ValueSpot}
 use Rattle.composition.specs.declared.spot.ValueRange.{ValueRange}
-use Rattle.composition.specs.TimedRuns.{TimedRun, held_in}
+use Rattle.composition.specs.declared.run.Run.{Run}
+use Rattle.composition.specs.RunParts.{held_in}
 use Rattle.composition.specs.Scenes.{Scene, Occurrence, ModifierSpot, source, guards}
 use Rattle.composition.specs.There.{is_number, is_met, are_met, presence, read_by, removed, is_asked, is_there}
 use Rattle.composition.specs.Numbers.{number_at, is_true}
@@ -55,7 +56,7 @@ module _ (scene : Scene) (point : List ℤ) (slot : SlotName → ℕ) (expanded 
   abbrev layed : Layout
   layed = lay scene point slot
 
-  abbrev pub run : TimedRun
+  abbrev pub run : Run
   run = run_named scene named
 
   -- ---- conditions

@@ -8,7 +8,7 @@ use Rattle.box_eval.specs.declared.flat.Flat.{Flat}
 use Rattle.box_eval.specs.Rules.{Meets}
 use Rattle.box_eval.specs.FlatRules.{holds_at}
 use Rattle.composition.specs.declared.spot.PhaseSpot.{PhaseSpot}
-use Rattle.composition.specs.TimedRuns.{TimedRun}
+use Rattle.composition.specs.declared.run.Run.{Run}
 use Rattle.composition.specs.Scenes.{Scene, phases}
 use Rattle.composition.specs.Items.{Item, OfTyped, OfPhase, items, item_holds, is_hard}
 use Rattle.composition.specs.Claims.{IsInstance}
@@ -84,7 +84,7 @@ module _ (scene : Scene) (expanded : IsExpanded scene) where
 
   -- ---- a run
 
-  module _ (run : TimedRun) (framed : Framed scene run) where
+  module _ (run : Run) (framed : Framed scene run) where
     abbrev point : List ℤ
     point = point_of scene run
 
@@ -116,7 +116,7 @@ module _ (scene : Scene) (expanded : IsExpanded scene) where
 
   -- ---- the statements
 
-  found : (run : TimedRun) → IsInstance scene run → IsFound scene run
+  found : (run : Run) → IsInstance scene run → IsFound scene run
   found run h =
       let parts = instance_parts scene run h in
       record { inside = within run parts.0; met = all_back run parts.0 parts.1; gives = back run parts.0 }
@@ -147,8 +147,8 @@ exact_flat scene flat expanded is = record {
     in_scene : (point : List ℤ) → IsPointOf flat.bounds.pairs point → IsPointOf (bounds scene) point
     in_scene point p = subst (λ ends. IsPointOf ends point) is.same_ends p
 
-    in_flat : (run : TimedRun) → IsInstance scene run → IsPointOf flat.bounds.pairs (point_of scene run)
+    in_flat : (run : Run) → IsInstance scene run → IsPointOf flat.bounds.pairs (point_of scene run)
     in_flat run h = subst (λ ends. IsPointOf ends (point_of scene run)) (sym is.same_ends) (found scene expanded run h).inside
 
-    meets_in : (run : TimedRun) → IsInstance scene run → Meets (point_of scene run) flat.rules
+    meets_in : (run : Run) → IsInstance scene run → Meets (point_of scene run) flat.rules
     meets_in run h = all_meets (point_of scene run) flat.rules (ap (list_all (holds_at (point_of scene run))) is.same_rules ∙ (found scene expanded run h).met)

@@ -24,7 +24,8 @@ use Rattle.composition.specs.declared.run.Choice.{Choice}
 use Rattle.composition.specs.declared.run.Span.{Span}
 use Rattle.composition.specs.declared.run.Value.{Value}
 use Rattle.composition.specs.declared.run.Trace.{Trace}
-use Rattle.composition.specs.TimedRuns.{TimedRun, held_in, span_in}
+use Rattle.composition.specs.declared.run.Run.{Run}
+use Rattle.composition.specs.RunParts.{held_in, span_in}
 use Rattle.composition.specs.Scenes.{Scene, choices, values, phases, vehicles, guards, has_root_do, root_do}
 use Rattle.composition.specs.There.{is_there, is_number}
 use Rattle.composition.specs.Ranges.{lies_between, in_range, has_gap}
@@ -144,7 +145,7 @@ module _ (scene : Scene) (point : List ℤ) (slot : SlotName → ℕ) (expanded 
   abbrev named : SlotName → ℤ
   named = at scene point slot
 
-  abbrev runs : TimedRun
+  abbrev runs : Run
   runs = run scene point slot expanded inside
 
   -- what one of the four lists is to hold, it holds

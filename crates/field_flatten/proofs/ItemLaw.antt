@@ -13,7 +13,7 @@ use Rattle.composition.specs.keep_rules.Overriding.{is_default, same_target, wit
 use Rattle.composition.specs.declared.spot.ValueSpot.{ValueSpot}
 use Rattle.composition.specs.declared.spot.ValueRange.{ValueRange}
 use Rattle.composition.specs.declared.spot.PhaseSpot.{PhaseSpot}
-use Rattle.composition.specs.TimedRuns.{TimedRun}
+use Rattle.composition.specs.declared.run.Run.{Run}
 use Rattle.composition.specs.Scenes.{Scene, Occurrence, ModifierSpot, marks, values, phases, vehicles, has_phase, root_do}
 use Rattle.composition.specs.Ranges.{has_gap}
 use Rattle.composition.specs.Slots.{ticks_of}
@@ -176,7 +176,7 @@ module _ (scene : Scene) (point : List ℤ) (slot : SlotName → ℕ) (expanded 
   abbrev layed : Layout
   layed = lay scene point slot
 
-  abbrev runs : TimedRun
+  abbrev runs : Run
   runs = run scene point slot expanded inside
 
   pub item_law : AllArranged scene named expanded → (i : Item) → IsItem scene i → holds_at point (item_rule scene layed i) ≡ item_holds scene runs i

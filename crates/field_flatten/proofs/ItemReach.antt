@@ -21,7 +21,8 @@ use Rattle.composition.specs.declared.spot.ValueRange.{ValueRange}
 use Rattle.composition.specs.declared.spot.PhaseSpot.{PhaseSpot}
 use Rattle.composition.specs.Scenes.{Scene, Source, OfRun, OfPhase, OfValue, source, values, phases, has_phase, has_root_do, root_do}
 use Rattle.composition.specs.Slots.{slot_names}
-use Rattle.composition.specs.Invariants.{value_at, is_small, is_range, is_read, is_from_to}
+use Rattle.composition.specs.Invariants.{value_at, is_small, is_range, is_read}
+use Rattle.composition.proofs.Settings.{setting_is}
 use Rattle.field_flatten.specs.Ends.{slot_in, ends_of, range_ends, no_ends, bounds}
 use Rattle.field_flatten.specs.Shapes.{Layout, read_term, phase_start, phase_end}
 use Rattle.field_flatten.specs.Rules.{layout, end_term}
@@ -83,25 +84,8 @@ module _ (scene : Scene) (expanded : IsExpanded scene) (limited : IsLimited scen
       (subst (λ o. unsigned_abs (option_map_or (λ (e : Pair). e.low) o (pos 0)) ≤ m) (sym is) low)
       (subst (λ o. unsigned_abs (option_map_or (λ (e : Pair). e.high) o (pos 0)) ≤ m) (sym is) high) small
 
-  pub setting_parts : (1 ≤ scene.setting.ticks) × (scene.setting.ticks ≤ 600) × (1 ≤ scene.setting.tick) × (scene.setting.ticks * scene.setting.tick ≤ duration_reach) × (scene.setting.lanes ≤ 8) × (scene.setting.road ≤ 10000)
-  setting_parts =
-      let s = scene.setting in
-      let first = left_of (is_from_to 1 600 s.ticks && (is_from_to 1 8 s.lanes && is_from_to 1 10000 s.road)) (nat_le 1 s.tick && nat_le (s.ticks * s.tick) duration_reach) expanded.is_scene.setting in
-      let second = right_of (is_from_to 1 600 s.ticks && (is_from_to 1 8 s.lanes && is_from_to 1 10000 s.road)) (nat_le 1 s.tick && nat_le (s.ticks * s.tick) duration_reach) expanded.is_scene.setting in
-      let ticks = left_of (is_from_to 1 600 s.ticks) (is_from_to 1 8 s.lanes && is_from_to 1 10000 s.road) first in
-      let rest = right_of (is_from_to 1 600 s.ticks) (is_from_to 1 8 s.lanes && is_from_to 1 10000 s.road) first in
-      let lanes = left_of (is_from_to 1 8 s.lanes) (is_from_to 1 10000 s.road) rest in
-      let road = right_of (is_from_to 1 8 s.lanes) (is_from_to 1 10000 s.road) rest in (
-        le_number 1 s.ticks (left_of (nat_le 1 s.ticks) (nat_le s.ticks 600) ticks),
-        le_number s.ticks 600 (right_of (nat_le 1 s.ticks) (nat_le s.ticks 600) ticks),
-        le_number 1 s.tick (left_of (nat_le 1 s.tick) (nat_le (s.ticks * s.tick) duration_reach) second),
-        le_number (s.ticks * s.tick) duration_reach (right_of (nat_le 1 s.tick) (nat_le (s.ticks * s.tick) duration_reach) second),
-        le_number s.lanes 8 (right_of (nat_le 1 s.lanes) (nat_le s.lanes 8) lanes),
-        le_number s.road 10000 (right_of (nat_le 1 s.road) (nat_le s.road 10000) road),
-      )
-
   few_ticks : scene.setting.ticks ≤ most
-  few_ticks = let s = setting_parts in let t : scene.setting.ticks ≤ 600 = s.1 in omega arith
+  few_ticks = let few = (setting_is scene.setting expanded.is_scene.setting).few_ticks in omega arith
 
   phase_spot_of : (path : Path) → has_phase scene path ≡ true → (p : PhaseSpot) × In p (phases scene) × (p.path ≡ path)
   phase_spot_of path h = let p = any_at (λ (q : PhaseSpot). same_path q.path path) (phases scene) h in (p.0, p.1, path_is p.0.path path p.2)
@@ -163,18 +147,16 @@ module _ (scene : Scene) (expanded : IsExpanded scene) (limited : IsLimited scen
   timed_fits : (i : Info) (per : ℕ) (term : FlatTerm) → per ≡ duration_scale → has_size i duration_size ≡ true → Fits ends most term scene.setting.ticks
       → (e k : ℕ) → e ≡ i.scale * k → 0 < k → i.reach * k ≤ most → Fits ends most (times (e / per * scene.setting.tick) term) (i.reach * k)
   timed_fits i per term thousand sized fits e k is above small =
-      let s = setting_parts in
-      let some : 1 ≤ scene.setting.ticks = s.0 in
-      let total : scene.setting.ticks * scene.setting.tick ≤ duration_reach = s.3 in
+      let s = setting_is scene.setting expanded.is_scene.setting in
       let scales : i.scale ≡ duration_scale = scale_is i duration_size sized in
       let reaches : i.reach ≡ duration_reach = reach_is i duration_size sized in
       let share : e / per ≡ k = ap₂ (λ a b. a / b) (is ∙ ap (λ n. n * k) scales) thousand ∙ share_of duration_scale k (omega arith) in
       let product : scene.setting.ticks * (k * scene.setting.tick) ≡ (scene.setting.ticks * scene.setting.tick) * k =
       ap (λ n. scene.setting.ticks * n) (mul_comm k scene.setting.tick) ∙ sym (mul_assoc scene.setting.ticks scene.setting.tick k) in
-      let less : scene.setting.ticks * (k * scene.setting.tick) ≤ i.reach * k = subst (λ n. n ≤ i.reach * k) (sym product) (mul-le-mul_right k (subst (λ n. scene.setting.ticks * scene.setting.tick ≤ n) (sym reaches) total)) in
+      let less : scene.setting.ticks * (k * scene.setting.tick) ≤ i.reach * k = subst (λ n. n ≤ i.reach * k) (sym product) (mul-le-mul_right k (subst (λ n. scene.setting.ticks * scene.setting.tick ≤ n) (sym reaches) s.short)) in
       subst (λ n. Fits ends most (times (n * scene.setting.tick) term) (i.reach * k)) (sym share)
       (weaker ends most (times (k * scene.setting.tick) term) (scene.setting.ticks * (k * scene.setting.tick)) (i.reach * k) less
-      (times_fits ends most (k * scene.setting.tick) term scene.setting.ticks some fits (omega arith)))
+      (times_fits ends most (k * scene.setting.tick) term scene.setting.ticks s.some_ticks fits (omega arith)))
 
   pub read_fits : (i : Info) (path : Path) (per : ℕ) → reading i path per ≡ true → 0 < i.scale → (e k : ℕ) → e ≡ i.scale * k → 0 < k → i.reach * k ≤ most → Fits ends most (read_term at path per (source scene path) e) (i.reach * k)
   read_fits i path per h positive e k is above small = by (source scene path) refl h

@@ -35,5 +35,6 @@ pub mod Tests
 pub mod Times
 pub mod Worked
 -- Crates below, for the crates above.
+pub use Rattle.composition.proofs as of_composition
 pub use Rattle.composition.proofs.of_expr_nodes as of_expr_nodes
 pub use Rattle.osc_base.proofs as of_osc_base

@@ -12,7 +12,7 @@ use Rattle.composition.specs.declared.run.Choice.{Choice}
 use Rattle.composition.specs.declared.run.Span.{Span}
 use Rattle.composition.specs.declared.run.Value.{Value}
 use Rattle.composition.specs.declared.run.Trace.{Trace}
-use Rattle.composition.specs.TimedRuns.{TimedRun}
+use Rattle.composition.specs.declared.run.Run.{Run}
 use Rattle.composition.specs.Scenes.{Scene, choices, values, phases, vehicles}
 use Rattle.composition.specs.There.{is_there}
 use Rattle.composition.specs.Items.{Item, items, item_holds, is_hard}
@@ -23,7 +23,7 @@ use Rattle.field_flatten.proofs.Frame.{holds_in}
 use Rattle.field_flatten.proofs.ItemLaw.{distinct_found}
 
 -- what holds of a run in which all claims but those of hard constraints hold
-pub record Framed (scene : Scene) (run : TimedRun) : Type 0 where
+pub record Framed (scene : Scene) (run : Run) : Type 0 where
   pub listed : list_all holds_in (listed_claims scene run) ≡ true
   pub ended : (end_claim scene run).holds ≡ true
   pub bounded : list_all holds_in (bounds_claims scene run) ≡ true
@@ -76,7 +76,7 @@ module _ (A B : Type 0) (key : A → Path) (key_of : B → Path) (keep : Path �
 
 -- ---- the run
 
-module _ (scene : Scene) (run : TimedRun) where
+module _ (scene : Scene) (run : Run) where
   abbrev pub choice_row : List Claim
   choice_row = listed (those_there scene run (map (λ (c : ChoiceSpot). c.path) (choices scene))) (map (λ (c : Choice). c.path) run.choices)
 

@@ -17,7 +17,7 @@ use Rattle.composition.specs.expr_nodes.Typed.{Typed, reads, kind, scale}
 use Rattle.composition.specs.expr_nodes.Value.{worth}
 use Rattle.composition.specs.expr_nodes.Parts.{is_scalar}
 use Rattle.composition.specs.expr_nodes.Sound.{is_sound, each_read}
-use Rattle.composition.specs.TimedRuns.{TimedRun}
+use Rattle.composition.specs.declared.run.Run.{Run}
 use Rattle.composition.specs.Scenes.{Scene, Occurrence, ModifierSpot, guards, vehicles, has_phase}
 use Rattle.composition.specs.There.{are_met, read_by, modifier_presence}
 use Rattle.composition.specs.Items.{times_of, sample_of, end_value, other_of, modifier_holds}
@@ -51,7 +51,7 @@ module _ (scene : Scene) (point : List ℤ) (slot : SlotName → ℕ) (expanded 
   abbrev layed : Layout
   layed = lay scene point slot
 
-  abbrev runs : TimedRun
+  abbrev runs : Run
   runs = run scene point slot expanded inside
 
   abbrev paths : ModifierSpot → List Path

@@ -24,6 +24,7 @@ use Rattle.composition.specs.Scenes.{Scene, Occurrence, ModifierSpot, vehicles, 
 use Rattle.composition.specs.There.{modifier_presence}
 use Rattle.composition.specs.Items.{other_of}
 use Rattle.composition.specs.Invariants.{are_grounded, is_expression, is_end, has_range, has_other, is_modifier}
+use Rattle.composition.proofs.Settings.{setting_is}
 use Rattle.field_flatten.specs.Shapes.{Layout, shape, phase_start, phase_end}
 use Rattle.field_flatten.specs.Rules.{presence_rules, sample_slots, scale_of, end_of, modifier_rule}
 use Rattle.field_flatten.specs.Seen.{has_values}
@@ -33,7 +34,7 @@ use Rattle.field_flatten.proofs.Multiples.{common, share_of}
 use Rattle.field_flatten.proofs.Fitting.{Fits, RuleFits, AllRules, whole_fits, sum_fits, times_fits, equal_fits, at_most_fits, below_fits, both_fits, under_fits}
 use Rattle.field_flatten.proofs.PhaseReach.{appended, single}
 use Rattle.field_flatten.proofs.ShapeReach.{reaches}
-use Rattle.field_flatten.proofs.ItemReach.{ends, slot, at, start_fits, end_fits, setting_parts, reading, read_fits, read_one}
+use Rattle.field_flatten.proofs.ItemReach.{ends, slot, at, start_fits, end_fits, reading, read_fits, read_one}
 use Rattle.field_flatten.proofs.ConstraintReach.{presence_fit}
 use Rattle.field_flatten.proofs.MotionReach.{lane_fits, position_fits, speed_fits, position_gap, speed_gap}
 
@@ -213,8 +214,7 @@ module _ (scene : Scene) (expanded : IsExpanded scene) (limited : IsLimited scen
       let own = vehicle_in m.own (right_of (has_phase scene m.phase) (list_any (same_path m.own) (vehicles scene)) first) in
       let narrow = all_at is_narrow_range scene.modifiers limited.narrow_ranges m i in
       let far : quantity_reach * lcm position_scale (scaled m) ≤ most = wide (quantity_reach * lcm position_scale (scaled m)) (not_true (nat_lt greatest_part (quantity_reach * lcm position_scale (scaled m))) (left_of _ _ narrow)) in
-      let s = setting_parts scene expanded limited most large in
-      let ticks : scene.setting.ticks ≤ 600 = s.1 in
+      let ticks = (setting_is scene.setting expanded.is_scene.setting).few_ticks in
       let few : t ≤ most = omega arith in
       let relation : FlatRule = relation_at m.kind (sample_slots layed m.own t) (sample_slots layed (other_of m) t) (end_of layed m.low (scaled m)) (end_of layed m.high (scaled m)) (scaled m) in
       under_fits box most (presence_rules layed (modifier_presence scene m) ++ moment_at m.moment (phase_start layed m.phase) (phase_end layed m.phase) t) relation

@@ -12,7 +12,7 @@ use Rattle.osc_base.specs.Comparisons.{same_number}
 use Rattle.osc_base.specs.Paths.{same_path}
 use Rattle.box_eval.specs.FlatRules.{FlatTerm, FlatRule, AtMost, Below, Equal, Slot, Whole, Less, Sum, worth_at, holds_at, under, times}
 use Rattle.composition.specs.declared.spot.ValueSpot.{ValueSpot}
-use Rattle.composition.specs.TimedRuns.{TimedRun}
+use Rattle.composition.specs.declared.run.Run.{Run}
 use Rattle.composition.specs.Scenes.{Scene, Source, OfRun, OfPhase, OfValue, source, guards, vehicles, max_speed, max_acceleration}
 use Rattle.composition.specs.There.{is_there}
 use Rattle.composition.specs.Movement.{Course, keeps_lane, is_step, moves}
@@ -87,7 +87,7 @@ module _ (scene : Scene) (point : List ℤ) (slot : SlotName → ℕ) (expanded 
   abbrev layed : Layout
   layed = lay scene point slot
 
-  abbrev runs : TimedRun
+  abbrev runs : Run
   runs = run scene point slot expanded inside
 
   -- the course that a point gives

@@ -2,7 +2,7 @@
 use Rattle.std.proofs.Common.{◌≡◌, ℕ, ◌+◌, ◌*◌, ◌≤◌, ◌<◌, refl, sym, ap, ◌∙◌, subst, inl, inr, List, [], ◌∷◌, ◌++◌, map, true, false, ◌&&◌, cond, Option, Some, None, arith, true≢false}
 use Rattle.std.specs.Prelude.{pos, ◌≤ℤ◌, nat_lt}
 use Rattle.std.specs.Option.{option_map_or}
-use Rattle.std.proofs.Math.Nat.{mul-le-mul_left, mul-le-mul_right}
+use Rattle.std.proofs.Math.Nat.{mul-le-mul_left}
 use Rattle.std.proofs.lemmas.Int.{ints}
 use Rattle.osc_base.specs.declared.path.Path.{Path}
 use Rattle.osc_base.specs.declared.listing.SlotName.{SlotName}
@@ -10,11 +10,12 @@ use Rattle.osc_base.specs.Comparisons.{greatest_part}
 use Rattle.box_eval.specs.declared.bounds.Pair.{Pair}
 use Rattle.box_eval.specs.Box.{pair}
 use Rattle.box_eval.specs.FlatRules.{FlatTerm, FlatRule, Whole, Slot, Sum, Less, AtMost, Below, under, times}
-use Rattle.composition.specs.expr_nodes.Sizes.{field_reach, duration_reach}
+use Rattle.composition.specs.expr_nodes.Sizes.{field_reach}
 use Rattle.composition.specs.declared.spot.ValueSpot.{ValueSpot}
 use Rattle.composition.specs.Scenes.{Scene, vehicles, guards, max_speed, max_acceleration}
 use Rattle.composition.specs.Slots.{slot_names}
 use Rattle.composition.specs.Invariants.{same_guards, value_at, is_numeric, is_limit, is_limited}
+use Rattle.composition.proofs.Settings.{setting_is}
 use Rattle.field_flatten.specs.Ends.{ends_of}
 use Rattle.field_flatten.specs.Shapes.{Layout}
 use Rattle.field_flatten.specs.Rules.{end_term, presence_rules, sample_slots, value_term, one_more, step_rules, motion_parts, motion_rule}
@@ -24,7 +25,7 @@ use Rattle.field_flatten.proofs.SlotLaw.{sample_is_named}
 use Rattle.field_flatten.proofs.Fitting.{Fits, RuleFits, AllRules, whole_fits, sum_fits, gap_fits, times_fits, equal_fits, at_most_fits, below_fits, all_fit, under_fits}
 use Rattle.field_flatten.proofs.FlatReach.{interval}
 use Rattle.field_flatten.proofs.PhaseReach.{appended, single, mapped}
-use Rattle.field_flatten.proofs.ItemReach.{ends, slot, at, ends_at, name_fits, value_fits, setting_parts, run_end_fits}
+use Rattle.field_flatten.proofs.ItemReach.{ends, slot, at, ends_at, name_fits, value_fits, run_end_fits}
 use Rattle.field_flatten.proofs.ConstraintReach.{there_fit}
 
 less_number : (a b : ℕ) → nat_lt a b ≡ true → a < b
@@ -50,14 +51,12 @@ module _ (scene : Scene) (expanded : IsExpanded scene) (limited : IsLimited scen
 
   pub lane_fits : (v : Path) (t : ℕ) → In v (vehicles scene) → t ≤ scene.setting.ticks → Fits box most (Slot (number (SlotName.Lane v t))) 8
   lane_fits v t i small =
-      let s = setting_parts scene expanded limited most large in
-      let few : scene.setting.lanes ≤ 8 = s.4 in
+      let few = (setting_is scene.setting expanded.is_scene.setting).few_lanes in
       name_fits scene expanded limited most large (SlotName.Lane v t) 8 (sample_is_named scene v t (SlotName.Lane v t) i small (inl refl)) (omega (arith, ints)) (omega (arith, ints)) (omega arith)
 
   pub position_fits : (v : Path) (t : ℕ) → In v (vehicles scene) → t ≤ scene.setting.ticks → Fits box most (Slot (number (SlotName.Position v t))) farthest
   position_fits v t i small =
-      let s = setting_parts scene expanded limited most large in
-      let few : scene.setting.road ≤ 10000 = s.5 in
+      let few = (setting_is scene.setting expanded.is_scene.setting).short_road in
       let far : scene.setting.road * 1000000 ≤ 10000000000 = omega arith in
       name_fits scene expanded limited most large (SlotName.Position v t) farthest (sample_is_named scene v t (SlotName.Position v t) i small (inr (inl refl))) (omega (arith, ints)) (omega (arith, ints)) (omega arith)
 
@@ -96,17 +95,12 @@ module _ (scene : Scene) (expanded : IsExpanded scene) (limited : IsLimited scen
       by None e g = absurd (true≢false (sym g))
       by (Some w) e g = value_fits scene expanded limited most large limit w e
 
-  short_tick : scene.setting.tick ≤ duration_reach
-  short_tick =
-      let s = setting_parts scene expanded limited most large in
-      let some : 1 ≤ scene.setting.ticks = s.0 in
-      let total : scene.setting.ticks * scene.setting.tick ≤ duration_reach = s.3 in
-      let own : 1 * scene.setting.tick ≤ scene.setting.ticks * scene.setting.tick = mul-le-mul_right scene.setting.tick some in
-      omega arith
+  short_tick : scene.setting.tick ≤ 1000
+  short_tick = (setting_is scene.setting expanded.is_scene.setting).short_tick
 
   ticked : (term : FlatTerm) → Fits box most term field_reach → Fits box most (times scene.setting.tick term) (field_reach * scene.setting.tick)
   ticked term f =
-      let less : field_reach * scene.setting.tick ≤ field_reach * duration_reach = mul-le-mul_left field_reach short_tick in
+      let less : field_reach * scene.setting.tick ≤ field_reach * 1000 = mul-le-mul_left field_reach short_tick in
       times_fits box most scene.setting.tick term field_reach (omega arith) f (omega arith)
 
   thousand : (term : FlatTerm) → Fits box most term field_reach → Fits box most (times 1000 term) (field_reach * 1000)
@@ -118,7 +112,7 @@ module _ (scene : Scene) (expanded : IsExpanded scene) (limited : IsLimited scen
   moved : (v : Path) (t : ℕ) → In v (vehicles scene) → t ≤ scene.setting.ticks
       → Fits box most (Sum (Slot (number (SlotName.Position v t))) (times scene.setting.tick (Slot (number (SlotName.Speed v t))))) (farthest + field_reach * scene.setting.tick)
   moved v t i small =
-      let less : field_reach * scene.setting.tick ≤ field_reach * duration_reach = mul-le-mul_left field_reach short_tick in
+      let less : field_reach * scene.setting.tick ≤ field_reach * 1000 = mul-le-mul_left field_reach short_tick in
       sum_fits box most (Slot (number (SlotName.Position v t))) (times scene.setting.tick (Slot (number (SlotName.Speed v t)))) farthest (field_reach * scene.setting.tick) (position_fits v t i small)
       (ticked (Slot (number (SlotName.Speed v t))) (speed_fits v t i small)) (omega arith)
 
@@ -147,8 +141,7 @@ module _ (scene : Scene) (expanded : IsExpanded scene) (limited : IsLimited scen
 
   pub motion_fits : (v : Path) (t : ℕ) → In v (vehicles scene) → t ≤ scene.setting.ticks → Fit (motion_rule scene layed v t)
   motion_fits v t i small =
-      let s = setting_parts scene expanded limited most large in
-      let ticks : scene.setting.ticks ≤ 600 = s.1 in
+      let ticks = (setting_is scene.setting expanded.is_scene.setting).few_ticks in
       let there : List FlatRule = presence_rules layed (guards scene v) in
       let before : FlatRule = AtMost (Whole (pos t)) (end_term scene number) in
       let strict : FlatRule = Below (Whole (pos t)) (end_term scene number) in

@@ -17,7 +17,8 @@ use Rattle.composition.specs.declared.run.Choice.{Choice}
 use Rattle.composition.specs.declared.run.Span.{Span}
 use Rattle.composition.specs.declared.run.Value.{Value}
 use Rattle.composition.specs.declared.run.Trace.{Trace}
-use Rattle.composition.specs.TimedRuns.{TimedRun, choice_in, held_in, span_in, sample_in}
+use Rattle.composition.specs.declared.run.Run.{Run}
+use Rattle.composition.specs.RunParts.{choice_in, held_in, span_in, sample_in}
 use Rattle.composition.specs.Scenes.{Scene, choices, values, phases, vehicles, has_phase}
 use Rattle.composition.specs.There.{is_met, is_number}
 use Rattle.composition.specs.Invariants.{is_guard, guard_path, value_at, is_numeric}
@@ -58,7 +59,7 @@ slice_counted f from (suc n) (suc t) h = let e : from + 1 + t ≡ from + suc t =
 -- ---- the run of numbers
 
 module _ (scene : Scene) (at : SlotName → ℤ) where
-  abbrev pub run : TimedRun
+  abbrev pub run : Run
   run = run_named scene at
 
   pub choice_there : (path : Path) → stands scene at path ≡ true → list_any (λ (c : ChoiceSpot). same_path c.path path) (choices scene) ≡ true

@@ -17,7 +17,7 @@ use Rattle.composition.specs.declared.spot.ValueRange.{ValueRange}
 use Rattle.composition.specs.declared.spot.PhaseSpot.{PhaseSpot}
 use Rattle.composition.specs.declared.run.Span.{Span}
 use Rattle.composition.specs.Scenes.{Scene, Spot, Content, Object, Value, Phase, phase_spot, Source, OfRun, OfPhase, OfValue, phases, source, source_timed, has_phase, has_root_do, root_do, spot_at, guards}
-use Rattle.composition.specs.TimedRuns.{held_in}
+use Rattle.composition.specs.RunParts.{held_in}
 use Rattle.composition.specs.Numbers.{number_of, text_number, thousandths, number_from, number_at}
 use Rattle.composition.specs.Invariants.{value_at, is_read, are_texts}
 use Rattle.field_flatten.specs.Points.{is_held, stands, held_of, end_named, run_named}

@@ -14,7 +14,7 @@ use Rattle.composition.specs.declared.spot.ChoiceSpot.{ChoiceSpot}
 use Rattle.composition.specs.declared.spot.PhaseSpot.{PhaseSpot}
 use Rattle.composition.specs.declared.spot.PhaseKind.{PhaseKind}
 use Rattle.composition.specs.declared.run.Span.{Span}
-use Rattle.composition.specs.TimedRuns.{TimedRun}
+use Rattle.composition.specs.declared.run.Run.{Run}
 use Rattle.composition.specs.Scenes.{Scene, Spot, Content, Object, Value, Phase, phase_spot, choice_spot, phases, choices, guards, has_phase, root_do}
 use Rattle.composition.specs.There.{is_there}
 use Rattle.composition.specs.Arrangement.{Times, by_kind, arranged, all_same, overlap}
@@ -52,7 +52,7 @@ module _ (scene : Scene) (point : List ℤ) (slot : SlotName → ℕ) (expanded 
   abbrev layed : Layout
   layed = lay scene point slot
 
-  abbrev runs : TimedRun
+  abbrev runs : Run
   runs = run scene point slot expanded inside
 
   abbrev one : Times

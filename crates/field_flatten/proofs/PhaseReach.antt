@@ -14,7 +14,7 @@ use Rattle.composition.specs.declared.spot.PhaseKind.{PhaseKind}
 use Rattle.composition.specs.Scenes.{Scene, guards, has_phase, root_do}
 use Rattle.composition.specs.Invariants.{same_guards, is_member, are_choices, are_members}
 use Rattle.field_flatten.specs.Shapes.{Layout, phase_start, phase_end}
-use Rattle.field_flatten.specs.Rules.{follow_rules, least_rules, greatest_rules, same_rules, overlap_rules, starts, ends, cover_rules, span_rule, chosen_rules, kind_rules, root_do_rules}
+use Rattle.field_flatten.specs.Rules.{follow_rules, least_rules, greatest_rules, together_rules, overlap_rules, starts, ends, cover_rules, span_rule, chosen_rules, kind_rules, root_do_rules}
 use Rattle.field_flatten.proofs.Tests.{left_of, right_of, two_ways, number_is, In, in_either, map_in, flat_map_in, all_at}
 use Rattle.field_flatten.proofs.Fitting.{Fits, RuleFits, AllRules, whole_fits, equal_fits, at_most_fits, below_fits, both_fits, any_fits, under_fits}
 
@@ -91,9 +91,9 @@ module _ (box : List Pair) (most t : ℕ) (at : Layout) where
       (mapped (λ x. AtMost x tick) ticks (λ x i. at_most_fits box most x tick t t (g x i) f))
       (single (any_of (map (λ x. Equal x tick) ticks)) (any_fits box most (map (λ x. Equal x tick) ticks) (mapped (λ x. Equal x tick) ticks (λ x i. equal_fits box most x tick t t (g x i) f))))
 
-  same_fit : (ticks : List FlatTerm) → AllTerms ticks → AllFit (same_rules ticks)
-  same_fit [] f r i = absurd i
-  same_fit (x ∷ xs) f r i = mapped (λ y. Equal x y) xs (λ y j. equal_fits box most x y t t (f x (inl refl)) (f y (inr j))) r i
+  together_fit : (tick : FlatTerm) (ticks : List FlatTerm) → Fits box most tick t → AllTerms ticks → AllFit (together_rules tick ticks)
+  together_fit tick [] f g = single (any_of []) (any_fits box most [] (λ r i. absurd i))
+  together_fit tick (x ∷ xs) f g = mapped (λ y. Equal y tick) (x ∷ xs) (λ y i. equal_fits box most y tick t t (g y i) f)
 
   overlap_fit : (from to : List FlatTerm) → AllTerms from → AllTerms to → AllFit (overlap_rules from to)
   overlap_fit from to f g r i = let s = flat_map_in (λ s. map (λ e. AtMost s e) to) from r i in mapped (λ e. AtMost s.0 e) to (λ e j. at_most_fits box most s.0 e t t (f s.0 s.1) (g e j)) r s.2
@@ -104,9 +104,21 @@ module _ (box : List Pair) (most t : ℕ) (at : Layout) where
   ends_fit : (members : List Path) → AllTimed members → AllTerms (ends at members)
   ends_fit members h x i = let m = map_in (phase_end at) members x i in subst (λ y. Fits box most y t) (sym m.2) (h m.0 m.1).end
 
+  first_fit : (path : Path) (members : List Path) → Timed path → AllTimed members → AllFit (least_rules (phase_start at path) (starts at members))
+  first_fit path members w h = least_fit (phase_start at path) (starts at members) w.start (starts_fit members h)
+
+  last_fit : (path : Path) (members : List Path) → Timed path → AllTimed members → AllFit (greatest_rules (phase_end at path) (ends at members))
+  last_fit path members w h = greatest_fit (phase_end at path) (ends at members) w.end (ends_fit members h)
+
+  same_start_fit : (path : Path) (members : List Path) → Timed path → AllTimed members → AllFit (together_rules (phase_start at path) (starts at members))
+  same_start_fit path members w h = together_fit (phase_start at path) (starts at members) w.start (starts_fit members h)
+
+  same_end_fit : (path : Path) (members : List Path) → Timed path → AllTimed members → AllFit (together_rules (phase_end at path) (ends at members))
+  same_end_fit path members w h = together_fit (phase_end at path) (ends at members) w.end (ends_fit members h)
+
   cover_fit : (path : Path) (members : List Path) → Timed path → AllTimed members → AllFit (cover_rules at path members)
-  cover_fit path members w h = appended (least_rules (phase_start at path) (starts at members)) (greatest_rules (phase_end at path) (ends at members))
-      (least_fit (phase_start at path) (starts at members) w.start (starts_fit members h)) (greatest_fit (phase_end at path) (ends at members) w.end (ends_fit members h))
+  cover_fit path members w h =
+      appended (least_rules (phase_start at path) (starts at members)) (greatest_rules (phase_end at path) (ends at members)) (first_fit path members w h) (last_fit path members w h)
 
   span_fits : (a b : Path) → Timed a → Timed b → Fit (span_rule at a b)
   span_fits a b f g = both_fits box most (Equal (phase_start at a) (phase_start at b)) (Equal (phase_end at a) (phase_end at b))
@@ -123,10 +135,12 @@ module _ (box : List Pair) (most t : ℕ) (at : Layout) where
 
     pub kind_fit : (kind : PhaseKind) (path : Path) (members : List Path) → length members ≤ n → (kind ≡ PhaseKind.OneOf → Fits box most (Slot (at.slot (SlotName.Choice path))) n) → Timed path → AllTimed members → AllFit (kind_rules kind at path members)
     kind_fit PhaseKind.Serial path members few c w h = follow_fit (phase_start at path) (phase_end at path) members w.start w.end h
-    kind_fit PhaseKind.Start path members few c w h = appended (cover_rules at path members) (same_rules (starts at members)) (cover_fit path members w h) (same_fit (starts at members) (starts_fit members h))
-    kind_fit PhaseKind.End path members few c w h = appended (cover_rules at path members) (same_rules (ends at members)) (cover_fit path members w h) (same_fit (ends at members) (ends_fit members h))
-    kind_fit PhaseKind.Equal path members few c w h = appended (cover_rules at path members ++ same_rules (starts at members)) (same_rules (ends at members))
-        (appended (cover_rules at path members) (same_rules (starts at members)) (cover_fit path members w h) (same_fit (starts at members) (starts_fit members h))) (same_fit (ends at members) (ends_fit members h))
+    kind_fit PhaseKind.Start path members few c w h =
+        appended (together_rules (phase_start at path) (starts at members)) (greatest_rules (phase_end at path) (ends at members)) (same_start_fit path members w h) (last_fit path members w h)
+    kind_fit PhaseKind.End path members few c w h =
+        appended (least_rules (phase_start at path) (starts at members)) (together_rules (phase_end at path) (ends at members)) (first_fit path members w h) (same_end_fit path members w h)
+    kind_fit PhaseKind.Equal path members few c w h =
+        appended (together_rules (phase_start at path) (starts at members)) (together_rules (phase_end at path) (ends at members)) (same_start_fit path members w h) (same_end_fit path members w h)
     kind_fit PhaseKind.Any path members few c w h = appended (cover_rules at path members) (overlap_rules (starts at members) (ends at members)) (cover_fit path members w h)
         (overlap_fit (starts at members) (ends at members) (starts_fit members h) (ends_fit members h))
     kind_fit PhaseKind.OneOf path members few c w h = chosen_fit path 0 members (omega arith) (c refl) w h

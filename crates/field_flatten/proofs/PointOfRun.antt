@@ -1,5 +1,5 @@
 -- The point of a run is in the box of the scene.
-use Rattle.std.proofs.Common.{◌≡◌, ℕ, zero, suc, ◌-◌, ◌*◌, ◌<◌, ◌≤◌, refl, sym, ap, ◌∙◌, subst, inl, inr, List, [], ◌∷◌, true, false, ◌&&◌, Option, Some, None, length, arith, true≢false}
+use Rattle.std.proofs.Common.{◌≡◌, ℕ, zero, suc, ◌-◌, ◌<◌, ◌≤◌, refl, sym, ap, ◌∙◌, subst, inl, inr, List, [], ◌∷◌, true, false, ◌&&◌, Option, Some, None, length, arith, true≢false}
 use Rattle.std.proofs.lemmas.List.{length-map}
 use Rattle.std.proofs.lemmas.Option.{slice_get-map}
 use Rattle.std.specs.Prelude.{ℤ, pos, ◌≤ℤ◌, find, nat_le, nat_lt, int_le, option_map, option_and_then, slice_get, unwrap_or, bytes_eq}
@@ -22,14 +22,15 @@ use Rattle.composition.specs.declared.run.Choice.{Choice}
 use Rattle.composition.specs.declared.run.Span.{Span}
 use Rattle.composition.specs.declared.run.Value.{Value}
 use Rattle.composition.specs.declared.run.Trace.{Trace}
-use Rattle.composition.specs.TimedRuns.{TimedRun, choice_in, held_in, span_in, sample_in}
+use Rattle.composition.specs.declared.run.Run.{Run}
+use Rattle.composition.specs.RunParts.{choice_in, held_in, span_in, sample_in}
 use Rattle.composition.specs.Scenes.{Scene, choices, values}
 use Rattle.composition.specs.Numbers.{text_number, number_of}
 use Rattle.composition.specs.Ranges.{lies_between, in_range}
 use Rattle.composition.specs.Claims.{road_end, top_speed, sample_in_range}
 use Rattle.composition.specs.Slots.{slot_names}
-use Rattle.composition.specs.Invariants.{is_range, is_small, is_from_to}
-use Rattle.composition.specs.expr_nodes.Sizes.{duration_reach}
+use Rattle.composition.specs.Invariants.{is_range, is_small}
+use Rattle.composition.proofs.Settings.{setting_is}
 use Rattle.field_flatten.specs.Ends.{slot_in, ends_of, range_ends, no_ends, tick_ends, bounds}
 use Rattle.field_flatten.specs.Points.{slot_value, entry_of, filled, point_of}
 use Rattle.field_flatten.specs.Exactness.{IsExpanded}
@@ -108,10 +109,7 @@ placed texts text n h = two_ways (nat_lt (position_or_len (bytes_eq text) texts)
 module _ (scene : Scene) (expanded : IsExpanded scene) where
   lanes_above : pos 1 ≤ℤ pos scene.setting.lanes
   lanes_above =
-      let s = scene.setting in
-      let first = left_of ((is_from_to 1 600 s.ticks && (is_from_to 1 8 s.lanes && is_from_to 1 10000 s.road))) (nat_le 1 s.tick && nat_le (s.ticks * s.tick) duration_reach) expanded.is_scene.setting in
-      let lanes = left_of (is_from_to 1 8 s.lanes) (is_from_to 1 10000 s.road) (right_of (is_from_to 1 600 s.ticks) (is_from_to 1 8 s.lanes && is_from_to 1 10000 s.road) first) in
-      let low = nat_le_of 1 s.lanes (left_of (nat_le 1 s.lanes) (nat_le s.lanes 8) lanes) in
+      let some = (setting_is scene.setting expanded.is_scene.setting).some_lanes in
       omega (arith, ints)
 
   range_ordered : (range : ValueRange) → is_range range ≡ true → (range_ends scene.texts range).low ≤ℤ (range_ends scene.texts range).high
@@ -137,7 +135,7 @@ module _ (scene : Scene) (expanded : IsExpanded scene) where
   ends_ordered (SlotName.Position path tick) = omega (arith, ints)
   ends_ordered (SlotName.Speed path tick) = omega (arith, ints)
 
-  module _ (run : TimedRun) (framed : Framed scene run) where
+  module _ (run : Run) (framed : Framed scene run) where
     choice_between : (path : Path) (m : ℕ) → choice_in run path ≡ Some m → Between (ends_of scene (SlotName.Choice path)) (pos m)
     choice_between path m h = by (find (λ (c : Choice). same_path c.path path) run.choices) refl h
       where

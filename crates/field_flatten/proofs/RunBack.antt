@@ -21,7 +21,8 @@ use Rattle.composition.specs.declared.run.Choice.{Choice}
 use Rattle.composition.specs.declared.run.Span.{Span}
 use Rattle.composition.specs.declared.run.Value.{Value}
 use Rattle.composition.specs.declared.run.Trace.{Trace}
-use Rattle.composition.specs.TimedRuns.{TimedRun, choice_in, held_in, span_in, sample_in}
+use Rattle.composition.specs.declared.run.Run.{Run}
+use Rattle.composition.specs.RunParts.{choice_in, held_in, span_in, sample_in}
 use Rattle.composition.specs.Scenes.{Scene, choices, values, phases, vehicles, guards, has_root_do, root_do}
 use Rattle.composition.specs.There.{is_number, is_met, is_there}
 use Rattle.composition.specs.Numbers.{text_number, number_of}
@@ -62,7 +63,7 @@ samples_are f from (suc n) (x ∷ xs) h g =
 
 -- ---- the run of the point
 
-module _ (scene : Scene) (expanded : IsExpanded scene) (run : TimedRun) (framed : Framed scene run) where
+module _ (scene : Scene) (expanded : IsExpanded scene) (run : Run) (framed : Framed scene run) where
   abbrev named : SlotName → ℤ
   named = slot_value scene (point_of scene run)
 
@@ -265,7 +266,7 @@ module _ (scene : Scene) (expanded : IsExpanded scene) (run : TimedRun) (framed 
 
   -- ---- the whole run
 
-  abbrev made : List Choice → ℕ → List Span → ℕ → List Trace → List Value → TimedRun
+  abbrev made : List Choice → ℕ → List Span → ℕ → List Trace → List Value → Run
   made c e p k t v = record { choices = c; end = e; phases = p; tick = k; traces = t; values = v }
 
   pub run_back : run_of scene (point_of scene run) ≡ run

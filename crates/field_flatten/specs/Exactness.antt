@@ -18,7 +18,7 @@ use Rattle.composition.specs.declared.spot.ValueRange.{ValueRange}
 use Rattle.composition.specs.declared.spot.ValueSpot.{ValueSpot}
 use Rattle.composition.specs.Scenes.{Scene, Spot, Occurrence, ModifierSpot, Source, OfRun, OfPhase, OfValue, source, values, phases}
 use Rattle.composition.specs.declared.clause.Clause.{Clause}
-use Rattle.composition.specs.TimedRuns.{TimedRun}
+use Rattle.composition.specs.declared.run.Run.{Run}
 use Rattle.composition.specs.Items.{items, item_holds, is_hard}
 use Rattle.composition.specs.Claims.{Claim, claims, IsInstance}
 use Rattle.composition.specs.Invariants.{IsScene, is_small}
@@ -80,7 +80,7 @@ is_hard_clause Clause.Hard = true
 is_hard_clause _ = false
 
 -- every claim holds in a run, those of hard constraints left out
-abbrev pub is_framed : Scene → TimedRun → Bool
+abbrev pub is_framed : Scene → Run → Bool
 is_framed scene run = list_all (λ (c : Claim). is_hard_clause c.clause || c.holds) (claims scene run)
 
 -- At a point at which the rules of phases hold, the rule of each item holds exactly if the item holds in the point's run.
@@ -88,13 +88,13 @@ abbrev pub ItemsAgree : Scene → List ℤ → Type 0
 ItemsAgree scene point = map (λ i. holds_at point (item_rule scene (layout scene) i)) (items scene) ≡ map (item_holds scene (run_of scene point)) (items scene)
 
 -- a run is that of its point, which is in the box and at which every rule holds but those of hard constraints
-pub record IsReached (scene : Scene) (run : TimedRun) : Type 0 where
+pub record IsReached (scene : Scene) (run : Run) : Type 0 where
   pub inside : IsPointOf (bounds scene) (point_of scene run)
   pub met : meets_soft scene (point_of scene run) ≡ true
   pub gives : run_of scene (point_of scene run) ≡ run
 
 -- a run is that of its point, which is in the box and at which every rule holds
-pub record IsFound (scene : Scene) (run : TimedRun) : Type 0 where
+pub record IsFound (scene : Scene) (run : Run) : Type 0 where
   pub inside : IsPointOf (bounds scene) (point_of scene run)
   pub met : meets scene (point_of scene run) ≡ true
   pub gives : run_of scene (point_of scene run) ≡ run
@@ -103,10 +103,10 @@ pub record IsFound (scene : Scene) (run : TimedRun) : Type 0 where
 pub record IsExact (scene : Scene) : Type 0 where
   pub items_agree : (point : List ℤ) → IsPointOf (bounds scene) point → meets_phases scene point ≡ true → ItemsAgree scene point
   pub forth : (point : List ℤ) → IsPointOf (bounds scene) point → meets_soft scene point ≡ true → is_framed scene (run_of scene point) ≡ true
-  pub back : (run : TimedRun) → is_framed scene run ≡ true → IsReached scene run
+  pub back : (run : Run) → is_framed scene run ≡ true → IsReached scene run
   pub instance_of : (point : List ℤ) → IsPointOf (bounds scene) point → meets scene point ≡ true → IsInstance scene (run_of scene point)
-  pub point_of_instance : (run : TimedRun) → IsInstance scene run → IsFound scene run
-  pub none : ((point : List ℤ) → IsPointOf (bounds scene) point → meets scene point ≡ false) → (run : TimedRun) → IsInstance scene run → ⊥
+  pub point_of_instance : (run : Run) → IsInstance scene run → IsFound scene run
+  pub none : ((point : List ℤ) → IsPointOf (bounds scene) point → meets scene point ≡ false) → (run : Run) → IsInstance scene run → ⊥
 
 -- ---- flat forms as the program holds them
 
@@ -118,10 +118,10 @@ pub record IsFlatOf (scene : Scene) (flat : Flat) : Type 0 where
 -- its points are the instances of the scene
 pub record IsExactFlat (scene : Scene) (flat : Flat) : Type 0 where
   pub instance_of : (point : List ℤ) → IsPointOf flat.bounds.pairs point → Meets point flat.rules → IsInstance scene (run_of scene point)
-  pub inside : (run : TimedRun) → IsInstance scene run → IsPointOf flat.bounds.pairs (point_of scene run)
-  pub met : (run : TimedRun) → IsInstance scene run → Meets (point_of scene run) flat.rules
-  pub gives : (run : TimedRun) → IsInstance scene run → run_of scene (point_of scene run) ≡ run
-  pub none : IsEmpty flat.rules flat.bounds.pairs → (run : TimedRun) → IsInstance scene run → ⊥
+  pub inside : (run : Run) → IsInstance scene run → IsPointOf flat.bounds.pairs (point_of scene run)
+  pub met : (run : Run) → IsInstance scene run → Meets (point_of scene run) flat.rules
+  pub gives : (run : Run) → IsInstance scene run → run_of scene (point_of scene run) ≡ run
+  pub none : IsEmpty flat.rules flat.bounds.pairs → (run : Run) → IsInstance scene run → ⊥
 
 -- ---- the laws
 

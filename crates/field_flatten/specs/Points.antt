@@ -11,7 +11,8 @@ use Rattle.composition.specs.declared.spot.ValueRange.{ValueRange}
 use Rattle.composition.specs.declared.run.Held.{Held}
 use Rattle.composition.specs.declared.run.Choice.{Choice}
 use Rattle.composition.specs.declared.run.Span.{Span}
-use Rattle.composition.specs.TimedRuns.{TimedRun, choice_in, held_in, span_in, sample_in}
+use Rattle.composition.specs.declared.run.Run.{Run}
+use Rattle.composition.specs.RunParts.{choice_in, held_in, span_in, sample_in}
 use Rattle.composition.specs.Scenes.{Scene, choices, values, phases, vehicles, root_do, has_root_do, guards}
 use Rattle.composition.specs.Numbers.{number_of}
 use Rattle.composition.specs.Slots.{slot_names}
@@ -55,7 +56,7 @@ abbrev pub end_named : Scene → (SlotName → ℤ) → ℕ
 end_named scene at = cond (has_root_do scene) (unsigned_abs (at (SlotName.End root_do))) 0
 
 -- everything that is there by the numbers of the slots, and what they say of it
-abbrev pub run_named : Scene → (SlotName → ℤ) → TimedRun
+abbrev pub run_named : Scene → (SlotName → ℤ) → Run
 run_named scene at = record {
   choices = map (λ c. choice_of at c.path) (filter (λ c. stands scene at c.path) (choices scene));
   end = end_named scene at;
@@ -68,13 +69,13 @@ run_named scene at = record {
 }
 
 -- the run of a point
-abbrev pub run_of : Scene → List ℤ → TimedRun
+abbrev pub run_of : Scene → List ℤ → Run
 run_of scene point = run_named scene (slot_value scene point)
 
 -- ---- the point of a run
 
 -- what the entries of a run say of the slot of a name
-abbrev pub entry_of : Scene → TimedRun → SlotName → Option ℤ
+abbrev pub entry_of : Scene → Run → SlotName → Option ℤ
 entry_of scene run (SlotName.Choice path) = option_map pos (choice_in run path)
 entry_of scene run (SlotName.Start path) = option_map (λ s. pos s.start) (span_in run path)
 entry_of scene run (SlotName.End path) = option_map (λ s. pos s.end) (span_in run path)
@@ -84,9 +85,9 @@ entry_of scene run (SlotName.Position path tick) = option_map (λ s. s.position)
 entry_of scene run (SlotName.Speed path tick) = option_map (λ s. s.speed) (sample_in run path tick)
 
 -- a slot of which the run says nothing takes its low end
-abbrev pub filled : Scene → TimedRun → SlotName → ℤ
+abbrev pub filled : Scene → Run → SlotName → ℤ
 filled scene run name = unwrap_or (entry_of scene run name) (ends_of scene name).low
 
 -- the point of a run
-abbrev pub point_of : Scene → TimedRun → List ℤ
+abbrev pub point_of : Scene → Run → List ℤ
 point_of scene run = map (filled scene run) (slot_names scene)

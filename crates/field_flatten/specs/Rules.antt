@@ -85,10 +85,10 @@ least_rules tick ticks = map (λ t. AtMost tick t) ticks ++ any_of (map (λ t. E
 abbrev pub greatest_rules : FlatTerm → List FlatTerm → List FlatRule
 greatest_rules tick ticks = map (λ t. AtMost t tick) ticks ++ any_of (map (λ t. Equal t tick) ticks) ∷ []
 
--- all ticks are the first
-abbrev pub same_rules : List FlatTerm → List FlatRule
-same_rules [] = []
-same_rules (first ∷ others) = map (λ t. Equal first t) others
+-- there are ticks in a row, and each is one tick
+abbrev pub together_rules : FlatTerm → List FlatTerm → List FlatRule
+together_rules tick [] = any_of [] ∷ []
+together_rules tick (t ∷ ts) = map (λ u. Equal u tick) (t ∷ ts)
 
 -- each of one row is at most each of the other
 abbrev pub overlap_rules : List FlatTerm → List FlatTerm → List FlatRule
@@ -118,9 +118,9 @@ chosen_rules at path k (m ∷ ms) = under (Equal (Slot (at.slot (SlotName.Choice
 -- the parts that a phase's kind asks for
 abbrev pub kind_rules : PhaseKind → Layout → Path → List Path → List FlatRule
 kind_rules PhaseKind.Serial at path members = follow_rules at (phase_start at path) (phase_end at path) members
-kind_rules PhaseKind.Start at path members = cover_rules at path members ++ same_rules (starts at members)
-kind_rules PhaseKind.End at path members = cover_rules at path members ++ same_rules (ends at members)
-kind_rules PhaseKind.Equal at path members = cover_rules at path members ++ same_rules (starts at members) ++ same_rules (ends at members)
+kind_rules PhaseKind.Start at path members = together_rules (phase_start at path) (starts at members) ++ greatest_rules (phase_end at path) (ends at members)
+kind_rules PhaseKind.End at path members = least_rules (phase_start at path) (starts at members) ++ together_rules (phase_end at path) (ends at members)
+kind_rules PhaseKind.Equal at path members = together_rules (phase_start at path) (starts at members) ++ together_rules (phase_end at path) (ends at members)
 kind_rules PhaseKind.Any at path members = cover_rules at path members ++ overlap_rules (starts at members) (ends at members)
 kind_rules PhaseKind.OneOf at path members = chosen_rules at path 0 members
 kind_rules PhaseKind.Scenario at path members = map (λ m. span_rule at m path) members

@@ -10,6 +10,7 @@ ghost use Rattle.scene_rules.specs.composition.Slots.{ticks_of};
 ghost use Rattle.scene_rules.specs.composition.declared.spot.ValueSpot.{ValueSpot};
 ghost use Rattle.slot_ends.specs.field_flatten.Rules.{item_rule, arranged_rule as rule_of_phase, modifier_rule, motion_rule, rules as all_rules};
 ghost use Rattle.flat_forms.specs.SoundParts.{is_sound_occurrence, is_sound_modifier};
+ghost use Rattle.slot_ends.specs.scene_slots.flat_shapes.Room.{longest_tick};
 ghost use Rattle.slot_ends.specs.scene_slots.Numbers.{past as all_slots};
 ghost use Rattle.slot_ends.specs.scene_slots.SeenSlots.{layout_of, scene_of};
 
@@ -120,7 +121,7 @@ fn rules_over(alloc: Global, slots: &SceneSlots<'_>) -> Result<Row<Rule>, AllocE
 /// The rules of a scene, one for each of its items.
 pub(crate) fn rules_of(alloc: Global, scene: &Scene) -> Result<Row<Rule>, AllocError>
     requires few { all_slots (seen_scene scene.now) < 2 ^ 32 }
-    requires short { (seen_scene scene.now).setting.tick ≤ 60000 }
+    requires short { (seen_scene scene.now).setting.tick ≤ longest_tick }
     requires ticks { (seen_scene scene.now).setting.ticks ≤ 600 }
     requires constraints { list_all (is_sound_occurrence (seen_scene scene.now)) (seen_scene scene.now).occurrences ≡ true }
     requires modifiers { list_all (is_sound_modifier (seen_scene scene.now)) (seen_scene scene.now).modifiers ≡ true }

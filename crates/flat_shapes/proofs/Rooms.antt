@@ -8,7 +8,7 @@ use Rattle.expr_nodes.specs.osc_base.LowestTerms.{lcm}
 use Rattle.expr_nodes.specs.osc_base.Comparisons.{greatest_part}
 use Rattle.expr_nodes.specs.Kinds.{is_number, is_truth, same_units}
 use Rattle.expr_nodes.specs.Typed.{Typed, Info, Constant, Read, Whole, Listed, Span, Minus, Not, Sum, Times, And, Or, Implies, Relation, Within, TypedRow, End, Item, info, kind, scale, reach, items_of}
-use Rattle.expr_nodes.specs.Sizes.{Size, size, constant_size, field_size, duration_size, unit_size, joined, multiplied, is_wide}
+use Rattle.expr_nodes.specs.Sizes.{Size, size, field_reach, duration_reach, constant_size, field_size, duration_size, unit_size, joined, multiplied, is_wide}
 use Rattle.expr_nodes.specs.Parts.{is_scalar, parts_of}
 use Rattle.expr_nodes.specs.Operators.{fit_for, fits_in, is_range_or_list}
 use Rattle.expr_nodes.specs.Sound.{same_size, has_size, is_lowest, is_constant_of, is_per, are_truths, is_truth_info, can_join, is_sound, are_sound}
@@ -120,10 +120,10 @@ module _ (most : ℕ) (one_most : 1 ≤ most) (small_is : (n : ℕ) → n ≤ mo
       let scales : i.scale ≡ per = read_scale i per rest in
       let other : has_size i (field_size per) ≡ false → has_size i duration_size ≡ true =
       λ e. let left : nat_eq per 1000 && has_size i duration_size ≡ true = rw e at rest in right_of (nat_eq per 1000) (has_size i duration_size) left in
-      let one : 1 ≤ i.reach = two_ways (has_size i (field_size per)) (λ e. let r : i.reach ≡ 1000000000 = reach_is i (field_size per) e in omega (arith, r))
-      (λ e. let r : i.reach ≡ 60000 = reach_is i duration_size (other e) in omega (arith, r)) in
-      let long : 60000 ≤ i.reach = two_ways (has_size i (field_size per)) (λ e. let r : i.reach ≡ 1000000000 = reach_is i (field_size per) e in omega (arith, r))
-      (λ e. let r : i.reach ≡ 60000 = reach_is i duration_size (other e) in omega (arith, r)) in
+      let one : 1 ≤ i.reach = two_ways (has_size i (field_size per)) (λ e. let r : i.reach ≡ field_reach = reach_is i (field_size per) e in omega (arith, r))
+      (λ e. let r : i.reach ≡ duration_reach = reach_is i duration_size (other e) in omega (arith, r)) in
+      let long : longest_tick ≤ i.reach = two_ways (has_size i (field_size per)) (λ e. let r : i.reach ≡ field_reach = reach_is i (field_size per) e in omega (arith, r))
+      (λ e. let r : i.reach ≡ duration_reach = reach_is i duration_size (other e) in omega (arith, r)) in
       let few : (i.reach ≤ most) × (i.scale ≤ most) = two_ways (has_size i (field_size per)) (narrow i (field_size per)) (λ e. narrow i duration_size (other e)) in
       record {
         above = subst (λ (j : Info). 0 < j.scale) (sym is) (subst (λ n. 0 < n) (sym scales) p.above);
@@ -134,7 +134,7 @@ module _ (most : ℕ) (one_most : 1 ≤ most) (small_is : (n : ℕ) → n ≤ mo
         unit = λ truth. ap (λ (j : Info). j.scale) is ∙ scales ∙ p.of_truth_one (subst (λ (j : Info). is_truth j.kind ≡ true) is truth);
         room = λ e k m q s fits.
             let share : e / per ≡ k = ap₂ (λ a b. a / b) (m ∙ ap (λ (j : Info). j.scale * k) is) (sym scales) ∙ share_of i.scale k (subst (λ n. 0 < n) (sym scales) p.above) in
-            let wide : 60000 ≤ reach t = subst (λ (j : Info). 60000 ≤ j.reach) (sym is) long in
+            let wide : longest_tick ≤ reach t = subst (λ (j : Info). longest_tick ≤ j.reach) (sym is) long in
             f e ∙ both_true (nat_lt 0 per) (is_small (e / per * longest_tick)) (above_true per p.above) (small_is (e / per * longest_tick) (rw share (omega (arith, mul-le-mul_right k wide, s))));
       }
 

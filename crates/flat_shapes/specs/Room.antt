@@ -10,7 +10,7 @@ is_small n = nat_le n greatest_part
 
 -- the greatest length of a tick in milliseconds
 abbrev pub longest_tick : ℕ
-longest_tick = 60000
+longest_tick = 1000
 
 -- the scale of an expression's shape: a truth value that is made of others counts in whole
 abbrev pub own_scale : Typed → ℕ

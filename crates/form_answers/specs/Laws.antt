@@ -3,7 +3,7 @@ use Rattle.std.specs.Prelude.{◌≡◌, ℕ, List, codes}
 use Rattle.outside_io.specs.declared.shelf.NamedBytes.{NamedBytes}
 use Rattle.box_eval.specs.declared.flat.Flat.{Flat}
 use Rattle.flat_forms.specs.composition.Scenes.{Scene}
-use Rattle.flat_forms.specs.composition.TimedRuns.{TimedRun}
+use Rattle.flat_forms.specs.composition.declared.run.Run.{Run}
 use Rattle.flat_forms.specs.composition.Claims.{IsInstance}
 use Rattle.flat_forms.specs.field_flatten.Exactness.{IsExpanded, IsFlatOf}
 use Rattle.refute_check.specs.Answers.{IsRefutationText}
@@ -23,9 +23,9 @@ SomeVerdict = (texts : List NamedBytes) (file : List ℕ) (scene : Scene) → ((
 -- a scene with a refutation has no instance
 abbrev pub RefutedMeansNone : Type 0
 RefutedMeansNone = (scene : Scene) (flat : Flat) (text : List ℕ) → IsExpanded scene → IsFlatOf scene flat → IsRefutationText flat text →
-    (run : TimedRun) → IsInstance scene run → ⊥
+    (run : Run) → IsInstance scene run → ⊥
 
 -- a scene about which `yes` is replied has no instance
 abbrev pub YesMeansNone : Type 0
 YesMeansNone = (texts : List NamedBytes) (file : List ℕ) (scene : Scene) → IsExpanded scene → Verifies texts file scene (done (codes "yes\n")) →
-    (run : TimedRun) → IsInstance scene run → ⊥
+    (run : Run) → IsInstance scene run → ⊥

@@ -40,6 +40,7 @@ fn shown(rt: &HostRuntime, line: &str) -> io::Result<String> {
             format!(in alloc; "flat {scene}")?
         }
         Request::Make(asked) => format!(in alloc; "make {}", asked.count)?,
+        Request::Migrate(asked) => format!(in alloc; "migrate {}", asked.run)?,
         Request::Refused => String::from_str(alloc, "refused")?,
     };
     Ok(shown)
@@ -47,8 +48,8 @@ fn shown(rt: &HostRuntime, line: &str) -> io::Result<String> {
 
 fn scene_shown(rt: &HostRuntime, source: Source<'_>, setting: Setting) -> io::Result<String> {
     let shown = format!(in rt.alloc();
-        "{} {} {} {} {}",
-        source.file, source.scenario, setting.ticks, setting.lanes, setting.road
+        "{} {} {} {} {} {}",
+        source.file, source.scenario, setting.ticks, setting.lanes, setting.road, setting.tick
     )?;
     Ok(shown)
 }
@@ -56,32 +57,46 @@ fn scene_shown(rt: &HostRuntime, source: Source<'_>, setting: Setting) -> io::Re
 #[test]
 fn reads_words(rt: HostRuntime) -> io::Result<()> {
     let rows = [
-        ("generate f s", "f s 100 3 1000 0 200000"),
+        ("generate f s", "f s 100 3 1000 100 0 200000"),
         (
             "generate --ticks 005 f --lanes=+8 s",
-            "f s 5 8 1000 0 200000",
+            "f s 5 8 1000 100 0 200000",
         ),
         (
             "generate f s --road 1 --cuts 1 --seed 18446744073709551615",
-            "f s 100 3 1 18446744073709551615 1",
+            "f s 100 3 1 100 18446744073709551615 1",
         ),
-        ("generate -- --ticks s", "--ticks s 100 3 1000 0 200000"),
+        ("generate -- --ticks s", "--ticks s 100 3 1000 100 0 200000"),
         ("generate f s --seed -0", "refused"),
         ("generate f s --ticks 0", "refused"),
         ("generate f s --road 10001", "refused"),
         ("generate f s --lanes 2 --lanes 2", "refused"),
+        (
+            "generate f s --tick=10 --ticks 5",
+            "f s 5 3 1000 10 0 200000",
+        ),
+        ("generate f s --tick 9", "refused"),
+        ("generate f s --tick 1001", "refused"),
+        ("generate f s --tick 50 --tick 50", "refused"),
         ("generate f s -V", "refused"),
         ("generate f", "refused"),
-        ("check f s r", "check f s 100 3 1000 r"),
+        ("check f s r", "check f s 100 3 1000 100 r"),
         (
-            "check --ticks=9 f s --lanes 8 r --road 10",
-            "check f s 9 8 10 r",
+            "check --ticks=9 f s --lanes 8 r --road 10 --tick 1000",
+            "check f s 9 8 10 1000 r",
         ),
         ("check f s", "refused"),
         ("check f s r --seed 1", "refused"),
-        ("verify f s r --lanes 8", "verify f s 100 8 1000 r"),
-        ("flat --ticks 7 f s", "flat f s 7 3 1000"),
+        ("verify f s r --lanes 8", "verify f s 100 8 1000 100 r"),
+        ("flat --ticks 7 f s", "flat f s 7 3 1000 100"),
         ("make 16", "make 16"),
+        ("make 16 --tick 100", "refused"),
+        ("migrate r", "migrate r"),
+        ("migrate -- --tick", "migrate --tick"),
+        ("migrate", "refused"),
+        ("migrate r s", "refused"),
+        ("migrate r --tick 100", "refused"),
+        ("migrate r -h", "help: For the statuses: osc help"),
         ("explain", "all topics"),
         ("explain --help", "all topics"),
         ("explain 201", "Fault(Syntax)"),

@@ -11,7 +11,7 @@ use Rattle.run_check.specs.composition.declared.clause.Clause.{Clause}
 use Rattle.run_check.specs.composition.declared.spot.PhaseSpot.{PhaseSpot}
 use Rattle.run_check.specs.composition.declared.spot.ValueRange.{ValueRange}
 use Rattle.run_check.specs.composition.declared.spot.ValueSpot.{ValueSpot}
-use Rattle.run_check.specs.composition.TimedRuns.{TimedRun}
+use Rattle.run_check.specs.composition.declared.run.Run.{Run}
 use Rattle.run_check.specs.composition.Scenes.{Scene, Occurrence, ModifierSpot, marks, choices, values, phases, vehicles}
 use Rattle.run_check.specs.composition.Ranges.{has_gap}
 use Rattle.run_check.specs.composition.declared.run.Choice.{Choice}
@@ -108,7 +108,7 @@ not_each true false s = refl
 not_each false true s = refl
 not_each false false s = refl
 
-module _ (scene : Scene) (run : TimedRun) where
+module _ (scene : Scene) (run : Run) where
   abbrev wrongs : List Item → Option Wrong
   wrongs these = first_of (item_claims scene run these)
 

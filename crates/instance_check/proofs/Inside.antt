@@ -5,7 +5,7 @@ use Rattle.run_check.specs.composition.declared.clause.Clause.{Clause}
 use Rattle.run_check.specs.composition.declared.spot.PhaseSpot.{PhaseSpot}
 use Rattle.std.specs.Option.{option_or}
 use Rattle.std.specs.List.{list_all}
-use Rattle.run_check.specs.composition.TimedRuns.{TimedRun}
+use Rattle.run_check.specs.composition.declared.run.Run.{Run}
 use Rattle.run_check.specs.composition.Scenes.{Scene, phases}
 use Rattle.run_check.specs.composition.Claims.{Claim, claim, end_claim, bounds_claims}
 use Rattle.run_check.specs.composition.Items.{arranged_holds}
@@ -26,7 +26,7 @@ holds_alone : (b : Bool) → (b && true) ≡ true → b ≡ true
 holds_alone true h = refl
 holds_alone false h = h
 
-module _ (scene : Scene) (run : TimedRun) where
+module _ (scene : Scene) (run : Run) where
   abbrev outer : Option Wrong
   outer = option_or (listed_wrong scene run) (option_or (end_wrong scene run) (bounds_wrong scene run))
 
@@ -65,7 +65,7 @@ told (Ok w) x y h e = h ∙ e
 told (Err f) x y h e = tt
 
 -- the first phase that isn't arranged, in an equal scene and run
-pub phase_told : (scene other : Scene) (run another : TimedRun) (o : Option PhaseSpot) → other ≡ scene → another ≡ run
+pub phase_told : (scene other : Scene) (run another : Run) (o : Option PhaseSpot) → other ≡ scene → another ≡ run
     → o ≡ find (λ (p : PhaseSpot). not (arranged_holds other another p)) (phases other)
     → option_map (λ (p : PhaseSpot). wrong_of (claim Clause.Arranged p.path false)) o ≡ phase_wrong scene run
 phase_told scene other run another o a b h =

@@ -4,7 +4,6 @@ ghost use Rattle.std.specs.Prelude.{◌≡◌, true, IfOk};
 ghost use Rattle.std.specs.List.{list_all};
 ghost use Rattle.run_check.specs.composition.Claims.{end_claim, bounds_claims};
 ghost use Rattle.run_check.specs.composition.SeenScenes.{seen_scene};
-ghost use Rattle.run_check.specs.composition.TimedRuns.{timed};
 ghost use Rattle.run_check.specs.Answers.{first_wrong};
 ghost use Rattle.run_constraints.specs.run_entries.SeenRuns.{seen_run};
 ghost use Rattle.run_constraints.specs.run_values.Frames.{IsCheckable};
@@ -16,22 +15,16 @@ use run_check::{Run, Scene, Wrong};
 use run_constraints::Entries;
 use std::alloc::{AllocError, Global};
 
-/// Why a run, whose ticks are `tick` milliseconds long, is no instance of the scene: the first clause that fails, with
-/// its path, and with its place in the source if it is about a constraint or a modifier. `None` exactly if the run is an
-/// instance.
+/// Why a run is no instance of the scene: the first clause that fails, with its path, and with its place in the source if
+/// it is about a constraint or a modifier. `None` exactly if the run is an instance.
 ///
 /// Out of memory is the only error. What is asked of the scene holds of each scene that is expanded and limited
 /// (`IsExpanded` and `IsLimited` of `field_flatten`).
-pub fn check(
-    alloc: Global,
-    scene: &Scene,
-    run: &Run,
-    tick: u32,
-) -> Result<Option<Wrong>, AllocError>
+pub fn check(alloc: Global, scene: &Scene, run: &Run) -> Result<Option<Wrong>, AllocError>
     requires { IsCheckable (seen_scene scene.now) }
-    ensures { IfOk result (λ w. w ≡ first_wrong (seen_scene scene.now) (timed tick run.now)) }
+    ensures { IfOk result (λ w. w ≡ first_wrong (seen_scene scene.now) run.now) }
 {
-    let entries = Entries::of(alloc, run, tick)?;
+    let entries = Entries::of(alloc, run)?;
     check_entries(alloc, scene, &entries)
 }
 

@@ -4,7 +4,8 @@
 
 use crate::message::{put_explain, put_help};
 use command_words::{
-    Request, check_help, flat_help, general_help, generate_help, make_help, read_words, verify_help,
+    Request, check_help, flat_help, general_help, generate_help, make_help, migrate_help,
+    read_words, verify_help,
 };
 use fault_texts::{Status, Topic, topic_named};
 use mistake_cases::Nearest;
@@ -13,12 +14,13 @@ use std::alloc::{AllocError, Global};
 /// The most words that are looked at.
 const WORDS: usize = 100;
 /// First words that ask for something.
-const COMMANDS: [&str; 9] = [
+const COMMANDS: [&str; 10] = [
     "generate",
     "check",
     "verify",
     "flat",
     "make",
+    "migrate",
     "explain",
     "help",
     "--help",
@@ -44,7 +46,7 @@ fn put_page(text: &mut String, words: &[String]) -> Result<(), AllocError> {
         None => "",
     };
     match command {
-        "generate" | "check" | "verify" | "flat" | "make" => {
+        "generate" | "check" | "verify" | "flat" | "make" | "migrate" => {
             write!(
                 text,
                 "  = help: `osc {command} --help` lists the words and options of `{command}`\n"
@@ -63,6 +65,7 @@ fn help_of(command: &str) -> &'static str {
         "verify" => verify_help(),
         "flat" => flat_help(),
         "make" => make_help(),
+        "migrate" => migrate_help(),
         _ => general_help(),
     }
 }
@@ -261,6 +264,7 @@ fn words_of(command: &str) -> &'static [&'static str] {
         "check" => &["FILE", "SCENARIO", "RUN"],
         "verify" => &["FILE", "SCENARIO", "RECORD"],
         "make" => &["N"],
+        "migrate" => &["RUN"],
         _ => &["FILE", "SCENARIO"],
     }
 }
@@ -312,9 +316,10 @@ fn put_value(
     put_entry(text, command, option)
 }
 
-/// Whether after these words this one is an option that wants a value. Each option takes the value 1.
+/// Whether after these words this one is an option that wants a value. Each option takes the value 1 or 100.
 fn is_option(alloc: Global, before: &[&str], word: &str) -> Result<bool, AllocError> {
-    Ok(is_help(read_with(alloc, before, &[word, "1", "--help"])?))
+    let takes_one = is_help(read_with(alloc, before, &[word, "1", "--help"])?);
+    Ok(takes_one || is_help(read_with(alloc, before, &[word, "100", "--help"])?))
 }
 
 /// What words ask for.

@@ -12,7 +12,7 @@ fn begins(rt: &(impl Abort + AllocGlobal), called: &Called, status: u8, want: &s
 
 #[test]
 fn words_after_a_command(rt: HostRuntime) -> Result<(), Fail> {
-    let rows: [(&[&str], &str); 9] = [
+    let rows: [(&[&str], &str); 11] = [
         (&[], "error: FILE and SCENARIO are missing\n"),
         (&["a.osc"], "error: SCENARIO is missing after FILE\n"),
         (
@@ -24,8 +24,16 @@ fn words_after_a_command(rt: HostRuntime) -> Result<(), Fail> {
             "error: `osc generate` doesn't take the word `third` here\n",
         ),
         (
+            &["a.osc", "--tics", "5", "top"],
+            "error: `osc generate` has no option `--tics`\n  = help: an option near it is `--ticks`\n",
+        ),
+        (
             &["a.osc", "--tick", "5", "top"],
-            "error: `osc generate` has no option `--tick`\n  = help: an option near it is `--ticks`\n",
+            "error: `--tick` doesn't take the value `5`\n  = help: --tick N ",
+        ),
+        (
+            &["a.osc", "top", "--tick", "50", "--tick=50"],
+            "error: `--tick` stands twice\n",
         ),
         (
             &["a.osc", "--ticks", "0", "top"],
@@ -55,7 +63,7 @@ fn words_after_a_command(rt: HostRuntime) -> Result<(), Fail> {
 
 #[test]
 fn first_words(rt: HostRuntime) -> Result<(), Fail> {
-    let rows: [(&[&str], &str); 11] = [
+    let rows: [(&[&str], &str); 13] = [
         (&[], "error: there is no command\n  = help: "),
         (
             &["genrate", "a.osc", "top"],
@@ -75,6 +83,11 @@ fn first_words(rt: HostRuntime) -> Result<(), Fail> {
         ),
         (&["flat"], "error: FILE and SCENARIO are missing\n"),
         (&["make"], "error: N is missing\n"),
+        (&["migrate"], "error: RUN is missing\n"),
+        (
+            &["migrate", "run.json", "--tick", "50"],
+            "error: `osc migrate` has no option `--tick`\n",
+        ),
         (
             &["make", "17"],
             "error: `osc make` doesn't take the word `17` here\n",

@@ -5,7 +5,7 @@ use crate::limits::{Exclusion, excluded};
 use message_parts::{ClosedRules, bytes_of, source_of};
 use mistake_cases::View;
 use outside_io::MemoryShelf;
-use run_messages::{Asked, RulePlace, is_duration, put_place, put_setting, view_at};
+use run_messages::{Asked, RulePlace, is_duration, put_place, put_seconds, put_setting, view_at};
 use std::alloc::{AllocError, Global};
 
 /// The most ticks of a setting.
@@ -79,8 +79,11 @@ fn put_longer(
     }
     write!(
         text,
-        "  = help: a longer run may have room for them: `--ticks {MOST_TICKS}`, which is 60 s, is the most\n"
-    )
+        "  = help: a longer run may have room for them: `--ticks {MOST_TICKS}`, which is "
+    )?;
+    let length = i64::from(asked.setting.tick);
+    put_seconds(text, i64::from(MOST_TICKS), length)?;
+    text.push_str(", is the most\n")
 }
 
 /// What a limit of the setting excludes at a place of the user's files.

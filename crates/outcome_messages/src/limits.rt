@@ -2,11 +2,13 @@
 
 use command_words::Setting;
 use mistake_cases::View;
-use run_messages::{Asks, Ends, asked_at, ends_in, put_decimal};
+use run_messages::{Asks, Ends, asked_at, ends_in, put_decimal, put_seconds};
 use std::alloc::{AllocError, Global};
 
 /// The greatest values of the options.
 const MOST_TICKS: i64 = 600;
+
+const MOST_TICK: i64 = 1000;
 
 const MOST_LANES: i64 = 8;
 
@@ -34,30 +36,92 @@ pub fn excluded(
         return Ok(None);
     };
     match asks {
-        Asks::Duration => long_duration(alloc, ends, setting.ticks),
+        Asks::Duration => no_duration(alloc, ends, setting),
         Asks::Lane => no_lane(alloc, ends, setting.lanes),
         Asks::Length => long_way(alloc, ends, setting.road),
     }
 }
 
-/// A duration that is longer than a run may be.
-fn long_duration(alloc: Global, ends: Ends, ticks: u32) -> Result<Option<Exclusion>, AllocError> {
-    let needed = ends.low.saturating_add(99) / 100;
-    if needed <= i64::from(ticks) {
+/// A duration that no number of ticks makes, or that is longer than a run may be.
+fn no_duration(
+    alloc: Global,
+    ends: Ends,
+    setting: Setting,
+) -> Result<Option<Exclusion>, AllocError> {
+    let (ticks, tick) = (i64::from(setting.ticks), i64::from(setting.tick));
+    let needed = ticks_for(ends, tick);
+    if needed.saturating_mul(tick) > ends.high {
+        return Ok(Some(between_ticks(alloc, ends, tick)?));
+    }
+    if needed <= ticks {
         return Ok(None);
     }
     let mut label = String::from_str(alloc, "asks for ")?;
     put_decimal(&mut label, ends.low, 3)?;
     label.push_str(" s, and a run has at most ")?;
-    put_decimal(&mut label, i64::from(ticks), 1)?;
-    label.push_str(" s")?;
+    put_seconds(&mut label, ticks, tick)?;
     let mut cure = String::new(alloc);
     if needed <= MOST_TICKS {
         write!(cure, "`--ticks {needed}` would admit it")?;
     } else {
-        write!(cure, "no run is longer than 60 s (`--ticks {MOST_TICKS}`)")?;
+        put_longest(&mut cure, ends)?;
     }
     Ok(Some(Exclusion { label, cure }))
+}
+
+/// The least number of ticks of this length that are as long as what is asked for.
+fn ticks_for(ends: Ends, tick: i64) -> i64 {
+    let last = ends.low.max(0).saturating_add(tick.saturating_sub(1));
+    last.checked_div(tick).unwrap_or(i64::MAX)
+}
+
+/// A duration that stands between two numbers of ticks.
+fn between_ticks(alloc: Global, ends: Ends, tick: i64) -> Result<Exclusion, AllocError> {
+    let mut label = String::from_str(alloc, "asks for ")?;
+    put_decimal(&mut label, ends.low, 3)?;
+    if ends.low != ends.high {
+        label.push_str(" to ")?;
+        put_decimal(&mut label, ends.high, 3)?;
+    }
+    write!(
+        label,
+        " s, which no whole number of ticks of {tick} ms makes"
+    )?;
+    let mut cure = String::new(alloc);
+    match fitting(ends) {
+        Some(length) => write!(
+            cure,
+            "ticks of {length} ms would make it (`--tick {length}`)"
+        )?,
+        None => cure.push_str("a duration is a whole number of ticks (`--tick N`)")?,
+    }
+    Ok(Exclusion { label, cure })
+}
+
+/// The first of some lengths of ticks of which few enough make what is asked for.
+fn fitting(ends: Ends) -> Option<i64> {
+    for length in [100, 50, 40, 25, 20, 10, 200, 250, 500, MOST_TICK] {
+        let needed = ticks_for(ends, length);
+        if needed <= MOST_TICKS && needed.saturating_mul(length) <= ends.high {
+            return Some(length);
+        }
+    }
+    None
+}
+
+/// Puts with which ticks the longest run has room for what is asked for, if it has.
+fn put_longest(cure: &mut String, ends: Ends) -> Result<(), AllocError> {
+    match fitting(ends) {
+        Some(length) => {
+            let needed = ticks_for(ends, length);
+            write!(cure, "`--ticks {needed} --tick {length}` would admit it")
+        }
+        None => {
+            cure.push_str("no run is longer than ")?;
+            put_seconds(cure, MOST_TICKS, MOST_TICK)?;
+            write!(cure, " (`--ticks {MOST_TICKS} --tick {MOST_TICK}`)")
+        }
+    }
 }
 
 /// A lane that the road doesn't have.

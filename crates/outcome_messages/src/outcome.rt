@@ -49,6 +49,7 @@ pub fn listing_words(
         ("--ticks", setting.ticks),
         ("--lanes", setting.lanes),
         ("--road", setting.road),
+        ("--tick", setting.tick),
     ] {
         put_word(alloc, &mut words, option)?;
         words.push(format!(in alloc; "{number}")?)?;

@@ -28,9 +28,9 @@ pub fn put_refuted(
     }
     if number <= 4 {
         text.push_str(
-            "  = help: a record is of one source and one setting: give the `--ticks`, `--lanes` and `--road` with which it\n",
+            "  = help: a record is of one source and one setting: give the `--ticks`, `--lanes`, `--road` and `--tick` with\n",
         )?;
-        text.push_str("          was written\n")?;
+        text.push_str("          which it was written\n")?;
     }
     Ok(())
 }

@@ -16,7 +16,6 @@ use Rattle.run_tests.specs.composition.SceneFaults.{is_too_large, named_scenario
 use Rattle.run_tests.specs.composition.Scenes.{Scene, choices, phases, values, vehicles}
 use Rattle.run_tests.specs.composition.Slots.{sample_names, slot_names, ticks_of}
 use Rattle.run_tests.specs.composition.StaticFaults.{declaration_fault}
-use Rattle.run_tests.specs.composition.TimedRuns.{timed}
 use Rattle.source_scenes.specs.named_scenario.Naming.{fault_in, scenario_in, types_in}
 use Rattle.source_scenes.specs.field_flatten.Points.{point_of}
 use Rattle.source_scenes.proofs.of_field_flatten.Exact.{exact}
@@ -90,6 +89,6 @@ pub reached_runs_can_be_read : ReachedRunsCanBeRead
 reached_runs_can_be_read program t setting known small seed cuts run reached =
     let here = scene (types_in program) t setting in
     let its = sound_scene program t setting known small in
-    let found = (exact here its.expanded).point_of_instance (timed here.setting.tick run) reached.instance in
-    let parts = run_parts here its.expanded its.limited (scene_has_texts program t setting known small) (point_of here (timed here.setting.tick run)) found.inside run (sym found.gives) in
+    let found = (exact here its.expanded).point_of_instance run reached.instance in
+    let parts = run_parts here its.expanded its.limited (scene_has_texts program t setting known small) (point_of here run) found.inside run (sym found.gives) in
     record { utf8 = run_utf8 run parts; written = run_written run parts }

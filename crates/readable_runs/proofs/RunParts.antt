@@ -1,10 +1,10 @@
 -- The run of a point of a scene has small numbers. Its paths are those of the scene, and so are its texts.
 use Rattle.std.proofs.Common.{◌≡◌, refl, sym, ap, subst, inl, inr, ◌⊎◌, ℕ, zero, suc, ℤ, pos, negsuc, ◌+◌, ◌-◌, ◌^◌, ◌<◌, ◌≤◌, ◌≤ℤ◌, Bool, true, false, cond, ◌&&◌, List, [], ◌∷◌, map, length, Option, Some, None, slice_get, unwrap_or, arith}
-use Rattle.std.specs.Prelude.{filter, find, unsigned_abs, ⊤}
+use Rattle.std.specs.Prelude.{filter, find, nat_le, unsigned_abs, ⊤}
 use Rattle.std.specs.List.{list_all, list_any, range_with_len}
 use Rattle.std.specs.Str.{is_utf8}
 use Rattle.std.specs.Option.{option_map_or}
-use Rattle.std.proofs.lemmas.Bool.{false≢true, lt-ltb}
+use Rattle.std.proofs.lemmas.Bool.{false≢true, le-leb, lt-ltb}
 use Rattle.std.proofs.lemmas.Str.{IsUtf8-nil, is_utf8-from_IsUtf8}
 use Rattle.std.proofs.lemmas.Int.{ints}
 use Rattle.osc_base.specs.PathTexts.{is_written}
@@ -24,14 +24,14 @@ use Rattle.run_tests.specs.composition.declared.run.Trace.{Trace}
 use Rattle.run_tests.specs.composition.declared.run.Value.{Value}
 use Rattle.run_tests.specs.composition.Scenes.{Scene, Spot, Content, Object, Value as ValueContent, Phase, choice_spot, phase_spot, value_spot, vehicle_spot, choices, phases, values, vehicles, is_one_of, has_root_do, root_do}
 use Rattle.run_tests.specs.composition.Slots.{slot_names}
-use Rattle.run_tests.specs.composition.TimedRuns.{TimedRun, timed}
+use Rattle.run_tests.specs.composition.Invariants.{is_from_to}
 use Rattle.source_scenes.specs.field_flatten.Ends.{bounds, ends_of, no_ends}
 use Rattle.source_scenes.specs.field_flatten.Exactness.{IsExpanded, IsLimited}
 use Rattle.source_scenes.specs.field_flatten.Points.{slot_value, stands, choice_of, span_of, held_of, sample_named, end_named, run_of}
 use Rattle.source_scenes.proofs.of_field_flatten.Tests.{In, any_at, found_in, in_filter, left_of, right_of, two_ways}
 use Rattle.source_scenes.proofs.of_field_flatten.NumberLaw.{made_from}
 use Rattle.source_scenes.proofs.of_field_flatten.SlotLaw.{Between, Inside, point_inside, slot_is}
-use Rattle.source_scenes.proofs.of_field_flatten.ItemReach.{setting_parts}
+use Rattle.source_scenes.proofs.of_field_flatten.of_composition.Settings.{setting_is}
 use Rattle.run_tests.specs.WrittenRuns.{is_u32, is_i64, is_written_choice, is_written_span, is_written_sample, is_written_trace, is_written_held}
 use Rattle.search_answers.proofs.ShortEnds.{few_members, short_name}
 use Rattle.readable_runs.proofs.Utf8Runs.{HasUtf8Parts, is_utf8_held, is_utf8_value}
@@ -117,7 +117,7 @@ module _ (scene : Scene) (expanded : IsExpanded scene) (limited : IsLimited scen
 
   tick_word : (name : SlotName) → (ends_of scene name).low ≡ pos 0 → (ends_of scene name).high ≡ pos scene.setting.ticks → is_u32 (unsigned_abs (at name)) ≡ true
   tick_word name low high =
-      let few : scene.setting.ticks ≤ 600 = (setting_parts scene expanded limited 1000000000000000 (omega arith)).1 in
+      let few : scene.setting.ticks ≤ 600 = (setting_is scene.setting expanded.is_scene.setting).few_ticks in
       elim (between name) as (λ _. is_u32 (unsigned_abs (at name)) ≡ true) [
         | inl b ↦ word_number (unsigned_abs (at name)) (below (at name) scene.setting.ticks (subst (λ z. z ≤ℤ at name) low b.low) (subst (λ z. at name ≤ℤ z) high b.high) few)
         | inr z ↦ subst (λ n. is_u32 (unsigned_abs n) ≡ true) (sym z) refl
@@ -204,14 +204,21 @@ module _ (scene : Scene) (expanded : IsExpanded scene) (limited : IsLimited scen
       by true = tick_word (SlotName.End root_do) refl refl
       by false = refl
 
-pub run_parts : (scene : Scene) → IsExpanded scene → IsLimited scene → HasTexts scene → (point : List ℤ) → IsPointOf (bounds scene) point → (run : Run) → timed scene.setting.tick run ≡ run_of scene point → HasUtf8Parts run
+-- the length of a tick is the setting's
+tick_is : (scene : Scene) → IsExpanded scene → is_from_to 10 1000 scene.setting.tick ≡ true
+tick_is scene expanded =
+    let range = setting_is scene.setting expanded.is_scene.setting in
+    both (nat_le 10 scene.setting.tick) (nat_le scene.setting.tick 1000) (le-leb 10 scene.setting.tick range.some_tick) (le-leb scene.setting.tick 1000 range.short_tick)
+
+pub run_parts : (scene : Scene) → IsExpanded scene → IsLimited scene → HasTexts scene → (point : List ℤ) → IsPointOf (bounds scene) point → (run : Run) → run ≡ run_of scene point → HasUtf8Parts run
 run_parts scene expanded limited has point within run gives =
     let at = slot_value scene point in
     let inside = point_inside scene point within in
     record {
-      choices = subst (λ (r : TimedRun). list_all is_written_choice r.choices ≡ true) (sym gives) (choices_are scene expanded limited has at inside);
-      end = subst (λ (r : TimedRun). is_u32 r.end ≡ true) (sym gives) (end_is scene expanded limited has at inside);
-      phases = subst (λ (r : TimedRun). list_all is_written_span r.phases ≡ true) (sym gives) (phases_are scene expanded limited has at inside);
-      traces = subst (λ (r : TimedRun). list_all is_written_trace r.traces ≡ true) (sym gives) (traces_are scene expanded limited has at inside);
-      values = subst (λ (r : TimedRun). list_all is_utf8_value r.values ≡ true) (sym gives) (values_are scene expanded limited has at inside);
+      choices = subst (λ (r : Run). list_all is_written_choice r.choices ≡ true) (sym gives) (choices_are scene expanded limited has at inside);
+      end = subst (λ (r : Run). is_u32 r.end ≡ true) (sym gives) (end_is scene expanded limited has at inside);
+      phases = subst (λ (r : Run). list_all is_written_span r.phases ≡ true) (sym gives) (phases_are scene expanded limited has at inside);
+      tick = subst (λ (r : Run). is_from_to 10 1000 r.tick ≡ true) (sym gives) (tick_is scene expanded);
+      traces = subst (λ (r : Run). list_all is_written_trace r.traces ≡ true) (sym gives) (traces_are scene expanded limited has at inside);
+      values = subst (λ (r : Run). list_all is_utf8_value r.values ≡ true) (sym gives) (values_are scene expanded limited has at inside);
     }

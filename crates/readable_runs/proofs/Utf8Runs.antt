@@ -1,10 +1,10 @@
 -- The text of a run whose paths have texts and whose numbers are small is UTF-8, if the texts that its fields hold are.
-use Rattle.std.proofs.Common.{◌≡◌, refl, ℕ, ℤ, pos, negsuc, ◌^◌, ◌<◌, Bool, true, false, ◌&&◌, List, [], ◌∷◌, ◌++◌, map, codes, IsUtf8, arith}
-use Rattle.std.specs.Prelude.{nat_lt, flat_map, ⊤}
+use Rattle.std.proofs.Common.{◌≡◌, refl, ℕ, ℤ, pos, negsuc, ◌^◌, ◌<◌, ◌≤◌, Bool, true, false, ◌&&◌, List, [], ◌∷◌, ◌++◌, map, codes, IsUtf8, arith}
+use Rattle.std.specs.Prelude.{nat_le, nat_lt, flat_map, ⊤}
 use Rattle.std.specs.Fmt.{decimal}
 use Rattle.std.specs.List.{list_all}
 use Rattle.std.specs.Str.{is_utf8}
-use Rattle.std.proofs.lemmas.Bool.{and_parts, ltb-true}
+use Rattle.std.proofs.lemmas.Bool.{and_parts, leb-true, lt-ltb, ltb-true}
 use Rattle.std.proofs.lemmas.Bool.Decides.{nat_tests}
 use Rattle.std.proofs.lemmas.Fmt.{IsAscii-decimal, IsAscii-signed}
 use Rattle.std.proofs.lemmas.Str.{IsUtf8-append, IsUtf8-from_ascii, IsUtf8-from_is_utf8, IsUtf8-nil}
@@ -24,6 +24,7 @@ use Rattle.run_tests.specs.composition.declared.run.Value.{Value}
 use Rattle.run_tests.specs.composition.declared.run.Run.{Run}
 use Rattle.run_tests.specs.composition.declared.run.Held.{Held}
 use Rattle.run_tests.specs.composition.declared.run.Held.TheVariants.{Number, Chars}
+use Rattle.run_tests.specs.composition.Invariants.{is_from_to}
 use Rattle.run_tests.specs.run_check.RunText.{integer_data, choice_data, span_data, sample_data, trace_data, held_data, value_data, run_data, run_text}
 use Rattle.run_tests.specs.WrittenRuns.{is_u32, is_i64, has_text, is_written_choice, is_written_span, is_written_sample, is_written_trace, is_written_held, is_written_value, is_written_run}
 use Rattle.source_scenes.proofs.of_field_flatten.Tests.{left_of, right_of}
@@ -183,8 +184,16 @@ pub record HasUtf8Parts (run : Run) : Type 0 where
   pub choices : list_all is_written_choice run.choices ≡ true
   pub end : is_u32 run.end ≡ true
   pub phases : list_all is_written_span run.phases ≡ true
+  pub tick : is_from_to 10 1000 run.tick ≡ true
   pub traces : list_all is_written_trace run.traces ≡ true
   pub values : list_all is_utf8_value run.values ≡ true
+
+-- the length of a tick is a number of 32 bits
+tick_word : (n : ℕ) → is_from_to 10 1000 n ≡ true → is_u32 n ≡ true
+tick_word n h = lt-ltb n (2 ^ 32) (below n (leb-true n 1000 (right_of (nat_le 10 n) (nat_le n 1000) h)))
+  where
+    below : (n : ℕ) → n ≤ 1000 → n < 2 ^ 32
+    below n h = omega (arith, h)
 
 pub run_utf8 : (run : Run) → HasUtf8Parts run → IsUtf8 (run_text run)
 unfolding run_text
@@ -198,17 +207,21 @@ run_utf8 run its =
         count_utf8 run.end its.end,
         (
           IsUtf8-are_ascii (codes "form") refl,
-          count_utf8 1 refl,
+          count_utf8 2 refl,
           (
             IsUtf8-are_ascii (codes "phases") refl,
             list_utf8 span_data is_written_span span_utf8 run.phases its.phases,
             (
-              IsUtf8-are_ascii (codes "traces") refl,
-              list_utf8 trace_data is_written_trace trace_utf8 run.traces its.traces,
+              IsUtf8-are_ascii (codes "tick") refl,
+              count_utf8 run.tick (tick_word run.tick its.tick),
               (
-                IsUtf8-are_ascii (codes "values") refl,
-                list_utf8 value_data is_utf8_value value_utf8 run.values its.values,
-                tt,
+                IsUtf8-are_ascii (codes "traces") refl,
+                list_utf8 trace_data is_written_trace trace_utf8 run.traces its.traces,
+                (
+                  IsUtf8-are_ascii (codes "values") refl,
+                  list_utf8 value_data is_utf8_value value_utf8 run.values its.values,
+                  tt,
+                ),
               ),
             ),
           ),
@@ -221,7 +234,8 @@ run_utf8 run its =
 pub run_written : (run : Run) → HasUtf8Parts run → is_written_run run ≡ true
 run_written run its =
     both (list_all is_written_choice run.choices) _ its.choices (both (is_u32 run.end) _ its.end (both (list_all is_written_span run.phases) _ its.phases
-    (both (list_all is_written_trace run.traces) (list_all is_written_value run.values) its.traces (values_written run.values its.values))))
+    (both (is_from_to 10 1000 run.tick) _ its.tick
+    (both (list_all is_written_trace run.traces) (list_all is_written_value run.values) its.traces (values_written run.values its.values)))))
   where
     both : (a c : Bool) → a ≡ true → c ≡ true → a && c ≡ true
     both true c p q = q

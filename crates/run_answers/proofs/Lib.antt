@@ -1,2 +1,4 @@
-pub mod Checked
-pub mod OneCheck
+pub mod OneFile
+pub mod OneRun
+pub mod Loaded
+pub mod Answered

@@ -1,5 +1,9 @@
+pub mod TextFiles
+pub mod RunFiles
 pub mod Checks
+pub mod Migrations
 pub mod Verdicts
+pub mod FoundRuns
 -- Crates below, for the crates above.
 pub use Rattle.instance_check.specs.field_flatten as field_flatten
 pub use Rattle.run_texts.specs as run_texts

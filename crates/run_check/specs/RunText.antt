@@ -49,16 +49,17 @@ held_data (Chars text) = string text
 abbrev pub value_data : Value → Data
 value_data value = array (items_of (path_data value.path ∷ held_data value.held ∷ []))
 
--- a run is an object with these six keys, in byte order
+-- a run is an object with these seven keys, in byte order
 abbrev pub run_data : Run → Data
 run_data run =
     object (member (codes "choices") (array (items_of (map choice_data run.choices)))
     (member (codes "end") (count_data run.end)
-    (member (codes "form") (count_data 1)
+    (member (codes "form") (count_data 2)
     (member (codes "phases") (array (items_of (map span_data run.phases)))
+    (member (codes "tick") (count_data run.tick)
     (member (codes "traces") (array (items_of (map trace_data run.traces)))
     (member (codes "values") (array (items_of (map value_data run.values)))
-    no_members))))))
+    no_members)))))))
 
 -- the text, to the byte
 unfoldable pub run_text : Run → List ℕ

@@ -38,8 +38,9 @@ fn run_json(alloc: Global, run: &Run) -> Result<Json, AllocError>
     json!(in alloc; {
         "choices": choices,
         "end": run.end,
-        "form": 1u32,
+        "form": 2u32,
         "phases": phases,
+        "tick": run.tick,
         "traces": traces,
         "values": values,
     })

@@ -7,7 +7,8 @@ use Rattle.std.specs.List.{list_all, list_any}
 use Rattle.osc_base.specs.Comparisons.{same_number}
 use Rattle.osc_base.specs.declared.path.Path.{Path}
 use Rattle.run_entries.specs.composition.declared.run.Span.{Span}
-use Rattle.run_entries.specs.composition.TimedRuns.{TimedRun, span_in}
+use Rattle.run_entries.specs.composition.declared.run.Run.{Run}
+use Rattle.run_entries.specs.composition.RunParts.{span_in}
 use Rattle.run_entries.specs.composition.Items.{times_of}
 use Rattle.run_entries.specs.composition.Arrangement.{Times, same_span, overlap, chosen_spans, covers, ends_of}
 use Rattle.run_clauses.specs.Latest.{latest, later_tick, is_first, is_last}
@@ -132,7 +133,7 @@ covers_is times whole ms =
     && (all_mapped (λ t. int_le t (times.end whole)) times.end ms i && any_mapped (λ t. same_number t (times.end whole)) times.end ms i))
 
 -- no phase ends before tick 0
-pub ends_from_first : (run : TimedRun) (ms : List Path) → list_all (int_le (pos 0)) (ends_of (times_of run) ms) ≡ true
+pub ends_from_first : (run : Run) (ms : List Path) → list_all (int_le (pos 0)) (ends_of (times_of run) ms) ≡ true
 ends_from_first run [] = refl
 ends_from_first run (m ∷ ms) = ap₂ (◌&&◌) (by (span_in run m)) (ends_from_first run ms)
   where

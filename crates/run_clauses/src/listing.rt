@@ -7,7 +7,7 @@ ghost use Rattle.run_entries.specs.composition.Claims.{ends_with_root_do as end_
 ghost use Rattle.run_entries.specs.composition.Scenes.{has_root_do as has_do, root_do};
 ghost use Rattle.run_entries.specs.composition.SeenScenes.{seen_scene};
 ghost use Rattle.run_entries.specs.composition.There.{is_there};
-ghost use Rattle.run_entries.specs.composition.TimedRuns.{span_in};
+ghost use Rattle.run_entries.specs.composition.RunParts.{span_in};
 ghost use Rattle.run_entries.specs.SeenRuns.{seen_run};
 ghost use Rattle.run_clauses.specs.Listing as listing;
 

@@ -4,7 +4,7 @@ use Rattle.std.proofs.Math.Nat.{mul_assoc, mul_comm, mul_left_comm, mul-div_canc
 use Rattle.std.proofs.lemmas.Nat.Gcd.{le_of_dvd}
 use Rattle.std.proofs.lemmas.Int.{unsigned_abs-mul, ints}
 use Rattle.std.specs.Int.{◌∣◌}
-use Rattle.std.specs.Prelude.{ℤ, pos, ◌*ℤ◌, ◌-ℤ◌, ◌≤ℤ◌, int_le, nat_lt, nat_le, unwrap_or}
+use Rattle.std.specs.Prelude.{ℤ, pos, ◌*ℤ◌, ◌-ℤ◌, ◌≤ℤ◌, int_le, nat_lt, unwrap_or}
 use Rattle.std.specs.List.{list_all}
 use Rattle.osc_base.specs.declared.path.Path.{Path}
 use Rattle.osc_base.specs.declared.modifier.Kind.{Kind}
@@ -18,15 +18,17 @@ use Rattle.run_values.specs.modifier_rules.Relations.{position_scale}
 use Rattle.expr_nodes.specs.Typed.{Typed, scale, reach}
 use Rattle.run_values.proofs.of_expr_value.Worths.{counted_worth}
 use Rattle.scene_conditions.specs.composition.declared.setting.Setting.{Setting}
-use Rattle.scene_conditions.specs.composition.TimedRuns.{TimedRun, samples_in}
+use Rattle.scene_conditions.specs.composition.declared.run.Run.{Run}
+use Rattle.scene_conditions.specs.composition.RunParts.{samples_in}
 use Rattle.scene_conditions.specs.composition.Scenes.{Scene, ModifierSpot}
-use Rattle.scene_conditions.specs.composition.Invariants.{has_range, is_expression, is_from_to, is_setting, is_modifier}
+use Rattle.scene_conditions.specs.composition.Invariants.{has_range, is_expression, is_setting, is_modifier}
 use Rattle.scene_conditions.specs.composition.Items.{still}
 use Rattle.scene_conditions.specs.composition.Claims.{sample_in_range, road_end, top_speed}
 use Rattle.scene_conditions.specs.composition.Ranges.{lies_between}
 use Rattle.run_values.specs.field_flatten.Rules.{scale_of}
 use Rattle.run_values.specs.field_flatten.Exactness.{end_reach, quantity_reach, is_narrow_range}
 use Rattle.run_values.proofs.of_field_flatten.Multiples.{common, share_of}
+use Rattle.run_values.proofs.of_composition.Settings.{setting_is}
 use Rattle.run_values.specs.Frames as frames
 use Rattle.run_values.specs.SeenCourses.{sample_at}
 use Rattle.run_values.proofs.Framed.{samples_hold}
@@ -97,9 +99,6 @@ still_measured = record {
 le_of : (a b : ℤ) → int_le a b ≡ true → a ≤ℤ b
 le_of a b h = grind (arith, ints, h)
 
-le_nat : (a b : ℕ) → nat_le a b ≡ true → a ≤ b
-le_nat a b h = grind (arith, h)
-
 -- what lies between two ends lies between wider ones
 record IsBetween (low high : ℤ) (n : ℤ) : Type 0 where
   from : low ≤ℤ n
@@ -109,21 +108,6 @@ between : (low high n : ℤ) → lies_between low high n ≡ true → IsBetween 
 between low high n h = record { from = le_of low n (left_of (int_le low n) (int_le n high) h); to = le_of n high (right_of (int_le low n) (int_le n high) h) }
 
 module _ (setting : Setting) (is : is_setting setting ≡ true) where
-  abbrev lanes_are : Bool
-  lanes_are = is_from_to 1 8 setting.lanes
-
-  abbrev road_is : Bool
-  road_is = is_from_to 1 10000 setting.road
-
-  bounds : is_from_to 1 600 setting.ticks && (lanes_are && road_is) ≡ true
-  bounds = left_of (is_from_to 1 600 setting.ticks && (lanes_are && road_is)) _ is
-
-  few_lanes : setting.lanes ≤ 8
-  few_lanes = le_nat setting.lanes 8 (right_of (nat_le 1 setting.lanes) (nat_le setting.lanes 8) (left_of lanes_are road_is (right_of (is_from_to 1 600 setting.ticks) (lanes_are && road_is) bounds)))
-
-  short_road : setting.road ≤ 10000
-  short_road = le_nat setting.road 10000 (right_of (nat_le 1 setting.road) (nat_le setting.road 10000) (right_of lanes_are road_is (right_of (is_from_to 1 600 setting.ticks) (lanes_are && road_is) bounds)))
-
   measured : (s : Sample) → sample_in_range setting s ≡ true → IsMeasured s
   measured s h =
       let others = lies_between (pos 0) (road_end setting) s.position && lies_between (pos 0) top_speed s.speed in
@@ -133,9 +117,9 @@ module _ (setting : Setting) (is : is_setting setting ≡ true) where
       let speed = between (pos 0) top_speed s.speed (right_of (lies_between (pos 0) (road_end setting) s.position) (lies_between (pos 0) top_speed s.speed) rest) in
       record {
         lane_from = lower s.lane lane.from;
-        lane_to = lanes_wide s.lane setting.lanes few_lanes lane.to;
+        lane_to = lanes_wide s.lane setting.lanes (setting_is setting is).few_lanes lane.to;
         position_from = position.from;
-        position_to = road_wide s.position setting.road short_road position.to;
+        position_to = road_wide s.position setting.road (setting_is setting is).short_road position.to;
         speed_from = speed.from;
         speed_to = speed.to;
       }
@@ -155,7 +139,7 @@ module _ (setting : Setting) (is : is_setting setting ≡ true) where
   all_measured (s ∷ ss) (suc tick) h = all_measured ss tick (right_of (sample_in_range setting s) (list_all (sample_in_range setting) ss) h)
 
 -- each sample that a modifier looks at is in range
-pub measured_at : (scene : Scene) (run : TimedRun) → frames.IsWithin scene run → (vehicle : Path) (samples : List Sample) (tick : ℕ) → samples ≡ unwrap_or (samples_in run vehicle) [] → IsMeasured (sample_at samples tick)
+pub measured_at : (scene : Scene) (run : Run) → frames.IsWithin scene run → (vehicle : Path) (samples : List Sample) (tick : ℕ) → samples ≡ unwrap_or (samples_in run vehicle) [] → IsMeasured (sample_at samples tick)
 measured_at scene run is vehicle samples tick e = by (samples_in run vehicle) refl e
   where
     by : (o : Option (List Sample)) → samples_in run vehicle ≡ o → samples ≡ unwrap_or o [] → IsMeasured (sample_at samples tick)
@@ -286,7 +270,7 @@ scale_positive scene None h = omega arith
 scale_positive scene (Some t) h = sound_scale scene t h
 
 -- the ends of a modifier with a range are narrow
-pub range_narrow : (scene : Scene) (run : TimedRun) (m : ModifierSpot) (low high : Number) → is_modifier scene m ≡ true → is_narrow_range m ≡ true → has_range m.kind ≡ true
+pub range_narrow : (scene : Scene) (run : Run) (m : ModifierSpot) (low high : Number) → is_modifier scene m ≡ true → is_narrow_range m ≡ true → has_range m.kind ≡ true
     → IsEndOf scene run m.low low → IsEndOf scene run m.high high → AreNarrow low high
 range_narrow scene run m low high is narrow ranged l h =
     let w = wide m narrow (scale_positive scene m.low (low_sound scene m is ranged)) (scale_positive scene m.high (high_sound scene m is ranged)) in
@@ -305,7 +289,7 @@ pub zero_narrow : (x : Number) (multiple : ℕ) → x ≡ record { numerator = p
 zero_narrow x multiple e = subst (IsNarrow multiple) (sym e) (record { share = multiple; above = omega (arith, ints); is = omega arith; small = omega arith })
 
 -- the end of a range without one is 0
-pub zero_end : (scene : Scene) (run : TimedRun) (typed : Option Typed) (x : Number) → typed ≡ None → x ≡ record { numerator = pos 0; denominator = pos 1 } → IsEndOf scene run typed x
+pub zero_end : (scene : Scene) (run : Run) (typed : Option Typed) (x : Number) → typed ≡ None → x ≡ record { numerator = pos 0; denominator = pos 1 } → IsEndOf scene run typed x
 zero_end scene run typed x none e =
     subst (λ o. IsEndOf scene run o x) (sym none)
     (subst (IsEndOf scene run None) (sym e)

@@ -5,7 +5,7 @@ use Rattle.std.specs.Prelude.{slice_get, unwrap_or, option_map}
 use Rattle.std.specs.Option.{option_map_or}
 use Rattle.std.specs.List.{list_any}
 use Rattle.scene_conditions.specs.composition.declared.part.Occurrence as part
-use Rattle.scene_conditions.specs.composition.TimedRuns.{TimedRun}
+use Rattle.scene_conditions.specs.composition.declared.run.Run.{Run}
 use Rattle.scene_conditions.specs.composition.Scenes.{Scene}
 use Rattle.scene_conditions.specs.composition.SeenParts.{seen_occurrence}
 use Rattle.run_values.proofs.Rows.{later, mapped}
@@ -32,7 +32,7 @@ any_flagged t xs flags numbers e =
 
 -- ---- the first default, step by step
 
-module _ (scene : Scene) (run : TimedRun) (i : ℕ) (xs : List part.Occurrence) (x : part.Occurrence) (h : 1 ≤ length xs) (at : x ≡ get_or xs 0 x) where
+module _ (scene : Scene) (run : Run) (i : ℕ) (xs : List part.Occurrence) (x : part.Occurrence) (h : 1 ≤ length xs) (at : x ≡ get_or xs 0 x) where
   pub default_later : fails_default scene run i (seen_occurrence x) ≡ false
       → first_default scene run (i + 1) (map seen_occurrence (later xs)) ≡ first_default scene run i (map seen_occurrence xs)
   default_later e =

@@ -10,7 +10,7 @@ use Rattle.expr_nodes.specs.Typed.{Typed, Info, kind}
 use Rattle.expr_nodes.specs.Parts.{is_scalar}
 use Rattle.expr_nodes.specs.Sound.{is_sound, each_read}
 use Rattle.run_values.specs.expr_value.Held.{in_reach}
-use Rattle.scene_conditions.specs.composition.TimedRuns.{TimedRun}
+use Rattle.scene_conditions.specs.composition.declared.run.Run.{Run}
 use Rattle.scene_conditions.specs.composition.Scenes.{Scene, Occurrence, ModifierSpot, source}
 use Rattle.scene_conditions.specs.composition.Numbers.{number_at}
 use Rattle.scene_conditions.specs.composition.Invariants.{IsScene, is_expression, is_occurrence, is_read, is_target, is_end, is_modifier, has_range}
@@ -34,7 +34,7 @@ pub sound_is : (scene : Scene) (t : Typed) → is_expression scene t ≡ true �
 sound_is scene t h = left_of (is_sound t) (each_read (test scene) t) (right_of (is_scalar t) (is_sound t && each_read (test scene) t) h)
 
 -- what an expression reads of a run is within reach
-pub within_is : (scene : Scene) (run : TimedRun) (is : IsWithin scene run) (t : Typed) → is_expression scene t ≡ true → each_read (in_reach (number_at scene run)) t ≡ true
+pub within_is : (scene : Scene) (run : Run) (is : IsWithin scene run) (t : Typed) → is_expression scene t ≡ true → each_read (in_reach (number_at scene run)) t ≡ true
 within_is scene run is t h =
     each_weaker (test scene) (in_reach (number_at scene run)) (λ i path per e. read_within scene run is i path per e) t
     (right_of (is_sound t) (each_read (test scene) t) (right_of (is_scalar t) (is_sound t && each_read (test scene) t) h))

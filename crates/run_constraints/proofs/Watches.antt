@@ -11,7 +11,8 @@ use Rattle.osc_base.specs.Comparisons.{is_at_most, is_between}
 use Rattle.osc_base.specs.Fraction.{value}
 use Rattle.osc_base.specs.Modifiers.{holds_of, is_moment}
 use Rattle.osc_base.proofs.Integers.{swap_last, le_times, le_cancel}
-use Rattle.scene_conditions.specs.composition.TimedRuns.{TimedRun, samples_in}
+use Rattle.scene_conditions.specs.composition.declared.run.Run.{Run}
+use Rattle.scene_conditions.specs.composition.RunParts.{samples_in}
 use Rattle.scene_conditions.specs.composition.Scenes.{Scene, ModifierSpot}
 use Rattle.scene_conditions.specs.composition.Invariants.{has_range}
 use Rattle.scene_conditions.specs.composition.There.{are_met, modifier_presence}
@@ -72,7 +73,7 @@ samples_same : (samples : List Sample) (o : Option (List Sample)) (tick : ℕ) �
     → sample_at samples tick ≡ unwrap_or (option_and_then (λ ss. slice_get ss tick) o) still
 samples_same samples o tick e = ap (λ ss. unwrap_or (slice_get ss tick) still) e ∙ samples_seen o tick
 
-pub watch_same : (scene : Scene) (run : TimedRun) (m : ModifierSpot) (start end : ℕ) (low high : Fraction) (own other : List Sample)
+pub watch_same : (scene : Scene) (run : Run) (m : ModifierSpot) (start end : ℕ) (low high : Fraction) (own other : List Sample)
     → pos start ≡ (times_of run).start m.phase → pos end ≡ (times_of run).end m.phase
     → (has_range m.kind ≡ true → IsEnd (value low) (end_value scene run m.low)) → (has_range m.kind ≡ true → IsEnd (value high) (end_value scene run m.high))
     → own ≡ unwrap_or (samples_in run m.own) [] → other ≡ unwrap_or (samples_in run (other_of m)) [] → (tick : ℕ)
@@ -97,7 +98,7 @@ all_same : (s t : ℕ → Bool) → ((i : ℕ) → s i ≡ t i) → (is : List �
 all_same s t e [] = refl
 all_same s t e (i ∷ is) = ap₂ (λ a b. a && b) (e i) (all_same s t e is)
 
-module _ (scene : Scene) (run : TimedRun) (m : ModifierSpot) (ticks : List ℕ) where
+module _ (scene : Scene) (run : Run) (m : ModifierSpot) (ticks : List ℕ) where
   abbrev met : Bool
   met = are_met run (modifier_presence scene m)
 

@@ -7,12 +7,11 @@ use composition::{Choice, Guard, Held, Run, Scene, Span, Trace, Value};
 use osc_base::{Path, Sample};
 use std::alloc::{AllocError, Global};
 
-/// A run with an index by path of each of its lists, and the length of its ticks in milliseconds. What a run holds at a
-/// path is what the first entry with that path says.
+/// A run with an index by path of each of its lists. What a run holds at a path is what the first entry with that path
+/// says.
 #[derive(Drop)]
 pub struct Entries<'a> {
     run: &'a Run,
-    tick: u32,
     choices: RunIndex<'a>,
     phases: RunIndex<'a>,
     traces: RunIndex<'a>,
@@ -26,15 +25,15 @@ pub struct Entries<'a> {
 impl<'a> Entries<'a> {
     ghost use Rattle.std.specs.Prelude.{◌≡◌, find, option_copied, IfOk};
     ghost use Rattle.osc_base.specs.Paths.{same_path};
-    ghost use Rattle.composition.specs.TimedRuns.{timed, choice_in, span_in, held_in, samples_in};
+    ghost use Rattle.composition.specs.RunParts.{choice_in, span_in, held_in, samples_in};
     ghost use Rattle.composition.specs.There.{is_met as meets, are_met as meet_all, is_there as stands};
     ghost use Rattle.composition.specs.SeenScenes.{seen_scene};
     ghost use Rattle.composition.specs.declared.guard.Guard.{Guard};
     ghost use Rattle.run_entries.specs.SeenRuns.{seen_run};
 
-    /// The entries of a run whose ticks are `tick` milliseconds long.
-    pub fn of(alloc: Global, run: &'a Run, tick: u32) -> Result<Entries<'a>, AllocError>
-        ensures { IfOk result (λ e. seen_run e ≡ timed tick run.now) }
+    /// The entries of a run. Out of memory is the only error.
+    pub fn of(alloc: Global, run: &'a Run) -> Result<Entries<'a>, AllocError>
+        ensures { IfOk result (λ e. seen_run e ≡ run.now) }
     {
         let choices = RunIndex::of(alloc, run.choices.as_slice())?;
         let phases = RunIndex::of(alloc, run.phases.as_slice())?;
@@ -42,7 +41,6 @@ impl<'a> Entries<'a> {
         let values = RunIndex::of(alloc, run.values.as_slice())?;
         Ok(Entries {
             run,
-            tick,
             choices,
             phases,
             traces,
@@ -61,7 +59,7 @@ impl<'a> Entries<'a> {
     pub fn tick(&self) -> u32
         ensures { result ≡ (seen_run self.now).tick }
     {
-        self.tick
+        self.run.tick
     }
 
     /// The choices that the run lists.

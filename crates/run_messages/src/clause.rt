@@ -1,12 +1,14 @@
 //! Why a run is no instance, in words.
 
 use crate::asks::is_duration;
-use crate::decimals::{put_decimal, put_tick};
+use crate::decimals::{put_decimal, put_seconds, put_tick};
 use crate::modifier::wrong_modifier;
 use crate::motion::wrong_motion;
 use crate::places::{RulePlace, place_in, put_place, view_at};
 use crate::read_values::put_values;
-use crate::run_parts::{Sample, end_of, item_of, number_at, sample_at, samples_of, span_of};
+use crate::run_parts::{
+    Sample, end_of, item_of, number_at, sample_at, samples_of, span_of, tick_of,
+};
 use crate::setting::Asked;
 use command_words::Setting;
 use message_parts::{bytes_of, source_of};
@@ -149,8 +151,8 @@ fn put_length(text: &mut String, run: &Value, path: &str) -> Result<(), AllocErr
         return Ok(());
     };
     write!(text, "`{path}` takes ")?;
-    put_decimal(text, end.saturating_sub(start), 1)?;
-    write!(text, " s, from tick {start} to tick {end}")
+    put_seconds(text, end.saturating_sub(start), tick_of(run))?;
+    write!(text, ", from tick {start} to tick {end}")
 }
 
 /// Puts a line of its own, unless there is nothing to say.
@@ -175,7 +177,7 @@ fn put_at_path(
     let mut what = String::new(alloc);
     match failed.clause {
         "motion" => what = wrong_motion(alloc, run, failed.path)?,
-        "end" => put_end(&mut what, run, asked.setting.ticks)?,
+        "end" => put_end(&mut what, run, asked.setting)?,
         "arranged" => put_span(&mut what, run, failed.path)?,
         "bounds" => put_bounds(&mut what, run, failed.path, asked.setting)?,
         "listed" => put_listed(&mut what, run, failed.path)?,
@@ -184,22 +186,30 @@ fn put_at_path(
     put_note(text, what.as_str())
 }
 
-/// Puts where the run ends, and where it has to.
-fn put_end(text: &mut String, run: &Value, ticks: u32) -> Result<(), AllocError> {
+/// Puts how long the run's ticks are if that is wrong; else where it ends, and where it has to.
+fn put_end(text: &mut String, run: &Value, setting: Setting) -> Result<(), AllocError> {
+    let (length, tick) = (tick_of(run), setting.tick);
+    if length != i64::from(tick) {
+        return write!(
+            text,
+            "its ticks have {length} ms, and those of the setting {tick} ms (`--tick {tick}`)"
+        );
+    }
     let Some(end) = end_of(run).and_then(|end| u64::try_from(end).ok()) else {
         return Ok(());
     };
     text.push_str("it ends at ")?;
-    put_tick(text, end)?;
+    put_tick(text, end, length)?;
+    let ticks = setting.ticks;
     if end > u64::from(ticks) {
         text.push_str(", and a run has at most ")?;
-        put_decimal(text, i64::from(ticks), 1)?;
-        return write!(text, " s (`--ticks {ticks}`)");
+        put_seconds(text, i64::from(ticks), length)?;
+        return write!(text, " (`--ticks {ticks}`)");
     }
     match span_of(run, "do") {
         Some((_, last)) => {
             text.push_str(", and its `do` at ")?;
-            put_tick(text, u64::try_from(last).unwrap_or(0))
+            put_tick(text, u64::try_from(last).unwrap_or(0), length)
         }
         None => text.push_str(", and without a `do` a run ends at tick 0"),
     }
@@ -248,7 +258,7 @@ fn put_bounds(
     setting: Setting,
 ) -> Result<(), AllocError> {
     if let Some(samples) = samples_of(run, path) {
-        return put_outside(text, samples, setting);
+        return put_outside(text, samples, setting, tick_of(run));
     }
     if let Some(parts) = item_of(run, "values", path) {
         return match number_at(parts, 1) {
@@ -270,7 +280,12 @@ fn put_bounds(
 }
 
 /// Puts the first sample that isn't on the road.
-fn put_outside(text: &mut String, samples: &[Value], setting: Setting) -> Result<(), AllocError> {
+fn put_outside(
+    text: &mut String,
+    samples: &[Value],
+    setting: Setting,
+    length: i64,
+) -> Result<(), AllocError> {
     let (lanes, road) = (setting.lanes, setting.road);
     for tick in 0..samples.len() {
         let Some(sample) = sample_at(samples, tick) else {
@@ -285,7 +300,7 @@ fn put_outside(text: &mut String, samples: &[Value], setting: Setting) -> Result
         let is_on_road = 0 <= position && position <= i64::from(road).saturating_mul(1_000_000);
         if !is_on_lane || !is_on_road || speed < 0 {
             text.push_str("at ")?;
-            put_tick(text, u64::try_from(tick).unwrap_or(0))?;
+            put_tick(text, u64::try_from(tick).unwrap_or(0), length)?;
             write!(text, " it is on lane {lane} at ")?;
             put_decimal(text, position, 6)?;
             text.push_str(" m with a speed of ")?;

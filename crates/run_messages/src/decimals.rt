@@ -32,8 +32,14 @@ fn put_fraction(text: &mut String, part: u64, scale: u64) -> Result<(), AllocErr
     Ok(())
 }
 
-/// Puts a tick as seconds, as `1.2 s (tick 12)`.
-pub fn put_tick(text: &mut String, tick: u64) -> Result<(), AllocError> {
-    put_decimal(text, i64::try_from(tick).unwrap_or(i64::MAX), 1)?;
-    write!(text, " s (tick {tick})")
+/// Puts so many ticks of `length` milliseconds as seconds.
+pub fn put_seconds(text: &mut String, ticks: i64, length: i64) -> Result<(), AllocError> {
+    put_decimal(text, ticks.saturating_mul(length), 3)?;
+    text.push_str(" s")
+}
+
+/// Puts a tick as seconds, where ticks are `length` milliseconds long: as `1.2 s (tick 12)`.
+pub fn put_tick(text: &mut String, tick: u64, length: i64) -> Result<(), AllocError> {
+    put_seconds(text, i64::try_from(tick).unwrap_or(i64::MAX), length)?;
+    write!(text, " (tick {tick})")
 }

@@ -18,6 +18,6 @@ mod setting;
 pub use asked_value::{Ends, ends_in};
 pub use asks::{Asks, asked_at, is_duration};
 pub use clause::put_failed;
-pub use decimals::put_decimal;
+pub use decimals::{put_decimal, put_seconds};
 pub use places::{RulePlace, place_in, put_place, view_at};
 pub use setting::{Asked, Command, asked_in, put_call, put_setting};

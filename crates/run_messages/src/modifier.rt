@@ -5,7 +5,7 @@
 
 use crate::asked_value::{Ends, ends_in};
 use crate::decimals::{put_decimal, put_tick};
-use crate::run_parts::{Sample, sample_at, samples_of, span_of, value_of};
+use crate::run_parts::{Sample, sample_at, samples_of, span_of, tick_of, value_of};
 use mistake_cases::{View, first_part, indentation, is_name, last_part};
 use mistake_helps::{Argument, arguments_in};
 use serde_json::Value;
@@ -54,7 +54,9 @@ pub fn wrong_modifier(
     };
     for tick in first..last {
         if let Some(found) = wrong_at(run, &modifier, tick) {
-            put_wrong(&mut text, &modifier, tick, found)?;
+            text.push_str("at ")?;
+            put_tick(&mut text, u64::try_from(tick).unwrap_or(0), tick_of(run))?;
+            put_wrong(&mut text, &modifier, found)?;
             return Ok(text);
         }
     }
@@ -189,16 +191,9 @@ fn part_of(quantity: Quantity, sample: Sample) -> i64 {
     }
 }
 
-/// Puts what stands at a tick, and what is asked for.
-fn put_wrong(
-    text: &mut String,
-    modifier: &Modifier<'_>,
-    tick: i64,
-    found: i64,
-) -> Result<(), AllocError> {
+/// Puts what stands there, and what is asked for.
+fn put_wrong(text: &mut String, modifier: &Modifier<'_>, found: i64) -> Result<(), AllocError> {
     let vehicle = modifier.vehicle;
-    text.push_str("at ")?;
-    put_tick(text, u64::try_from(tick).unwrap_or(0))?;
     write!(text, " `{vehicle}` ")?;
     match modifier.relation {
         "same_as" | "left_of" | "right_of" => put_unlike(text, modifier, found),

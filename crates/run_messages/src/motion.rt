@@ -1,20 +1,20 @@
 //! What a vehicle does that it may not.
 
 use crate::decimals::{put_decimal, put_tick};
-use crate::run_parts::{Sample, sample_at, samples_of, value_of};
+use crate::run_parts::{Sample, sample_at, samples_of, tick_of, value_of};
 use serde_json::Value;
 use std::alloc::{AllocError, Global};
 
 /// The most ticks of a run that are looked at.
 const TICKS: usize = 601;
-/// How many micrometres a vehicle goes in a tick for each millimetre a second.
-const PER_TICK: i64 = 100;
 
-/// The limits of a vehicle, in millimetres a second and for each second.
+/// The limits of a vehicle, in millimetres a second and for each second, and the length of a tick in milliseconds. In a tick a
+/// vehicle goes so many micrometres for each millimetre a second.
 #[derive(Debug, Clone, Copy)]
 struct Limits {
     speed: i64,
     acceleration: i64,
+    tick: i64,
 }
 
 /// What a vehicle does wrong.
@@ -53,6 +53,7 @@ fn limits_of(alloc: Global, run: &Value, path: &str) -> Result<Option<Limits>, A
         (Some(speed), Some(acceleration)) => Ok(Some(Limits {
             speed,
             acceleration,
+            tick: tick_of(run),
         })),
         _ => Ok(None),
     }
@@ -65,13 +66,13 @@ fn wrong_at(samples: &[Value], tick: usize, limits: Limits) -> Option<(Wrong, Sa
         return Some((Wrong::TooFast, now, now));
     }
     let next = sample_at(samples, tick.saturating_add(1))?;
-    let way = now.speed.saturating_mul(PER_TICK);
+    let way = now.speed.saturating_mul(limits.tick);
     let change = next.speed.saturating_sub(now.speed).saturating_abs();
     let wrong = if next.position.saturating_sub(now.position) != way {
         Wrong::Jumps
     } else if next.lane.saturating_sub(now.lane).saturating_abs() > 1 {
         Wrong::SkipsLanes
-    } else if change.saturating_mul(10) > limits.acceleration {
+    } else if change.saturating_mul(1000) > limits.acceleration.saturating_mul(limits.tick) {
         Wrong::Accelerates
     } else {
         return None;
@@ -89,7 +90,7 @@ fn put_wrong(
     limits: Limits,
 ) -> Result<(), AllocError> {
     text.push_str("at ")?;
-    put_tick(text, u64::try_from(tick).unwrap_or(0))?;
+    put_tick(text, u64::try_from(tick).unwrap_or(0), limits.tick)?;
     write!(text, " `{path}` ")?;
     match wrong {
         Wrong::TooFast => {
@@ -98,7 +99,7 @@ fn put_wrong(
             text.push_str(", and its `max_speed` is ")?;
             put_speed(text, limits.speed)
         }
-        Wrong::Jumps => put_jump(text, now, next),
+        Wrong::Jumps => put_jump(text, now, next, limits),
         Wrong::SkipsLanes => {
             let (from, to) = (now.lane, next.lane);
             write!(
@@ -115,7 +116,12 @@ fn put_speed(text: &mut String, speed: i64) -> Result<(), AllocError> {
     text.push_str(" m/s")
 }
 
-fn put_jump(text: &mut String, now: Sample, next: Sample) -> Result<(), AllocError> {
+fn put_jump(
+    text: &mut String,
+    now: Sample,
+    next: Sample,
+    limits: Limits,
+) -> Result<(), AllocError> {
     text.push_str("is at ")?;
     put_decimal(text, now.position, 6)?;
     text.push_str(" m, and a tick later at ")?;
@@ -123,7 +129,7 @@ fn put_jump(text: &mut String, now: Sample, next: Sample) -> Result<(), AllocErr
     text.push_str(" m: with its speed of ")?;
     put_speed(text, now.speed)?;
     text.push_str(" it goes ")?;
-    put_decimal(text, now.speed.saturating_mul(PER_TICK), 6)?;
+    put_decimal(text, now.speed.saturating_mul(limits.tick), 6)?;
     text.push_str(" m in a tick")
 }
 
@@ -140,6 +146,6 @@ fn put_acceleration(
     text.push_str(": its `max_acceleration` of ")?;
     put_decimal(text, limits.acceleration, 3)?;
     text.push_str(" m/s2 allows a change of ")?;
-    put_decimal(text, limits.acceleration, 4)?;
+    put_decimal(text, limits.acceleration.saturating_mul(limits.tick), 6)?;
     text.push_str(" m/s in a tick")
 }

@@ -30,6 +30,11 @@ pub fn span_of(run: &Value, path: &str) -> Option<(i64, i64)> {
     Some((number_at(parts, 1)?, number_at(parts, 2)?))
 }
 
+/// The length of the run's ticks in milliseconds. Text of form 1 doesn't tell it, and has ticks of 100 milliseconds.
+pub fn tick_of(run: &Value) -> i64 {
+    run.get("tick").and_then(Value::as_i64).unwrap_or(100)
+}
+
 /// The tick at which the run ends.
 pub fn end_of(run: &Value) -> Option<i64> {
     run.get("end")?.as_i64()

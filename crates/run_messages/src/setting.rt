@@ -1,6 +1,6 @@
 //! What the words ask for, in words for people.
 
-use crate::decimals::put_decimal;
+use crate::decimals::put_seconds;
 use command_words::{Request, Setting, Source, read_words};
 use std::alloc::{AllocError, Global};
 
@@ -55,9 +55,9 @@ pub fn asked_in(alloc: Global, words: &[String]) -> Result<Option<Asked<'_>>, Al
 
 /// Puts the setting in force, with the options that make it.
 pub fn put_setting(text: &mut String, setting: Setting) -> Result<(), AllocError> {
-    let (ticks, lanes, road) = (setting.ticks, setting.lanes, setting.road);
-    put_decimal(text, i64::from(ticks), 1)?;
-    write!(text, " s (`--ticks {ticks}`), ")?;
+    let (ticks, lanes, road, tick) = (setting.ticks, setting.lanes, setting.road, setting.tick);
+    put_seconds(text, i64::from(ticks), i64::from(tick))?;
+    write!(text, " (`--ticks {ticks} --tick {tick}`), ")?;
     if lanes == 1 {
         text.push_str("one lane")?;
     } else {

@@ -1,3 +1,5 @@
 pub mod LineFeeds
+pub mod Migrations
+pub mod NarrowData
 pub mod RoundTrips
 pub mod WrittenData

@@ -18,13 +18,14 @@ use Rattle.run_check.specs.composition.declared.run.Value.{Value}
 use Rattle.run_check.specs.composition.declared.run.Run.{Run}
 use Rattle.run_check.specs.composition.declared.run.Held.{Held}
 use Rattle.run_check.specs.composition.declared.run.Held.TheVariants.{Number, Chars}
-use Rattle.run_check.specs.RunText.{choice_data, span_data, sample_data, trace_data, held_data, value_data, run_data, run_text}
-use Rattle.run_texts.specs.RunShape.{Shaped, Fits, shaped_then, inside, fits, all_from, within_u32, held_of, held_in, choice_in, span_in, sample_in, trace_in, value_in, run_from}
+use Rattle.run_check.specs.composition.Invariants.{is_from_to}
+use Rattle.run_check.specs.RunText.{count_data, choice_data, span_data, sample_data, trace_data, held_data, value_data, run_data, run_text}
+use Rattle.run_texts.specs.RunShape.{Shaped, Fits, Differs, shaped_then, inside, fits, all_from, within_u32, held_of, held_in, choice_in, span_in, sample_in, trace_in, value_in, tick_in, run_from}
 use Rattle.run_texts.specs.PathForms.{path_from}
 use Rattle.run_texts.proofs.PathForms.{path_given}
 use Rattle.run_tests.specs.WrittenRuns.{is_u32, is_i64, has_text, is_written_choice, is_written_span, is_written_sample, is_written_trace, is_written_held, is_written_value, is_written_run}
 use Rattle.run_tests.proofs.LineFeeds.{read_feed}
-use Rattle.run_tests.proofs.WrittenData.{both, data_back}
+use Rattle.run_tests.proofs.WrittenData.{both, short_tick, data_back}
 
 path_back : (path : Path) → has_text path ≡ true → fits (path_from (path_text path.steps)) ≡ Fits path
 path_back path h = ap fits (path_given (path_text path.steps) path (record { written = h; text_is = refl }))
@@ -35,6 +36,9 @@ count_back n h = ap (λ b. fits (cond b (Some n) None)) h
 integer_back : (z : ℤ) → is_i64 z ≡ true → as_i64 (of_integer z) ≡ Some z
 integer_back (pos n) h = ap (λ b. if b then Some (pos n) else None) h
 integer_back (negsuc n) h = refl
+
+tick_back : (n : ℕ) → is_from_to 10 1000 n ≡ true → tick_in (count_data n) ≡ Fits n
+tick_back n h = ap (λ s. shaped_then s (λ k. cond (is_from_to 10 1000 k) (Fits k) (Differs []))) (count_back n (short_tick n h)) ∙ ap (λ b. cond b (Fits n) (Differs [])) h
 
 -- ---- lists
 
@@ -94,17 +98,19 @@ value_back v h =
 
 run_back : (run : Run) → is_written_run run ≡ true → run_from (run_data run) ≡ Fits run
 run_back run h =
-    let a = both (list_all is_written_choice run.choices) (is_u32 run.end && (list_all is_written_span run.phases && (list_all is_written_trace run.traces && list_all is_written_value run.values))) h in
-    let b = both (is_u32 run.end) (list_all is_written_span run.phases && (list_all is_written_trace run.traces && list_all is_written_value run.values)) a.1 in
-    let c = both (list_all is_written_span run.phases) (list_all is_written_trace run.traces && list_all is_written_value run.values) b.1 in
-    let d = both (list_all is_written_trace run.traces) (list_all is_written_value run.values) c.1 in
+    let a = both (list_all is_written_choice run.choices) (is_u32 run.end && (list_all is_written_span run.phases && (is_from_to 10 1000 run.tick && (list_all is_written_trace run.traces && list_all is_written_value run.values)))) h in
+    let b = both (is_u32 run.end) (list_all is_written_span run.phases && (is_from_to 10 1000 run.tick && (list_all is_written_trace run.traces && list_all is_written_value run.values))) a.1 in
+    let c = both (list_all is_written_span run.phases) (is_from_to 10 1000 run.tick && (list_all is_written_trace run.traces && list_all is_written_value run.values)) b.1 in
+    let t = both (is_from_to 10 1000 run.tick) (list_all is_written_trace run.traces && list_all is_written_value run.values) c.1 in
+    let d = both (list_all is_written_trace run.traces) (list_all is_written_value run.values) t.1 in
     λ i.
     shaped_then (inside (codes "choices") (list_back choice_in choice_data is_written_choice choice_back 0 run.choices a.0 i)) (λ choices.
     shaped_then (inside (codes "end") (count_back run.end b.0 i)) (λ end.
     shaped_then (inside (codes "phases") (list_back span_in span_data is_written_span span_back 0 run.phases c.0 i)) (λ phases.
+    shaped_then (inside (codes "tick") (tick_back run.tick t.0 i)) (λ tick.
     shaped_then (inside (codes "traces") (list_back trace_in trace_data is_written_trace trace_back 0 run.traces d.0 i)) (λ traces.
     shaped_then (inside (codes "values") (list_back value_in value_data is_written_value value_back 0 run.values d.1 i)) (λ values.
-    Fits (record { choices = choices; end = end; phases = phases; traces = traces; values = values }))))))
+    Fits (record { choices = choices; end = end; phases = phases; tick = tick; traces = traces; values = values })))))))
 
 pub text_back : (run : Run) → is_written_run run ≡ true → option_map run_from (read (run_text run)) ≡ Some (Fits run)
 unfolding run_text

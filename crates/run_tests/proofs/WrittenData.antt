@@ -1,6 +1,6 @@
 -- The JSON text of a run's data is read as that data.
 use Rattle.std.proofs.Common.{◌≡◌, ◌∙◌, refl, sym, ap, true≢false, arith, ℕ, suc, ◌^◌, ◌<◌, ◌≤◌, ℤ, pos, negsuc, Bool, true, false, ◌&&◌, List, [], ◌∷◌, Option, Some, map, codes, append-nil}
-use Rattle.std.specs.Prelude.{max, nat_lt, option_map, option_and_then, decimal}
+use Rattle.std.specs.Prelude.{max, nat_lt, nat_le, option_map, option_and_then, decimal}
 use Rattle.std.specs.List.{list_all}
 use Rattle.json.specs.Json as json
 use Rattle.json.specs.Tree.{json_tokens, depth, items_depth, HasNumbers, ItemsHaveNumbers}
@@ -23,12 +23,17 @@ use Rattle.run_check.specs.composition.declared.run.Value.{Value}
 use Rattle.run_check.specs.composition.declared.run.Run.{Run}
 use Rattle.run_check.specs.composition.declared.run.Held.{Held}
 use Rattle.run_check.specs.composition.declared.run.Held.TheVariants.{Number, Chars}
+use Rattle.run_check.specs.composition.Invariants.{is_from_to}
 use Rattle.run_check.specs.RunText.{path_data, count_data, integer_data, choice_data, span_data, sample_data, trace_data, held_data, value_data, run_data}
 use Rattle.run_tests.specs.WrittenRuns.{is_u32, is_i64, has_text, is_written_choice, is_written_span, is_written_sample, is_written_trace, is_written_held, is_written_value, is_written_run}
 
 pub both : (a b : Bool) → a && b ≡ true → (a ≡ true) × (b ≡ true)
 both true b h = (refl, h)
 both false b h = absurd (true≢false (sym h))
+
+-- the length of a tick is a number that a `u32` holds
+pub short_tick : (n : ℕ) → is_from_to 10 1000 n ≡ true → is_u32 n ≡ true
+short_tick n h = let most = (both (nat_le 10 n) (nat_le n 1000) h).1 in grind (arith, most)
 
 less : (a b : ℕ) → nat_lt a b ≡ true → a < b
 less a b h = grind (arith, h)
@@ -121,13 +126,13 @@ value_back v h = two_back 2 (path_data v.path) (held_data v.held) (string_back 2
 
 -- ---- runs
 
--- the object with these values at the six keys
-abbrev gathered : Option Data → Option Data → Option Data → Option Data → Option Data → Option Data → Option Data
-gathered a b c d e f =
+-- the object with these values at the seven keys
+abbrev gathered : Option Data → Option Data → Option Data → Option Data → Option Data → Option Data → Option Data → Option Data
+gathered a b c d t e f =
     option_map object
-    (option_and_then (λ choices. option_and_then (λ end. option_and_then (λ form. option_and_then (λ phases. option_and_then (λ traces. option_and_then (λ values.
-    Some (put (codes "values") values (put (codes "traces") traces (put (codes "phases") phases (put (codes "form") form (put (codes "end") end (put (codes "choices") choices no_members)))))))
-    f) e) d) c) b) a)
+    (option_and_then (λ choices. option_and_then (λ end. option_and_then (λ form. option_and_then (λ phases. option_and_then (λ tick. option_and_then (λ traces. option_and_then (λ values.
+    Some (put (codes "values") values (put (codes "traces") traces (put (codes "tick") tick (put (codes "phases") phases (put (codes "form") form (put (codes "end") end (put (codes "choices") choices no_members))))))))
+    f) e) t) d) c) b) a)
 
 -- JSON that nests within the limit is what its tokens are read as
 json_back : (j : json.Json) → HasNumbers j → depth j ≤ max_depth → option_and_then (λ p. json.if_last p.0 p.1) (json.value max_depth (tokens (print (json_tokens j)))) ≡ Some j
@@ -140,17 +145,20 @@ pub data_back : (run : Run) → is_written_run run ≡ true → read (compact_te
 data_back run h =
     ap (λ text. read text) (sym (print-outline (run_data run))) ∙ ap (option_and_then of_json) (json_back (outline (run_data run)) numbers shallow) ∙ same
   where
-    a : (list_all is_written_choice run.choices ≡ true) × (is_u32 run.end && (list_all is_written_span run.phases && (list_all is_written_trace run.traces && list_all is_written_value run.values)) ≡ true)
-    a = both (list_all is_written_choice run.choices) (is_u32 run.end && (list_all is_written_span run.phases && (list_all is_written_trace run.traces && list_all is_written_value run.values))) h
+    a : (list_all is_written_choice run.choices ≡ true) × (is_u32 run.end && (list_all is_written_span run.phases && (is_from_to 10 1000 run.tick && (list_all is_written_trace run.traces && list_all is_written_value run.values))) ≡ true)
+    a = both (list_all is_written_choice run.choices) (is_u32 run.end && (list_all is_written_span run.phases && (is_from_to 10 1000 run.tick && (list_all is_written_trace run.traces && list_all is_written_value run.values)))) h
 
-    b : (is_u32 run.end ≡ true) × (list_all is_written_span run.phases && (list_all is_written_trace run.traces && list_all is_written_value run.values) ≡ true)
-    b = both (is_u32 run.end) (list_all is_written_span run.phases && (list_all is_written_trace run.traces && list_all is_written_value run.values)) a.1
+    b : (is_u32 run.end ≡ true) × (list_all is_written_span run.phases && (is_from_to 10 1000 run.tick && (list_all is_written_trace run.traces && list_all is_written_value run.values)) ≡ true)
+    b = both (is_u32 run.end) (list_all is_written_span run.phases && (is_from_to 10 1000 run.tick && (list_all is_written_trace run.traces && list_all is_written_value run.values))) a.1
 
-    c : (list_all is_written_span run.phases ≡ true) × (list_all is_written_trace run.traces && list_all is_written_value run.values ≡ true)
-    c = both (list_all is_written_span run.phases) (list_all is_written_trace run.traces && list_all is_written_value run.values) b.1
+    c : (list_all is_written_span run.phases ≡ true) × (is_from_to 10 1000 run.tick && (list_all is_written_trace run.traces && list_all is_written_value run.values) ≡ true)
+    c = both (list_all is_written_span run.phases) (is_from_to 10 1000 run.tick && (list_all is_written_trace run.traces && list_all is_written_value run.values)) b.1
+
+    t : (is_from_to 10 1000 run.tick ≡ true) × (list_all is_written_trace run.traces && list_all is_written_value run.values ≡ true)
+    t = both (is_from_to 10 1000 run.tick) (list_all is_written_trace run.traces && list_all is_written_value run.values) c.1
 
     d : (list_all is_written_trace run.traces ≡ true) × (list_all is_written_value run.values ≡ true)
-    d = both (list_all is_written_trace run.traces) (list_all is_written_value run.values) c.1
+    d = both (list_all is_written_trace run.traces) (list_all is_written_value run.values) t.1
 
     choices : Back 4 (array (items_of (map choice_data run.choices)))
     choices = array_back 3 (items_of (map choice_data run.choices)) (list_back 3 choice_data is_written_choice choice_back run.choices a.0)
@@ -158,11 +166,14 @@ data_back run h =
     end : Back 4 (count_data run.end)
     end = count_back 4 run.end b.0
 
-    form : Back 4 (count_data 1)
-    form = count_back 4 1 refl
+    form : Back 4 (count_data 2)
+    form = count_back 4 2 refl
 
     phases : Back 4 (array (items_of (map span_data run.phases)))
     phases = array_back 3 (items_of (map span_data run.phases)) (list_back 3 span_data is_written_span span_back run.phases c.0)
+
+    tick : Back 4 (count_data run.tick)
+    tick = count_back 4 run.tick (short_tick run.tick t.0)
 
     traces : Back 4 (array (items_of (map trace_data run.traces)))
     traces = array_back 3 (items_of (map trace_data run.traces)) (list_back 3 trace_data is_written_trace trace_back run.traces d.0)
@@ -171,15 +182,16 @@ data_back run h =
     values = array_back 3 (items_of (map value_data run.values)) (list_back 3 value_data is_written_value value_back run.values d.1)
 
     numbers : HasNumbers (outline (run_data run))
-    numbers = (choices.numbers, (end.numbers, (form.numbers, (phases.numbers, (traces.numbers, (values.numbers, tt))))))
+    numbers = (choices.numbers, (end.numbers, (form.numbers, (phases.numbers, (tick.numbers, (traces.numbers, (values.numbers, tt)))))))
 
     shallow : depth (outline (run_data run)) ≤ 127
     shallow =
         deeper _
-        (max_within _ _ 4 choices.shallow (max_within _ _ 4 end.shallow (max_within _ _ 4 form.shallow (max_within _ _ 4 phases.shallow (max_within _ _ 4 traces.shallow (max_within _ _ 4 values.shallow (omega arith)))))))
+        (max_within _ _ 4 choices.shallow (max_within _ _ 4 end.shallow (max_within _ _ 4 form.shallow (max_within _ _ 4 phases.shallow
+        (max_within _ _ 4 tick.shallow (max_within _ _ 4 traces.shallow (max_within _ _ 4 values.shallow (omega arith))))))))
       where
         deeper : (n : ℕ) → n ≤ 4 → suc n ≤ 127
         deeper n p = omega (arith, p)
 
     same : of_json (outline (run_data run)) ≡ Some (run_data run)
-    same = λ i. gathered (choices.same i) (end.same i) (form.same i) (phases.same i) (traces.same i) (values.same i)
+    same = λ i. gathered (choices.same i) (end.same i) (form.same i) (phases.same i) (tick.same i) (traces.same i) (values.same i)

@@ -11,6 +11,7 @@ use Rattle.run_check.specs.composition.declared.run.Value.{Value}
 use Rattle.run_check.specs.composition.declared.run.Run.{Run}
 use Rattle.run_check.specs.composition.declared.run.Held.{Held}
 use Rattle.run_check.specs.composition.declared.run.Held.TheVariants.{Number, Chars}
+use Rattle.run_check.specs.composition.Invariants.{is_from_to}
 
 -- a number that a `u32` holds, and one that an `i64` holds, as those of all runs in the program
 abbrev pub is_u32 : ℕ → Bool
@@ -43,8 +44,8 @@ is_written_held (Chars text) = true
 abbrev pub is_written_value : Value → Bool
 is_written_value v = has_text v.path && is_written_held v.held
 
--- a run whose paths have texts
+-- a run whose paths have texts, and whose ticks have a length that the words may give
 abbrev pub is_written_run : Run → Bool
 is_written_run run =
     list_all is_written_choice run.choices && (is_u32 run.end && (list_all is_written_span run.phases
-    && (list_all is_written_trace run.traces && list_all is_written_value run.values)))
+    && (is_from_to 10 1000 run.tick && (list_all is_written_trace run.traces && list_all is_written_value run.values))))

@@ -5,4 +5,4 @@ mod laws;
 #[cfg(test)]
 mod texts;
 
-pub use laws::written_runs_are_read_back;
+pub use laws::{migrations_are_read_back, written_runs_are_read_back};

@@ -1,5 +1,5 @@
 -- The path that a text gives is the one that has the text.
-use Rattle.std.proofs.Common.{◌≡◌, ◌≢◌, ◌&&◌, ◌^◌, ◌<◌, ◌≤◌, ℕ, zero, suc, Bool, true, false, cond, refl, sym, ap, ◌∙◌, subst, true≢false, arith, List, [], ◌∷◌, length, take, drop, get_or, eqb-true, eq-eqb, ltb-true, Option, Some, None, Result, Ok, Err}
+use Rattle.std.proofs.Common.{◌≡◌, ◌&&◌, ◌^◌, ◌<◌, ◌≤◌, ℕ, zero, suc, Bool, true, false, cond, refl, sym, ap, ◌∙◌, subst, true≢false, arith, List, [], ◌∷◌, length, take, drop, get_or, eqb-true, eq-eqb, ltb-true, Option, Some, None, Result, Ok, Err}
 use Rattle.std.specs.Prelude.{nat_lt, nat_eq, decimal, flat_map, IfOk, IfSome, option_map, option_and_then, bytes_eq}
 use Rattle.std.specs.List.{prefix_len}
 use Rattle.std.specs.Str.Parse.{digits_value}
@@ -149,7 +149,7 @@ same_steps_spelled m text (x ∷ xs) (y ∷ ys) g h =
 
 -- ---- paths
 
-abbrev PathIs : List ℕ → Option Path → Type 0
+abbrev pub PathIs : List ℕ → Option Path → Type 0
 PathIs text None = (path : Path) → HasText path text → ⊥
 PathIs text (Some path) = HasText path text
 

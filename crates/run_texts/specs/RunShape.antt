@@ -1,5 +1,5 @@
 -- The run that JSON data is, or the JSON pointer of the first place where it is none.
-use Rattle.std.specs.Prelude.{ℕ, suc, ℤ, ◌+◌, ◌^◌, ◌||◌, Bool, false, not, cond, List, [], ◌∷◌, ◌++◌, Option, Some, None, option_map, option_and_then, find, nat_eq, nat_lt, codes, bytes_eq}
+use Rattle.std.specs.Prelude.{ℕ, suc, ℤ, ◌+◌, ◌^◌, ◌&&◌, ◌||◌, Bool, false, not, cond, List, [], ◌∷◌, ◌++◌, Option, Some, None, option_map, option_and_then, find, nat_eq, nat_lt, codes, bytes_eq}
 use Rattle.std.specs.Option.{option_map_or}
 use Rattle.std.specs.Fmt.{decimal}
 use Rattle.serde_json.specs.Data.{Data, Items, no_items, item, Members, no_members, member}
@@ -13,6 +13,7 @@ use Rattle.composition.specs.declared.run.Value.{Value}
 use Rattle.composition.specs.declared.run.Run.{Run}
 use Rattle.composition.specs.declared.run.Held.{Held}
 use Rattle.composition.specs.declared.run.Held.TheVariants.{Number, Chars}
+use Rattle.composition.specs.Invariants.{is_from_to}
 use Rattle.run_texts.specs.PathForms.{path_from}
 
 -- ---- what data is, or where it differs
@@ -134,43 +135,71 @@ value_in d =
 
 -- ---- runs
 
--- the number 1
-abbrev pub only_one : ℕ → Shaped ℕ
-only_one n = cond (nat_eq n 1) (Fits n) (Differs [])
+-- the number 2
+abbrev pub is_two : Data → Bool
+is_two d = option_map_or (λ n. nat_eq n 2) (option_and_then as_u64 (as_number d)) false
 
-abbrev pub form_in : Data → Shaped ℕ
-form_in d = shaped_then (count_in d) only_one
+-- the form of data: 2 if its `form` is that number, else 1
+abbrev pub form_of : Data → ℕ
+form_of d = cond (option_map_or is_two (get (codes "form") d) false) 2 1
 
-abbrev pub is_run_key : List ℕ → Bool
-is_run_key key =
+-- a number from one to another
+abbrev pub count_within : ℕ → ℕ → Data → Shaped ℕ
+count_within low high d = shaped_then (count_in d) (λ n. cond (is_from_to low high n) (Fits n) (Differs []))
+
+-- the number of the form, and no other
+abbrev pub form_in : ℕ → Data → Shaped ℕ
+form_in form d = count_within form form d
+
+-- the length of a tick in milliseconds
+abbrev pub tick_in : Data → Shaped ℕ
+tick_in d = count_within 10 1000 d
+
+-- the length of the ticks of a run: form 1 doesn't tell it, and has ticks of 100 milliseconds
+abbrev pub tick_of : ℕ → Data → Shaped ℕ
+tick_of form d = cond (nat_eq form 2) (key_at tick_in (codes "tick") d) (Fits 100)
+
+-- a key of both forms
+abbrev pub is_first_key : List ℕ → Bool
+is_first_key key =
     bytes_eq key (codes "choices") || bytes_eq key (codes "end") || bytes_eq key (codes "form")
     || bytes_eq key (codes "phases") || bytes_eq key (codes "traces") || bytes_eq key (codes "values")
+
+-- a key of the form
+abbrev pub is_run_key : ℕ → List ℕ → Bool
+is_run_key form key = is_first_key key || (nat_eq form 2 && bytes_eq key (codes "tick"))
 
 -- the keys of an object, in byte order
 abbrev pub keys : Members → List (List ℕ)
 keys no_members = []
 keys (member key d more) = key ∷ keys more
 
--- the least key that a run's object doesn't have
-abbrev pub extra_key : Data → Option (List ℕ)
-extra_key d = option_and_then (λ members. find (λ key. not (is_run_key key)) (keys members)) (as_object d)
+-- the least key that the object of a run of the form doesn't have
+abbrev pub extra_key : ℕ → Data → Option (List ℕ)
+extra_key form d = option_and_then (λ members. find (λ key. not (is_run_key form key)) (keys members)) (as_object d)
 
 -- a run, if there is no further key
 abbrev pub without : Option (List ℕ) → Run → Shaped Run
 without None run = Fits run
 without (Some key) run = inside key (Differs [])
 
--- the run with these choices and this end
-abbrev pub run_with : List Choice → ℕ → Data → Shaped Run
-run_with choices end d =
+-- the run of the form with these choices and this end
+abbrev pub run_with : ℕ → List Choice → ℕ → Data → Shaped Run
+run_with form choices end d =
     shaped_then (key_at (list_in span_in) (codes "phases") d) (λ phases.
+    shaped_then (tick_of form d) (λ tick.
     shaped_then (key_at (list_in trace_in) (codes "traces") d) (λ traces.
     shaped_then (key_at (list_in value_in) (codes "values") d) (λ values.
-    without (extra_key d) (record { choices = choices; end = end; phases = phases; traces = traces; values = values }))))
+    without (extra_key form d)
+    (record { choices = choices; end = end; phases = phases; tick = tick; traces = traces; values = values })))))
 
--- the run that data is, or the first place that differs: the six keys in order, and then the least further key
-abbrev pub run_from : Data → Shaped Run
-run_from d =
+-- the run of the form that data is, or the first place that differs: the keys in order, and then the least further key
+abbrev pub run_in : ℕ → Data → Shaped Run
+run_in form d =
     shaped_then (key_at (list_in choice_in) (codes "choices") d) (λ choices.
     shaped_then (key_at count_in (codes "end") d) (λ end.
-    shaped_then (key_at form_in (codes "form") d) (λ form. run_with choices end d)))
+    shaped_then (key_at (form_in form) (codes "form") d) (λ told. run_with form choices end d)))
+
+-- the run that data is, or the first place that differs. The form is looked at first, and told in its turn.
+abbrev pub run_from : Data → Shaped Run
+run_from d = run_in (form_of d) d

@@ -4,7 +4,8 @@ use Rattle.std.specs.Prelude.{pos, slice_get, unwrap_or, option_and_then, IfOk}
 use Rattle.std.specs.List.{list_all, range_with_len}
 use Rattle.osc_base.specs.declared.path.Path.{Path}
 use Rattle.osc_base.specs.declared.sample.Sample.{Sample}
-use Rattle.field_flatten.specs.composition.TimedRuns.{TimedRun, samples_in}
+use Rattle.field_flatten.specs.composition.declared.run.Run.{Run}
+use Rattle.field_flatten.specs.composition.RunParts.{samples_in}
 use Rattle.field_flatten.specs.composition.Scenes.{Scene, max_speed, max_acceleration}
 use Rattle.field_flatten.specs.composition.Items.{still, course_of, field_number}
 use Rattle.run_values.specs.declared.motion.Course.{Course}
@@ -61,7 +62,7 @@ from_last f n t above below =
 
 -- ---- a course
 
-pub course_same : (scene : Scene) (run : TimedRun) (vehicle : Path) (c : Course) → c.tick ≡ run.tick → c.ticks ≡ scene.setting.ticks → c.end ≡ run.end
+pub course_same : (scene : Scene) (run : Run) (vehicle : Path) (c : Course) → c.tick ≡ run.tick → c.ticks ≡ scene.setting.ticks → c.end ≡ run.end
     → c.max_speed ≡ field_number scene run (max_speed vehicle) → c.max_acceleration ≡ field_number scene run (max_acceleration vehicle)
     → c.samples.now ≡ unwrap_or (samples_in run vehicle) [] → seen_course c ≡ course_of scene run vehicle
 course_same scene run vehicle c tick ticks end speed acceleration samples =

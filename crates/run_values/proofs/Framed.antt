@@ -22,12 +22,14 @@ use Rattle.field_flatten.specs.composition.declared.run.Trace.{Trace}
 use Rattle.field_flatten.specs.composition.declared.run.Span as run_span
 use Rattle.field_flatten.specs.composition.declared.spot.ValueRange.{ValueRange}
 use Rattle.field_flatten.specs.composition.declared.spot.ValueSpot.{ValueSpot}
-use Rattle.field_flatten.specs.composition.TimedRuns.{TimedRun, span_in, held_in, samples_in}
+use Rattle.field_flatten.specs.composition.declared.run.Run.{Run}
+use Rattle.field_flatten.specs.composition.RunParts.{span_in, held_in, samples_in}
 use Rattle.field_flatten.specs.composition.Scenes.{Scene, Source, OfRun, OfPhase, OfValue, source, values}
 use Rattle.field_flatten.specs.composition.Claims.{Claim, claim, ends_with_root_do, choice_in_range, value_in_range, span_in_range, sample_in_range}
 use Rattle.field_flatten.specs.composition.Ranges.{in_range, lies_between}
 use Rattle.field_flatten.specs.composition.Numbers.{number_at, number_from, number_of, text_number, thousandths}
-use Rattle.field_flatten.specs.composition.Invariants.{is_from_to, is_small, is_range, is_read, value_at}
+use Rattle.field_flatten.specs.composition.Invariants.{is_small, is_range, is_read, value_at}
+use Rattle.field_flatten.proofs.of_composition.Settings.{setting_is}
 use Rattle.run_values.specs.Frames.{IsWithin}
 
 -- ---- conjunctions
@@ -75,7 +77,7 @@ found_holds {A} make t p (y ∷ ys) x h e = by (p y) e (found_holds make t p ys 
     by true g f = ap (λ z. t (make z)) (sym (some_is y x g)) ∙ left_of (t (make y)) (list_all t (map make ys)) h
     by false g f = f g
 
-module _ (scene : Scene) (run : TimedRun) (is : IsWithin scene run) where
+module _ (scene : Scene) (run : Run) (is : IsWithin scene run) where
   abbrev choice_row : List Claim
   choice_row = map (λ (c : Choice). claim Clause.Bounds c.path (choice_in_range scene c)) run.choices
 
@@ -128,11 +130,7 @@ module _ (scene : Scene) (run : TimedRun) (is : IsWithin scene run) where
       (right_of (nat_eq run.tick the_setting.tick) (nat_le run.end the_setting.ticks && ends_with_root_do scene run) is.ended))
 
   longest : the_setting.ticks * the_setting.tick ≤ duration_reach
-  longest =
-      let s = the_setting in
-      let bounds = is_from_to 1 600 s.ticks && (is_from_to 1 8 s.lanes && is_from_to 1 10000 s.road) in
-      le_nat (s.ticks * s.tick) duration_reach
-      (right_of (nat_le 1 s.tick) (nat_le (s.ticks * s.tick) duration_reach) (right_of bounds (nat_le 1 s.tick && nat_le (s.ticks * s.tick) duration_reach) is.is_scene.setting))
+  longest = (setting_is the_setting is.is_scene.setting).short
 
   -- no tick up to the last is longer off than a duration may be
   pub off : (t : ℕ) → t ≤ the_setting.ticks → run.tick * t ≤ duration_reach
@@ -244,7 +242,7 @@ found_passes {A} t p (y ∷ ys) x h e = by (p y) e (found_passes t p ys x (right
     by true g f = ap t (sym (some_is y x g)) ∙ left_of (t y) (list_all t ys) h
     by false g f = f g
 
-module _ (scene : Scene) (run : TimedRun) (is : IsWithin scene run) where
+module _ (scene : Scene) (run : Run) (is : IsWithin scene run) where
   -- a value that the run holds is small
   value_small : (v : Value) (n : ℤ) → value_in_range scene v ≡ true → number_of scene.texts v.held ≡ Some n → unsigned_abs n ≤ field_reach
   value_small v n h e = by (find (λ (spot : ValueSpot). same_path spot.path v.path) (values scene)) refl h

@@ -2,7 +2,7 @@
 use Rattle.std.specs.Prelude.{◌≡◌, true, length, nat_le}
 use Rattle.std.specs.List.{list_all}
 use Rattle.expr_value.specs.expr_nodes.Sizes.{field_reach}
-use Rattle.field_flatten.specs.composition.TimedRuns.{TimedRun}
+use Rattle.field_flatten.specs.composition.declared.run.Run.{Run}
 use Rattle.field_flatten.specs.composition.Scenes.{Scene}
 use Rattle.field_flatten.specs.composition.Claims.{Claim, end_claim, bounds_claims}
 use Rattle.field_flatten.specs.composition.Invariants.{IsScene}
@@ -16,7 +16,7 @@ pub record IsCheckable (scene : Scene) : Type 0 where
   pub narrow_ranges : list_all is_narrow_range scene.modifiers ≡ true
 
 -- the scene can be checked; the run ends when it is to end, and everything in it is in range
-pub record IsWithin (scene : Scene) (run : TimedRun) : Type 0 where
+pub record IsWithin (scene : Scene) (run : Run) : Type 0 where
   pub is_scene : IsScene scene
   pub few_texts : nat_le (length scene.texts) field_reach ≡ true
   pub narrow_ranges : list_all is_narrow_range scene.modifiers ≡ true

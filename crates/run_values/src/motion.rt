@@ -7,7 +7,7 @@ ghost use Rattle.field_flatten.specs.composition.Items.{course_of, field_number,
 ghost use Rattle.field_flatten.specs.composition.Movement.{moves as may_move, is_step as may_step};
 ghost use Rattle.field_flatten.specs.composition.Scenes.{max_acceleration as acceleration_path, max_speed as speed_path, vehicles as all_vehicles};
 ghost use Rattle.field_flatten.specs.composition.Slots.{ticks_of};
-ghost use Rattle.field_flatten.specs.composition.TimedRuns.{samples_in};
+ghost use Rattle.field_flatten.specs.composition.RunParts.{samples_in};
 ghost use Rattle.run_values.specs.SeenNumbers.{scene_in, run_in};
 ghost use Rattle.run_values.specs.SeenCourses.{sample_at as listed_at, seen_course};
 

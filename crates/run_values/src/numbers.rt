@@ -1,6 +1,7 @@
 //! The numbers that a run holds at the paths of its scene.
 
 ghost use Rattle.std.specs.Prelude.{◌≡◌, ◌≤◌, ◌*◌, length, pos, option_map};
+ghost use Rattle.expr_value.specs.expr_nodes.Sizes.{duration_reach};
 ghost use Rattle.field_flatten.specs.composition.Numbers.{text_number, thousandths};
 ghost use Rattle.field_flatten.specs.composition.SeenScenes.{seen_scene};
 ghost use Rattle.run_clauses.specs.run_entries.SeenRuns.{seen_run};
@@ -23,7 +24,7 @@ impl<'a> Numbers<'a> {
     ghost use Rattle.std.specs.Prelude.{◌≡◌, ◌≤◌, ◌*◌, pos, option_map, option_and_then, position, bytes_eq};
     ghost use Rattle.field_flatten.specs.composition.Numbers.{number_at, number_of, thousandths, text_number};
     ghost use Rattle.field_flatten.specs.composition.SeenScenes.{seen_scene};
-    ghost use Rattle.field_flatten.specs.composition.TimedRuns.{span_in, held_in};
+    ghost use Rattle.field_flatten.specs.composition.RunParts.{span_in, held_in};
     ghost use Rattle.run_clauses.specs.run_entries.SeenRuns.{seen_run};
     ghost use Rattle.run_values.specs.Frames.{IsWithin};
     ghost use Rattle.run_values.specs.SeenNumbers.{scene_in, run_in};
@@ -113,7 +114,7 @@ fn number_of_text(scene: &Scene, text: &Text) -> Option<i64>
 /// How long it is from one tick to another, in thousandths of a second.
 fn over_ticks(tick: u32, start: u32, end: u32) -> i64
     requires ordered { start ≤ end }
-    requires small { tick * end ≤ 60000 }
+    requires small { tick * end ≤ duration_reach }
     ensures { result ≡ thousandths tick (pos start) (pos end) }
 {
     i64::from(tick) * (i64::from(end) - i64::from(start))

@@ -136,6 +136,23 @@ module _ (told : Option (List NamedBytes)) where
         text_reply kept before middle after r some same said =
             text_replied before middle after r some (subst (λ k. IfOk r (λ reply. SomeFiles k (λ texts. AnswersOrFails (Texts texts) text middle after reply))) same said)
 
+  -- ---- Commands that read a text alone
+
+  module _ (wanted : Wanted) (text : List ℕ) (Texts : List NamedBytes → Answer → Type 0)
+      (answered : (inputs : Inputs) (reply : Answer) → Texts inputs.texts reply → AnswersTo inputs wanted reply)
+      (text_turn : (inputs : Inputs) → HasTurn inputs wanted text) where
+    bare_text_told : (inputs : Inputs) (before after : ℕ) (reply : Answer) → AnswersOrFails (Texts inputs.texts) text before after reply → Told wanted before after reply inputs
+    bare_text_told inputs before after reply (inl said) = answers (answered inputs reply said.0) said.1
+    bare_text_told inputs before after reply (inr fails) = shelf_fails text (text_turn inputs) fails.0 fails.1
+
+    pub bare_text_reply : {E : Type 0} (before after : ℕ) (r : Result Answer E) →
+        IfOk r (λ reply. SomeFiles told (λ texts. AnswersOrFails (Texts texts) text before after reply)) → IfOk r (Replies wanted before after)
+    bare_text_reply before after (Ok reply) some =
+        of_all told (λ sources. SomeFiles told (λ texts. Told wanted before after reply (record { sources = sources; texts = texts })))
+        (λ sources. onward told (λ texts. AnswersOrFails (Texts texts) text before after reply) (λ texts. Told wanted before after reply (record { sources = sources; texts = texts })) some
+        (λ texts on. bare_text_told (record { sources = sources; texts = texts }) before after reply on))
+    bare_text_reply before after (Err e) some = tt
+
   -- ---- Ends
 
   module _ (call : Call) where

@@ -9,22 +9,29 @@ use Rattle.form_answers.specs.box_eval.declared.flat.Flat.{Flat}
 use Rattle.run_answers.specs.record_text.Source.{limit}
 use Rattle.readable_runs.specs.record_laws.Points.{points_of}
 use Rattle.run_answers.specs.composition.declared.run.Run.{Run}
+use Rattle.run_answers.specs.composition.Expanded.{scene}
 use Rattle.run_answers.specs.composition.Scenes.{Scene}
-use Rattle.run_answers.specs.composition.TimedRuns.{timed}
 use Rattle.run_answers.specs.field_flatten.Ends.{bounds}
 use Rattle.readable_runs.specs.run_check.declared.wrong.Wrong.{Wrong}
 use Rattle.readable_runs.specs.run_check.Answers.{first_wrong}
+use Rattle.readable_runs.specs.run_check.RunText.{run_text}
 use Rattle.run_answers.specs.run_texts.RunShape.{Fits, Differs, run_from}
 use Rattle.command_words.specs.Words.{Wanted}
 use Rattle.run_answers.specs.command_replies.declared.status.Status.TheVariants.{Done, Refuted}
 use Rattle.run_answers.specs.command_replies.Reply.{Answer}
+use Rattle.run_answers.specs.command_replies.Replies.{done}
+use Rattle.readable_runs.specs.named_scenario.Naming.{types_in}
 use Rattle.readable_runs.specs.search_answers.SearchAnswers.{Generates, runs, refuted, undecided}
 use Rattle.readable_runs.proofs.of_search_answers.Accepted.{spent_more}
-use Rattle.run_answers.specs.Checks.{Checks, no_file, too_long, in_file, OnRunText, no_json, no_run, a_run, run_limit, verdict}
+use Rattle.run_answers.specs.Checks.{Checks, verdict}
+use Rattle.run_answers.specs.RunFiles.{IsNoRun, no_json, no_run, OnRunFile, run_limit}
+use Rattle.run_answers.specs.TextFiles.{no_file, too_long, bad_text, in_file}
+use Rattle.run_answers.specs.Migrations.{Migrates}
 use Rattle.form_answers.specs.RecordAnswers.{OnRecordFile, OnRecordText}
 use Rattle.form_answers.specs.RecordAnswers as record_reply
 use Rattle.scenario_tool.specs.Completeness.{DecidedByPoints, HasRecord, HasRun, SoundInputsHaveOutcomes}
 use Rattle.scenario_tool.specs.Laws.{IsOutcome}
+use Rattle.scenario_tool.specs.Settings.{scene_setting}
 use Rattle.scenario_tool.proofs.Said.{IsRefusal, IsUndecided, no_status, none_some, other_status, said_of, said_of_sound, said_on_source, some_is, status_of}
 use Rattle.scenario_tool.proofs.Sole.{is_outcome}
 
@@ -39,30 +46,42 @@ not_within long bytes most same beyond within = let below : most < length bytes 
 abbrev IsSaidOfRun : Answer → Type 0
 IsSaidOfRun reply = (reply.status ≡ Done) ⊎ (reply.status ≡ Refuted)
 
-module _ (program : List AddedFile) (scene : Scene) (bytes : List ℕ) (run : Run) (reading : option_map run_from (read bytes) ≡ Some (Fits run)) where
+module _ (bytes : List ℕ) (run : Run) (reading : option_map run_from (read bytes) ≡ Some (Fits run)) where
   some_data : read bytes ≡ None → ⊥
   some_data none = let same : None ≡ Some (Fits run) = sym (ap (option_map run_from) none) ∙ reading in cc
 
   no_difference : (pointer : List ℕ) → option_map run_from (read bytes) ≡ Some (Differs pointer) → ⊥
   no_difference pointer is = let same : Some (Differs pointer) ≡ Some (Fits run) = sym is ∙ reading in cc
 
-  verdict_status : (reply : Answer) (wrong : Option Wrong) → reply ≡ verdict program wrong → IsSaidOfRun reply
-  verdict_status reply None told = inl (status_is reply _ told)
-  verdict_status reply (Some wrong) told = inr (status_is reply _ told)
+  no_reason : IsUtf8 bytes → (what : List ℕ) → IsNoRun bytes what → ⊥
+  no_reason utf8 what (no_json is told) = some_data (is utf8)
+  no_reason utf8 what (no_run is) = no_difference what is.1
 
-  said_of_run : IsUtf8 bytes → (reply : Answer) → OnRunText program scene bytes reply → IsSaidOfRun reply
-  said_of_run utf8 reply (no_json is told) = absurd (some_data (is utf8))
-  said_of_run utf8 reply (no_run pointer is told) = absurd (no_difference pointer is.1)
-  said_of_run utf8 reply (a_run other is told) = verdict_status reply (first_wrong scene (timed 100 other)) told
+-- if a file holds a run, what is replied to it is said of a run
+said_of_run : (Says : Run → Answer → Type 0) (texts : List NamedBytes) (file : List ℕ) (reply : Answer) → HasRun texts file → OnRunFile Says texts file reply →
+    (run : Run) × Says run reply
+said_of_run Says texts file reply has (no_file none told) = absurd (none_some (file_named texts file) has.bytes none has.there)
+said_of_run Says texts file reply has (too_long long told) =
+    absurd (not_within long.bytes has.bytes run_limit (some_is (file_named texts file) long.bytes has.bytes long.there has.there) long.beyond has.within)
+said_of_run Says texts file reply has (bad_text bytes what there within is told) =
+    absurd (no_reason has.bytes has.run has.reading.1 has.reading.0 what
+    (subst (λ b. IsNoRun b what) (some_is (file_named texts file) bytes has.bytes there has.there) is))
+said_of_run Says texts file reply has (in_file bytes run there within is said) = (run, said)
+
+verdict_status : (program : List AddedFile) (reply : Answer) (wrong : Option Wrong) → reply ≡ verdict program wrong → IsSaidOfRun reply
+verdict_status program reply None told = inl (status_is reply _ told)
+verdict_status program reply (Some wrong) told = inr (status_is reply _ told)
 
 run_outcome : (texts : List NamedBytes) (file : List ℕ) (program : List AddedFile) (scene : Scene) (reply : Answer) → HasRun texts file →
     Checks texts file program scene reply → IsSaidOfRun reply
-run_outcome texts file program scene reply has (no_file none told) = absurd (none_some (file_named texts file) has.bytes none has.there)
-run_outcome texts file program scene reply has (too_long long told) =
-    absurd (not_within long.bytes has.bytes run_limit (some_is (file_named texts file) long.bytes has.bytes long.there has.there) long.beyond has.within)
-run_outcome texts file program scene reply has (in_file bytes there within told) =
-    said_of_run program scene has.bytes has.run has.reading.1 has.reading.0 reply
-    (subst (λ b. OnRunText program scene b reply) (some_is (file_named texts file) bytes has.bytes there has.there) told)
+run_outcome texts file program scene reply has is =
+    let its = said_of_run (λ run reply. reply ≡ verdict program (first_wrong scene run)) texts file reply has is in
+    verdict_status program reply (first_wrong scene its.0) its.1
+
+-- what `migrate` answers to a file that holds a run
+migration_outcome : (texts : List NamedBytes) (file : List ℕ) (reply : Answer) → HasRun texts file → Migrates texts file reply → reply.status ≡ Done
+migration_outcome texts file reply has is =
+    let its = said_of_run (λ run reply. reply ≡ done (run_text run)) texts file reply has is in status_is reply (done (run_text its.0)) its.1
 
 -- ---- the record in a file
 
@@ -85,11 +104,13 @@ pub sound_outcomes : SoundInputsHaveOutcomes
 sound_outcomes inputs (Wanted.Help text) reply sound is = status_is reply _ is
 sound_outcomes inputs (Wanted.Generate asked) reply sound is = is_outcome _ _ _ _ reply (said_of_sound _ _ _ _ _ reply sound is).said
 sound_outcomes inputs (Wanted.Check asked) reply sound is =
-    run_outcome inputs.texts asked.run _ _ reply sound.1 (said_of_sound _ _ _ _ _ reply sound.0 is).said
+    let its = said_of_sound inputs.sources (scene_setting asked.setting) asked.source.file asked.source.scenario (Checks inputs.texts asked.run) reply sound.0 is in
+    run_outcome inputs.texts asked.run its.program (scene (types_in its.program) its.scenario (scene_setting asked.setting)) reply sound.1 its.said
 sound_outcomes inputs (Wanted.Verify asked) reply sound is =
     record_outcome inputs.texts asked.«record» _ reply sound.1 (said_of_sound _ _ _ _ _ reply sound.0 is).said.answers
 sound_outcomes inputs (Wanted.Flat asked) reply sound is = status_is reply _ (said_of_sound _ _ _ _ _ reply sound is).said
 sound_outcomes inputs (Wanted.Make asked) reply sound is = is_outcome _ _ _ _ reply (said_of_sound _ _ _ _ _ reply sound is).said
+sound_outcomes inputs (Wanted.Migrate asked) reply sound is = migration_outcome inputs.texts asked.run reply sound is
 sound_outcomes inputs Wanted.Refused reply sound is = absurd sound
 
 -- ---- decided searches

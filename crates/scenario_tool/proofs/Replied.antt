@@ -8,16 +8,17 @@ use Rattle.run_answers.specs.composition.declared.setting.Setting.{Setting}
 use Rattle.run_answers.specs.composition.SeenScenes.{seen_scene}
 use Rattle.run_answers.specs.command_replies.Reply.{Answer}
 use Rattle.run_answers.specs.command_replies.Shelves.{AnswersOrFails, CountsOnce}
-use Rattle.command_words.specs.Words.{CheckAsked, FlatAsked, GenerateAsked, VerifyAsked, Wanted}
+use Rattle.command_words.specs.Words.{CheckAsked, FlatAsked, GenerateAsked, MigrateAsked, VerifyAsked, Wanted}
 use Rattle.readable_runs.specs.search_answers.SearchAnswers.{Generates}
 use Rattle.run_answers.specs.Checks.{Checks}
+use Rattle.run_answers.specs.Migrations.{Migrates}
 use Rattle.form_answers.specs.RecordAnswers.{Verifies}
 use Rattle.form_answers.specs.Lists.{Lists}
 use Rattle.scenario_tool.specs.declared.sources.FoundSource.{FoundSource}
 use Rattle.scenario_tool.specs.Answers.{Inputs}
 use Rattle.scenario_tool.specs.FoundSources.{IsFoundSource, IsRefusal}
 use Rattle.scenario_tool.specs.Settings.{scene_setting}
-use Rattle.scenario_tool.proofs.CallEnds.{refused_reply, Replies, scene_reply, text_reply}
+use Rattle.scenario_tool.proofs.CallEnds.{bare_text_reply, refused_reply, Replies, scene_reply, text_reply}
 
 -- what holds whatever the inputs are
 for_inputs : {E : Type 0} (P : Answer → Type 0) (r : Result Answer E) → IfOk r P → IfOk r (λ reply. (inputs : Inputs) → P reply)
@@ -62,6 +63,12 @@ module _ (told : Option (List NamedBytes)) (before middle after : ℕ) (program 
       text_reply told (Wanted.Verify asked) asked.source (scene_setting asked.setting) (λ inputs program. Verifies inputs.texts asked.«record»)
       (λ inputs reply is. is) (λ inputs name is. inl is) program scene asked.«record» (λ texts. Verifies texts asked.«record» (seen_scene scene))
       (λ inputs reply is. is) (λ inputs turn. inr (refl, turn)) kept before middle after r found same is
+
+-- a run without a source
+pub migrate_reply : {E : Type 0} (told : Option (List NamedBytes)) (asked : MigrateAsked) (before after : ℕ) (r : Result Answer E) →
+    IfOk r (λ reply. SomeFiles told (λ texts. AnswersOrFails (Migrates texts asked.run) asked.run before after reply)) → IfOk r (Replies told (Wanted.Migrate asked) before after)
+migrate_reply told asked before after r is =
+    bare_text_reply told (Wanted.Migrate asked) asked.run (λ texts. Migrates texts asked.run) (λ inputs reply is. is) (λ inputs. refl) before after r is
 
 -- a source that is refused
 module _ (told : Option (List NamedBytes)) (before after : ℕ) (reply : Answer) where

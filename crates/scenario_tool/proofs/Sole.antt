@@ -6,12 +6,11 @@ use Rattle.run_answers.specs.composition.declared.run.Run.{Run}
 use Rattle.run_answers.specs.composition.declared.setting.Setting.{Setting}
 use Rattle.run_answers.specs.composition.Expanded.{scene}
 use Rattle.run_answers.specs.composition.Scenes.{Scene}
-use Rattle.run_answers.specs.composition.TimedRuns.{timed}
 use Rattle.command_words.specs.Words.{Wanted, request}
 use Rattle.run_answers.specs.command_replies.Reply.{Answer}
 use Rattle.readable_runs.proofs.of_source_scenes.Sole.{One, on_source}
 use Rattle.readable_runs.specs.search_answers.SearchAnswers.{Generates, IsSearchReply, runs, refuted, undecided}
-use Rattle.run_answers.proofs.OneCheck.{one_check}
+use Rattle.run_answers.proofs.OneRun.{one_check, one_migration}
 use Rattle.form_answers.proofs.OneText.{one_verdict}
 use Rattle.scenario_tool.specs.Answers.{AnswersTo, Inputs}
 use Rattle.scenario_tool.specs.Laws.{IsLeftOpen, IsOutcome, NeverBoth, OneAnswer}
@@ -43,6 +42,7 @@ one_wanted inputs (Wanted.Verify asked) reply other is is' =
 one_wanted inputs (Wanted.Flat asked) reply other is is' =
     on_source _ _ (IsLeftOpen (Wanted.Flat asked)) (λ program scene reply other said said'. inl (said ∙ sym said')) _ _ _ _ _ is is'
 one_wanted inputs (Wanted.Make asked) reply other is is' = on_source _ _ Open (λ program scene. one_search _ scene _ _) _ _ _ _ _ is is'
+one_wanted inputs (Wanted.Migrate asked) reply other is is' = inl (one_migration inputs.texts asked.run reply other is is')
 one_wanted inputs Wanted.Refused reply other is is' = inl (is ∙ sym is')
 
 pub one_answer : OneAnswer
@@ -52,7 +52,7 @@ one_answer inputs words = one_wanted inputs (request words)
 
 never_of_scene : (scene : Scene) (seed cuts seed' cuts' : ℕ) (reply other : Answer) → Generates scene seed cuts reply → Generates scene seed' cuts' other →
     IsDone reply.status → IsRefuted other.status → ⊥
-never_of_scene scene seed cuts seed' cuts' reply other (runs run is told) (refuted claim is' told') done refused_is = is'.none (timed scene.setting.tick run) is.instance
+never_of_scene scene seed cuts seed' cuts' reply other (runs run is told) (refuted claim is' told') done refused_is = is'.none run is.instance
 never_of_scene scene seed cuts seed' cuts' reply other (runs run is told) (runs run' is' told') done refused_is = subst (λ (r : Answer). IsRefuted r.status) told' refused_is
 never_of_scene scene seed cuts seed' cuts' reply other (runs run is told) (undecided claim is' told') done refused_is = subst (λ (r : Answer). IsRefuted r.status) told' refused_is
 never_of_scene scene seed cuts seed' cuts' reply other (refuted claim is told) _ done refused_is = subst (λ (r : Answer). IsDone r.status) told done

@@ -4,7 +4,7 @@ use Rattle.command_words.specs.Words.{Wanted, request}
 use Rattle.run_answers.specs.command_replies.Reply.{Answer}
 use Rattle.run_answers.specs.command_replies.Replies.{done, words_refused}
 use Rattle.readable_runs.proofs.of_source_scenes.Total.{some_on_source}
-use Rattle.run_answers.proofs.OneCheck.{some_check}
+use Rattle.run_answers.proofs.OneRun.{some_check, some_migration}
 use Rattle.form_answers.proofs.SomeText.{some_verdict}
 use Rattle.scenario_tool.specs.Answers.{AnswersTo, Inputs}
 use Rattle.scenario_tool.specs.Laws.{IsSearch, SomeAnswer}
@@ -16,6 +16,7 @@ some_wanted inputs (Wanted.Check asked) searched none = some_on_source _ _ (λ p
 some_wanted inputs (Wanted.Verify asked) searched none = some_on_source _ _ (λ program scene. some_verdict inputs.texts asked.«record» scene) _ _ _ none
 some_wanted inputs (Wanted.Flat asked) searched none = some_on_source _ _ (λ program scene none. none _ refl) _ _ _ none
 some_wanted inputs (Wanted.Make asked) searched none = searched tt
+some_wanted inputs (Wanted.Migrate asked) searched none = some_migration inputs.texts asked.run none
 some_wanted inputs Wanted.Refused searched none = none words_refused refl
 
 pub some_answer : SomeAnswer

@@ -3,7 +3,6 @@ use Rattle.std.proofs.Common.{refl, sym, ℕ, codes}
 use Rattle.run_answers.specs.composition.declared.run.Run.{Run}
 use Rattle.run_answers.specs.composition.Claims.{IsInstance}
 use Rattle.run_answers.specs.composition.Scenes.{Scene}
-use Rattle.run_answers.specs.composition.TimedRuns.{TimedRun, timed}
 use Rattle.run_answers.specs.command_replies.Reply.{Answer}
 use Rattle.run_answers.specs.command_replies.Replies.{done}
 use Rattle.readable_runs.specs.search_answers.SearchAnswers.{Generates, runs, refuted, undecided}
@@ -24,7 +23,7 @@ verified_means_none inputs asked ranges is run its =
     let setting = setting_in_range asked.setting (scene_setting asked.setting) refl ranges in
     let a = said_on_source _ _ _ _ (λ program. Verifies inputs.texts asked.«record») said_yes (λ bad. bad) is in
     let none = yes_means_none inputs.texts asked.«record» _ (scene_is_sound _ _ _ _ _ said_yes setting a).expanded a.said in
-    said_of inputs.sources (scene_setting asked.setting) asked.source.file asked.source.scenario (λ program scene reply. (other : TimedRun) → IsInstance scene other → ⊥) said_yes
+    said_of inputs.sources (scene_setting asked.setting) asked.source.file asked.source.scenario (λ program scene reply. (other : Run) → IsInstance scene other → ⊥) said_yes
     (record { program = a.program; whole = a.whole; fine = a.fine; scenario = a.scenario; named = a.named; said = none })
     its.program its.scenario its.whole its.named run its.instance
 
@@ -32,7 +31,7 @@ verified_means_none inputs asked ranges is run its =
 
 -- what `generate` writes with status 0 is an instance
 found_run : (scene : Scene) (seed cuts : ℕ) (reply : Answer) → IsDone reply.status → Generates scene seed cuts reply →
-    (run : Run) × IsInstance scene (timed scene.setting.tick run)
+    (run : Run) × IsInstance scene run
 found_run scene seed cuts reply as_done (runs run is told) = (run, is.instance)
 found_run scene seed cuts reply as_done (refuted claim is told) = absurd (other_status IsDone reply _ told as_done)
 found_run scene seed cuts reply as_done (undecided claim is told) = absurd (other_status IsDone reply _ told as_done)
@@ -41,5 +40,5 @@ pub never_found_and_verified : NeverFoundAndVerified
 never_found_and_verified inputs asked reply ranges is status texts file verified =
     let a = said_on_source _ _ _ _ (λ program scene. Generates scene asked.seed asked.cuts) reply (λ bad. no_status IsRefusal _ _ status bad) is in
     let found = found_run _ asked.seed asked.cuts reply (no_status IsDone _ _ (sym status) tt) a.said in
-    verified_means_none (with_texts inputs texts) (record { source = asked.source; «record» = file; setting = asked.setting }) ranges verified (timed 100 found.0)
+    verified_means_none (with_texts inputs texts) (record { source = asked.source; «record» = file; setting = asked.setting }) ranges verified found.0
     (record { program = a.program; whole = a.whole; scenario = a.scenario; named = a.named; instance = found.1 })

@@ -16,7 +16,9 @@ use Rattle.readable_runs.specs.ReadableRuns.{CanBeRead}
 use Rattle.readable_runs.proofs.ReadableScenes.{reached_runs_can_be_read}
 use Rattle.readable_runs.specs.search_answers.SearchAnswers.{Generates, runs, refuted, undecided}
 use Rattle.readable_runs.proofs.of_search_answers.Accepted.{reached_right, refutation_accepted, refutation_within, spent_open, spent_within}
-use Rattle.run_answers.specs.Checks.{Checks, in_file, a_run, run_limit, verdict}
+use Rattle.run_answers.specs.Checks.{Checks, verdict}
+use Rattle.run_answers.specs.RunFiles.{run_limit}
+use Rattle.run_answers.specs.TextFiles.{in_file}
 use Rattle.form_answers.specs.RecordAnswers.{Verifies}
 use Rattle.form_answers.specs.RecordAnswers as record_reply
 use Rattle.scenario_tool.specs.Settings.{scene_setting}
@@ -31,14 +33,14 @@ module _ (scene : Scene) (seed cuts : ℕ) (reply : Answer) (texts : List NamedB
   kept_text : (other : Answer) → reply ≡ other → file_named texts file ≡ Some other.text
   kept_text other same = subst (λ (r : Answer). file_named texts file ≡ Some r.text) same kept
 
-  run_accepted : (program : List AddedFile) → scene.setting.tick ≡ 100 → ((run : Run) → IsReachedRun scene seed cuts run → CanBeRead run) → length reply.text ≤ run_limit →
+  run_accepted : (program : List AddedFile) → ((run : Run) → IsReachedRun scene seed cuts run → CanBeRead run) → length reply.text ≤ run_limit →
       Generates scene seed cuts reply → IsDone reply.status → Checks texts file program scene (done (codes "yes\n"))
-  run_accepted program tick readable short (runs run is told) as_done =
+  run_accepted program readable short (runs run is told) as_done =
       let can = readable run is in
-      in_file (run_text run) (kept_text (done (run_text run)) told) (subst (λ (r : Answer). length r.text ≤ run_limit) told short)
-      (a_run run (can.utf8, text_back run can.written) (sym (ap (verdict program) (reached_right scene seed cuts run is 100 tick))))
-  run_accepted program tick readable short (refuted claim is told) as_done = absurd (other_status IsDone reply _ told as_done)
-  run_accepted program tick readable short (undecided claim is told) as_done = absurd (other_status IsDone reply _ told as_done)
+      in_file (run_text run) run (kept_text (done (run_text run)) told) (subst (λ (r : Answer). length r.text ≤ run_limit) told short)
+      (can.utf8, text_back run can.written) (sym (ap (verdict program) (reached_right scene seed cuts run is)))
+  run_accepted program readable short (refuted claim is told) as_done = absurd (other_status IsDone reply _ told as_done)
+  run_accepted program readable short (undecided claim is told) as_done = absurd (other_status IsDone reply _ told as_done)
 
   module _ (its : IsSoundScene scene) (few : cuts ≤ 1000000) where
     refutation_verified : Generates scene seed cuts reply → IsRefuted reply.status → Verifies texts file scene (done (codes "yes\n"))
@@ -68,7 +70,7 @@ written_runs inputs asked reply ranges is status short texts file kept =
     let setting = setting_in_range asked.setting (scene_setting asked.setting) refl ranges.setting_ranges in
     let a = said_on_source _ _ _ _ (λ program scene. Generates scene asked.seed asked.cuts) reply (λ bad. no_status IsRefusal _ _ status bad) is in
     say _ _ _ _ (λ program scene. Generates scene asked.seed asked.cuts) reply (Checks texts file) (done (codes "yes\n")) a
-    (run_accepted _ asked.seed asked.cuts reply texts file kept a.program refl
+    (run_accepted _ asked.seed asked.cuts reply texts file kept a.program
     (λ run reached. let known = scene_is_known _ _ _ _ _ reply setting a in reached_runs_can_be_read a.program a.scenario (scene_setting asked.setting) known.0 known.1 asked.seed asked.cuts run reached)
     short a.said (no_status IsDone _ _ (sym status) tt))
 

@@ -20,6 +20,7 @@ use Rattle.run_answers.specs.command_replies.Shelves.{CountsOnce}
 use Rattle.readable_runs.specs.source_scenes.Sources.{IsTextTurn, OnSource}
 use Rattle.readable_runs.specs.search_answers.SearchAnswers.{Generates, Makes}
 use Rattle.run_answers.specs.Checks.{Checks}
+use Rattle.run_answers.specs.Migrations.{Migrates}
 use Rattle.form_answers.specs.RecordAnswers.{Verifies}
 use Rattle.form_answers.specs.Lists.{Lists}
 use Rattle.made_programs.specs.MadeLoads.{main_name, made_files}
@@ -34,6 +35,7 @@ pub record Inputs : Type 0 where
   pub texts : List NamedBytes
 
 -- The right answers to what the words ask for. A command that reads a source refuses it, or says what it answers about the scene.
+-- `migrate` reads the file of a run alone.
 abbrev pub AnswersTo : Inputs → Wanted → Answer → Type 0
 AnswersTo inputs (Wanted.Help text) reply = reply ≡ done text
 AnswersTo inputs (Wanted.Generate asked) reply =
@@ -46,6 +48,7 @@ AnswersTo inputs (Wanted.Flat asked) reply =
     OnSource inputs.sources (scene_setting asked.setting) asked.source.file asked.source.scenario Lists reply
 AnswersTo inputs (Wanted.Make asked) reply =
     OnSource (made_files asked.count) (made_setting asked.count) main_name made_scenario (λ program scene. Makes made_line scene made_seed made_cuts asked.count) reply
+AnswersTo inputs (Wanted.Migrate asked) reply = Migrates inputs.texts asked.run reply
 AnswersTo inputs Wanted.Refused reply = reply ≡ words_refused
 
 -- ---- Answers, or a shelf that fails
@@ -62,6 +65,7 @@ HasTurn inputs (Wanted.Check asked) name = IsTurnOr inputs.sources (scene_settin
 HasTurn inputs (Wanted.Verify asked) name = IsTurnOr inputs.sources (scene_setting asked.setting) asked.source asked.«record» name
 HasTurn inputs (Wanted.Flat asked) name = IsTurn inputs.sources asked.source.file name
 HasTurn inputs (Wanted.Make asked) name = ⊥
+HasTurn inputs (Wanted.Migrate asked) name = name ≡ asked.run
 HasTurn inputs Wanted.Refused name = ⊥
 
 -- a right answer, and the shelf's count of faults stays; or the count rises, by one, and the reply names the file whose turn

@@ -23,7 +23,7 @@ use Rattle.run_answers.specs.command_replies.Reply.{Answer}
 use Rattle.readable_runs.specs.source_scenes.Programs.{scenario_named}
 use Rattle.readable_runs.specs.source_scenes.Sources.{IsTextTurn}
 use Rattle.made_programs.specs.MadeLoads.{main_name, made_files}
-use Rattle.run_answers.specs.Checks.{run_limit}
+use Rattle.run_answers.specs.RunFiles.{run_limit}
 use Rattle.scenario_tool.specs.Answers.{AnswersTo, Inputs}
 use Rattle.scenario_tool.specs.Laws.{IsOutcome}
 use Rattle.scenario_tool.specs.Settings.{made_scenario, made_setting, scene_setting}
@@ -59,6 +59,7 @@ AreSound inputs (Wanted.Check asked) = IsSoundSource inputs.sources asked.source
 AreSound inputs (Wanted.Verify asked) = IsSoundSource inputs.sources asked.source asked.setting × HasRecord inputs.texts asked.«record»
 AreSound inputs (Wanted.Flat asked) = IsSoundSource inputs.sources asked.source asked.setting
 AreSound inputs (Wanted.Make asked) = IsTextTurn (made_files asked.count) (made_setting asked.count) main_name made_scenario
+AreSound inputs (Wanted.Migrate asked) = HasRun inputs.texts asked.run
 AreSound inputs Wanted.Refused = ⊥
 
 -- the statuses of answers that are no refusal: of a search a run, a refutation or an open record; of a check `yes` or `no`;
@@ -70,6 +71,7 @@ IsOutcomeOf (Wanted.Check asked) status = (status ≡ Done) ⊎ (status ≡ Refu
 IsOutcomeOf (Wanted.Verify asked) status = IsOutcome status
 IsOutcomeOf (Wanted.Flat asked) status = status ≡ Done
 IsOutcomeOf (Wanted.Make asked) status = IsOutcome status
+IsOutcomeOf (Wanted.Migrate asked) status = status ≡ Done
 IsOutcomeOf Wanted.Refused status = ⊥
 
 -- if all that words name is sound, no right answer is a refusal

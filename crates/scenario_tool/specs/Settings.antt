@@ -3,11 +3,11 @@ use Rattle.std.specs.Prelude.{ℕ, ◌*◌, List, codes}
 use Rattle.command_words.specs.declared.requests.Setting.{Setting as SettingWords}
 use Rattle.run_answers.specs.composition.declared.setting.Setting.{Setting}
 
--- the setting that words give; a tick is a tenth of a second
+-- the setting that words give
 abbrev pub scene_setting : SettingWords → Setting
-scene_setting words = record { ticks = words.ticks; lanes = words.lanes; road = words.road; tick = 100 }
+scene_setting words = record { ticks = words.ticks; lanes = words.lanes; road = words.road; tick = words.tick }
 
--- the setting of the source that is made for so many vehicles: half a second for each
+-- the setting of the source that is made for so many vehicles: half a second for each, in ticks of a tenth of a second
 abbrev pub made_setting : ℕ → Setting
 made_setting count = record { ticks = 5 * count; lanes = 3; road = 1000; tick = 100 }
 

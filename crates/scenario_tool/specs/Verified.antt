@@ -6,7 +6,7 @@ use Rattle.made_programs.specs.program_load.Loading.{IsLoaded}
 use Rattle.readable_runs.specs.named_scenario.Naming.{types_in}
 use Rattle.run_answers.specs.composition.Claims.{IsInstance}
 use Rattle.run_answers.specs.composition.Expanded.{scene}
-use Rattle.run_answers.specs.composition.TimedRuns.{TimedRun}
+use Rattle.run_answers.specs.composition.declared.run.Run.{Run}
 use Rattle.command_words.specs.declared.requests.Setting.{Setting}
 use Rattle.command_words.specs.Shared.{IsSettingInRanges, Source}
 use Rattle.command_words.specs.Words.{GenerateAsked, VerifyAsked, Wanted}
@@ -19,7 +19,7 @@ use Rattle.scenario_tool.specs.Settings.{scene_setting}
 use Rattle.scenario_tool.specs.Written.{verify_of, with_texts}
 
 -- a run is an instance of the scenario that words name, in the setting that they give
-pub record IsInstanceOf (sources : List NamedBytes) (source : Source) (setting : Setting) (run : TimedRun) : Type 0 where
+pub record IsInstanceOf (sources : List NamedBytes) (source : Source) (setting : Setting) (run : Run) : Type 0 where
   pub program : List AddedFile
   pub whole : IsLoaded sources source.file program
   pub scenario : ℕ
@@ -29,7 +29,7 @@ pub record IsInstanceOf (sources : List NamedBytes) (source : Source) (setting :
 -- if `verify` says `yes`, of whatever record, no run is an instance
 abbrev pub VerifiedMeansNone : Type 0
 VerifiedMeansNone = (inputs : Inputs) (asked : VerifyAsked) → IsSettingInRanges asked.setting → AnswersTo inputs (Wanted.Verify asked) (done (codes "yes\n")) →
-    (run : TimedRun) → IsInstanceOf inputs.sources asked.source asked.setting run → ⊥
+    (run : Run) → IsInstanceOf inputs.sources asked.source asked.setting run → ⊥
 
 -- no scenario has both a run by `generate` and a `yes` by `verify`, whatever the seed, the cuts and the record are
 abbrev pub NeverFoundAndVerified : Type 0

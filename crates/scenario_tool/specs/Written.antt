@@ -6,7 +6,7 @@ use Rattle.command_words.specs.Words.{GenerateAsked, Wanted, IsGenerateInRanges}
 use Rattle.run_answers.specs.command_replies.declared.status.Status.TheVariants.{Done, Refuted, Undecided}
 use Rattle.run_answers.specs.command_replies.Reply.{Answer}
 use Rattle.run_answers.specs.command_replies.Replies.{done, open_cuts}
-use Rattle.run_answers.specs.Checks.{run_limit}
+use Rattle.run_answers.specs.RunFiles.{run_limit}
 use Rattle.scenario_tool.specs.Answers.{AnswersTo, Inputs}
 
 -- the same sources with other texts

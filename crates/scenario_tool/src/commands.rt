@@ -2,17 +2,17 @@
 
 ghost use Rattle.std.specs.Prelude.{◌≡◌, ◌≤◌, IfOk};
 ghost use Rattle.run_answers.specs.command_replies.Shelves.{CountsOnce};
-ghost use Rattle.command_words.specs.Seen.{asked_by, checked_by, flattened_by, verified_by};
+ghost use Rattle.command_words.specs.Seen.{asked_by, checked_by, flattened_by, migrated_by, verified_by};
 ghost use Rattle.command_words.specs.Shared.{IsSettingInRanges};
 ghost use Rattle.command_words.specs.Words.{Wanted};
 ghost use Rattle.scenario_tool.specs.Answers.{AnswersOrShelfFails, SomeInputs};
 
 use crate::sources::{FoundSource, source_scene};
-use command_words::{CheckWords, FlatWords, GenerateWords, VerifyWords};
+use command_words::{CheckWords, FlatWords, GenerateWords, MigrateWords, VerifyWords};
 use form_answers::{flat, verify};
 use outside_io::Shelf;
 use readable_runs::generate;
-use run_answers::{Reply, check};
+use run_answers::{Reply, check, migrate};
 use std::alloc::{AllocError, Global};
 
 /// The reply to what `generate` is asked for.
@@ -86,4 +86,18 @@ pub fn reply_to_flat<H: Shelf>(
         FoundSource::Scene(program, scene) => flat(alloc, &program, &scene),
         FoundSource::Refused(reply) => Ok(reply),
     }
+}
+
+/// The reply to what `migrate` is asked for.
+pub fn reply_to_migrate<H: Shelf>(
+    alloc: Global,
+    asked: MigrateWords<'_>,
+    shelf: &mut H,
+) -> Result<Reply, AllocError>
+    ensures reply { IfOk result (λ reply. SomeInputs (H.files shelf.old) (λ inputs.
+        AnswersOrShelfFails inputs (Wanted.Migrate (migrated_by asked.entry)) (H.faults shelf.old) (H.faults shelf.new) reply)) }
+    ensures counted { CountsOnce (H.faults shelf.old) (H.faults shelf.new) }
+    ensures files_kept { H.files shelf.new ≡ H.files shelf.old }
+{
+    migrate(alloc, asked.run, shelf)
 }

@@ -6,8 +6,8 @@ ghost use Rattle.scenario_tool.specs.Settings.{made_setting, scene_setting};
 use command_words::Setting as SettingWords;
 use run_answers::Setting;
 
-/// The length of a tick in milliseconds.
-const TICK: u32 = 100;
+/// The length of a tick of the source that is made, in milliseconds.
+const MADE_TICK: u32 = 100;
 
 /// The setting of a scene that these words ask for.
 pub fn scene_setting(words: SettingWords) -> Setting
@@ -17,7 +17,7 @@ pub fn scene_setting(words: SettingWords) -> Setting
         ticks: words.ticks,
         lanes: words.lanes,
         road: words.road,
-        tick: TICK,
+        tick: words.tick,
     }
 }
 
@@ -30,6 +30,6 @@ pub fn made_setting(count: u32) -> Setting
         ticks: 5 * count,
         lanes: 3,
         road: 1000,
-        tick: TICK,
+        tick: MADE_TICK,
     }
 }

@@ -3,7 +3,9 @@ ghost use Rattle.run_answers.specs.command_replies.Shelves.{CountsOnce};
 ghost use Rattle.command_words.specs.Words.{request};
 ghost use Rattle.scenario_tool.specs.Answers.{AnswersOrShelfFails, IsAnswered, SomeInputs};
 
-use crate::commands::{reply_to_check, reply_to_flat, reply_to_generate, reply_to_verify};
+use crate::commands::{
+    reply_to_check, reply_to_flat, reply_to_generate, reply_to_migrate, reply_to_verify,
+};
 use crate::made::reply_to_make;
 use command_words::{Request, read_words};
 use fault_texts::{explanation, topic_list};
@@ -57,6 +59,7 @@ fn reply_to<H: Shelf>(alloc: Global, words: &[String], shelf: &mut H) -> Result<
         Request::Verify(asked) => reply_to_verify(alloc, asked, shelf),
         Request::Flat(asked) => reply_to_flat(alloc, asked, shelf),
         Request::Make(asked) => reply_to_make(alloc, asked.count),
+        Request::Migrate(asked) => reply_to_migrate(alloc, asked, shelf),
         Request::Refused => words_refused(alloc),
     }
 }

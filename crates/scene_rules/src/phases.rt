@@ -6,12 +6,13 @@ ghost use Rattle.osc_base.specs.Paths.{same_path};
 ghost use Rattle.box_eval.specs.FlatRules as Flat;
 ghost use Rattle.box_eval.specs.FlatRules.{flat_rule, under as under_row};
 ghost use Rattle.rule_parts.specs.composition.Scenes.{root_do as root};
-ghost use Rattle.rule_parts.specs.field_flatten.Rules.{arranged_rule as rule_of, kind_rules as rules_of_kind, root_do_rules as rules_of_root, cover_rules as rules_of_cover, follow_rules as rules_of_following, chosen_rules as rules_of_chosen, span_rule as rule_of_span, same_rules, overlap_rules, starts, ends};
+ghost use Rattle.rule_parts.specs.composition.declared.spot.PhaseKind.{PhaseKind};
+ghost use Rattle.rule_parts.specs.field_flatten.Rules.{arranged_rule as rule_of, kind_rules as rules_of_kind, root_do_rules as rules_of_root, cover_rules as rules_of_cover, follow_rules as rules_of_following, chosen_rules as rules_of_chosen, span_rule as rule_of_span, overlap_rules, starts, ends};
 ghost use Rattle.rule_parts.specs.field_flatten.Shapes.{phase_start, phase_end};
 ghost use Rattle.scene_rules.specs.Sides.{is_only_do};
 ghost use Rattle.rule_parts.specs.scene_slots.SeenSlots.{layout_of, scene_of};
 
-use crate::spans::{Side, first_start, last_end, same_ticks, shared_tick};
+use crate::spans::{each_end, each_start, first_start, last_end, shared_tick};
 use box_eval::{Rule, Term};
 use osc_base::{Path, Step};
 use rule_parts::{
@@ -124,43 +125,43 @@ fn cover_rules(
     with_row(row, last_end(alloc, slots, slots.end(whole), members)?)
 }
 
-/// The members cover the whole, and start together.
+/// The members start with the whole, and it ends with the last that ends.
 fn start_rules(
     alloc: Global,
     slots: &SceneSlots<'_>,
     whole: &Path,
     members: &[Path],
 ) -> Result<Vec<Rule>, AllocError>
-    ensures { IfOk result (λ rs. map flat_rule rs.items ≡ rules_of_cover (layout_of slots.now) whole.now members.now ++ same_rules (starts (layout_of slots.now) members.now)) }
+    ensures { IfOk result (λ rs. map flat_rule rs.items ≡ rules_of_kind PhaseKind.Start (layout_of slots.now) whole.now members.now) }
 {
-    let row = cover_rules(alloc, slots, whole, members)?;
-    with_row(row, same_ticks(alloc, slots, Side::Start, members)?)
+    let row = each_start(alloc, slots, slots.start(whole), members)?;
+    with_row(row, last_end(alloc, slots, slots.end(whole), members)?)
 }
 
-/// The members cover the whole, and end together.
+/// The whole starts with the first member that starts, and the members end with it.
 fn end_rules(
     alloc: Global,
     slots: &SceneSlots<'_>,
     whole: &Path,
     members: &[Path],
 ) -> Result<Vec<Rule>, AllocError>
-    ensures { IfOk result (λ rs. map flat_rule rs.items ≡ rules_of_cover (layout_of slots.now) whole.now members.now ++ same_rules (ends (layout_of slots.now) members.now)) }
+    ensures { IfOk result (λ rs. map flat_rule rs.items ≡ rules_of_kind PhaseKind.End (layout_of slots.now) whole.now members.now) }
 {
-    let row = cover_rules(alloc, slots, whole, members)?;
-    with_row(row, same_ticks(alloc, slots, Side::End, members)?)
+    let row = first_start(alloc, slots, slots.start(whole), members)?;
+    with_row(row, each_end(alloc, slots, slots.end(whole), members)?)
 }
 
-/// The members cover the whole, start together and end together.
+/// The members start and end with the whole.
 fn equal_rules(
     alloc: Global,
     slots: &SceneSlots<'_>,
     whole: &Path,
     members: &[Path],
 ) -> Result<Vec<Rule>, AllocError>
-    ensures { IfOk result (λ rs. map flat_rule rs.items ≡ rules_of_cover (layout_of slots.now) whole.now members.now ++ same_rules (starts (layout_of slots.now) members.now) ++ same_rules (ends (layout_of slots.now) members.now)) }
+    ensures { IfOk result (λ rs. map flat_rule rs.items ≡ rules_of_kind PhaseKind.Equal (layout_of slots.now) whole.now members.now) }
 {
-    let row = start_rules(alloc, slots, whole, members)?;
-    with_row(row, same_ticks(alloc, slots, Side::End, members)?)
+    let row = each_start(alloc, slots, slots.start(whole), members)?;
+    with_row(row, each_end(alloc, slots, slots.end(whole), members)?)
 }
 
 /// The members cover the whole, and share a tick.

@@ -3,7 +3,7 @@
 ghost use Rattle.std.specs.Prelude.{◌≡◌, ◌++◌, ◌∷◌, [], map, IfOk};
 ghost use Rattle.box_eval.specs.FlatRules as Flat;
 ghost use Rattle.box_eval.specs.FlatRules.{flat_rule};
-ghost use Rattle.rule_parts.specs.field_flatten.Rules.{least_rules as rules_of_least, greatest_rules as rules_of_greatest, same_rules as rules_of_same, overlap_rules as rules_of_overlap, starts, ends};
+ghost use Rattle.rule_parts.specs.field_flatten.Rules.{least_rules as rules_of_least, greatest_rules as rules_of_greatest, together_rules as rules_of_together, overlap_rules as rules_of_overlap, starts, ends};
 ghost use Rattle.scene_rules.specs.Sides.{side_term, side_terms};
 ghost use Rattle.rule_parts.specs.scene_slots.SeenSlots.{layout_of};
 
@@ -107,24 +107,13 @@ fn greatest_rules(alloc: Global, tick: u32, ticks: &[u32]) -> Result<Vec<Rule>, 
     with_one_of(alloc, row, tick, ticks)
 }
 
-/// A tick equals each of a row.
-fn equal_each(alloc: Global, tick: u32, ticks: &[u32]) -> Result<Vec<Rule>, AllocError>
-    ensures { IfOk result (λ rs. map flat_rule rs.items ≡ map (λ t. Flat.Equal (Flat.Slot tick) t) (map Flat.Slot ticks.now)) }
-{
-    let mut row = Vec::new(alloc);
-    'ticks: for other in ticks {
-        row.push(equal(tick, *other))?;
-    }
-    Ok(row)
-}
-
-/// All ticks of a row are the first.
-fn same_rules(alloc: Global, ticks: &[u32]) -> Result<Vec<Rule>, AllocError>
-    ensures { IfOk result (λ rs. map flat_rule rs.items ≡ rules_of_same (map Flat.Slot ticks.now)) }
+/// There are ticks in a row, and each is the tick in a slot.
+fn together_rules(alloc: Global, tick: u32, ticks: &[u32]) -> Result<Vec<Rule>, AllocError>
+    ensures { IfOk result (λ rs. map flat_rule rs.items ≡ rules_of_together (Flat.Slot tick) (map Flat.Slot ticks.now)) }
 {
     match ticks {
-        [first, others @ ..] => equal_each(alloc, *first, others),
-        [] => Ok(Vec::new(alloc)),
+        [_first, _others @ ..] => equal_to(alloc, tick, ticks),
+        [] => with_one_of(alloc, Vec::new(alloc), tick, ticks),
     }
 }
 
@@ -165,17 +154,30 @@ pub(crate) fn last_end(
     greatest_rules(alloc, tick, ticks.as_slice())
 }
 
-/// These phases start together, or they end together.
-pub(crate) fn same_ticks(
+/// A tick is that at which each of these phases starts.
+pub(crate) fn each_start(
     alloc: Global,
     slots: &SceneSlots<'_>,
-    side: Side,
+    tick: u32,
     phases: &[Path],
 ) -> Result<Vec<Rule>, AllocError>
-    ensures { IfOk result (λ rs. map flat_rule rs.items ≡ rules_of_same (side_terms (layout_of slots.now) side phases.now)) }
+    ensures { IfOk result (λ rs. map flat_rule rs.items ≡ rules_of_together (Flat.Slot tick) (starts (layout_of slots.now) phases.now)) }
 {
-    let ticks = slots_of(alloc, slots, side, phases)?;
-    same_rules(alloc, ticks.as_slice())
+    let ticks = slots_of(alloc, slots, Side::Start, phases)?;
+    together_rules(alloc, tick, ticks.as_slice())
+}
+
+/// A tick is that at which each of these phases ends.
+pub(crate) fn each_end(
+    alloc: Global,
+    slots: &SceneSlots<'_>,
+    tick: u32,
+    phases: &[Path],
+) -> Result<Vec<Rule>, AllocError>
+    ensures { IfOk result (λ rs. map flat_rule rs.items ≡ rules_of_together (Flat.Slot tick) (ends (layout_of slots.now) phases.now)) }
+{
+    let ticks = slots_of(alloc, slots, Side::End, phases)?;
+    together_rules(alloc, tick, ticks.as_slice())
 }
 
 /// Each of these phases starts before each ends, or when it does.

@@ -51,17 +51,17 @@ track_room (Track.Found first) tick ticks most small room = omega (arith, small,
 track_room (Track.Missing past) tick ticks most small room = room
 
 -- the run that these entries make
-pub run_made : (scene : Scene) (at : SlotName → ℤ) (end : ℕ) (cs : List Choice) (ps : List Span) (ts : List Trace) (vs : List Value)
+pub run_made : (scene : Scene) (at : SlotName → ℤ) (end tick : ℕ) (cs : List Choice) (ps : List Span) (ts : List Trace) (vs : List Value)
     → (cspots : List ChoiceSpot) (pspots : List PhaseSpot) (tspots : List Path) (vspots : List ValueSpot)
-    → end ≡ end_named scene at
+    → end ≡ end_named scene at → tick ≡ scene.setting.tick
     → cs ≡ flat_map (choice_entry scene at) cspots → ps ≡ flat_map (span_entry scene at) pspots → ts ≡ flat_map (trace_entry scene at end) tspots → vs ≡ flat_map (value_entry scene at) vspots
     → cspots ≡ choices scene → pspots ≡ phases scene → tspots ≡ vehicles scene → vspots ≡ values scene
-    → record { choices = cs; end = end; phases = ps; tick = scene.setting.tick; traces = ts; values = vs } ≡ run_named scene at
-run_made scene at end cs ps ts vs cspots pspots tspots vspots ended c p t v cis pis tis vis = λ i. record {
+    → record { choices = cs; end = end; phases = ps; tick = tick; traces = ts; values = vs } ≡ run_named scene at
+run_made scene at end tick cs ps ts vs cspots pspots tspots vspots ended ticked c p t v cis pis tis vis = λ i. record {
   choices = (c ∙ ap (flat_map (choice_entry scene at)) cis ∙ kept (λ (x : ChoiceSpot). stands scene at x.path) (λ x. choice_of at x.path) (choices scene)) i;
   end = ended i;
   phases = (p ∙ ap (flat_map (span_entry scene at)) pis ∙ kept (λ (x : PhaseSpot). stands scene at x.path) (λ x. span_of at x.path) (phases scene)) i;
-  tick = scene.setting.tick;
+  tick = ticked i;
   traces = (t ∙ ap (flat_map (trace_entry scene at end)) tis ∙ kept (stands scene at) (trace_named at end) (vehicles scene) ∙ ap (λ n. map (trace_named at n) (filter (stands scene at) (vehicles scene))) ended) i;
   values = (v ∙ ap (flat_map (value_entry scene at)) vis ∙ kept (λ (x : ValueSpot). stands scene at x.path) (value_named scene at) (values scene)) i;
 }

@@ -3,7 +3,6 @@
 ghost use Rattle.std.specs.Prelude.{◌≡◌, IfOk};
 ghost use Rattle.box_eval.specs.Box.{IsPointOf};
 ghost use Rattle.scene_slots.specs.composition.SeenScenes.{seen_scene};
-ghost use Rattle.scene_slots.specs.composition.TimedRuns.{timed};
 ghost use Rattle.scene_slots.specs.field_flatten.Ends.{bounds};
 ghost use Rattle.scene_slots.specs.field_flatten.Exactness.{IsExpanded};
 ghost use Rattle.scene_slots.specs.field_flatten.Points.{run_of as run_by};
@@ -22,7 +21,7 @@ use std::alloc::{AllocError, Global};
 fn run_in(alloc: Global, slots: &SceneSlots<'_>, point: &[i64]) -> Result<Run, AllocError>
     requires expanded { IsExpanded (scene_of slots.now) }
     requires inside { IsPointOf (bounds (scene_of slots.now)) point.now }
-    ensures { IfOk result (λ run. timed (scene_of slots.now).setting.tick run ≡ run_by (scene_of slots.now) point.now) }
+    ensures { IfOk result (λ run. run ≡ run_by (scene_of slots.now) point.now) }
 {
     let scene = slots.scene();
     let end = end_of(slots, point);
@@ -34,6 +33,7 @@ fn run_in(alloc: Global, slots: &SceneSlots<'_>, point: &[i64]) -> Result<Run, A
         choices,
         end,
         phases,
+        tick: scene.setting().tick,
         traces,
         values,
     })
@@ -44,7 +44,7 @@ fn run_in(alloc: Global, slots: &SceneSlots<'_>, point: &[i64]) -> Result<Run, A
 pub fn run_of(alloc: Global, scene: &Scene, point: &Point) -> Result<Run, AllocError>
     requires expanded { IsExpanded (seen_scene scene.now) }
     requires inside { IsPointOf (bounds (seen_scene scene.now)) point.now.values }
-    ensures { IfOk result (λ run. timed (seen_scene scene.now).setting.tick run ≡ run_by (seen_scene scene.now) point.now.values) }
+    ensures { IfOk result (λ run. run ≡ run_by (seen_scene scene.now) point.now.values) }
 {
     let slots = SceneSlots::of(alloc, scene)?;
     run_in(alloc, &slots, point.values.as_slice())

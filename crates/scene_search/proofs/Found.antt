@@ -8,7 +8,6 @@ use Rattle.box_eval.proofs.Empty.{refutation_empty}
 use Rattle.flat_forms.specs.composition.declared.run.Run.{Run}
 use Rattle.flat_forms.specs.composition.Scenes.{Scene}
 use Rattle.flat_forms.specs.composition.Claims.{IsInstance}
-use Rattle.flat_forms.specs.composition.TimedRuns.{timed}
 use Rattle.scene_runs.specs.field_flatten.Ends.{bounds}
 use Rattle.scene_runs.specs.field_flatten.Exactness.{IsExpanded, IsFlatOf}
 use Rattle.scene_runs.specs.field_flatten.Points.{run_of}
@@ -23,7 +22,7 @@ point_inside scene flat values same inside = subst (λ b. IsPointOf b values) sa
 
 -- the run of a point that is reached is an instance
 pub reached_run : (scene : Scene) (flat : Flat) (seed cuts : ℕ) (values : List ℤ) (run : Run) → IsExpanded scene → IsFlatOf scene flat
-    → IsReachedPoint seed cuts flat values → timed scene.setting.tick run ≡ run_of scene values → IsReachedRun scene seed cuts run
+    → IsReachedPoint seed cuts flat values → run ≡ run_of scene values → IsReachedRun scene seed cuts run
 reached_run scene flat seed cuts values run expanded same point gives = record {
   flat = flat;
   flat_of = same;

@@ -8,7 +8,6 @@ use Rattle.box_eval.specs.Guided.{IsGuidedRefutation, IsReached, IsSpent}
 use Rattle.flat_forms.specs.composition.declared.run.Run.{Run}
 use Rattle.flat_forms.specs.composition.Claims.{IsInstance}
 use Rattle.flat_forms.specs.composition.Scenes.{Scene}
-use Rattle.flat_forms.specs.composition.TimedRuns.{TimedRun, timed}
 use Rattle.scene_runs.specs.field_flatten.Exactness.{IsFlatOf}
 use Rattle.scene_runs.specs.field_flatten.Points.{run_of}
 use Rattle.record_laws.specs.record_text.Text.{record_lines}
@@ -23,8 +22,8 @@ pub record IsReachedRun (scene : Scene) (seed cuts : ℕ) (run : Run) : Type 0 w
   pub claim : Record
   pub tree : Tree
   pub reached : IsReached (number_of seed) cuts flat values claim tree
-  pub gives : timed scene.setting.tick run ≡ run_of scene values
-  pub instance : IsInstance scene (timed scene.setting.tick run)
+  pub gives : run ≡ run_of scene values
+  pub instance : IsInstance scene run
 
 -- The room of a record is the greatest number of cuts above a leaf of its tree. Its text has two lines for each cut, and six more.
 pub record IsSizedBy (claim : Record) (tree : Tree) : Type 0 where
@@ -39,7 +38,7 @@ pub record IsSceneRefutation (scene : Scene) (seed cuts : ℕ) (claim : Record) 
   pub refutation : IsGuidedRefutation (number_of seed) flat claim tree
   pub cuts_are : cuts_of tree ≤ cuts
   pub sized : IsSizedBy claim tree
-  pub none : (run : TimedRun) → IsInstance scene run → ⊥
+  pub none : (run : Run) → IsInstance scene run → ⊥
 
 -- A record of the scene's flat form that is spent for the seed and so many cuts.
 pub record IsSpentRecord (scene : Scene) (seed cuts : ℕ) (claim : Record) : Type 0 where

@@ -6,6 +6,7 @@ ghost use Rattle.path_index.specs.Places.{Places};
 ghost use Rattle.flat_shapes.specs.composition.Scenes.{choices as all_choices, values as all_values, phases as all_phases, vehicles as all_vehicles, root_do as whole};
 ghost use Rattle.scene_slots.specs.declared.queries.Vehicle.{Vehicle};
 ghost use Rattle.flat_shapes.specs.composition.SeenScenes.{seen_scene};
+ghost use Rattle.flat_shapes.specs.Room.{longest_tick};
 ghost use Rattle.scene_slots.specs.Numbers.{past as all_slots, slot_after as number_after};
 ghost use Rattle.scene_slots.specs.Places.{end_slot};
 ghost use Rattle.scene_slots.specs.SeenSlots.{layout_of};
@@ -37,7 +38,7 @@ impl<'a> SceneSlots<'a> {
     /// The slots of a scene.
     pub fn of(alloc: Global, scene: &'a Scene) -> Result<SceneSlots<'a>, AllocError>
         requires few { all_slots (seen_scene scene.now) < 2 ^ 32 }
-        requires short { (seen_scene scene.now).setting.tick ≤ 60000 }
+        requires short { (seen_scene scene.now).setting.tick ≤ longest_tick }
         requires ticks { (seen_scene scene.now).setting.ticks ≤ 600 }
         ensures { IfOk result (λ s. s.scene.now ≡ scene.now) }
     {

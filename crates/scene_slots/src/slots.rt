@@ -4,6 +4,7 @@ ghost use Rattle.std.specs.Prelude.{◌≡◌, ◌≤◌, ◌<◌, ◌^◌};
 ghost use Rattle.path_index.specs.Places.{Places};
 ghost use Rattle.flat_shapes.specs.composition.Scenes.{choices as all_choices, values as all_values, phases as all_phases, vehicles as all_vehicles, root_do};
 ghost use Rattle.flat_shapes.specs.composition.SeenScenes.{seen_scene};
+ghost use Rattle.flat_shapes.specs.Room.{longest_tick};
 ghost use Rattle.scene_slots.specs.Numbers.{first_phase, first_value, first_sample, past, track_length};
 
 use crate::counts::Counts;
@@ -32,5 +33,5 @@ pub struct SceneSlots<'a> {
     ghost few: { past (seen_scene scene.now) < 2 ^ 32 },
     ghost root_is: { root ≡ root_do },
     ghost tracks_have: { counts.track ≡ track_length (seen_scene scene.now) },
-    ghost short: { (seen_scene scene.now).setting.tick ≤ 60000 },
+    ghost short: { (seen_scene scene.now).setting.tick ≤ longest_tick },
 }

@@ -17,7 +17,6 @@ use Rattle.scene_search.proofs.of_record_laws.Short.{accepted_short}
 use Rattle.instance_check.specs.composition.declared.run.Run.{Run}
 use Rattle.instance_check.specs.composition.Claims.{claims}
 use Rattle.instance_check.specs.composition.Scenes.{Scene}
-use Rattle.instance_check.specs.composition.TimedRuns.{timed}
 use Rattle.instance_check.specs.field_flatten.Ends.{bounds}
 use Rattle.instance_check.specs.field_flatten.Exactness.{IsExpanded, IsLimited, IsFlatOf}
 use Rattle.instance_check.proofs.of_field_flatten.FlatForms.{flat_form}
@@ -73,6 +72,5 @@ spent_more scene seed cuts claim r =
 
 -- ---- runs
 
-pub reached_right : (scene : Scene) (seed cuts : ℕ) (run : Run) → IsReachedRun scene seed cuts run → (tick : ℕ) → scene.setting.tick ≡ tick → first_wrong scene (timed tick run) ≡ None
-reached_right scene seed cuts run reached tick is =
-    subst (λ t. first_wrong scene (timed t run) ≡ None) is (none_fails (claims scene (timed scene.setting.tick run)) reached.instance)
+pub reached_right : (scene : Scene) (seed cuts : ℕ) (run : Run) → IsReachedRun scene seed cuts run → first_wrong scene run ≡ None
+reached_right scene seed cuts run reached = none_fails (claims scene run) reached.instance

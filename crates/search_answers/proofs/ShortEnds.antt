@@ -24,7 +24,8 @@ use Rattle.instance_check.proofs.of_field_flatten.Tests.{two_ways, path_is, In, 
 use Rattle.instance_check.proofs.of_field_flatten.SlotLaw.{value_is_named}
 use Rattle.instance_check.proofs.of_field_flatten.NumberLaw.{made_from, making}
 use Rattle.instance_check.proofs.of_field_flatten.FlatReach.{size}
-use Rattle.instance_check.proofs.of_field_flatten.ItemReach.{le_number, ends_at, setting_parts, value_fits}
+use Rattle.instance_check.proofs.of_field_flatten.of_composition.Settings.{setting_is}
+use Rattle.instance_check.proofs.of_field_flatten.ItemReach.{le_number, ends_at, value_fits}
 
 -- both ends have at most 18 digits
 abbrev pub AreShort : Pair → Type 0
@@ -89,14 +90,14 @@ module _ (scene : Scene) (expanded : IsExpanded scene) (limited : IsLimited scen
   pub short_name : (name : SlotName) → AreShort (ends_of scene name)
   short_name (SlotName.Choice path) = short_choice path
   short_name (SlotName.Start path) =
-      let few : scene.setting.ticks ≤ 600 = (setting_parts scene expanded limited most large).1 in of_size (pair (pos 0) (pos scene.setting.ticks)) (omega (arith, ints, few))
+      let few : scene.setting.ticks ≤ 600 = (setting_is scene.setting expanded.is_scene.setting).few_ticks in of_size (pair (pos 0) (pos scene.setting.ticks)) (omega (arith, ints, few))
   short_name (SlotName.End path) =
-      let few : scene.setting.ticks ≤ 600 = (setting_parts scene expanded limited most large).1 in of_size (pair (pos 0) (pos scene.setting.ticks)) (omega (arith, ints, few))
+      let few : scene.setting.ticks ≤ 600 = (setting_is scene.setting expanded.is_scene.setting).few_ticks in of_size (pair (pos 0) (pos scene.setting.ticks)) (omega (arith, ints, few))
   short_name (SlotName.Value path) = short_value path
   short_name (SlotName.Lane path tick) =
-      let few : scene.setting.lanes ≤ 8 = (setting_parts scene expanded limited most large).4 in of_size (pair (pos 1) (pos scene.setting.lanes)) (omega (arith, ints, few))
+      let few : scene.setting.lanes ≤ 8 = (setting_is scene.setting expanded.is_scene.setting).few_lanes in of_size (pair (pos 1) (pos scene.setting.lanes)) (omega (arith, ints, few))
   short_name (SlotName.Position path tick) =
-      let few : scene.setting.road ≤ 10000 = (setting_parts scene expanded limited most large).5 in
+      let few : scene.setting.road ≤ 10000 = (setting_is scene.setting expanded.is_scene.setting).short_road in
       let far : scene.setting.road * 1000000 ≤ 10000000000 = omega (arith, few) in of_size (pair (pos 0) (pos (scene.setting.road * 1000000))) (omega (arith, ints, far))
   short_name (SlotName.Speed path tick) = of_size (pair (pos 0) (pos 1000000000)) (omega (arith, ints))
 

@@ -4,7 +4,6 @@ use Rattle.scene_search.specs.box_eval.declared.flat.Flat.{Flat}
 use Rattle.scene_search.specs.box_eval.declared.record.Record.{Record}
 use Rattle.instance_check.specs.composition.declared.run.Run.{Run}
 use Rattle.instance_check.specs.composition.Scenes.{Scene}
-use Rattle.instance_check.specs.composition.TimedRuns.{timed}
 use Rattle.instance_check.specs.field_flatten.Exactness.{IsExpanded, IsLimited, IsFlatOf}
 use Rattle.command_replies.specs.record_text.Source.{limit}
 use Rattle.command_replies.specs.record_text.Text.{record_text}
@@ -36,8 +35,7 @@ WrittenRecordsAreWithinLimit =
     (scene : Scene) (seed cuts : ℕ) (claim : Record) → IsExpanded scene → IsLimited scene → IsSpentRecord scene seed cuts claim
     → cuts ≤ 1000000 → length (record_text claim) ≤ limit
 
--- nothing is wrong with a run that is reached, at ticks of the scene's length
+-- nothing is wrong with a run that is reached
 abbrev pub WrittenRunsAreRight : Type 0
 WrittenRunsAreRight =
-    (scene : Scene) (seed cuts : ℕ) (run : Run) → IsReachedRun scene seed cuts run
-    → (tick : ℕ) → scene.setting.tick ≡ tick → first_wrong scene (timed tick run) ≡ None
+    (scene : Scene) (seed cuts : ℕ) (run : Run) → IsReachedRun scene seed cuts run → first_wrong scene run ≡ None

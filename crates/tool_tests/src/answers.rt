@@ -5,7 +5,7 @@ use std::test::Fail;
 pub(crate) const SOURCE: &str = "scenario top:\n    x: int\n    keep(x in [3..3])\n";
 
 pub(crate) const RUN: &str =
-    "{\"choices\":[],\"end\":0,\"form\":1,\"phases\":[],\"traces\":[],\"values\":[[\"x\",3]]}\n";
+    "{\"choices\":[],\"end\":0,\"form\":2,\"phases\":[],\"tick\":100,\"traces\":[],\"values\":[[\"x\",3]]}\n";
 
 const GENERATE: [&str; 3] = ["generate", "main.osc", "top"];
 
@@ -27,31 +27,31 @@ fn sources_with_a_run(rt: HostRuntime) -> Result<(), Fail> {
     let rows: [(&str, &str); 7] = [
         (
             SOURCE,
-            "0 {\"choices\":[],\"end\":0,\"form\":1,\"phases\":[],\"traces\":[],\"values\":[[\"x\",3]]}\n",
+            "0 {\"choices\":[],\"end\":0,\"form\":2,\"phases\":[],\"tick\":100,\"traces\":[],\"values\":[[\"x\",3]]}\n",
         ),
         (
             "scenario top:\n    x: int\n    keep(x in [3..3])\n    y: int\n    keep(y in [0..0])\n",
-            "0 {\"choices\":[],\"end\":0,\"form\":1,\"phases\":[],\"traces\":[],\"values\":[[\"x\",3],[\"y\",0]]}\n",
+            "0 {\"choices\":[],\"end\":0,\"form\":2,\"phases\":[],\"tick\":100,\"traces\":[],\"values\":[[\"x\",3],[\"y\",0]]}\n",
         ),
         (
             "scenario top:\n    int: int\n    keep(int in [0x10..016])\n    n: int\n    keep(n in [1000000000..1000000000])\n",
-            "0 {\"choices\":[],\"end\":0,\"form\":1,\"phases\":[],\"traces\":[],\"values\":[[\"int\",16],[\"n\",1000000000]]}\n",
+            "0 {\"choices\":[],\"end\":0,\"form\":2,\"phases\":[],\"tick\":100,\"traces\":[],\"values\":[[\"int\",16],[\"n\",1000000000]]}\n",
         ),
         (
             "scenario \\\ntop\\\n:\n    x: \\\n  int\n    keep(x in # one [\n  [007..7]) # two",
-            "0 {\"choices\":[],\"end\":0,\"form\":1,\"phases\":[],\"traces\":[],\"values\":[[\"x\",7]]}\n",
+            "0 {\"choices\":[],\"end\":0,\"form\":2,\"phases\":[],\"tick\":100,\"traces\":[],\"values\":[[\"x\",7]]}\n",
         ),
         (
             "scenario top:\r\n    x: int\r\n    keep(x in [3..3])\r\n",
-            "0 {\"choices\":[],\"end\":0,\"form\":1,\"phases\":[],\"traces\":[],\"values\":[[\"x\",3]]}\n",
+            "0 {\"choices\":[],\"end\":0,\"form\":2,\"phases\":[],\"tick\":100,\"traces\":[],\"values\":[[\"x\",3]]}\n",
         ),
         (
             "scenario top\n",
-            "0 {\"choices\":[],\"end\":0,\"form\":1,\"phases\":[],\"traces\":[],\"values\":[]}\n",
+            "0 {\"choices\":[],\"end\":0,\"form\":2,\"phases\":[],\"tick\":100,\"traces\":[],\"values\":[]}\n",
         ),
         (
             "scenario other\nscenario top\n",
-            "0 {\"choices\":[],\"end\":0,\"form\":1,\"phases\":[],\"traces\":[],\"values\":[]}\n",
+            "0 {\"choices\":[],\"end\":0,\"form\":2,\"phases\":[],\"tick\":100,\"traces\":[],\"values\":[]}\n",
         ),
     ];
     answers_are(&rt, &rows)
@@ -111,12 +111,16 @@ fn sources_with_faulty_names(rt: HostRuntime) -> Result<(), Fail> {
 #[test]
 fn words_that_are_refused(rt: HostRuntime) -> Result<(), Fail> {
     let main = [("main.osc", SOURCE.as_bytes())];
-    let rows: [&[&str]; 9] = [
+    let rows: [&[&str]; 13] = [
         &[],
         &["generate", "main.osc"],
         &["generate", "-f", "top"],
         &["generate", "main.osc", "-s"],
         &["generate", "main.osc", "top", "--cuts", "0"],
+        &["generate", "main.osc", "top", "--tick", "9"],
+        &["generate", "main.osc", "top", "--tick=1001"],
+        &["flat", "main.osc", "top", "--tick=50", "--tick=50"],
+        &["make", "1", "--tick=100"],
         &["--ticks=005", "generate", "main.osc"],
         &["check", "main.osc", "top"],
         &["gen", "main.osc", "top"],
@@ -133,10 +137,11 @@ fn words_that_are_refused(rt: HostRuntime) -> Result<(), Fail> {
 
 #[test]
 fn words_that_ask_for_help(rt: HostRuntime) -> Result<(), Fail> {
-    let rows: [(&[&str], &str); 3] = [
+    let rows: [(&[&str], &str); 4] = [
         (&["--version", "x"], "0 osc 0.1.0\n"),
         (&["help"], "0 osc reads a scenario"),
         (&["generate", "main.osc", "-h"], "0 osc generate reads"),
+        (&["help", "migrate"], "0 osc migrate reads a run"),
     ];
     for (words, want) in rows {
         assert!(rt;
@@ -188,7 +193,7 @@ fn imports(rt: HostRuntime) -> Result<(), Fail> {
     let words = ["generate", "a.osc", "top"];
     let main = b"import \"b.osc\"\nscenario top:\n    x: int\n    keep(x in [7..7])\n".as_slice();
     let seven =
-        "0 {\"choices\":[],\"end\":0,\"form\":1,\"phases\":[],\"traces\":[],\"values\":[[\"x\",7]]}\n";
+        "0 {\"choices\":[],\"end\":0,\"form\":2,\"phases\":[],\"tick\":100,\"traces\":[],\"values\":[[\"x\",7]]}\n";
     let rows: [(&str, &str); 6] = [
         ("import \"a.osc\"\nscenario other\n", seven),
         ("import osc.standard\n", seven),
@@ -237,7 +242,7 @@ fn failing_outside(rt: HostRuntime) -> Result<(), Fail> {
             "call {call} of the shelf"
         );
     }
-    for call in 0..75 {
+    for call in 0..86 {
         let outside = Outside {
             sink_failing: &[call as u64],
             most: 1,

@@ -89,30 +89,46 @@ fn runs_of_a_conditional_member(rt: HostRuntime) -> Result<(), Fail> {
     checks_are(&rt, CARGO, "1", &rows)
 }
 
-/// The example of `docs/FORMATS.md` is among them.
+/// The rows of `docs/FORMATS.md` are among them.
 #[test]
 fn runs_of_a_vehicle(rt: HostRuntime) -> Result<(), Fail> {
-    let rows: [(&str, &str); 6] = [
+    let rows: [(&str, &str); 10] = [
+        (
+            "{\"choices\":[],\"end\":1,\"form\":2,\"phases\":[[\"do\",0,1]],\"tick\":100,\"traces\":[[\"ego\",[[1,0,10000],[1,1000000,10000]]]],\"values\":[[\"ego.max_speed\",50000],[\"ego.max_acceleration\",10000]]}\n",
+            "0 yes\n",
+        ),
+        (
+            "{\"choices\":[],\"end\":1,\"form\":2,\"phases\":[[\"do\",0,1]],\"tick\":100,\"traces\":[[\"ego\",[[1,0,10000],[1,1000000,11000]]]],\"values\":[[\"ego.max_speed\",50000],[\"ego.max_acceleration\",10000]]}\n",
+            "0 yes\n",
+        ),
+        (
+            "{\"choices\":[],\"end\":1,\"form\":2,\"phases\":[[\"do\",0,1]],\"tick\":100,\"traces\":[[\"ego\",[[1,0,10000],[1,1000000,11001]]]],\"values\":[[\"ego.max_speed\",50000],[\"ego.max_acceleration\",10000]]}\n",
+            "1 no motion ego\n",
+        ),
+        (
+            "{\"choices\":[],\"end\":1,\"form\":2,\"phases\":[[\"do\",0,1]],\"tick\":100,\"traces\":[[\"ego\",[[1,0,9999],[1,999900,10000]]]],\"values\":[[\"ego.max_speed\",50000],[\"ego.max_acceleration\",10000]]}\n",
+            "1 no modifier do main.osc:5:9\n",
+        ),
+        (
+            "{\"choices\":[],\"end\":1,\"form\":2,\"phases\":[[\"do\",0,1]],\"tick\":50,\"traces\":[[\"ego\",[[1,0,10000],[1,1000000,10000]]]],\"values\":[[\"ego.max_speed\",50000],[\"ego.max_acceleration\",10000]]}\n",
+            "1 no end do\n",
+        ),
+        ("{\"choices\":[", "5 text json\n"),
+        (
+            "{\"choices\":[],\"end\":\"1\",\"form\":2,\"phases\":[[\"do\",0,1]],\"tick\":100,\"traces\":[[\"ego\",[[1,0,10000],[1,1000000,10000]]]],\"values\":[[\"ego.max_speed\",50000],[\"ego.max_acceleration\",10000]]}\n",
+            "5 text /end\n",
+        ),
+        (
+            "{\"choices\":[],\"end\":1,\"form\":2,\"phases\":[[\"do\",0,1]],\"tick\":9,\"traces\":[[\"ego\",[[1,0,10000],[1,1000000,10000]]]],\"values\":[[\"ego.max_speed\",50000],[\"ego.max_acceleration\",10000]]}\n",
+            "5 text /tick\n",
+        ),
         (
             "{\"choices\":[],\"end\":1,\"form\":1,\"phases\":[[\"do\",0,1]],\"traces\":[[\"ego\",[[1,0,10000],[1,1000000,10000]]]],\"values\":[[\"ego.max_speed\",50000],[\"ego.max_acceleration\",10000]]}\n",
             "0 yes\n",
         ),
         (
-            "{\"choices\":[],\"end\":1,\"form\":1,\"phases\":[[\"do\",0,1]],\"traces\":[[\"ego\",[[1,0,10000],[1,1000000,11000]]]],\"values\":[[\"ego.max_speed\",50000],[\"ego.max_acceleration\",10000]]}\n",
-            "0 yes\n",
-        ),
-        (
-            "{\"choices\":[],\"end\":1,\"form\":1,\"phases\":[[\"do\",0,1]],\"traces\":[[\"ego\",[[1,0,10000],[1,1000000,11001]]]],\"values\":[[\"ego.max_speed\",50000],[\"ego.max_acceleration\",10000]]}\n",
-            "1 no motion ego\n",
-        ),
-        (
-            "{\"choices\":[],\"end\":1,\"form\":1,\"phases\":[[\"do\",0,1]],\"traces\":[[\"ego\",[[1,0,9999],[1,999900,10000]]]],\"values\":[[\"ego.max_speed\",50000],[\"ego.max_acceleration\",10000]]}\n",
-            "1 no modifier do main.osc:5:9\n",
-        ),
-        ("{\"choices\":[", "5 text json\n"),
-        (
-            "{\"choices\":[],\"end\":\"1\",\"form\":1,\"phases\":[[\"do\",0,1]],\"traces\":[[\"ego\",[[1,0,10000],[1,1000000,10000]]]],\"values\":[[\"ego.max_speed\",50000],[\"ego.max_acceleration\",10000]]}\n",
-            "5 text /end\n",
+            "{\"choices\":[],\"end\":1,\"form\":1,\"phases\":[[\"do\",0,1]],\"tick\":100,\"traces\":[[\"ego\",[[1,0,10000],[1,1000000,10000]]]],\"values\":[[\"ego.max_speed\",50000],[\"ego.max_acceleration\",10000]]}\n",
+            "5 text /tick\n",
         ),
     ];
     checks_are(&rt, DRIVE, "1", &rows)
@@ -191,7 +207,7 @@ fn texts_that_are_no_run(rt: HostRuntime) -> Result<(), Fail> {
             "5 text /a\n",
         ),
         (
-            "{\"choices\":[],\"end\":0,\"form\":2,\"phases\":[],\"traces\":[],\"values\":[[\"x\",3]]}\n",
+            "{\"choices\":[],\"end\":0,\"form\":3,\"phases\":[],\"traces\":[],\"values\":[[\"x\",3]]}\n",
             "5 text /form\n",
         ),
     ];

@@ -169,31 +169,31 @@ fn scenarios_with_one_run(rt: HostRuntime) -> Result<(), Fail> {
     let rows: [(&str, &str); 7] = [
         (
             "scenario top:\n    y: float\n    keep(y == 1.5)\n",
-            "0 {\"choices\":[],\"end\":0,\"form\":1,\"phases\":[],\"traces\":[],\"values\":[[\"y\",1500]]}\n",
+            "0 {\"choices\":[],\"end\":0,\"form\":2,\"phases\":[],\"tick\":100,\"traces\":[],\"values\":[[\"y\",1500]]}\n",
         ),
         (
             "scenario top:\n    x: int = 3\n    keep(x in [3..3])\n",
-            "0 {\"choices\":[],\"end\":0,\"form\":1,\"phases\":[],\"traces\":[],\"values\":[[\"x\",3]]}\n",
+            "0 {\"choices\":[],\"end\":0,\"form\":2,\"phases\":[],\"tick\":100,\"traces\":[],\"values\":[[\"x\",3]]}\n",
         ),
         (
             "scenario top:\n    x: int\n    keep(x in [3.0..3])\n",
-            "0 {\"choices\":[],\"end\":0,\"form\":1,\"phases\":[],\"traces\":[],\"values\":[[\"x\",3]]}\n",
+            "0 {\"choices\":[],\"end\":0,\"form\":2,\"phases\":[],\"tick\":100,\"traces\":[],\"values\":[[\"x\",3]]}\n",
         ),
         (
             "scenario base\nscenario top inherits base\n",
-            "0 {\"choices\":[],\"end\":0,\"form\":1,\"phases\":[],\"traces\":[],\"values\":[]}\n",
+            "0 {\"choices\":[],\"end\":0,\"form\":2,\"phases\":[],\"tick\":100,\"traces\":[],\"values\":[]}\n",
         ),
         (
             "scenario top\nextend top:\n    x: int\n    keep(x in [3..3])\n",
-            "0 {\"choices\":[],\"end\":0,\"form\":1,\"phases\":[],\"traces\":[],\"values\":[[\"x\",3]]}\n",
+            "0 {\"choices\":[],\"end\":0,\"form\":2,\"phases\":[],\"tick\":100,\"traces\":[],\"values\":[[\"x\",3]]}\n",
         ),
         (
             "struct s:\n    y: float\nscenario top\n",
-            "0 {\"choices\":[],\"end\":0,\"form\":1,\"phases\":[],\"traces\":[],\"values\":[]}\n",
+            "0 {\"choices\":[],\"end\":0,\"form\":2,\"phases\":[],\"tick\":100,\"traces\":[],\"values\":[]}\n",
         ),
         (
             "scenario other:\n    y: float\nscenario top\n",
-            "0 {\"choices\":[],\"end\":0,\"form\":1,\"phases\":[],\"traces\":[],\"values\":[]}\n",
+            "0 {\"choices\":[],\"end\":0,\"form\":2,\"phases\":[],\"tick\":100,\"traces\":[],\"values\":[]}\n",
         ),
     ];
     answers_are(&rt, &rows)

@@ -18,4 +18,6 @@ mod scenarios;
 #[cfg(test)]
 mod texts;
 #[cfg(test)]
+mod ticks;
+#[cfg(test)]
 mod trees;

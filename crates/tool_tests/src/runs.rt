@@ -45,6 +45,7 @@ fn full_run(alloc: Global) -> Result<Run, AllocError> {
         choices: Row::of(vec![in alloc; choice]?),
         end: 5,
         phases: Row::of(vec![in alloc; span]?),
+        tick: 100,
         traces: Row::of(vec![in alloc; trace]?),
         values: Row::of(vec![in alloc; text]?),
     })
@@ -56,7 +57,7 @@ fn run_texts(rt: HostRuntime) -> Result<(), Fail> {
     let text = write_run(alloc, &full_run(alloc)?)?;
     assert_eq!(rt;
         text.as_str(),
-        "{\"choices\":[[\"do\",1]],\"end\":5,\"form\":1,\"phases\":[[\"do[1]\",0,4294967295]],\"traces\":[[\"ego\",[[1,-9223372036854775808,9223372036854775807]]]],\"values\":[[\"a.b[0]\",\"q\\\"\\\\\u{e9}\"]]}\n"
+        "{\"choices\":[[\"do\",1]],\"end\":5,\"form\":2,\"phases\":[[\"do[1]\",0,4294967295]],\"tick\":100,\"traces\":[[\"ego\",[[1,-9223372036854775808,9223372036854775807]]]],\"values\":[[\"a.b[0]\",\"q\\\"\\\\\u{e9}\"]]}\n"
     );
     let root = path(alloc, [])?;
     assert_eq!(rt; root.text(alloc)?.as_str(), ".");

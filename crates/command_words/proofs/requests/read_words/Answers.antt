@@ -57,6 +57,11 @@ returns-in-make-clause-request c =
     let words = words_are c.args.words.now c.in-Some.rest.now c.in-Some.first.now c.as_str.result.now c.in-Some.ensures.cases.0 c.as_str.ensures.value in
     picked c.args.words.now c.in-Some.rest.now c.as_str.result.now command.Make words c.in-make.is c.read_command-in-make.result c.read_command-in-make.ensures.request
 
+pub returns-in-migrate-clause-request : goal.returns-in-migrate-clause-request
+returns-in-migrate-clause-request c =
+    let words = words_are c.args.words.now c.in-Some.rest.now c.in-Some.first.now c.as_str.result.now c.in-Some.ensures.cases.0 c.as_str.ensures.value in
+    picked c.args.words.now c.in-Some.rest.now c.as_str.result.now command.Migrate words c.in-migrate.is c.read_command-in-migrate.result c.read_command-in-migrate.ensures.request
+
 pub returns-in-explain-clause-request : goal.returns-in-explain-clause-request
 returns-in-explain-clause-request c =
     let words = words_are c.args.words.now c.in-Some.rest.now c.in-Some.first.now c.as_str.result.now c.in-Some.ensures.cases.0 c.as_str.ensures.value in
@@ -66,7 +71,7 @@ pub returns-in_default-as_str-clause-request : goal.returns-in_default-as_str-cl
 returns-in_default-as_str-clause-request c =
     let words = words_are c.args.words.now c.in-Some.rest.now c.in-Some.first.now c.as_str.result.now c.in-Some.ensures.cases.0 c.as_str.ensures.value in
     let other = c.in_default-as_str in
-    sym (unknown_word c.as_str.result.now (map string_bytes c.in-Some.rest.now) other.not-help other.not-text other.not-text-2 other.not-text-3 other.not-text-4 other.not-generate other.not-check other.not-verify other.not-flat other.not-make other.not-explain)
+    sym (unknown_word c.as_str.result.now (map string_bytes c.in-Some.rest.now) other.not-help other.not-text other.not-text-2 other.not-text-3 other.not-text-4 other.not-generate other.not-check other.not-verify other.not-flat other.not-make other.not-migrate other.not-explain)
     ∙ ap request words
 
 pub returns-in-text-2-clause-request : goal.returns-in-text-2-clause-request

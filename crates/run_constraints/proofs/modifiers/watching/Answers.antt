@@ -3,7 +3,7 @@ use Rattle.std.specs.Prelude.{unwrap_or}
 use Rattle.osc_base.specs.Fraction.{value}
 use Rattle.scene_conditions.specs.composition.SeenParts.{seen_modifier}
 use Rattle.scene_conditions.specs.composition.Items.{other_of}
-use Rattle.scene_conditions.specs.composition.TimedRuns.{samples_in}
+use Rattle.scene_conditions.specs.composition.RunParts.{samples_in}
 use Rattle.run_values.specs.SeenCourses.{sample_at}
 use Rattle.run_values.specs.SeenNumbers.{scene_in, run_in}
 use Rattle.run_constraints.proofs.Sound.{low_sound, high_sound}

@@ -1,7 +1,7 @@
 use Rattle.std.proofs.Common.{◌∙◌, sym, ap}
 use Rattle.fault_texts.specs.Explained.{explanation, topic_list}
 use Rattle.run_answers.specs.command_replies.Replies.{done}
-use Rattle.command_words.specs.Seen.{asked_by, checked_by, flattened_by, made_by, seen, verified_by}
+use Rattle.command_words.specs.Seen.{asked_by, checked_by, flattened_by, made_by, migrated_by, seen, verified_by}
 use Rattle.command_words.specs.Words.{IsGenerateInRanges, IsMakeInRange, Wanted}
 use Rattle.scenario_tool.proofs.CallEnds.{help_reply, made_reply, same_reply, words_reply}
 use Rattle.scenario_tool.proofs.top.reply_to.Goals as goal
@@ -46,6 +46,10 @@ reply_to_flat-requires g c = record { ranges = rw c.in-Flat.is at c.in_ok-text.e
 pub returns-in-Flat-clause-reply : goal.returns-in-Flat-clause-reply
 returns-in-Flat-clause-reply g c = same_reply (g.H.Shelf.files c.args.shelf.now) (Wanted.Flat (flattened_by c.in-Flat.asked)) _ _ _ c.reply_to_flat.result
     (sym (ap seen c.in-Flat.is) ∙ c.in_ok-text.ensures.request) c.reply_to_flat.ensures.reply
+
+pub returns-in-Migrate-clause-reply : goal.returns-in-Migrate-clause-reply
+returns-in-Migrate-clause-reply g c = same_reply (g.H.Shelf.files c.args.shelf.now) (Wanted.Migrate (migrated_by c.in-Migrate.asked)) _ _ _ c.reply_to_migrate.result
+    (sym (ap seen c.in-Migrate.is) ∙ c.in_ok-text.ensures.request) c.reply_to_migrate.ensures.reply
 
 pub reply_to_generate-requires : goal.reply_to_generate-requires
 reply_to_generate-requires g c =

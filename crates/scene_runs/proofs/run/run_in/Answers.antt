@@ -1,5 +1,6 @@
 use Rattle.std.proofs.Common.{◌∙◌, ap}
 use Rattle.std.specs.List.{list_all}
+use Rattle.scene_slots.specs.composition.declared.setting.Setting.{Setting}
 use Rattle.scene_slots.specs.composition.Scenes.{choices, values, phases, vehicles}
 use Rattle.scene_slots.specs.composition.SeenScenes.{seen_scene}
 use Rattle.scene_slots.specs.field_flatten.Points.{slot_value}
@@ -20,7 +21,7 @@ traces_of-requires-clause-few c = few_ticks (scene_of c.args.slots.now) c.requir
 
 pub returns : goal.returns
 returns c =
-    run_made (scene_of c.args.slots.now) (slot_value (scene_of c.args.slots.now) c.args.point.now) _ _ _ _ _ _ _ _ _
-    c.end_of-end.ensures.is c.in_ok-choices.ensures c.in_ok-phases.ensures c.in_ok-traces.ensures c.in_ok-values.ensures
+    run_made (scene_of c.args.slots.now) (slot_value (scene_of c.args.slots.now) c.args.point.now) _ _ _ _ _ _ _ _ _ _
+    c.end_of-end.ensures.is (ap (λ (s : Setting). s.tick) (c.setting.ensures ∙ ap (λ s. (seen_scene s).setting) c.scene-scene.ensures)) c.in_ok-choices.ensures c.in_ok-phases.ensures c.in_ok-traces.ensures c.in_ok-values.ensures
     (c.choices.ensures ∙ ap (λ s. choices (seen_scene s)) c.scene-scene.ensures) (c.phases.ensures ∙ ap (λ s. phases (seen_scene s)) c.scene-scene.ensures)
     (c.vehicles.ensures ∙ ap (λ s. vehicles (seen_scene s)) c.scene-scene.ensures) (c.values.ensures ∙ ap (λ s. values (seen_scene s)) c.scene-scene.ensures)

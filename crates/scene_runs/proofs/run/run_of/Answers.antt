@@ -1,8 +1,7 @@
-use Rattle.std.proofs.Common.{◌∙◌, sym, ap, ap₂, subst}
+use Rattle.std.proofs.Common.{◌∙◌, sym, ap₂, subst}
 use Rattle.std.proofs.lemmas.Result.{IfOk-weaker}
 use Rattle.box_eval.specs.Box.{IsPointOf}
 use Rattle.scene_slots.specs.composition.SeenScenes.{seen_scene}
-use Rattle.scene_slots.specs.composition.TimedRuns.{timed}
 use Rattle.scene_slots.specs.field_flatten.Ends.{bounds}
 use Rattle.scene_slots.specs.field_flatten.Exactness.{IsExpanded}
 use Rattle.scene_slots.specs.field_flatten.Points.{run_of as run_by}
@@ -29,5 +28,5 @@ run_in-requires-clause-inside c =
 pub returns : goal.returns
 returns c =
     IfOk-weaker c.run_in.result _ _
-    (λ r h. ap (λ s. timed (seen_scene s).setting.tick r) (sym c.in_ok-slots.ensures) ∙ h ∙ ap₂ (λ s p. run_by (seen_scene s) p) c.in_ok-slots.ensures c.as_slice.ensures)
+    (λ r h. h ∙ ap₂ (λ s p. run_by (seen_scene s) p) c.in_ok-slots.ensures c.as_slice.ensures)
     c.run_in.ensures

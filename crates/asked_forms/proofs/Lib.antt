@@ -1,0 +1,5 @@
+pub mod Kept
+pub mod Asked
+pub mod Truths
+pub mod Pins
+pub mod Others

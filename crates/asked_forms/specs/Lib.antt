@@ -1,0 +1,4 @@
+pub mod AskedForms
+pub mod AskedLaws
+pub mod Recordings
+pub mod Suites

@@ -1,0 +1,11 @@
+//! Flat forms that ask less than their scene, or more.
+#![tactic(auto)]
+
+mod laws;
+mod traces;
+
+pub use laws::{
+    all_kept_is_instance, both_are_said, fewer_kept_stay, forms_are_exact, nothing_is_said,
+    past_rules_say, pins_say,
+};
+pub use traces::Traces;

@@ -1,0 +1,2 @@
+pub mod FirstReading
+pub mod SameMeaning

@@ -1,0 +1,3 @@
+pub mod FirstTexts
+pub mod FirstMeaning
+pub mod FirstFormLaws
