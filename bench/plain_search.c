@@ -605,15 +605,15 @@ static void root(void)
     put_rule(compare(EQUAL, times(slot_of(0), slot_of(0)), whole_of(2)));
 }
 
-static void both_below(void)
+static void circle(void)
 {
-    begin_flat(2);
-    for (uint32_t slot = 0; slot < 2; slot++) {
+    begin_flat(3);
+    for (uint32_t slot = 0; slot < 3; slot++) {
         flat.low[slot] = -1000000000;
         flat.high[slot] = 1000000000;
     }
-    put_rule(compare(BELOW, slot_of(0), slot_of(1)));
-    put_rule(compare(BELOW, slot_of(1), slot_of(0)));
+    for (uint32_t slot = 0; slot < 3; slot++)
+        put_rule(compare(EQUAL, sum(slot_of(slot), whole_of(1)), slot_of((slot + 1) % 3)));
 }
 
 enum { TICKS = 100 };
@@ -679,7 +679,7 @@ int main(int count, char **word)
         for (uint32_t seed = 0; seed < number; seed++)
             total = mixed(total, searched(seed, 10, &cuts_made));
     } else if (!strcmp(word[1], "below")) {
-        both_below();
+        circle();
         total = searched(0, number, &cuts_made);
     } else if (!strcmp(word[1], "field")) {
         two_vehicles();

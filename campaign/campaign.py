@@ -7,11 +7,12 @@ import subprocess
 from dataclasses import dataclass
 
 TOP = os.path.dirname(os.path.dirname(os.path.realpath(__file__)))
-KEYS = {"program", "out", "batch", "export", "scenarios", "settings", "seeds", "cuts"}
+KEYS = {"program", "out", "batch", "export", "ego", "lane_width", "scenarios", "settings", "seeds", "cuts"}
 SCENARIO_KEYS = {"file", "scenario", "name", "expect"}
 SETTING_KEYS = {"name", "ticks", "lanes", "road", "tick"}
 FORMS = ("csv", "xosc", "xodr", "html")
 NAME = r"[A-Za-z0-9_-]+"
+PATH = r"[A-Za-z_][A-Za-z0-9_.\[\]]*"
 
 
 class Wrong(Exception):
@@ -42,6 +43,7 @@ class Campaign:
     out: str
     batch: int  # the most seeds of a job
     exports: tuple
+    export_options: tuple  # the words of osc export that no other command has
     groups: tuple
     seeds: tuple
     cuts: tuple
@@ -64,8 +66,9 @@ class Campaign:
         groups = [vars(it) for it in self.groups]
         whole_order = {"version": version, "exports": exports, "seeds": write_seeds(self.seeds), "cuts": self.cuts, "groups": groups}
         write_changed(f"{self.out}/orders.json", whole_order)
+        common = {"program": self.program, "out": self.out, "export_options": self.export_options}
         for group in self.groups:
-            write_changed(self.order(group), {"program": self.program, "out": self.out, "exports": exports, **vars(group)})
+            write_changed(self.order(group), {**vars(group), **common, "exports": exports})
 
     def ask_program(self):
         """The version of the program, and the forms that it is to export. The call builds it if it has to be built."""
@@ -176,6 +179,20 @@ def read_setting(value):
     return named(it.get("name", "default"), "settings: name"), options
 
 
+def read_export(it):
+    """The forms of exports, and the options for them."""
+    forms, options = tuple(as_list(it.get("export", []))), []
+    if set(forms) - set(FORMS):
+        raise Wrong(f"export: the forms are {', '.join(FORMS)}")
+    if "ego" in it:
+        if not isinstance(it["ego"], str) or not re.fullmatch(PATH, it["ego"]):
+            raise Wrong(f"ego: {it['ego']!r} is no path of a vehicle")
+        options.append(f"--ego={it['ego']}")
+    if "lane_width" in it:
+        options.append(f"--lane-width={whole(it['lane_width'], 'lane_width', 1000, 10000)}")
+    return forms, tuple(options)
+
+
 def distinct(names, what):
     twice = [it for it in names if names.count(it) > 1]
     if twice:
@@ -191,9 +208,7 @@ def read(config):
         raise Wrong("scenarios: there is none")
     distinct([name for name, *_ in scenarios], "scenarios")
     distinct([name for name, _ in settings], "settings")
-    exports = tuple(as_list(it.get("export", [])))
-    if set(exports) - set(FORMS):
-        raise Wrong(f"export: the forms are {', '.join(FORMS)}")
+    exports, export_options = read_export(it)
     groups = [Group(name, setting, file, scenario, expect, options)
               for name, file, scenario, expect in scenarios for setting, options in settings]
     return Campaign(
@@ -201,6 +216,7 @@ def read(config):
         out=os.path.normpath(str(it.get("out", "out/campaign"))),
         batch=whole(it.get("batch", 100), "batch", 1, 1_000_000),
         exports=exports,
+        export_options=export_options,
         groups=tuple(groups),
         seeds=read_seeds(",".join(map(str, as_list(it.get("seeds", 0))))),
         cuts=tuple(dict.fromkeys(whole(cuts, "cuts", 1, 1_000_000) for cuts in as_list(it.get("cuts", 200_000)))),

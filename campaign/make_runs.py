@@ -35,9 +35,10 @@ class Batch:
         self.key = self.content_key()
 
     def content_key(self):
-        """A text that is another if a source, the scenario or the setting is."""
+        """A text that is another if a source, the scenario, the setting or an option of exports is."""
         order = self.order
-        found = hashlib.sha256(json.dumps([order["file"], order["scenario"], order["options"]]).encode())
+        asked = [order["file"], order["scenario"], order["options"], *order["export_options"]]
+        found = hashlib.sha256(json.dumps(asked).encode())
         for name in sorted(sources(order["file"])):
             with open(name, "rb") as it:
                 found.update(hashlib.sha256(it.read()).digest())
@@ -85,7 +86,7 @@ class Batch:
         """Exports a run; one that isn't new in the forms that aren't there. An error if that fails."""
         for form in self.order["exports"]:
             if is_new or not os.path.exists(self.path(seed, form)):
-                done = self.osc("export", self.path(seed, "json"), "--as", form)
+                done = self.osc("export", self.path(seed, "json"), "--as", form, *self.order["export_options"])
                 if done.returncode:
                     return {"outcome": "error", "message": f"export as {form}: {message(done)}"}
                 with writing(self.path(seed, form), self.part) as file:
@@ -113,7 +114,8 @@ class Batch:
             return None
 
     def path(self, seed, form):
-        return f"{self.folder}/seed-{seed}.{form}"
+        """The file of a run in a form. All runs drive on one road, whose name stands in each xosc file."""
+        return f"{self.folder}/road.xodr" if form == "xodr" else f"{self.folder}/seed-{seed}.{form}"
 
     def known(self):
         """The rows of the journals, by seed."""

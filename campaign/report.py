@@ -1,6 +1,7 @@
 """The ends of a campaign: summary.csv, junit.xml and report.html over the rows of all runs."""
 import csv
 import json
+import os
 import xml.etree.ElementTree as xml
 from html import escape
 
@@ -28,7 +29,7 @@ td, th { padding: .3rem .7rem .3rem 0; text-align: right; border-bottom: 1px sol
 td.name, th.name { text-align: left; }
 pre { background: var(--area); padding: .7rem; overflow-x: auto; font-size: .82rem; margin: .3rem 0 1rem; }
 figure { margin: .4rem 0 1.2rem; } .row { display: flex; flex-wrap: wrap; gap: 1.5rem; } svg { max-width: 100%; height: auto; display: block; }
-svg text { font: 11px system-ui, sans-serif; fill: var(--soft); } @media print { body { margin: 0; } figure, tr { break-inside: avoid; } }
+a { color: var(--run); } svg text { font: 11px system-ui, sans-serif; fill: var(--soft); } @media print { body { margin: 0; } figure, tr { break-inside: avoid; } }
 </style></head><body>
 """
 
@@ -180,11 +181,13 @@ def extremes(campaign, rows):
 
 def extreme(campaign, row, names, tick, own, ahead):
     """A picture of a run at a tick, at which a vehicle is behind the one ahead."""
-    path = f"{campaign.out}/runs/{row['scenario']}/{row['setting']}/{row['cuts']}/seed-{row['seed']}.json"
+    name = f"runs/{row['scenario']}/{row['setting']}/{row['cuts']}/seed-{row['seed']}"
+    path = f"{campaign.out}/{name}.json"
     with open(path, encoding="utf-8") as file:
         run = json.load(file)
+    played = f', <a href="{name}.html">in motion</a>' if os.path.exists(f"{campaign.out}/{name}.html") else ""
     return (f"<figure><figcaption>The {' and the '.join(names)}: seed {row['seed']}, {escape(own)} behind {escape(ahead)} at {tick * run.get('tick', 100) / 1e3:.2f} s. "
-            f"<code>{escape(path)}</code></figcaption>{pictures.run(run, tick)}</figure>")
+            f"<code>{escape(path)}</code>{played}</figcaption>{pictures.run(run, tick)}</figure>")
 
 
 def measured_part(campaign, parts):

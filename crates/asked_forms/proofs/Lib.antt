@@ -1,3 +1,4 @@
+pub mod LessRules
 pub mod Kept
 pub mod Asked
 pub mod Truths

@@ -1,4 +1,5 @@
 pub mod AskedForms
 pub mod AskedLaws
+pub mod FormLaws
 pub mod Recordings
 pub mod Suites

@@ -1,11 +1,8 @@
 pub mod Bounded
-pub mod Empty
 pub mod Equations
 pub mod Fits
 pub mod Folds
-pub mod Lines
 pub mod Looks
-pub mod Narrowings
 pub mod Numbers
 pub mod Parts
 pub mod Points
@@ -13,9 +10,7 @@ pub mod Pushes
 pub mod ReadBounds
 pub mod Reaches
 pub mod Reading
-pub mod Settled
 pub mod SlotLists
 pub mod Smaller
 pub mod Unread
-pub mod Ways
 pub mod Worth

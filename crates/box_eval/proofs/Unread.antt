@@ -1,7 +1,6 @@
--- Ends that agree on what a rule reads give it the same verdict and the same dead ends.
-use Rattle.std.proofs.Common.{◌≡◌, refl, sym, ap, ap₂, ◌∙◌, subst, ⊎_elim, ℕ, ◌<◌, Bool, true, false, ◌||◌, eqb, List, [], ◌∷◌, ◌++◌, length, ℤ, arith}
-use Rattle.std.proofs.lemmas.Int.{ints}
-use Rattle.std.proofs.lemmas.Bool.{false≢true, or_parts, or_cases, eqb-true, cases_eq, eq-eqb}
+-- Ends that agree on what a rule reads give it the same verdict.
+use Rattle.std.proofs.Common.{◌≡◌, refl, sym, ap, ap₂, ◌∙◌, subst, ℕ, Bool, true, false, ◌||◌, eqb, List, [], ◌∷◌, ◌++◌}
+use Rattle.std.proofs.lemmas.Bool.{false≢true, or_parts, eq-eqb}
 use Rattle.std.specs.List.{list_any}
 use Rattle.box_eval.specs.declared.rule.Rule.{Rule}
 use Rattle.box_eval.specs.declared.rule.Term.{Term}
@@ -9,16 +8,12 @@ use Rattle.box_eval.specs.declared.rule.Rule.TheOpen.{Rule-F, Term-F, Always, Be
 use Rattle.box_eval.specs.declared.rule.Rule.TheViews.{roll-Rule, roll-Term}
 use Rattle.box_eval.specs.declared.rule.Rule.TheFolds.{fold-roll-Rule, fold-roll-Term, ind-Rule, map-Rule, map-Term}
 use Rattle.box_eval.specs.declared.bounds.Pair.{Pair}
-use Rattle.box_eval.specs.declared.cut.Side.{Side}
-use Rattle.box_eval.specs.declared.cut.Side.TheVariants.{Low, High}
 use Rattle.box_eval.specs.declared.verdict.Verdict.{Verdict}
 use Rattle.box_eval.specs.declared.verdict.Span.{Span}
-use Rattle.box_eval.specs.Box.{pair, low_at, high_at, fixed, end_at}
+use Rattle.box_eval.specs.Box.{low_at, high_at}
 use Rattle.box_eval.specs.Verdict.{term_span, rule_verdict, negated, both_of, either_of, below_of, at_most_of, equal_of, sum_of, less_of, times_of, truth_of, verdict_of, span_of}
 use Rattle.box_eval.specs.Reads.{read_in_term, read_in_rule, slots_read, term_slots_read, reads, AgreeOn}
-use Rattle.box_eval.specs.Guided.{IsDeadEnd}
 use Rattle.box_eval.proofs.Numbers.{span}
-use Rattle.box_eval.proofs.Parts.{low_set_same, high_set_same, low_set_other, high_set_other}
 
 -- ---- lists of slots
 
@@ -98,49 +93,6 @@ module _ (a b : List Pair) where
   same_verdict_on = ind-Rule AtRule AtTerm
       (λ x y is. subst (λ z. AtRule (roll-Rule z)) is (at_rule y))
       (λ x y is. subst (λ z. AtTerm (roll-Term z)) is (at_term y))
-
--- ---- dead ends
-
-agree_at : (slots : List ℕ) (a b : List Pair) (slot : ℕ) → AgreeOn slots a b → list_any (eqb slot) slots ≡ true → (low_at a slot ≡ low_at b slot) × (high_at a slot ≡ high_at b slot)
-agree_at [] a b slot h in_it = absurd (false≢true in_it)
-agree_at (s ∷ slots) a b slot h in_it = ⊎_elim
-    (λ first. rw (eqb-true slot s first) (h.0, h.1))
-    (λ later. agree_at slots a b slot h.2 later)
-    (or_cases (eqb slot s) (list_any (eqb slot) slots) in_it)
-
-module _ (a b : List Pair) (slot : ℕ) (v w : ℤ) (there : slot < length a) (there' : slot < length b) (same : v ≡ w) where
-  fixed_low : (other : ℕ) → low_at a other ≡ low_at b other → low_at (fixed a slot v) other ≡ low_at (fixed b slot w) other
-  fixed_low other h = ⊎_elim
-      (λ (e : other ≡ slot). rw e (low_set_same a slot (pair v v) there ∙ same ∙ sym (low_set_same b slot (pair w w) there')))
-      (λ n. low_set_other a slot other (pair v v) n ∙ h ∙ sym (low_set_other b slot other (pair w w) n))
-      (cases_eq other slot)
-
-  fixed_high : (other : ℕ) → high_at a other ≡ high_at b other → high_at (fixed a slot v) other ≡ high_at (fixed b slot w) other
-  fixed_high other h = ⊎_elim
-      (λ (e : other ≡ slot). rw e (high_set_same a slot (pair v v) there ∙ same ∙ sym (high_set_same b slot (pair w w) there')))
-      (λ n. high_set_other a slot other (pair v v) n ∙ h ∙ sym (high_set_other b slot other (pair w w) n))
-      (cases_eq other slot)
-
-  agree_fixed : (slots : List ℕ) → AgreeOn slots a b → AgreeOn slots (fixed a slot v) (fixed b slot w)
-  agree_fixed [] h = tt
-  agree_fixed (s ∷ slots) h = (fixed_low s h.0, fixed_high s h.1, agree_fixed slots h.2)
-
-same_end : (side : Side) (a b : List Pair) (slot : ℕ) → low_at a slot ≡ low_at b slot → high_at a slot ≡ high_at b slot → end_at side a slot ≡ end_at side b slot
-same_end Low a b slot l h = l
-same_end High a b slot l h = h
-
-pub same_dead_end : (a b : List Pair) (rule : Rule) (side : Side) (slot : ℕ) → slot < length a → slot < length b → reads rule slot ≡ true → AgreeOn (slots_read rule) a b
-    → IsDeadEnd a rule side slot → IsDeadEnd b rule side slot
-same_dead_end a b rule side slot there there' in_it agree d =
-    let at = agree_at (slots_read rule) a b slot agree in_it in
-    let low : low_at a slot ≡ low_at b slot = at.0 in
-    let high : high_at a slot ≡ high_at b slot = at.1 in
-    let end = same_end side a b slot low high in
-    record {
-      wide = omega (arith, ints, d.wide);
-      dead = sym (same_verdict_on (fixed a slot (end_at side a slot)) (fixed b slot (end_at side b slot)) rule
-          (agree_fixed a b slot (end_at side a slot) (end_at side b slot) there there' end (slots_read rule) agree)) ∙ d.dead;
-    }
 
 -- ---- a slot that isn't read
 

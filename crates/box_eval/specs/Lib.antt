@@ -1,11 +1,8 @@
 pub mod Bounded
 pub mod Box
 pub mod FlatRules
-pub mod Guided
 pub mod Reach
 pub mod Reads
-pub mod Record
 pub mod Rules
-pub mod Trees
 pub mod Truth
 pub mod Verdict

@@ -1,4 +1,4 @@
-//! Rules over numbered slots, the boxes that they are judged on, and refutation records.
+//! Rules over numbered slots, and the boxes that they are judged on.
 #![tactic(auto)]
 
 mod bounds;
@@ -6,7 +6,6 @@ mod cut;
 mod flat;
 mod judgement;
 mod point;
-mod record;
 mod rule;
 mod slots;
 mod verdict;
@@ -17,7 +16,6 @@ pub use cut::{Cut, Side};
 pub use flat::Flat;
 pub use judgement::judge;
 pub use point::{Point, truth};
-pub use record::{Line, Record, refuted};
 pub use rule::{Rule, Term};
 pub use slots::slots_of;
 pub use verdict::Verdict;

@@ -6,7 +6,7 @@ use Rattle.osc_base.specs.declared.fault.Fault.{Fault}
 use Rattle.osc_base.specs.FaultCodes.{number_of}
 use Rattle.program_load.specs.declared.stop.Refusal.{Refusal}
 use Rattle.command_replies.specs.declared.status.Status.{Status}
-use Rattle.record_text.specs.box_eval.declared.record.Record.{Record}
+use Rattle.record_text.specs.record_trees.declared.record.Record.{Record}
 use Rattle.record_text.specs.Text.{record_text}
 use Rattle.command_replies.specs.Reply.{Answer}
 

@@ -1,8 +1,8 @@
 ghost use Rattle.std.specs.Prelude.{◌≡◌, true};
-ghost use Rattle.command_replies.specs.ShortRecords.{are_short};
+ghost use Rattle.command_replies.specs.ShortRecords.{are_short, have_sums};
 
 use osc_base::Text;
-use record_text::box_eval::Record;
+use record_text::Record;
 
 /// What is written.
 #[derive(Drop)]
@@ -11,9 +11,10 @@ pub enum Body {
     Record(ShortRecord),
 }
 
-/// A record whose values have at most 18 digits, so that it can be written.
+/// A record whose values have at most 18 digits, and whose sums take all its rules, so that it can be written.
 #[derive(Drop)]
 pub struct ShortRecord {
     pub claim: Record,
     pub ghost short: { are_short claim.lines ≡ true },
+    pub ghost sums: { have_sums claim.lines claim.picks ≡ true },
 }

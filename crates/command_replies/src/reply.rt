@@ -2,15 +2,14 @@ ghost use Rattle.std.specs.Prelude.{◌≡◌, ◌≤◌, is_some, OnOk, OnErr};
 ghost use Rattle.std.specs.Io.KnownBytes.{append_known};
 ghost use Rattle.record_text.specs.outside_io.Bytes.{AppendsPart};
 ghost use Rattle.record_text.specs.outside_io.Counts.{Rises};
-ghost use Rattle.record_text.specs.Written.{HaveShortValues};
+ghost use Rattle.record_text.specs.Written.{HaveShortValues, HaveSums};
 ghost use Rattle.command_replies.specs.Replies.{refutation, undecided};
 
 use crate::body::{Body, ShortRecord};
 use crate::status::Status;
 use osc_base::Text;
-use record_text::box_eval::Record;
 use record_text::outside_io::{Sink, SinkStop, write_all};
-use record_text::write_record;
+use record_text::{Record, write_record};
 use std::marker::Model;
 
 /// A status and the text that comes with it. The text of a record is made as it is written.
@@ -45,7 +44,7 @@ impl Reply {
         self.status
     }
 
-    #[tactic(auto, using(crate::proofs::ShortRecords::short_lines))]
+    #[tactic(auto, using(crate::proofs::ShortRecords::short_lines, crate::proofs::ShortRecords::sum_lines))]
     /// Writes the text. If the sink fails, a prefix of the text was written.
     pub fn write<K: Sink>(&self, sink: &mut K) -> Result<(), SinkStop>
         ensures whole { OnOk result (K.contents sink.new ≡ append_known (K.contents sink.old) self.now.text) }
@@ -63,10 +62,11 @@ impl Reply {
     }
 }
 
-#[tactic(auto, using(crate::proofs::ShortRecords::tested_lines))]
+#[tactic(auto, using(crate::proofs::ShortRecords::tested_lines, crate::proofs::ShortRecords::tested_sums))]
 /// The scenario has no instance: this record shows it.
 pub fn refutation(claim: Record) -> Reply
-    requires { HaveShortValues claim.lines }
+    requires values { HaveShortValues claim.lines }
+    requires sums { HaveSums claim.lines claim.picks }
     ensures { result ≡ refutation claim }
 {
     let body = Body::Record(ShortRecord { claim });
@@ -76,10 +76,11 @@ pub fn refutation(claim: Record) -> Reply
     }
 }
 
-#[tactic(auto, using(crate::proofs::ShortRecords::tested_lines))]
+#[tactic(auto, using(crate::proofs::ShortRecords::tested_lines, crate::proofs::ShortRecords::tested_sums))]
 /// All cuts were made, and this record leaves something open.
 pub fn undecided(claim: Record) -> Reply
-    requires { HaveShortValues claim.lines }
+    requires values { HaveShortValues claim.lines }
+    requires sums { HaveSums claim.lines claim.picks }
     ensures { result ≡ undecided claim }
 {
     let body = Body::Record(ShortRecord { claim });

@@ -38,6 +38,7 @@ version_word first rest (inr e) = rw e refl
 abbrev pub word_of : CommandName → Text
 word_of command.Generate = codes "generate"
 word_of command.Check = codes "check"
+word_of command.Export = codes "export"
 word_of command.Verify = codes "verify"
 word_of command.Flat = codes "flat"
 word_of command.Make = codes "make"
@@ -47,6 +48,7 @@ pub command_word : (name : CommandName) (first : Text) (rest : List Text) → fi
 unfolding request
 command_word command.Generate first rest e = rw e refl
 command_word command.Check first rest e = rw e refl
+command_word command.Export first rest e = rw e refl
 command_word command.Verify first rest e = rw e refl
 command_word command.Flat first rest e = rw e refl
 command_word command.Make first rest e = rw e refl
@@ -57,8 +59,8 @@ unfolding request
 explain_word first rest e = rw e refl
 
 pub unknown_word : (first : Text) (rest : List Text) → (first ≡ codes "help" → ⊥) → (first ≡ codes "--help" → ⊥) → (first ≡ codes "-h" → ⊥)
-    → (first ≡ codes "--version" → ⊥) → (first ≡ codes "-V" → ⊥) → (first ≡ codes "generate" → ⊥) → (first ≡ codes "check" → ⊥) → (first ≡ codes "verify" → ⊥)
+    → (first ≡ codes "--version" → ⊥) → (first ≡ codes "-V" → ⊥) → (first ≡ codes "generate" → ⊥) → (first ≡ codes "check" → ⊥) → (first ≡ codes "export" → ⊥) → (first ≡ codes "verify" → ⊥)
     → (first ≡ codes "flat" → ⊥) → (first ≡ codes "make" → ⊥) → (first ≡ codes "migrate" → ⊥) → (first ≡ codes "explain" → ⊥) → request (first ∷ rest) ≡ Refused
 unfolding request
-unknown_word first rest a b c d e f g h k l m n =
-    rw (other_word _ _ a, other_word _ _ b, other_word _ _ c, other_word _ _ d, other_word _ _ e, other_word _ _ f, other_word _ _ g, other_word _ _ h, other_word _ _ k, other_word _ _ l, other_word _ _ m, other_word _ _ n) refl
+unknown_word first rest a b c d e f g o h k l m n =
+    rw (other_word _ _ a, other_word _ _ b, other_word _ _ c, other_word _ _ d, other_word _ _ e, other_word _ _ f, other_word _ _ g, other_word _ _ o, other_word _ _ h, other_word _ _ k, other_word _ _ l, other_word _ _ m, other_word _ _ n) refl

@@ -8,25 +8,27 @@ use Rattle.clap.specs.declared.parser.matches.Found.{Found}
 use Rattle.command_words.specs.Match.{matched_in, number_rule}
 use Rattle.command_words.specs.Parse.{HoldsNumber, held, is_leaf}
 use Rattle.command_words.specs.Taken.{HoldsNumbers, HoldsSetting, form_of}
-use Rattle.command_words.specs.Words.{Form, Wanted, by_fault, check, flat, generate, make, migrate, verify, wanted}
+use Rattle.command_words.specs.Words.{Form, Wanted, by_fault, check, export, flat, generate, make, migrate, verify, wanted}
 use Rattle.command_words.specs.declared.commands.CommandName.{CommandName}
 use Rattle.command_words.specs.declared.commands.CommandName.TheVariants as command
 use Rattle.command_words.proofs.Matched.{held_is}
 use Rattle.command_words.proofs.ValueReads.{is_named_once, is_plain_command, number_found, number_word_found}
 
 pub is_simple : (name : CommandName) → is_simple_and_free (form_of name).definition ≡ true
-unfolding generate check verify flat make migrate
+unfolding generate check export verify flat make migrate
 is_simple command.Generate = refl
 is_simple command.Check = refl
+is_simple command.Export = refl
 is_simple command.Verify = refl
 is_simple command.Flat = refl
 is_simple command.Make = refl
 is_simple command.Migrate = refl
 
 pub has_no_subcommands : (name : CommandName) → is_leaf (form_of name).definition ≡ true
-unfolding generate check verify flat make migrate
+unfolding generate check export verify flat make migrate
 has_no_subcommands command.Generate = refl
 has_no_subcommands command.Check = refl
+has_no_subcommands command.Export = refl
 has_no_subcommands command.Verify = refl
 has_no_subcommands command.Flat = refl
 has_no_subcommands command.Make = refl
@@ -54,13 +56,18 @@ module _ (c : Command) (form : App) (m : ArgMatches) (same : app_of c ≡ form) 
 
 -- if a parse takes the words, each number is in its range
 pub holds_numbers : (name : CommandName) (c : Command) (m : ArgMatches) → app_of c ≡ (form_of name).definition → IsParsedFrom c m → HoldsNumbers name (found_of m)
-unfolding generate check verify flat make migrate
+unfolding generate check export verify flat make migrate
 holds_numbers command.Generate c m same p = record {
   setting = setting_held c generate m same p refl (refl, refl) (refl, refl) (refl, refl) (refl, refl);
   seed = option_held c generate m same p refl (codes "seed") 0 18446744073709551615 (codes "0") (refl, refl);
   cuts = option_held c generate m same p refl (codes "cuts") 1 1000000 (codes "200000") (refl, refl);
+  tries = option_held c generate m same p refl (codes "tries") 1 100 (codes "1") (refl, refl);
 }
 holds_numbers command.Check c m same p = setting_held c check m same p refl (refl, refl) (refl, refl) (refl, refl) (refl, refl)
+holds_numbers command.Export c m same p = record {
+  setting = setting_held c export m same p refl (refl, refl) (refl, refl) (refl, refl) (refl, refl);
+  lane_width = option_held c export m same p refl (codes "lane-width") 1000 10000 (codes "3500") (refl, refl);
+}
 holds_numbers command.Verify c m same p = setting_held c verify m same p refl (refl, refl) (refl, refl) (refl, refl) (refl, refl)
 holds_numbers command.Flat c m same p = setting_held c flat m same p refl (refl, refl) (refl, refl) (refl, refl) (refl, refl)
 holds_numbers command.Make c m same p = number_word_found c make m (codes "N") 1 16 same p refl refl refl refl

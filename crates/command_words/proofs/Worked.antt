@@ -8,17 +8,19 @@ use Rattle.fault_texts.specs.declared.topics.Status.{Status}
 use Rattle.fault_texts.specs.declared.topics.Topic.{Topic}
 use Rattle.command_words.specs.Match.{number_in, text_in}
 use Rattle.command_words.specs.Shared.{Source}
-use Rattle.command_words.specs.Texts.{check_help, flat_help, general_help, generate_help, make_help, migrate_help, verify_help, version_text}
-use Rattle.command_words.specs.Words.{Wanted, Help, Generate, Check, Verify, Flat, Make, Migrate, Refused, check, explain_wanted, flat, generate, make, migrate, request, topic_wanted, verify, wanted}
+use Rattle.command_words.specs.Texts.{check_help, export_help, flat_help, general_help, generate_help, make_help, migrate_help, verify_help, version_text}
+use Rattle.command_words.specs.Words.{Wanted, Help, Generate, Check, Export, Verify, Flat, Make, Migrate, Refused, check, explain_wanted, export, flat, generate, make, migrate, request, topic_wanted, verify, wanted}
+use Rattle.command_words.specs.declared.requests.ExportForm.{ExportForm}
 use Rattle.command_words.specs.declared.requests.Setting.{Setting}
 
 -- a run of `top` of `a.osc`, with these numbers
-abbrev run : ℕ → ℕ → ℕ → ℕ → ℕ → ℕ → Wanted
-run ticks lanes road tick seed cuts = Generate (record {
+abbrev run : ℕ → ℕ → ℕ → ℕ → ℕ → ℕ → ℕ → Wanted
+run ticks lanes road tick seed cuts tries = Generate (record {
   source = record { file = codes "a.osc"; scenario = codes "top" };
   setting = record { ticks = ticks; lanes = lanes; road = road; tick = tick };
   seed = seed;
   cuts = cuts;
+  tries = tries;
 })
 
 -- the run of a source with all defaults
@@ -28,6 +30,7 @@ by_default file scenario = Generate (record {
   setting = record { ticks = 100; lanes = 3; road = 1000; tick = 100 };
   seed = 0;
   cuts = 200000;
+  tries = 1;
 })
 
 -- what `generate a.osc top` with these words after it asks for
@@ -35,21 +38,21 @@ abbrev of_top : List Text → Wanted
 of_top words = request (codes "generate" ∷ codes "a.osc" ∷ codes "top" ∷ words)
 
 -- options that aren't given have their defaults
-defaults : of_top [] ≡ run 100 3 1000 100 0 200000
+defaults : of_top [] ≡ run 100 3 1000 100 0 200000 1
 unfolding request wanted text_in number_in generate clap_on_literals
 defaults = refl
 
 -- each option can be given, also before the other words and with `=`
-all_given : request (codes "generate" ∷ codes "--ticks=600" ∷ codes "a.osc" ∷ codes "--lanes" ∷ codes "8" ∷ codes "--road" ∷ codes "10000" ∷ codes "--tick=1000" ∷ codes "top" ∷ codes "--seed" ∷ codes "18446744073709551615" ∷ codes "--cuts" ∷ codes "1000000" ∷ []) ≡ run 600 8 10000 1000 18446744073709551615 1000000
+all_given : request (codes "generate" ∷ codes "--ticks=600" ∷ codes "a.osc" ∷ codes "--lanes" ∷ codes "8" ∷ codes "--road" ∷ codes "10000" ∷ codes "--tick=1000" ∷ codes "top" ∷ codes "--seed" ∷ codes "18446744073709551615" ∷ codes "--cuts" ∷ codes "1000000" ∷ codes "--tries=100" ∷ []) ≡ run 600 8 10000 1000 18446744073709551615 1000000 100
 unfolding request wanted text_in number_in generate clap_on_literals
 all_given = refl
 
 -- zeros and a plus before a number are passed over
-zeros : of_top (codes "--ticks" ∷ codes "005" ∷ []) ≡ run 5 3 1000 100 0 200000
+zeros : of_top (codes "--ticks" ∷ codes "005" ∷ []) ≡ run 5 3 1000 100 0 200000 1
 unfolding request wanted text_in number_in generate clap_on_literals
 zeros = refl
 
-plus : of_top (codes "--ticks" ∷ codes "+5" ∷ []) ≡ run 5 3 1000 100 0 200000
+plus : of_top (codes "--ticks" ∷ codes "+5" ∷ []) ≡ run 5 3 1000 100 0 200000 1
 unfolding request wanted text_in number_in generate clap_on_literals
 plus = refl
 
@@ -57,6 +60,14 @@ plus = refl
 no_cuts : of_top (codes "--cuts" ∷ codes "0" ∷ []) ≡ Refused
 unfolding request wanted generate clap_on_literals
 no_cuts = refl
+
+no_tries : of_top (codes "--tries" ∷ codes "0" ∷ []) ≡ Refused
+unfolding request wanted generate clap_on_literals
+no_tries = refl
+
+more_tries : of_top (codes "--tries" ∷ codes "101" ∷ []) ≡ Refused
+unfolding request wanted generate clap_on_literals
+more_tries = refl
 
 more_ticks : of_top (codes "--ticks" ∷ codes "601" ∷ []) ≡ Refused
 unfolding request wanted generate clap_on_literals
@@ -147,6 +158,32 @@ usual = record { ticks = 100; lanes = 3; road = 1000; tick = 100 }
 check_defaults : request (codes "check" ∷ codes "a.osc" ∷ codes "top" ∷ codes "r" ∷ []) ≡ Check (record { source = top; run = codes "r"; setting = usual })
 unfolding request wanted text_in number_in check clap_on_literals
 check_defaults = refl
+
+export_defaults : request (codes "export" ∷ codes "a.osc" ∷ codes "top" ∷ codes "r" ∷ codes "--as" ∷ codes "csv" ∷ [])
+    ≡ Export (record { source = top; run = codes "r"; setting = usual; form = ExportForm.Csv; ego = []; lane_width = 3500 })
+unfolding request wanted text_in number_in export clap_on_literals
+export_defaults = refl
+
+export_given : request (codes "export" ∷ codes "--as=xosc" ∷ codes "a.osc" ∷ codes "top" ∷ codes "--ego" ∷ codes "sut.car" ∷ codes "r" ∷ codes "--lane-width" ∷ codes "3000" ∷ [])
+    ≡ Export (record { source = top; run = codes "r"; setting = usual; form = ExportForm.Xosc; ego = codes "sut.car"; lane_width = 3000 })
+unfolding request wanted text_in number_in export clap_on_literals
+export_given = refl
+
+no_form : request (codes "export" ∷ codes "a.osc" ∷ codes "top" ∷ codes "r" ∷ []) ≡ Refused
+unfolding request wanted export clap_on_literals
+no_form = refl
+
+unknown_form : request (codes "export" ∷ codes "a.osc" ∷ codes "top" ∷ codes "r" ∷ codes "--as" ∷ codes "svg" ∷ []) ≡ Refused
+unfolding request wanted text_in number_in export clap_on_literals
+unknown_form = refl
+
+narrow_lane : request (codes "export" ∷ codes "a.osc" ∷ codes "top" ∷ codes "r" ∷ codes "--as" ∷ codes "xodr" ∷ codes "--lane-width" ∷ codes "999" ∷ []) ≡ Refused
+unfolding request wanted export clap_on_literals
+narrow_lane = refl
+
+help_of_export : request (codes "export" ∷ codes "--help" ∷ []) ≡ Help export_help
+unfolding request wanted export clap_on_literals
+help_of_export = refl
 
 verify_given : request (codes "verify" ∷ codes "--road=9" ∷ codes "a.osc" ∷ codes "top" ∷ codes "--lanes" ∷ codes "1" ∷ codes "r" ∷ codes "--ticks" ∷ codes "7" ∷ codes "--tick" ∷ codes "20" ∷ [])
     ≡ Verify (record { source = top; «record» = codes "r"; setting = record { ticks = 7; lanes = 1; road = 9; tick = 20 } })
@@ -293,6 +330,6 @@ abbrev is_narrow : ℕ → Text → Bool
 is_narrow n [] = true
 is_narrow n (byte ∷ rest) = nat_le n 80 && is_narrow (if byte == 10 then 0 else (n + 1)) rest
 
-narrow : (is_narrow 0 general_help && (is_narrow 0 generate_help && (is_narrow 0 check_help && (is_narrow 0 verify_help && (is_narrow 0 flat_help && (is_narrow 0 make_help && is_narrow 0 migrate_help)))))) ≡ true
-unfolding general_help generate_help check_help verify_help flat_help make_help migrate_help
+narrow : (is_narrow 0 general_help && (is_narrow 0 generate_help && (is_narrow 0 check_help && (is_narrow 0 export_help && (is_narrow 0 verify_help && (is_narrow 0 flat_help && (is_narrow 0 make_help && is_narrow 0 migrate_help))))))) ≡ true
+unfolding general_help generate_help check_help export_help verify_help flat_help make_help migrate_help
 narrow = refl

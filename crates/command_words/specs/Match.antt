@@ -22,6 +22,14 @@ number_rule name least most default = record (new_rule name) {
   defaults = default ∷ [];
 }
 
+-- an option `--name` with a text, which may be left out
+abbrev pub text_rule : Text → Rule
+text_rule name = record (new_rule name) { long = Some name; action = Some Set }
+
+-- an option `--name` with a text, which must be given
+abbrev pub choice_rule : Text → Rule
+choice_rule name = record (text_rule name) { required = true }
+
 -- the command with these arguments, which reads the words after its own
 abbrev pub command_of : Text → List Rule → App
 command_of name rules = record {

@@ -1,9 +1,10 @@
 -- What a contract sees of the requests of the code.
 use Rattle.fault_texts.specs.Explained.{explanation, topic_list}
 use Rattle.command_words.specs.Shared.{Source}
-use Rattle.command_words.specs.Words.{CheckAsked, FlatAsked, GenerateAsked, MakeAsked, MigrateAsked, VerifyAsked, Wanted}
-use Rattle.command_words.specs.Words.{Help, Generate, Check, Verify, Flat, Make, Migrate, Refused}
+use Rattle.command_words.specs.Words.{CheckAsked, ExportAsked, FlatAsked, GenerateAsked, MakeAsked, MigrateAsked, VerifyAsked, Wanted}
+use Rattle.command_words.specs.Words.{Help, Generate, Check, Export, Verify, Flat, Make, Migrate, Refused}
 use Rattle.command_words.specs.declared.requests.CheckWords.{CheckWords}
+use Rattle.command_words.specs.declared.requests.ExportWords.{ExportWords}
 use Rattle.command_words.specs.declared.requests.FlatWords.{FlatWords}
 use Rattle.command_words.specs.declared.requests.GenerateWords.{GenerateWords}
 use Rattle.command_words.specs.declared.requests.MakeWords.{MakeWords}
@@ -22,6 +23,7 @@ asked_by words = record {
   setting = words.setting;
   seed = words.seed;
   cuts = words.cuts;
+  tries = words.tries;
 }
 
 abbrev pub checked_by : CheckWords → CheckAsked
@@ -29,6 +31,16 @@ checked_by words = record {
   source = source_by words.source;
   run = words.run.now;
   setting = words.setting;
+}
+
+abbrev pub exported_by : ExportWords → ExportAsked
+exported_by words = record {
+  source = source_by words.source;
+  run = words.run.now;
+  setting = words.setting;
+  form = words.form;
+  ego = words.ego.now;
+  lane_width = words.lane_width;
 }
 
 abbrev pub verified_by : VerifyWords → VerifyAsked
@@ -53,6 +65,7 @@ seen request.Topics = Help topic_list
 seen (request.Explain topic) = Help (explanation topic)
 seen (request.Generate words) = Generate (asked_by words)
 seen (request.Check words) = Check (checked_by words)
+seen (request.Export words) = Export (exported_by words)
 seen (request.Verify words) = Verify (verified_by words)
 seen (request.Flat words) = Flat (flattened_by words)
 seen (request.Make words) = Make (made_by words)

@@ -16,6 +16,7 @@ general_help = lined (
     ∷ codes "Usage:"
     ∷ codes "  osc generate FILE SCENARIO [OPTIONS]"
     ∷ codes "  osc check FILE SCENARIO RUN [OPTIONS]"
+    ∷ codes "  osc export FILE SCENARIO RUN --as FORM [OPTIONS]"
     ∷ codes "  osc verify FILE SCENARIO RECORD [OPTIONS]"
     ∷ codes "  osc flat FILE SCENARIO [OPTIONS]"
     ∷ codes "  osc make N"
@@ -27,6 +28,7 @@ general_help = lined (
     ∷ codes "Commands:"
     ∷ codes "  generate   writes a run of a scenario; for its options: osc generate --help"
     ∷ codes "  check      says whether a run is an instance; its words: osc check --help"
+    ∷ codes "  export     writes a run as csv, xosc, xodr or html: osc export --help"
     ∷ codes "  verify     says whether a record is right; its words: osc verify --help"
     ∷ codes "  flat       lists the slots and rules of a scenario: osc flat --help"
     ∷ codes "  make       writes a run of a made scenario with N vehicles: osc make --help"
@@ -38,7 +40,7 @@ general_help = lined (
     ∷ codes "Statuses, and what osc writes to standard output:"
     ∷ codes "  0  success: what was asked for; of check and verify: yes"
     ∷ codes "  1  there is no instance: the record that shows it"
-    ∷ codes "     of check: no CLAUSE PATH FILE:LINE:COLUMN"
+    ∷ codes "     of check and export: no CLAUSE PATH FILE:LINE:COLUMN"
     ∷ codes "     (only constraints and modifiers have a place)"
     ∷ codes "     of verify: no LINE, the first line that isn't accepted"
     ∷ codes "  2  undecided after all cuts: the record; of verify: open CUTS"
@@ -110,7 +112,9 @@ generate_help = scene_help (record {
   names = codes "FILE or SCENARIO";
   options = codes "  --seed N   the seed of what is drawn at random:"
       ∷ codes "             0 to 18446744073709551615, default 0"
-      ∷ codes "  --cuts N   the most cuts of the search: 1 to 1000000, default 200000"
+      ∷ codes "  --cuts N   the most cuts of a search: 1 to 1000000, default 200000"
+      ∷ codes "  --tries N  the most searches, each next one with the next seed, up to one that"
+      ∷ codes "             is decided: 1 to 100, default 1"
       ∷ [];
   writes = codes "A source file with a scenario named top:"
       ∷ codes "  scenario top:"
@@ -120,7 +124,7 @@ generate_help = scene_help (record {
       ∷ codes "The run is an instance of the scenario: osc check says yes to it. With status 1"
       ∷ codes "it writes a record in place of a run, which shows that there is no instance"
       ∷ codes "within the bounds. With status 2 it writes a record of a search that ended"
-      ∷ codes "undecided: more cuts may help. osc verify reads both."
+      ∷ codes "undecided: more tries or more cuts may help. osc verify reads both."
       ∷ [];
 })
 
@@ -139,6 +143,32 @@ check_help = scene_help (record {
   writes = codes "It writes yes if the run is an instance, and else no, the first clause that"
       ∷ codes "fails, its path, and its place in the source if it is about a constraint or a"
       ∷ codes "modifier."
+      ∷ [];
+})
+
+-- the words and options of `export`
+unfoldable pub export_help : List ℕ
+export_help = scene_help (record {
+  does = codes "osc export reads a source file and a run, checks the run as osc check does, and"
+      ∷ codes "writes it in another form."
+      ∷ [];
+  usage = codes "  osc export FILE SCENARIO RUN --as FORM [OPTIONS]";
+  words = codes "  RUN        the file with the run, as osc generate writes it: JSON, at most"
+      ∷ codes "             16777216 bytes"
+      ∷ [];
+  names = codes "FILE, SCENARIO or RUN";
+  options = codes "  --as FORM  the form, which must be given:"
+      ∷ codes "             csv   a table: a line for each vehicle and tick"
+      ∷ codes "             xosc  ASAM OpenSCENARIO XML 1.1, over the road in road.xodr"
+      ∷ codes "             xodr  that road: ASAM OpenDRIVE 1.6"
+      ∷ codes "             html  a page for a browser, which shows the run"
+      ∷ codes "  --ego PATH only starts this vehicle in xosc: the simulator drives it"
+      ∷ codes "  --lane-width MM"
+      ∷ codes "             the width of a lane in millimetres: 1000 to 10000, default 3500"
+      ∷ [];
+  writes = codes "If the run is an instance, its text in this form is written. Else it writes no,"
+      ∷ codes "and what osc check writes after it. The options of the setting are to be those"
+      ∷ codes "with which the run was written."
       ∷ [];
 })
 

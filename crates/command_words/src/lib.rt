@@ -9,10 +9,10 @@ mod shared;
 mod texts;
 
 pub use requests::{
-    CheckWords, FlatWords, GenerateWords, MakeWords, MigrateWords, Request, Setting, Source,
-    VerifyWords, read_words,
+    CheckWords, ExportForm, ExportWords, FlatWords, GenerateWords, MakeWords, MigrateWords,
+    Request, Setting, Source, VerifyWords, read_words,
 };
 pub use texts::{
-    check_help, flat_help, general_help, generate_help, make_help, migrate_help, verify_help,
-    version_text,
+    check_help, export_help, flat_help, general_help, generate_help, make_help, migrate_help,
+    verify_help, version_text,
 };

@@ -1,6 +1,6 @@
 ghost use Rattle.std.specs.Prelude.{◌≡◌, IfOk, true, false, [], map, string_bytes};
 ghost use Rattle.clap.specs.Words.{app_of, is_simple_and_free, found_of, rule_of};
-ghost use Rattle.command_words.specs.Match.{command_of, number_rule, number_word_rule, word_rule};
+ghost use Rattle.command_words.specs.Match.{choice_rule, command_of, number_rule, number_word_rule, text_rule, word_rule};
 ghost use Rattle.command_words.specs.Parse.{HoldsNumber, IsParse, is_leaf, number_held, text_held};
 
 use clap::builder::ValueParser;
@@ -67,7 +67,23 @@ pub fn number<'a>(alloc: Global, name: &'a str, least: u64, most: u64, default: 
         .default_value(default)
 }
 
-/// The text that was matched with the word `name`; empty if there is none.
+/// An option `--name` with a text, which may be left out.
+pub fn text<'a>(alloc: Global, name: &'a str) -> Arg<'a>
+    ensures rule { rule_of result ≡ text_rule name.entry.now }
+    ensures local { result.global ≡ false }
+{
+    Arg::new(alloc, name).long(name).action(ArgAction::Set)
+}
+
+/// An option `--name` with a text, which must be given.
+pub fn choice<'a>(alloc: Global, name: &'a str) -> Arg<'a>
+    ensures rule { rule_of result ≡ choice_rule name.entry.now }
+    ensures local { result.global ≡ false }
+{
+    text(alloc, name).required(true)
+}
+
+/// The text that was matched with the word or the option `name`; empty if there is none.
 pub fn text_of<'a>(matches: &ArgMatches<'a>, name: &str) -> &'a str
     ensures { result.now ≡ text_held (found_of matches.now) name.now }
 {

@@ -5,8 +5,8 @@ ghost use Rattle.command_words.specs.Words.{HasRanges, help_named, help_of_word,
 use crate::commands::{CommandName, read_command};
 use crate::explain::read_explain;
 use crate::texts::{
-    check_help, flat_help, general_help, generate_help, make_help, migrate_help, verify_help,
-    version_text,
+    check_help, export_help, flat_help, general_help, generate_help, make_help, migrate_help,
+    verify_help, version_text,
 };
 use fault_texts::Topic;
 use std::alloc::{AllocError, Global};
@@ -24,6 +24,8 @@ pub enum Request<'a> {
     Generate(GenerateWords<'a>),
     /// A run is to be checked.
     Check(CheckWords<'a>),
+    /// A run is to be written in another form.
+    Export(ExportWords<'a>),
     /// A record is to be verified.
     Verify(VerifyWords<'a>),
     /// The slots and rules of a scenario are to be listed.
@@ -67,6 +69,8 @@ pub struct GenerateWords<'a> {
     pub seed: u64,
     /// The most cuts that a search makes, 1 to 1000000.
     pub cuts: u32,
+    /// The most searches, 1 to 100. Each but the first follows one that ended undecided.
+    pub tries: u32,
 }
 
 /// What the words after `check` ask for.
@@ -76,6 +80,33 @@ pub struct CheckWords<'a> {
     /// The name of the file with the run. It may be any text, even an empty one.
     pub run: &'a str,
     pub setting: Setting,
+}
+
+/// A form in which a run leaves the tool.
+#[derive(Debug, Clone, Copy, PartialEq, Eq)]
+pub enum ExportForm {
+    /// A table of comma separated values.
+    Csv,
+    /// A file in ASAM OpenSCENARIO XML 1.1.
+    Xosc,
+    /// The road, as a file in ASAM OpenDRIVE 1.6.
+    Xodr,
+    /// A page for a browser.
+    Html,
+}
+
+/// What the words after `export` ask for.
+#[derive(Debug, Clone, Copy)]
+pub struct ExportWords<'a> {
+    pub source: Source<'a>,
+    /// The name of the file with the run. It may be any text, even an empty one.
+    pub run: &'a str,
+    pub setting: Setting,
+    pub form: ExportForm,
+    /// The path of the vehicle that a simulator drives; empty if there is none.
+    pub ego: &'a str,
+    /// The width of a lane in millimetres, 1000 to 10000.
+    pub lane_width: u32,
 }
 
 /// What the words after `verify` ask for.
@@ -124,6 +155,7 @@ pub fn read_words(alloc: Global, words: &[String]) -> Result<Request<'_>, AllocE
         "--version" | "-V" => Ok(Request::Help(version_text())),
         "generate" => read_command(alloc, CommandName::Generate, rest),
         "check" => read_command(alloc, CommandName::Check, rest),
+        "export" => read_command(alloc, CommandName::Export, rest),
         "verify" => read_command(alloc, CommandName::Verify, rest),
         "flat" => read_command(alloc, CommandName::Flat, rest),
         "make" => read_command(alloc, CommandName::Make, rest),
@@ -150,6 +182,7 @@ fn help_of_word(word: &str) -> &'static str
     match word {
         "generate" => generate_help(),
         "check" => check_help(),
+        "export" => export_help(),
         "verify" => verify_help(),
         "flat" => flat_help(),
         "make" => make_help(),

@@ -1,5 +1,5 @@
 ghost use Rattle.std.specs.Prelude.{◌≡◌};
-ghost use Rattle.command_words.specs.Texts.{check_help, flat_help, general_help, generate_help, make_help, migrate_help, verify_help, version_text};
+ghost use Rattle.command_words.specs.Texts.{check_help, export_help, flat_help, general_help, generate_help, make_help, migrate_help, verify_help, version_text};
 
 const GENERAL_HELP: &str = concat!(
     "osc reads a scenario of driving, written in a profile of OpenSCENARIO DSL 2.1,\n",
@@ -9,6 +9,7 @@ const GENERAL_HELP: &str = concat!(
     "Usage:\n",
     "  osc generate FILE SCENARIO [OPTIONS]\n",
     "  osc check FILE SCENARIO RUN [OPTIONS]\n",
+    "  osc export FILE SCENARIO RUN --as FORM [OPTIONS]\n",
     "  osc verify FILE SCENARIO RECORD [OPTIONS]\n",
     "  osc flat FILE SCENARIO [OPTIONS]\n",
     "  osc make N\n",
@@ -20,6 +21,7 @@ const GENERAL_HELP: &str = concat!(
     "Commands:\n",
     "  generate   writes a run of a scenario; for its options: osc generate --help\n",
     "  check      says whether a run is an instance; its words: osc check --help\n",
+    "  export     writes a run as csv, xosc, xodr or html: osc export --help\n",
     "  verify     says whether a record is right; its words: osc verify --help\n",
     "  flat       lists the slots and rules of a scenario: osc flat --help\n",
     "  make       writes a run of a made scenario with N vehicles: osc make --help\n",
@@ -31,7 +33,7 @@ const GENERAL_HELP: &str = concat!(
     "Statuses, and what osc writes to standard output:\n",
     "  0  success: what was asked for; of check and verify: yes\n",
     "  1  there is no instance: the record that shows it\n",
-    "     of check: no CLAUSE PATH FILE:LINE:COLUMN\n",
+    "     of check and export: no CLAUSE PATH FILE:LINE:COLUMN\n",
     "     (only constraints and modifiers have a place)\n",
     "     of verify: no LINE, the first line that isn't accepted\n",
     "  2  undecided after all cuts: the record; of verify: open CUTS\n",
@@ -99,7 +101,9 @@ const GENERATE_HELP: &str = scene_help! {
     options: [
         "  --seed N   the seed of what is drawn at random:",
         "             0 to 18446744073709551615, default 0",
-        "  --cuts N   the most cuts of the search: 1 to 1000000, default 200000",
+        "  --cuts N   the most cuts of a search: 1 to 1000000, default 200000",
+        "  --tries N  the most searches, each next one with the next seed, up to one that",
+        "             is decided: 1 to 100, default 1",
     ],
     writes: [
         "A source file with a scenario named top:",
@@ -110,7 +114,7 @@ const GENERATE_HELP: &str = scene_help! {
         "The run is an instance of the scenario: osc check says yes to it. With status 1",
         "it writes a record in place of a run, which shows that there is no instance",
         "within the bounds. With status 2 it writes a record of a search that ended",
-        "undecided: more cuts may help. osc verify reads both.",
+        "undecided: more tries or more cuts may help. osc verify reads both.",
     ],
 };
 
@@ -130,6 +134,34 @@ const CHECK_HELP: &str = scene_help! {
         "It writes yes if the run is an instance, and else no, the first clause that",
         "fails, its path, and its place in the source if it is about a constraint or a",
         "modifier.",
+    ],
+};
+
+const EXPORT_HELP: &str = scene_help! {
+    does: [
+        "osc export reads a source file and a run, checks the run as osc check does, and",
+        "writes it in another form.",
+    ],
+    usage: "  osc export FILE SCENARIO RUN --as FORM [OPTIONS]",
+    words: [
+        "  RUN        the file with the run, as osc generate writes it: JSON, at most",
+        "             16777216 bytes",
+    ],
+    names: "FILE, SCENARIO or RUN",
+    options: [
+        "  --as FORM  the form, which must be given:",
+        "             csv   a table: a line for each vehicle and tick",
+        "             xosc  ASAM OpenSCENARIO XML 1.1, over the road in road.xodr",
+        "             xodr  that road: ASAM OpenDRIVE 1.6",
+        "             html  a page for a browser, which shows the run",
+        "  --ego PATH only starts this vehicle in xosc: the simulator drives it",
+        "  --lane-width MM",
+        "             the width of a lane in millimetres: 1000 to 10000, default 3500",
+    ],
+    writes: [
+        "If the run is an instance, its text in this form is written. Else it writes no,",
+        "and what osc check writes after it. The options of the setting are to be those",
+        "with which the run was written.",
     ],
 };
 
@@ -239,6 +271,13 @@ pub fn check_help() -> &'static str
     ensures { result.now ≡ check_help }
 {
     CHECK_HELP
+}
+
+/// The words and options of `osc export`.
+pub fn export_help() -> &'static str
+    ensures { result.now ≡ export_help }
+{
+    EXPORT_HELP
 }
 
 /// The words and options of `osc verify`.

@@ -12,4 +12,8 @@ mod keywords;
 mod refusal;
 mod unknown;
 
+pub use fault_texts::Status;
+pub use message_parts::{NotedShelf, NotedSink};
+pub use osc_base::Row;
+pub use outside_io::{FileShelf, MemoryShelf, MemorySink, OutSink};
 pub use refusal::{refusal_message, status_message};

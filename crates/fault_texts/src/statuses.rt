@@ -21,10 +21,10 @@ pub(crate) const WORDS: Texts = texts! {
 pub(crate) const TEXT: Texts = texts! {
     title: "the run or the record is refused",
     meaning: [
-        "`check` reads the text of a run, and `verify` reads a record. The answer is",
-        "`text json` if a run is no JSON. It is `text` and a JSON pointer if a part of",
-        "a run has a wrong shape. It is `text` and a number if that line of a record is",
-        "wrong.",
+        "`check` and `export` read the text of a run, and `verify` reads a record. The",
+        "answer is `text json` if a run is no JSON. It is `text` and a JSON pointer if a",
+        "part of a run has a wrong shape. It is `text` and a number if that line of a",
+        "record is wrong.",
     ],
     example: [
         "echo '{' > run.json",
@@ -32,8 +32,8 @@ pub(crate) const TEXT: Texts = texts! {
     ],
     answer: "text json",
     mending: [
-        "Give `check` what `generate` wrote on status 0, and `verify` what it wrote on",
-        "status 1 or 2, unchanged.",
+        "Give `check` and `export` what `generate` wrote on status 0, and `verify` what",
+        "it wrote on status 1 or 2, unchanged.",
     ],
 };
 

@@ -4,7 +4,7 @@ use Rattle.std.specs.Fmt.{decimal}
 use Rattle.outside_io.specs.declared.shelf.NamedBytes.{NamedBytes}
 use Rattle.box_eval.specs.declared.flat.Flat.{Flat}
 use Rattle.box_eval.specs.Rules.{IsEmpty}
-use Rattle.box_eval.proofs.Empty.{refutation_empty}
+use Rattle.record_trees.proofs.Empty.{refutation_empty}
 use Rattle.flat_forms.proofs.of_field_flatten.Exact.{exact_flat}
 use Rattle.refute_check.specs.Answers.{IsRefutationText}
 use Rattle.command_replies.specs.declared.status.Status.{Status}

@@ -6,8 +6,8 @@ use Rattle.std.proofs.lemmas.Bool.{ltb-true}
 use Rattle.outside_io.specs.declared.shelf.NamedBytes.{NamedBytes}
 use Rattle.outside_io.specs.Files.{file_named}
 use Rattle.box_eval.specs.declared.flat.Flat.{Flat}
-use Rattle.box_eval.specs.declared.record.Record.{Record}
-use Rattle.box_eval.specs.Record.{Tree, IsFirstFalse, marks}
+use Rattle.record_trees.specs.declared.record.Record.{Record}
+use Rattle.record_trees.specs.Record.{Tree, IsFirstFalse, marks}
 use Rattle.command_replies.specs.record_text.Source.{limit}
 use Rattle.command_replies.proofs.of_record_text.BadLines.{one_bad_line}
 use Rattle.command_replies.proofs.of_record_text.Texts.{text_of_one}

@@ -6,8 +6,8 @@ use Rattle.std.proofs.lemmas.List.{length-append}
 use Rattle.outside_io.specs.declared.shelf.NamedBytes.{NamedBytes}
 use Rattle.outside_io.specs.Files.{file_named}
 use Rattle.box_eval.specs.declared.flat.Flat.{Flat}
-use Rattle.box_eval.specs.declared.record.Record.{Record}
-use Rattle.box_eval.specs.Record.{Tree, has_open, cuts_of, AllTrue, IsFirstFalse, marks, IsAcceptedAs}
+use Rattle.record_trees.specs.declared.record.Record.{Record}
+use Rattle.record_trees.specs.Record.{Tree, has_open, cuts_of, AllTrue, IsFirstFalse, marks, IsAcceptedAs}
 use Rattle.command_replies.specs.record_text.declared.line.TextLine.{TextLine}
 use Rattle.command_replies.specs.record_text.Lines.{spelled, text_of}
 use Rattle.command_replies.specs.record_text.Source.{limit}

@@ -1,4 +1,4 @@
-//! A program that calls `judge`, a `Trail` or a `WakeRing` many times, for `bench/leaves` to time:
+//! A program that calls `judge`, a `Trail` or a `NumberQueue` many times, for `bench/leaves` to time:
 //! `leaf_bench PART ROUNDS` makes so many rounds of calls and prints what they add up to.
 #![tactic(auto)]
 

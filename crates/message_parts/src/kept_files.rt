@@ -15,6 +15,7 @@ pub fn source_in(alloc: Global, words: &[String]) -> Result<Option<Source<'_>>, 
     match read_words(alloc, words)? {
         Request::Generate(asked) => Ok(Some(asked.source)),
         Request::Check(asked) => Ok(Some(asked.source)),
+        Request::Export(asked) => Ok(Some(asked.source)),
         Request::Verify(asked) => Ok(Some(asked.source)),
         Request::Flat(asked) => Ok(Some(asked.source)),
         _ => Ok(None),

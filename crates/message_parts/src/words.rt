@@ -4,8 +4,8 @@
 
 use crate::message::{put_explain, put_help};
 use command_words::{
-    Request, check_help, flat_help, general_help, generate_help, make_help, migrate_help,
-    read_words, verify_help,
+    Request, check_help, export_help, flat_help, general_help, generate_help, make_help,
+    migrate_help, read_words, verify_help,
 };
 use fault_texts::{Status, Topic, topic_named};
 use mistake_cases::Nearest;
@@ -13,10 +13,13 @@ use std::alloc::{AllocError, Global};
 
 /// The most words that are looked at.
 const WORDS: usize = 100;
+/// The option of `export` that must be given.
+const FORM: &str = "--as";
 /// First words that ask for something.
-const COMMANDS: [&str; 10] = [
+const COMMANDS: [&str; 11] = [
     "generate",
     "check",
+    "export",
     "verify",
     "flat",
     "make",
@@ -46,7 +49,7 @@ fn put_page(text: &mut String, words: &[String]) -> Result<(), AllocError> {
         None => "",
     };
     match command {
-        "generate" | "check" | "verify" | "flat" | "make" | "migrate" => {
+        "generate" | "check" | "export" | "verify" | "flat" | "make" | "migrate" => {
             write!(
                 text,
                 "  = help: `osc {command} --help` lists the words and options of `{command}`\n"
@@ -62,6 +65,7 @@ fn help_of(command: &str) -> &'static str {
     match command {
         "generate" => generate_help(),
         "check" => check_help(),
+        "export" => export_help(),
         "verify" => verify_help(),
         "flat" => flat_help(),
         "make" => make_help(),
@@ -261,7 +265,7 @@ fn taken(alloc: Global, words: &[&str]) -> Result<usize, AllocError> {
 /// The words that a command takes, in their order.
 fn words_of(command: &str) -> &'static [&'static str] {
     match command {
-        "check" => &["FILE", "SCENARIO", "RUN"],
+        "check" | "export" => &["FILE", "SCENARIO", "RUN"],
         "verify" => &["FILE", "SCENARIO", "RECORD"],
         "make" => &["N"],
         "migrate" => &["RUN"],
@@ -280,7 +284,7 @@ fn put_missing(
     let count = names.len().saturating_sub(missing(alloc, words)?);
     let (given, wanted) = names.split_at(count);
     match wanted {
-        [] => return text.push_str("these words can't stand together\n"),
+        [] => return put_together(text, command, words),
         [one] => write!(text, "{one} is missing")?,
         [one, two] => write!(text, "{one} and {two} are missing")?,
         [one, two, three, ..] => write!(text, "{one}, {two} and {three} are missing")?,
@@ -291,15 +295,56 @@ fn put_missing(
     }
 }
 
+/// Puts why words can't stand together: of `export` the form is missing, or isn't known.
+fn put_together(text: &mut String, command: &str, words: &[&str]) -> Result<(), AllocError> {
+    if command != "export" {
+        return text.push_str("these words can't stand together\n");
+    }
+    match form_in(words) {
+        Some(form) => put_value(text, command, FORM, Some(form)),
+        None => {
+            write!(text, "`{FORM}` is missing\n")?;
+            put_entry(text, command, FORM)
+        }
+    }
+}
+
+/// The form that the words name.
+fn form_in<'a>(words: &[&'a str]) -> Option<&'a str> {
+    for (index, word) in words.iter().enumerate() {
+        if *word == FORM {
+            return words.get(index.saturating_add(1)).copied();
+        }
+        if let Some(form) = word.strip_prefix("--as=") {
+            return Some(form);
+        }
+    }
+    None
+}
+
 /// How many more words would be taken, up to 3; 0 if none would. Each command takes the word 1, also for a number.
 fn missing(alloc: Global, words: &[&str]) -> Result<usize, AllocError> {
     let more = ["1", "1", "1"];
     for count in 1..4 {
-        if is_taken(read_with(alloc, words, &more[..count])?) {
+        if is_whole(alloc, words, &more[..count])? {
             return Ok(count);
         }
     }
     Ok(0)
+}
+
+/// Whether the words are taken with these more, and with a form if they name none.
+fn is_whole(alloc: Global, words: &[&str], more: &[&str]) -> Result<bool, AllocError> {
+    if is_taken(read_with(alloc, words, more)?) {
+        return Ok(true);
+    }
+    let mut formed = Vec::new(alloc);
+    for word in words {
+        formed.push(*word)?;
+    }
+    formed.push(FORM)?;
+    formed.push("csv")?;
+    Ok(is_taken(read_with(alloc, formed.as_slice(), more)?))
 }
 
 /// Puts that an option doesn't take the value after it, or has none.
@@ -316,10 +361,14 @@ fn put_value(
     put_entry(text, command, option)
 }
 
-/// Whether after these words this one is an option that wants a value. Each option takes the value 1 or 100.
+/// Whether after these words this one is an option that wants a value. Each option takes one of three values.
 fn is_option(alloc: Global, before: &[&str], word: &str) -> Result<bool, AllocError> {
-    let takes_one = is_help(read_with(alloc, before, &[word, "1", "--help"])?);
-    Ok(takes_one || is_help(read_with(alloc, before, &[word, "100", "--help"])?))
+    for value in ["1", "100", "1000"] {
+        if is_help(read_with(alloc, before, &[word, value, "--help"])?) {
+            return Ok(true);
+        }
+    }
+    Ok(false)
 }
 
 /// What words ask for.

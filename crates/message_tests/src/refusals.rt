@@ -63,7 +63,7 @@ fn words_after_a_command(rt: HostRuntime) -> Result<(), Fail> {
 
 #[test]
 fn first_words(rt: HostRuntime) -> Result<(), Fail> {
-    let rows: [(&[&str], &str); 13] = [
+    let rows: [(&[&str], &str); 18] = [
         (&[], "error: there is no command\n  = help: "),
         (
             &["genrate", "a.osc", "top"],
@@ -84,6 +84,23 @@ fn first_words(rt: HostRuntime) -> Result<(), Fail> {
         (&["flat"], "error: FILE and SCENARIO are missing\n"),
         (&["make"], "error: N is missing\n"),
         (&["migrate"], "error: RUN is missing\n"),
+        (&["export"], "error: FILE, SCENARIO and RUN are missing\n"),
+        (
+            &["export", "a.osc", "top", "--as", "csv"],
+            "error: RUN is missing after SCENARIO\n",
+        ),
+        (
+            &["export", "a.osc", "top", "run.json"],
+            "error: `--as` is missing\n  = help: --as FORM  the form",
+        ),
+        (
+            &["export", "a.osc", "top", "run.json", "--as", "cvs"],
+            "error: `--as` doesn't take the value `cvs`\n  = help: --as FORM  the form",
+        ),
+        (
+            &["export", "a.osc", "top", "run.json", "--lane-width", "3"],
+            "error: `--lane-width` doesn't take the value `3`\n",
+        ),
         (
             &["migrate", "run.json", "--tick", "50"],
             "error: `osc migrate` has no option `--tick`\n",

@@ -3,12 +3,11 @@
 //! error. It is made of what was read and written: no file is read twice.
 #![tactic(auto)]
 
-use diagnostics::{refusal_message, status_message};
-use fault_texts::Status;
-use message_parts::{NotedShelf, NotedSink};
-use osc_base::Row;
+use diagnostics::{
+    FileShelf, MemoryShelf, MemorySink, NotedShelf, NotedSink, OutSink, Row, Status,
+    refusal_message, status_message,
+};
 use outcome_messages::{Outcome, listing_words, outcome_message};
-use outside_io::{FileShelf, MemoryShelf, MemorySink, OutSink};
 use scenario_tool::command;
 use std::alloc::{AllocError, Global};
 use std::io::IsTerminal;

@@ -123,7 +123,7 @@ fn put_answer(
             put_undecided(alloc, text, asked, outcome.words, kept)?;
             put_record(text, outcome, "says what was tried")
         }
-        (Command::Check, 1) => put_failed(alloc, text, asked, line, kept),
+        (Command::Check | Command::Export, 1) => put_failed(alloc, text, asked, line, kept),
         (Command::Verify, 1) => put_refuted(alloc, text, asked, line, kept),
         (Command::Verify, 2) => put_open(text, asked, line),
         _ => Ok(()),

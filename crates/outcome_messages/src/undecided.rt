@@ -7,6 +7,8 @@ use std::alloc::{AllocError, Global};
 
 /// The most cuts of a search.
 const MOST_CUTS: u32 = 1_000_000;
+/// The most searches of a call.
+const MOST_TRIES: u32 = 100;
 
 /// Puts that nothing is decided, and what helps.
 pub fn put_undecided(
@@ -16,14 +18,11 @@ pub fn put_undecided(
     words: &[String],
     kept: &mut MemoryShelf,
 ) -> Result<(), AllocError> {
-    let (scenario, file, cuts) = (asked.source.scenario, asked.source.file, asked.cuts);
-    write!(
-        text,
-        "undecided: {cuts} cuts (`--cuts {cuts}`) found no run of `{scenario}`, and no proof that there is none,\n  within "
-    )?;
+    let (file, cuts) = (asked.source.file, asked.cuts);
+    put_what_was_tried(text, asked)?;
     put_setting(text, asked.setting)?;
     text.push_str("\n")?;
-    put_seed(text, words)?;
+    put_more_tries(text, words, asked.tries)?;
     if drives_without_start(alloc, file, kept)? {
         put_help(
             text,
@@ -40,20 +39,47 @@ pub fn put_undecided(
     Ok(())
 }
 
-/// Puts that another seed may help, with the call for one if the words give none.
-fn put_seed(text: &mut String, words: &[String]) -> Result<(), AllocError> {
-    text.push_str("  = help: another seed often decides it")?;
-    if words.iter().any(|word| ends_options(word.as_str())) {
-        return text.push_str("\n");
+/// Puts how many cuts, and of more searches than one how many searches, left the scenario undecided.
+fn put_what_was_tried(text: &mut String, asked: &Asked<'_>) -> Result<(), AllocError> {
+    let (cuts, tries) = (asked.cuts, asked.tries);
+    text.push_str("undecided: ")?;
+    if tries > 1 {
+        write!(
+            text,
+            "{tries} searches (`--tries {tries}`) of {cuts} cuts each (`--cuts {cuts}`)"
+        )?;
+    } else {
+        write!(text, "{cuts} cuts (`--cuts {cuts}`)")?;
     }
-    text.push_str(": `")?;
-    put_call(text, words)?;
-    text.push_str(" --seed 1`\n")
+    let scenario = asked.source.scenario;
+    write!(
+        text,
+        " found no run of `{scenario}`, and no proof that there is none,\n  within "
+    )
 }
 
-/// Whether no other seed can be put behind a word: it gives one, or ends the options.
+/// Puts that more searches may help, with the call for ten if the words give no number of them.
+fn put_more_tries(text: &mut String, words: &[String], tries: u32) -> Result<(), AllocError> {
+    if tries >= MOST_TRIES {
+        return text.push_str("  = help: other seeds may decide it: begin with another `--seed`\n");
+    }
+    if tries > 1 {
+        return write!(
+            text,
+            "  = help: more seeds may decide it: `--tries {MOST_TRIES}` tries a hundred\n"
+        );
+    }
+    text.push_str("  = help: another seed often decides it: `")?;
+    if !words.iter().any(|word| ends_options(word.as_str())) {
+        put_call(text, words)?;
+        text.push_str(" ")?;
+    }
+    text.push_str("--tries 10` tries ten\n")
+}
+
+/// Whether no number of searches can be put behind a word: it gives one, or ends the options.
 fn ends_options(word: &str) -> bool {
-    word == "--" || word.starts_with("--seed")
+    word == "--" || word.starts_with("--tries")
 }
 
 /// Whether vehicles drive in a source, and no line of it says where one starts on the road.

@@ -1,16 +1,19 @@
 -- What the search returns is accepted, and what is written of it is read as that record.
-use Rattle.std.proofs.Common.{◌≡◌, refl, ap, subst, ⊎_elim, ℕ, ◌+◌, ◌*◌, Bool, true, ◌||◌, length, map, arith, length-append, List, [], ◌∷◌}
+use Rattle.std.proofs.Common.{◌≡◌, refl, ap, subst, ⊎_elim, ℕ, suc, ◌+◌, ◌*◌, Bool, true, ◌||◌, length, map, drop, arith, length-append, List, [], ◌∷◌}
 use Rattle.std.proofs.lemmas.List.{length-map}
 use Rattle.box_eval.specs.declared.bounds.Pair.{Pair}
+use Rattle.box_eval.specs.declared.cut.Cut.{Cut}
 use Rattle.box_eval.specs.declared.flat.Flat.{Flat}
-use Rattle.box_eval.specs.declared.record.Record.{Record}
+use Rattle.linear_sums.specs.declared.pick.Pick.{Pick}
+use Rattle.record_trees.specs.declared.record.Line.{Line}
+use Rattle.record_trees.specs.declared.record.Record.{Record}
 use Rattle.box_eval.specs.Box.{first_part, second_part}
-use Rattle.box_eval.specs.Guided.{EndsAt}
-use Rattle.box_eval.specs.Record.{Tree, branch, leaf, has_open, cuts_of, IsRecordOf, IsAcceptedAs, IsRefutation}
-use Rattle.box_eval.proofs.Lines.{length_lines}
+use Rattle.record_trees.specs.Guided.{EndsAt}
+use Rattle.record_trees.specs.Record.{Tree, branch, leaf, has_open, cuts_of, IsRecordOf, IsAcceptedAs, IsRefutation}
+use Rattle.record_trees.proofs.Lines.{length_lines}
 use Rattle.record_text.specs.declared.line.TextLine.TheVariants as T
 use Rattle.box_eval.specs.Rules.{IsFlat}
-use Rattle.record_text.specs.Text.{text_line, record_lines, record_text, IsTextOf, IsFirstBadLine}
+use Rattle.record_text.specs.Text.{text_line, taken, with_picks, record_lines, record_text, IsTextOf, IsFirstBadLine}
 use Rattle.record_text.proofs.Texts.{text_of_one}
 use Rattle.refute_check.specs.declared.check.Verified.{Verified}
 use Rattle.refute_check.specs.declared.check.Verified.TheVariants as V
@@ -38,19 +41,19 @@ some_open_at box ends (branch cut first second) e = ⊎_elim
 some_open_at box ends (leaf l) e = e.0
 
 -- a refutation that the search returns is one
-pub refuted_record : (draws : ℕ → ℕ) (cuts : ℕ) (flat : Flat) (claim : Record) (boxes : List (List Pair)) → IsRefutedAnswer draws cuts flat claim boxes → IsRefutation flat claim
-refuted_record draws cuts flat claim boxes r = record { tree = r.tree; accepted = r.refutation.guided.accepted; closed = r.refutation.closed }
+pub refuted_record : (choose : ℕ → List Pair → Cut) (cuts : ℕ) (flat : Flat) (claim : Record) (boxes : List (List Pair)) → IsRefutedAnswer choose cuts flat claim boxes → IsRefutation flat claim
+refuted_record choose cuts flat claim boxes r = record { tree = r.tree; accepted = r.refutation.guided.accepted; closed = r.refutation.closed }
 
 -- what is written of it is a refutation's text
-pub refuted_text : (draws : ℕ → ℕ) (cuts : ℕ) (flat : Flat) (claim : Record) (boxes : List (List Pair)) → IsFlat flat → HasShortEnds flat.bounds.pairs
-    → IsRefutedAnswer draws cuts flat claim boxes → IsRefutationText flat (record_text claim)
-refuted_text draws cuts flat claim boxes is short r =
-    refutation_text flat claim (accepted_short flat claim r.tree is short r.refutation.guided.accepted) (refuted_record draws cuts flat claim boxes r)
+pub refuted_text : (choose : ℕ → List Pair → Cut) (cuts : ℕ) (flat : Flat) (claim : Record) (boxes : List (List Pair)) → IsFlat flat → HasShortEnds flat.bounds.pairs
+    → IsRefutedAnswer choose cuts flat claim boxes → IsRefutationText flat (record_text claim)
+refuted_text choose cuts flat claim boxes is short r =
+    refutation_text flat claim (accepted_short flat claim r.tree is short r.refutation.guided.accepted) (refuted_record choose cuts flat claim boxes r)
 
 -- an undecided record that the search returns with so many cuts is accepted, and leaves something open
-pub undecided_record : (draws : ℕ → ℕ) (cuts : ℕ) (flat : Flat) (claim : Record) (boxes : List (List Pair)) (queue : List ℕ) → IsUndecidedAnswer draws cuts flat claim boxes queue
+pub undecided_record : (choose : ℕ → List Pair → Cut) (cuts : ℕ) (flat : Flat) (claim : Record) (boxes : List (List Pair)) (queue : List ℕ) → IsUndecidedAnswer choose cuts flat claim boxes queue
     → (u : IsUndecided flat claim) × (u.cuts ≡ cuts)
-undecided_record draws cuts flat claim boxes queue r = (
+undecided_record choose cuts flat claim boxes queue r = (
   record {
     tree = r.tree;
     accepted = r.spent.guided.accepted;
@@ -66,10 +69,21 @@ pub read_back : (flat : Flat) (claim other : Record) (tree t : Tree) → IsFlat 
 read_back flat claim other tree t is short a text =
     text_of_one (record_text claim) other claim t tree text (record { record_of = a.record_of; short = accepted_short flat claim tree is short a; spelled = refl })
 
+length_with : (ls : List Line) (ps : List Pick) → length (with_picks ls ps) ≡ length ls
+length_with [] ps = refl
+length_with (l ∷ ls) ps = ap suc (length_with ls (drop (taken l) ps))
+
 -- the text of a record with c cuts has 2 c + 6 lines
 pub lines_count : (claim : Record) (tree : Tree) → IsRecordOf claim tree → length (record_lines claim) ≡ 2 * cuts_of tree + 6
 lines_count claim tree r =
-    omega (arith, length-append (map text_line claim.lines) (T.End ∷ []), length-map claim.lines text_line, ap length r.lines, length_lines tree)
+    omega (
+      arith,
+      length-append (map text_line (with_picks claim.lines claim.picks)) (T.End ∷ []),
+      length-map (with_picks claim.lines claim.picks) text_line,
+      length_with claim.lines claim.picks,
+      ap length r.lines,
+      length_lines tree,
+    )
 
 -- ---- what is right of their texts
 

@@ -1,17 +1,16 @@
 -- Both parts of a cut have the points of the whole, and the leaves of a tree have those of its box. A record that is spent has fewer cuts than there are points.
 use Rattle.std.proofs.Common.{◌≡◌, refl, sym, subst, ℕ, zero, suc, ◌+◌, ◌*◌, ◌<◌, ◌≤◌, List, [], ◌∷◌, ◌++◌, length, slice_set, ℤ, pos, unsigned_abs, ◌+ℤ◌, ◌-ℤ◌, ◌≤ℤ◌, ◌<ℤ◌, arith, length-append}
 use Rattle.std.proofs.lemmas.Int.{ints}
-use Rattle.box_eval.specs.declared.rule.Rule.{Rule}
 use Rattle.box_eval.specs.declared.bounds.Pair.{Pair}
 use Rattle.box_eval.specs.declared.cut.Cut.{Cut}
 use Rattle.box_eval.specs.declared.cut.Side.{Side}
 use Rattle.box_eval.specs.declared.cut.Side.TheVariants.{Low, High}
 use Rattle.box_eval.specs.Box.{pair, low_at, high_at, up_to, from, first_at, second_at, first_part, second_part, IsCutOf}
 use Rattle.box_eval.specs.declared.flat.Flat.{Flat}
-use Rattle.box_eval.specs.declared.record.Record.{Record}
-use Rattle.box_eval.specs.Guided.{IsSpent}
-use Rattle.box_eval.specs.Record.{Tree, branch, leaf, cuts_of, accepts, Accepted}
-use Rattle.box_eval.proofs.Empty.{AllTrue-front, AllTrue-back, cut_facts}
+use Rattle.record_trees.specs.declared.record.Record.{Record}
+use Rattle.record_trees.specs.Guided.{IsSpent}
+use Rattle.record_trees.specs.Record.{Tree, branch, leaf, cuts_of, accepts, Accepted}
+use Rattle.record_trees.proofs.Empty.{AllTrue-front, AllTrue-back, cut_facts}
 use Rattle.record_laws.specs.Points.{values_of, points_of, points_all, leaf_boxes, AllCut}
 
 -- ---- one cut
@@ -72,15 +71,15 @@ leaves_points ends (branch cut first second) all =
 leaves_points ends (leaf l) all = omega arith
 
 -- each cut of an accepted tree cuts its box
-pub accepted_cuts : (rules : List Rule) (room : ℕ) (ends : List Pair) (above : ℕ) (tree : Tree) → Accepted rules room ends above tree → AllCut ends tree
-accepted_cuts rules room ends above (branch cut first second) all =
-    let firsts = accepts rules room (first_part cut ends) (above + 1) first in
-    let seconds = accepts rules room (second_part cut ends) (above + 1) second in (
+pub accepted_cuts : (flat : Flat) (room : ℕ) (ends : List Pair) (above : ℕ) (tree : Tree) → Accepted flat room ends above tree → AllCut ends tree
+accepted_cuts flat room ends above (branch cut first second) all =
+    let firsts = accepts flat room (first_part cut ends) (above + 1) first in
+    let seconds = accepts flat room (second_part cut ends) (above + 1) second in (
       (cut_facts room ends above cut all.0).parts,
-      accepted_cuts rules room (first_part cut ends) (above + 1) first (AllTrue-front firsts seconds all.1),
-      accepted_cuts rules room (second_part cut ends) (above + 1) second (AllTrue-back firsts seconds all.1),
+      accepted_cuts flat room (first_part cut ends) (above + 1) first (AllTrue-front firsts seconds all.1),
+      accepted_cuts flat room (second_part cut ends) (above + 1) second (AllTrue-back firsts seconds all.1),
     )
-accepted_cuts rules room ends above (leaf l) all = tt
+accepted_cuts flat room ends above (leaf l) all = tt
 
 -- ---- records that are spent
 
@@ -104,7 +103,7 @@ pub fewer_cuts : (ends : List Pair) (tree : Tree) → AllCut ends tree → cuts_
 fewer_cuts ends tree all = omega (arith, leaves_count ends tree, leaves_points ends tree all, all_have_points (leaf_boxes ends tree))
 
 -- a record that is spent has fewer cuts than its flat form has points
-pub spent_points : (draws : ℕ → ℕ) (cuts : ℕ) (flat : Flat) (claim : Record) (tree : Tree) (box : List Pair) → IsSpent draws cuts flat claim tree box → cuts < points_of flat.bounds.pairs
-spent_points draws cuts flat claim tree box spent =
-    let all = accepted_cuts flat.rules claim.room flat.bounds.pairs 0 tree spent.guided.accepted.accepted.1.1.1.1 in
+pub spent_points : (choose : ℕ → List Pair → Cut) (cuts : ℕ) (flat : Flat) (claim : Record) (tree : Tree) (box : List Pair) → IsSpent choose cuts flat claim tree box → cuts < points_of flat.bounds.pairs
+spent_points choose cuts flat claim tree box spent =
+    let all = accepted_cuts flat claim.room flat.bounds.pairs 0 tree spent.guided.accepted.accepted.1.1.1.1 in
     subst (λ n. n < points_of flat.bounds.pairs) spent.cuts_are (fewer_cuts flat.bounds.pairs tree all)

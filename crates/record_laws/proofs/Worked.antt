@@ -1,19 +1,22 @@
 -- Worked rows: a flat form with one slot from 0 to 3 and one rule, by which it is 0 or 3 and which takes nothing away at first.
-use Rattle.std.proofs.Common.{◌≡◌, refl, sym, ◌∙◌, ℕ, zero, suc, List, [], ◌∷◌, true, ℤ, pos, inl, inr, arith}
+use Rattle.std.proofs.Common.{◌≡◌, refl, sym, ◌∙◌, ℕ, zero, suc, List, [], ◌∷◌, true, false, ℤ, pos, inl, inr, arith}
 use Rattle.std.proofs.lemmas.Int.{ints}
+use Rattle.std.proofs.lemmas.Bool.{false≢true}
 use Rattle.box_eval.specs.declared.rule.Rule.{Rule}
 use Rattle.box_eval.specs.declared.rule.Rule.TheVariants.{Equal, Either}
 use Rattle.box_eval.specs.declared.rule.Term.TheVariants.{Whole, Slot}
 use Rattle.box_eval.specs.declared.bounds.Pair.{Pair}
+use Rattle.box_eval.specs.declared.cut.Cut.{Cut}
 use Rattle.box_eval.specs.declared.cut.Side.{Side}
 use Rattle.box_eval.specs.declared.cut.Side.TheVariants.{Low, High}
 use Rattle.box_eval.specs.declared.flat.Flat.{Flat}
-use Rattle.box_eval.specs.declared.record.Record.{Record}
+use Rattle.record_trees.specs.declared.record.Record.{Record}
 use Rattle.box_eval.specs.declared.verdict.Verdict.TheVariants.{True, False, Open}
 use Rattle.box_eval.specs.Box.{pair, box_of, cut_at, fixed}
 use Rattle.box_eval.specs.Verdict.{verdict_of}
-use Rattle.box_eval.specs.Record.{Tree, branch, leaf, close, unknown, lines_of, IsAcceptedAs}
-use Rattle.box_eval.specs.Guided.{IsDeadEnd, IsSettled, IsFirstWide, IsDrawn, Guided, EndsAt, way_down, IsSpent, IsReached}
+use Rattle.linear_sums.specs.FacingPairs.{NoneFacing}
+use Rattle.record_trees.specs.Record.{Tree, branch, leaf, close, unknown, lines_of, IsAcceptedAs}
+use Rattle.record_trees.specs.Guided.{IsDeadEnd, IsSettled, IsChosen, Guided, EndsAt, way_down, IsSpent, IsReached}
 use Rattle.box_eval.proofs.Equations.{folds}
 use Rattle.record_laws.specs.Points.{points_of, points_all, leaf_boxes}
 
@@ -55,30 +58,32 @@ false_at_high = simp folds
 row_not_settled : IsSettled flat.rules (box (pos 0) (pos 1)) → ⊥
 row_not_settled s = s.0.no_dead_end High 0 (record { wide = omega (arith, ints); dead = false_at_high })
 
--- ---- drawn: the number 6 cuts at its second value, with the low part first
+-- ---- chosen: a cut at the second value, with the low part first
 
-first_wide : IsFirstWide wide 0
-first_wide = record { wide = omega (arith, ints); earlier = λ before less. absurd (omega (arith, less)) }
+abbrev at_one : ℕ → List Pair → Cut
+at_one k ends = cut_at Low 0 (pos 1)
 
-row_drawn : IsDrawn 6 flat.rules wide (cut_at Low 0 (pos 1))
-row_drawn = record { settled = row_settled; first = first_wide; cut_drawn = refl }
+-- one rule faces no other
+none_facing : NoneFacing flat
+none_facing k c l zero f = absurd (omega (arith, f.faces.before))
+none_facing k c l (suc d) f = let h : false ≡ true = f.faces.facing.second_linear in absurd (false≢true h)
+
+row_chosen : IsChosen at_one 0 flat wide (cut_at Low 0 (pos 1))
+row_chosen = record { settled = row_settled; none_facing = none_facing; cut_chosen = refl }
 
 -- ---- guided: that decision, and then a narrowing of its first part
-
-abbrev sixes : ℕ → ℕ
-sixes k = 6
 
 abbrev tree : Tree
 tree = branch (cut_at Low 0 (pos 1)) (branch (cut_at High 0 (pos 0)) (leaf (close 0)) (leaf unknown)) (leaf unknown)
 
 abbrev claim : Record
-claim = record { undecided = true; slots = 1; rules = 1; room = 2; lines = lines_of tree }
+claim = record { undecided = true; slots = 1; rules = 1; room = 2; lines = lines_of tree; picks = [] }
 
-row_guided : Guided sixes flat.rules wide 0 tree
-row_guided = (row_drawn, tt, tt)
+row_guided : Guided at_one flat wide 0 tree
+row_guided = (row_chosen, tt, tt)
 
 row_record : IsAcceptedAs flat claim tree
-row_record = record { record_of = record { lines = refl; undecided = refl }; accepted = simp folds (refl, (refl, (refl, (refl, (refl, (refl, (refl, (refl, (refl, tt))))))))) }
+row_record = record { record_of = record { lines = refl; picks = refl; undecided = refl }; accepted = simp folds (refl, (refl, (refl, (refl, (refl, (refl, (refl, (refl, (refl, tt))))))))) }
 
 -- ---- where it ends, and the point that it reaches
 
@@ -88,7 +93,7 @@ row_ends = inr (inl (refl, (refl, refl)), refl)
 row_way : way_down wide tree ≡ wide ∷ box (pos 0) (pos 1) ∷ box (pos 0) (pos 0) ∷ []
 row_way = refl
 
-row_reached : IsReached sixes 2 flat (pos 0 ∷ []) claim tree
+row_reached : IsReached at_one 2 flat (pos 0 ∷ []) claim tree
 row_reached = record { guided = record { accepted = row_record; guided = row_guided }; cuts_are = omega arith; ends_at = row_ends }
 
 -- ---- spent: with one cut alone the box of two points stays open
@@ -97,18 +102,18 @@ abbrev short_tree : Tree
 short_tree = branch (cut_at Low 0 (pos 1)) (leaf unknown) (leaf unknown)
 
 abbrev short_claim : Record
-short_claim = record { undecided = true; slots = 1; rules = 1; room = 1; lines = lines_of short_tree }
+short_claim = record { undecided = true; slots = 1; rules = 1; room = 1; lines = lines_of short_tree; picks = [] }
 
-row_short_guided : Guided sixes flat.rules wide 0 short_tree
-row_short_guided = (row_drawn, tt, tt)
+row_short_guided : Guided at_one flat wide 0 short_tree
+row_short_guided = (row_chosen, tt, tt)
 
 row_short_record : IsAcceptedAs flat short_claim short_tree
-row_short_record = record { record_of = record { lines = refl; undecided = refl }; accepted = (refl, (refl, (refl, (refl, (refl, (refl, (refl, tt))))))) }
+row_short_record = record { record_of = record { lines = refl; picks = refl; undecided = refl }; accepted = (refl, (refl, (refl, (refl, (refl, (refl, (refl, tt))))))) }
 
 open_there : verdict_of (box (pos 0) (pos 1)) at_an_end ≡ Open
 open_there = simp folds
 
-row_spent : IsSpent sixes 1 flat short_claim short_tree (box (pos 0) (pos 1))
+row_spent : IsSpent at_one 1 flat short_claim short_tree (box (pos 0) (pos 1))
 row_spent = record {
   guided = record { accepted = row_short_record; guided = row_short_guided };
   cuts_are = refl;

@@ -2,10 +2,11 @@
 ghost use Rattle.std.specs.Prelude.{IfOk, [], ◌∷◌, negsuc, pos};
 ghost use Rattle.box_eval.specs.Box.{pair};
 ghost use Rattle.box_eval.specs.Rules.{CanJudge, IsFlat};
-ghost use Rattle.record_text.specs.Written.{HaveShortValues};
+ghost use Rattle.record_text.specs.Written.{HaveShortValues, HaveSums};
 
-use box_eval::{Bounds, Flat, Line, Pair, Record, Rule, Term};
+use box_eval::{Bounds, Flat, Pair, Rule, Term};
 use osc_base::{Boxed, Row};
+use record_trees::{Line, Record};
 use std::alloc::{AllocError, Global};
 
 fn within(alloc: Global) -> Result<Rule, AllocError>
@@ -54,7 +55,8 @@ pub(crate) const SHORT_REFUTATION: &[u8] =
     b"osc-refutation 1\nslots 1\nrules 3\nroom 1\nlow 0 -2\nclose 1\nclose 2\nend\n";
 
 pub(crate) fn short_refutation(alloc: Global) -> Result<Record, AllocError>
-    ensures { IfOk result (λ claim. HaveShortValues claim.lines) }
+    ensures values { IfOk result (λ claim. HaveShortValues claim.lines) }
+    ensures sums { IfOk result (λ claim. HaveSums claim.lines claim.picks) }
 {
     let mut lines = Row::new(alloc);
     lines.push(Line::Low { slot: 0, value: -2 })?;
@@ -66,5 +68,6 @@ pub(crate) fn short_refutation(alloc: Global) -> Result<Record, AllocError>
         rules: 3,
         room: 1,
         lines,
+        picks: Row::new(alloc),
     })
 }

@@ -14,6 +14,7 @@ fewer_begin ls ms b some_ = record {
   claim = b.claim;
   tree = b.tree;
   form = b.form;
+  before_end = b.before_end;
   later = ms ++ b.later;
   whole = b.whole ∙ append_assoc ls ms b.later;
   at_end = λ e. absurd (some_ (front ms b.later e));

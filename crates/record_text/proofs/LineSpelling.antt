@@ -10,10 +10,13 @@ use Rattle.std.proofs.lemmas.Slice.Eq.{starts_is, bytes_eq-Decides}
 use Rattle.std.proofs.lemmas.Fmt.{digits_decimal}
 use Rattle.box_eval.specs.declared.cut.Side.{Side}
 use Rattle.record_text.specs.declared.line.TextLine.{TextLine}
-use Rattle.record_text.specs.declared.line.TextLine.TheVariants.{Head, Slots, Rules, Room, Cut, Close, Open, End}
-use Rattle.record_text.specs.Scan.{is_digit, natural_at, cut_at, word_at, heading_at, line_at}
-use Rattle.record_text.specs.Lines.{IsFewDigits, IsShort, slot_and_value, word_of, spelled, is_no_feed, NoFeed}
+use Rattle.record_text.specs.declared.line.TextLine.TheVariants.{Head, Slots, Rules, Room, Cut, Close, Sum, Open, End}
+use Rattle.record_text.specs.declared.line.Form.TheVariants.{One, Two}
+use Rattle.linear_sums.specs.declared.pick.Pick.{Pick}
+use Rattle.record_text.specs.Scan.{is_digit, natural_at, cut_at, sum_at, word_at, heading_at, line_at}
+use Rattle.record_text.specs.Lines.{IsFewDigits, HaveFewDigits, IsShort, slot_and_value, spelled_pick, spelled_picks, word_of, spelled, is_no_feed, NoFeed}
 use Rattle.record_text.proofs.Numerals.{own}
+use Rattle.record_text.proofs.SumSpelling.{AreFewTimes, few_stand, IsSumText, sum_takes, sum_again}
 use Rattle.record_text.proofs.Spelling.{chosen, natural_takes, natural_again, IsCutText, cut_takes, cut_again}
 
 -- ---- what is read is spelled so
@@ -46,16 +49,26 @@ cut_line side text line first read =
     subst (λ (l : TextLine). IsLine text l) (sym c.2)
     ((c.3, c.4), starts text (word_of side) first ∙ ap (λ (bs : List ℕ). word_of side ++ bs) c.5)
 
+sum_line : (text : List ℕ) (line : TextLine) → starts_with nat_eq text (codes "sum") ≡ true → sum_at (drop 3 text) ≡ Some line → IsLine text line
+sum_line text line first read =
+    let s : IsSumText (drop 3 text) line = sum_takes (drop 3 text) line read in
+    subst (λ (l : TextLine). IsLine text l) (sym s.1)
+    ((s.2, s.3), starts text (codes "sum") first ∙ ap (λ (bs : List ℕ). codes "sum" ++ bs) s.4)
+
 word_takes : (text : List ℕ) (line : TextLine) → word_at text ≡ Some line → IsLine text line
 word_takes text line e = chosen (bytes_eq text (codes "open")) _ _ _ e
     (λ is value. subst (λ (l : TextLine). IsLine text l) (let same : Open ≡ line = cc in same) (tt, is_text text (codes "open") is))
     (λ _ e. chosen (bytes_eq text (codes "end")) _ _ _ e
     (λ is value. subst (λ (l : TextLine). IsLine text l) (let same : End ≡ line = cc in same) (tt, is_text text (codes "end") is))
     (λ _ e. chosen (bytes_eq text (codes "osc-refutation 1")) _ _ _ e
-    (λ is value. subst (λ (l : TextLine). IsLine text l) (let same : Head false ≡ line = cc in same) (tt, is_text text (codes "osc-refutation 1") is))
+    (λ is value. subst (λ (l : TextLine). IsLine text l) (let same : Head false One ≡ line = cc in same) (tt, is_text text (codes "osc-refutation 1") is))
+    (λ _ e. chosen (bytes_eq text (codes "osc-refutation 2")) _ _ _ e
+    (λ is value. subst (λ (l : TextLine). IsLine text l) (let same : Head false Two ≡ line = cc in same) (tt, is_text text (codes "osc-refutation 2") is))
     (λ _ e. chosen (bytes_eq text (codes "osc-undecided 1")) _ _ _ e
-    (λ is value. subst (λ (l : TextLine). IsLine text l) (let same : Head true ≡ line = cc in same) (tt, is_text text (codes "osc-undecided 1") is))
-    (λ _ e. let never : ⊥ = cc in absurd never))))
+    (λ is value. subst (λ (l : TextLine). IsLine text l) (let same : Head true One ≡ line = cc in same) (tt, is_text text (codes "osc-undecided 1") is))
+    (λ _ e. chosen (bytes_eq text (codes "osc-undecided 2")) _ _ _ e
+    (λ is value. subst (λ (l : TextLine). IsLine text l) (let same : Head true Two ≡ line = cc in same) (tt, is_text text (codes "osc-undecided 2") is))
+    (λ _ e. let never : ⊥ = cc in absurd never))))))
 
 heading_takes : (text : List ℕ) (line : TextLine) → heading_at text ≡ Some line → IsLine text line
 heading_takes text line e = chosen (starts_with nat_eq text (codes "slots ")) _ _ _ e
@@ -73,21 +86,26 @@ line_takes text line e = chosen (starts_with nat_eq text (codes "low ")) _ _ _ e
     (λ is value. cut_line Side.High text line is value)
     (λ _ e. chosen (starts_with nat_eq text (codes "close ")) _ _ _ e
     (λ is value. numbered text (codes "close ") Close line (λ n few. (few, refl)) is value)
+    (λ _ e. chosen (starts_with nat_eq text (codes "sum")) _ _ _ e
+    (λ is value. sum_line text line is value)
     (λ _ e. chosen (starts_with nat_eq text (codes "o") || starts_with nat_eq text (codes "e")) _ _ _ e
     (λ is value. word_takes text line value)
-    (λ _ e. heading_takes text line e))))
+    (λ _ e. heading_takes text line e)))))
 
 -- ---- what is spelled is read
 
 pub line_again : (line : TextLine) → IsShort line → line_at (spelled line) ≡ Some line
-line_again (Head true) few = refl
-line_again (Head false) few = refl
+line_again (Head true One) few = refl
+line_again (Head true Two) few = refl
+line_again (Head false One) few = refl
+line_again (Head false Two) few = refl
 line_again (Slots n) few = ap (option_map Slots) (natural_again n few)
 line_again (Rules n) few = ap (option_map Rules) (natural_again n few)
 line_again (Room n) few = ap (option_map Room) (natural_again n few)
 line_again (Cut Side.Low slot v) few = cut_again Side.Low slot v few.0 few.1
 line_again (Cut Side.High slot v) few = cut_again Side.High slot v few.0 few.1
 line_again (Close rule) few = ap (option_map Close) (natural_again rule few)
+line_again (Sum picks) few = sum_again picks few.0 few.1
 line_again Open few = refl
 line_again End few = refl
 
@@ -120,15 +138,25 @@ signed_no_feed (negsuc n) few = decimal_no_feed (suc n) few
 cut_no_feed : (slot : ℕ) (v : ℤ) → IsFewDigits slot → IsFewDigits (unsigned_abs v) → NoFeed (slot_and_value slot v)
 cut_no_feed slot v few small = no_feed_both (decimal slot) (32 ∷ signed_decimal v) (decimal_no_feed slot few) (signed_no_feed v small)
 
+picks_no_feed : (ps : List Pick) → HaveFewDigits ps → AreFewTimes ps → NoFeed (spelled_picks ps)
+picks_no_feed [] few times = refl
+picks_no_feed (p ∷ ps) few times =
+    let number : IsFewDigits p.times = omega (arith, times.0) in
+    let one : NoFeed (spelled_pick p) = no_feed_both (decimal p.times) (32 ∷ decimal p.rule) (decimal_no_feed p.times number) (decimal_no_feed p.rule few.0) in
+    no_feed_both (spelled_pick p) (spelled_picks ps) one (picks_no_feed ps few.1 times.1)
+
 pub spelled_no_feed : (line : TextLine) → IsShort line → NoFeed (spelled line)
-spelled_no_feed (Head true) few = refl
-spelled_no_feed (Head false) few = refl
+spelled_no_feed (Head true One) few = refl
+spelled_no_feed (Head true Two) few = refl
+spelled_no_feed (Head false One) few = refl
+spelled_no_feed (Head false Two) few = refl
 spelled_no_feed (Slots n) few = decimal_no_feed n few
 spelled_no_feed (Rules n) few = decimal_no_feed n few
 spelled_no_feed (Room n) few = decimal_no_feed n few
 spelled_no_feed (Cut Side.Low slot v) few = cut_no_feed slot v few.0 few.1
 spelled_no_feed (Cut Side.High slot v) few = cut_no_feed slot v few.0 few.1
 spelled_no_feed (Close rule) few = decimal_no_feed rule few
+spelled_no_feed (Sum picks) few = picks_no_feed picks few.1 (few_stand picks few.0).1
 spelled_no_feed Open few = refl
 spelled_no_feed End few = refl
 

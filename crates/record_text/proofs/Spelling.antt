@@ -122,13 +122,13 @@ integer_again (negsuc n) few = rw (natural_again (suc n) few) (below_zero_suc n)
 
 -- ---- cuts
 
-abbrev NoSpace : List ℕ → Type 0
+abbrev pub NoSpace : List ℕ → Type 0
 NoSpace text = list_all is_no_space text ≡ true
 
 digit_no_space : (c : ℕ) → is_digit c ≡ true → is_no_space c ≡ true
 digit_no_space c h = grind (arith)
 
-digits_no_space : (ds : List ℕ) → list_all is_digit ds ≡ true → NoSpace ds
+pub digits_no_space : (ds : List ℕ) → list_all is_digit ds ≡ true → NoSpace ds
 digits_no_space [] h = refl
 digits_no_space (c ∷ ds) h =
     let first : is_digit c ≡ true = grind (arith) in

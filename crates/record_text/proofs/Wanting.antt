@@ -1,5 +1,5 @@
 -- A text in which no wanted line was found begins with none.
-use Rattle.std.proofs.Common.{◌≡◌, refl, sym, ap, ◌∙◌, subst, ℕ, ◌+◌, ◌≤◌, true, List, [], ◌∷◌, ◌++◌, length, Option, Some, None, append_assoc, ◌≢◌, arith, Result, Ok, Err, IfErr}
+use Rattle.std.proofs.Common.{◌≡◌, refl, sym, ap, ◌∙◌, subst, ℕ, ◌+◌, ◌≤◌, Bool, true, List, [], ◌∷◌, ◌++◌, length, Option, Some, None, append_assoc, ◌≢◌, arith, Result, Ok, Err, IfErr}
 use Rattle.std.proofs.lemmas.List.{append-nil, length-append}
 use Rattle.std.proofs.lemmas.Bool.{false≢true}
 use Rattle.record_text.specs.declared.line.TextLine.{TextLine}
@@ -15,7 +15,7 @@ use Rattle.outside_io.specs.Files.{NothingLeft}
 use Rattle.record_text.specs.Stops.{told}
 use Rattle.std.specs.Result.{IsErrAnd}
 use Rattle.record_text.specs.Source.{limit, Unread, rest_of, Gives, IsAtEnd, IsTooLong, IsWithin}
-use Rattle.record_text.specs.Reader.{wants, wanted_line, IsFound, Finds, NoneWanted, Reading, GivesLine, MayCome, Stops}
+use Rattle.record_text.specs.Reader.{wants, wanted_line, IsFound, is_nothing, AtEndIfNothing, Finds, NoneWanted, Reading, GivesLine, MayCome, Stops}
 use Rattle.record_text.proofs.LineSpelling.{spelled_no_feed, same_line, line_unique}
 use Rattle.record_text.proofs.Spelling.{chosen}
 use Rattle.record_text.proofs.Reading.{left_after, end_rest, within_before, too_long_before}
@@ -57,6 +57,11 @@ none_wanted wanted F.Nothing x y l m f none rest known =
     found_none wanted F.Nothing f.text [] rest f.is none (λ _ e. let never : ⊥ = cc in absurd never) (λ e. let never : ⊥ = cc in absurd never) (λ _. all)
 
 -- ---- the reader's answers
+
+pub ended_if : (found : Found) (ended : Bool) (y : Unread) (m : Option (List ℕ)) → AtEndIfNothing found y m → ended ≡ is_nothing found → ended ≡ true → IsAtEnd y m
+ended_if (F.Line line) ended y m at_end e is = absurd (false≢true (sym e ∙ is))
+ended_if F.Other ended y m at_end e is = absurd (false≢true (sym e ∙ is))
+ended_if F.Nothing ended y m at_end e is = at_end
 
 pub line_given : (wanted : Wanted) (found : Found) (line : TextLine) (before : Reading) (x y : Unread) (n : ℕ) (l m : Option (List ℕ)) → Finds found x y l m
     → wanted_line wanted found ≡ Some line → before ≡ record { unread = x; lines = n } → GivesLine line wanted before (record { unread = y; lines = n + 1 }) l m

@@ -9,19 +9,20 @@ use Rattle.record_text.specs.declared.found.Wanted.TheVariants as W
 use Rattle.record_text.specs.declared.stop.VerifyStop.{VerifyStop}
 use Rattle.record_text.specs.declared.stop.VerifyStop.TheVariants as V
 use Rattle.outside_io.specs.Files.{NothingLeft}
-use Rattle.record_text.specs.Lines.{IsShort, spelled, NoFeed}
+use Rattle.record_text.specs.Lines.{is_two, IsShort, spelled, NoFeed}
 use Rattle.record_text.specs.Scan.{line_at}
 use Rattle.record_text.specs.Source.{limit, Unread, rest_of, Gives, IsAtEnd, IsTooLong, IsWithin}
 
 -- the lines that are wanted
 abbrev pub wants : Wanted → TextLine → Bool
-wants W.Head (T.Head undecided) = true
+wants W.Head (T.Head undecided form) = true
 wants W.Slots (T.Slots n) = true
 wants W.Rules (T.Rules n) = true
 wants W.Room (T.Room n) = true
-wants (W.Node undecided) (T.Cut side slot value) = true
-wants (W.Node undecided) (T.Close rule) = true
-wants (W.Node undecided) T.Open = undecided
+wants (W.Node undecided form) (T.Cut side slot value) = true
+wants (W.Node undecided form) (T.Close rule) = true
+wants (W.Node undecided form) (T.Sum picks) = is_two form
+wants (W.Node undecided form) T.Open = undecided
 wants W.End T.End = true
 wants wanted line = false
 
@@ -32,8 +33,11 @@ found_line None = F.Other
 abbrev pub found_at : List ℕ → Found
 found_at text = found_line (line_at text)
 
+abbrev pub if_wanted : Wanted → TextLine → Option TextLine
+if_wanted wanted line = if wants wanted line then Some line else None
+
 abbrev pub wanted_line : Wanted → Found → Option TextLine
-wanted_line wanted (F.Line line) = if wants wanted line then Some line else None
+wanted_line wanted (F.Line line) = if_wanted wanted line
 wanted_line wanted F.Other = None
 wanted_line wanted F.Nothing = None
 
@@ -53,6 +57,11 @@ abbrev pub AtEndIfNothing : Found → Unread → Option (List ℕ) → Type 0
 AtEndIfNothing (F.Line line) unread left = ⊤
 AtEndIfNothing F.Other unread left = ⊤
 AtEndIfNothing F.Nothing unread left = IsAtEnd unread left
+
+abbrev pub is_nothing : Found → Bool
+is_nothing (F.Line line) = false
+is_nothing F.Other = false
+is_nothing F.Nothing = true
 
 -- the next line was read and found to be this
 pub record Finds (found : Found) (before after : Unread) (left left_after : Option (List ℕ)) : Type 0 where

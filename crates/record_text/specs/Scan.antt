@@ -1,12 +1,16 @@
 -- How the functions read a line. This is no part of the meaning of a text: proofs/ tie it to `spelled`.
-use Rattle.std.specs.Prelude.{ℕ, ◌+◌, Bool, true, false, not, ◌&&◌, ◌||◌, ◌==◌, nat_le, nat_lt, nat_eq, if◌then◌else◌, List, length, take, drop, codes, Option, Some, None, ℤ, pos, ◌-ℤ◌}
+use Prim.Native.Nat.{zero, suc}
+use Rattle.std.specs.Prelude.{ℕ, ◌+◌, Bool, true, false, not, ◌&&◌, ◌||◌, ◌==◌, nat_le, nat_lt, nat_eq, if◌then◌else◌, List, [], ◌∷◌, length, take, drop, codes, Option, Some, None, ℤ, pos, ◌-ℤ◌}
 use Rattle.std.specs.List.{starts_with, list_all, prefix_len}
 use Rattle.std.specs.Option.{option_map, option_and_then}
 use Rattle.std.specs.Str.{bytes_eq}
 use Rattle.std.specs.Str.Parse.{digits_value}
 use Rattle.box_eval.specs.declared.cut.Side.{Side}
+use Rattle.linear_sums.specs.declared.pick.Pick.{Pick}
+use Rattle.record_trees.specs.Record.{may_stand}
+use Rattle.record_text.specs.declared.line.Form.TheVariants.{One, Two}
 use Rattle.record_text.specs.declared.line.TextLine.{TextLine}
-use Rattle.record_text.specs.declared.line.TextLine.TheVariants.{Head, Slots, Rules, Room, Cut, Close, Open, End}
+use Rattle.record_text.specs.declared.line.TextLine.TheVariants.{Head, Slots, Rules, Room, Cut, Close, Sum, Open, End}
 
 abbrev pub is_digit : ℕ → Bool
 is_digit byte = nat_le 48 byte && nat_le byte 57
@@ -46,12 +50,57 @@ divided_at side text space = if nat_lt space (length text) then cut_of side (nat
 abbrev pub cut_at : Side → List ℕ → Option TextLine
 cut_at side text = divided_at side text (prefix_len is_no_space text)
 
+-- ---- sums
+
+-- the number after the space that a text begins with
+abbrev pub number_after : List ℕ → Option ℕ
+number_after [] = None
+number_after (b ∷ text) = if b == 32 then natural_at (take (prefix_len is_no_space text) text) else None
+
+-- what comes after that number
+abbrev pub after_number : List ℕ → List ℕ
+after_number [] = []
+after_number (b ∷ text) = drop (prefix_len is_no_space text) text
+
+-- the pick of these numbers, of which the first is 1,000,000 at most
+abbrev pub pick_with : Option ℕ → Option ℕ → Option Pick
+pick_with (Some times) (Some rule) = if nat_le times 1000000 then Some (record { times = times; rule = rule }) else None
+pick_with (Some times) None = None
+pick_with None rule = None
+
+abbrev pub pick_at : List ℕ → Option Pick
+pick_at text = pick_with (number_after text) (number_after (after_number text))
+
+abbrev pub after_pick : List ℕ → List ℕ
+after_pick text = after_number (after_number text)
+
+abbrev pub picks_then : Option Pick → Option (List Pick) → Option (List Pick)
+picks_then (Some p) (Some ps) = Some (p ∷ ps)
+picks_then (Some p) None = None
+picks_then None ps = None
+
+-- the picks of a text, if there are no more than these
+abbrev pub picks_at : ℕ → List ℕ → Option (List Pick)
+picks_at most [] = Some []
+picks_at zero (b ∷ text) = None
+picks_at (suc most) (b ∷ text) = picks_then (pick_at (b ∷ text)) (picks_at most (after_pick (b ∷ text)))
+
+abbrev pub sum_of : List Pick → Option TextLine
+sum_of picks = if may_stand picks then Some (Sum picks) else None
+
+abbrev pub sum_at : List ℕ → Option TextLine
+sum_at text = option_and_then sum_of (picks_at 64 text)
+
+-- ---- lines
+
 abbrev pub word_at : List ℕ → Option TextLine
 word_at text =
     if bytes_eq text (codes "open") then Some Open
     else if bytes_eq text (codes "end") then Some End
-    else if bytes_eq text (codes "osc-refutation 1") then Some (Head false)
-    else if bytes_eq text (codes "osc-undecided 1") then Some (Head true) else None
+    else if bytes_eq text (codes "osc-refutation 1") then Some (Head false One)
+    else if bytes_eq text (codes "osc-refutation 2") then Some (Head false Two)
+    else if bytes_eq text (codes "osc-undecided 1") then Some (Head true One)
+    else if bytes_eq text (codes "osc-undecided 2") then Some (Head true Two) else None
 
 abbrev pub heading_at : List ℕ → Option TextLine
 heading_at text =
@@ -64,5 +113,6 @@ line_at text =
     if starts_with nat_eq text (codes "low ") then cut_at Side.Low (drop 4 text)
     else if starts_with nat_eq text (codes "high ") then cut_at Side.High (drop 5 text)
     else if starts_with nat_eq text (codes "close ") then option_map Close (natural_at (drop 6 text))
+    else if starts_with nat_eq text (codes "sum") then sum_at (drop 3 text)
     else if starts_with nat_eq text (codes "o") || starts_with nat_eq text (codes "e") then word_at text
     else heading_at text

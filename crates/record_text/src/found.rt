@@ -1,11 +1,12 @@
 ghost use Rattle.std.specs.Prelude.{◌≡◌};
-ghost use Rattle.record_text.specs.Reader.{found_at, wanted_line, wants};
+ghost use Rattle.record_text.specs.Lines.{is_two};
+ghost use Rattle.record_text.specs.Reader.{found_at, is_nothing, wanted_line, if_wanted, wants};
 
-use crate::TextLine;
 use crate::line::line_of;
+use crate::{Form, TextLine};
 
 /// What stands next in a text.
-#[derive(Clone, Copy)]
+#[derive(Drop)]
 pub(crate) enum Found {
     /// A line that a record may have.
     Line(TextLine),
@@ -25,6 +26,13 @@ pub(crate) fn find_line(text: &[u8]) -> Found
     }
 }
 
+/// Whether the text ended.
+pub(crate) fn is_nothing(found: &Found) -> bool
+    ensures { result ≡ is_nothing found.now }
+{
+    matches!(found, Found::Nothing)
+}
+
 /// What the reader of a record looks for.
 #[derive(Clone, Copy)]
 pub enum Wanted {
@@ -32,8 +40,8 @@ pub enum Wanted {
     Slots,
     Rules,
     Room,
-    /// A cut or a leaf, which may be open in an undecided record.
-    Node { undecided: bool },
+    /// A cut or a leaf, which may be open in an undecided record, and a sum in one of form 2.
+    Node { undecided: bool, form: Form },
     End,
     /// No line will do.
     Nothing,
@@ -44,14 +52,24 @@ pub(crate) fn wanted_line(wanted: Wanted, found: Found) -> Option<TextLine>
     ensures { result ≡ wanted_line wanted found }
 {
     match found {
-        Found::Line(line) if wants(wanted, line) => Some(line),
+        Found::Line(line) => if_wanted(wanted, line),
         _ => None,
     }
 }
 
+fn if_wanted(wanted: Wanted, line: TextLine) -> Option<TextLine>
+    ensures { result ≡ if_wanted wanted line }
+{
+    if wants(wanted, &line) {
+        Some(line)
+    } else {
+        None
+    }
+}
+
 /// Whether the line is what is looked for.
-fn wants(wanted: Wanted, line: TextLine) -> bool
-    ensures { result ≡ wants wanted line }
+fn wants(wanted: Wanted, line: &TextLine) -> bool
+    ensures { result ≡ wants wanted line.now }
 {
     match (wanted, line) {
         (Wanted::Head, TextLine::Head { .. }) => true,
@@ -60,8 +78,19 @@ fn wants(wanted: Wanted, line: TextLine) -> bool
         (Wanted::Room, TextLine::Room(_)) => true,
         (Wanted::Node { .. }, TextLine::Cut { .. }) => true,
         (Wanted::Node { .. }, TextLine::Close { .. }) => true,
-        (Wanted::Node { undecided }, TextLine::Open) => undecided,
+        (Wanted::Node { form, .. }, TextLine::Sum(_)) => is_two(form),
+        (Wanted::Node { undecided, .. }, TextLine::Open) => undecided,
         (Wanted::End, TextLine::End) => true,
         _ => false,
+    }
+}
+
+/// Whether a record of this form may have sums.
+pub(crate) fn is_two(form: Form) -> bool
+    ensures { result ≡ is_two form }
+{
+    match form {
+        Form::One => false,
+        Form::Two => true,
     }
 }

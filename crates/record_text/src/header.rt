@@ -1,17 +1,18 @@
 ghost use Rattle.std.specs.Prelude.{◌≡◌, [], IfOk, IfErr};
-ghost use Rattle.record_text.specs.Header.{undecided_of, number_of};
+ghost use Rattle.record_text.specs.Header.{undecided_of, form_told, number_of};
 ghost use Rattle.record_text.specs.Nodes.{lines_so_far};
 ghost use Rattle.record_text.specs.Progress.{fresh, HasRead, Stopped};
 ghost use Rattle.record_text.specs.Source.{ReadsOn};
 ghost use Rattle.record_text.specs.Stops.{shelf_failed};
 
-use crate::{Reader, TextLine, VerifyStop, Wanted};
+use crate::{Form, Reader, TextLine, VerifyStop, Wanted};
 use outside_io::Shelf;
 
 /// What a record says before its first cut.
 #[derive(Clone, Copy)]
 pub struct Header {
     pub undecided: bool,
+    pub form: Form,
     /// The number of slots of the flat form.
     pub slots: u64,
     /// The number of its rules.
@@ -32,27 +33,37 @@ pub fn read_header<H: Shelf>(reader: &mut Reader, shelf: &mut H) -> Result<Heade
     let rules = reader.expect(shelf, Wanted::Rules)?;
     let room = reader.expect(shelf, Wanted::Room)?;
     Ok(Header {
-        undecided: undecided_of(head),
-        slots: number_of(slots),
-        rules: number_of(rules),
-        room: number_of(room),
+        undecided: undecided_of(&head),
+        form: form_told(&head),
+        slots: number_of(&slots),
+        rules: number_of(&rules),
+        room: number_of(&room),
     })
 }
 
-fn undecided_of(line: TextLine) -> bool
-    ensures { result ≡ undecided_of line }
+fn undecided_of(line: &TextLine) -> bool
+    ensures { result ≡ undecided_of line.now }
 {
     match line {
-        TextLine::Head { undecided } => undecided,
+        TextLine::Head { undecided, .. } => *undecided,
         _ => false,
     }
 }
 
-fn number_of(line: TextLine) -> u64
-    ensures { result ≡ number_of line }
+fn form_told(line: &TextLine) -> Form
+    ensures { result ≡ form_told line.now }
 {
     match line {
-        TextLine::Slots(number) | TextLine::Rules(number) | TextLine::Room(number) => number,
+        TextLine::Head { form, .. } => *form,
+        _ => Form::One,
+    }
+}
+
+fn number_of(line: &TextLine) -> u64
+    ensures { result ≡ number_of line.now }
+{
+    match line {
+        TextLine::Slots(number) | TextLine::Rules(number) | TextLine::Room(number) => *number,
         _ => 0,
     }
 }

@@ -8,6 +8,9 @@ mod next_line;
 mod nodes;
 mod number;
 mod page;
+mod pick_scan;
+mod picks;
+mod put;
 mod reader;
 mod rest;
 mod source;
@@ -16,8 +19,9 @@ mod write;
 
 pub use found::Wanted;
 pub use header::{Header, read_header};
-pub use line::TextLine;
+pub use line::{Form, TextLine};
 pub use nodes::Nodes;
+pub use picks::{Picks, TextPick};
 pub use reader::Reader;
 pub use rest::{next_node, read_rest};
 pub use source::LIMIT;
@@ -27,3 +31,4 @@ pub use write::write_record;
 // Crates below, for the crates above.
 pub use box_eval;
 pub use outside_io;
+pub use record_trees::Record;

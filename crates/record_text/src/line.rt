@@ -1,17 +1,27 @@
-ghost use Rattle.std.specs.Prelude.{◌≡◌};
-ghost use Rattle.std.specs.List.{prefix_len};
+ghost use Rattle.std.specs.Prelude.{◌≡◌, Some};
 ghost use Rattle.std.specs.Option.{option_map};
-ghost use Rattle.record_text.specs.declared.line.TextLine.TheVariants.{Slots, Rules, Room, Close};
-ghost use Rattle.record_text.specs.Scan.{is_no_space, word_at, cut_of, cut_at, heading_at, line_at};
+ghost use Rattle.record_text.specs.declared.line.TextLine.TheVariants.{Head, Slots, Rules, Room, Close};
+ghost use Rattle.record_text.specs.Scan.{word_at, cut_of, cut_at, heading_at, sum_of, sum_at, line_at};
 
 use crate::number::{integer, natural};
+use crate::pick_scan::{length_before_space, picks_of};
+use crate::picks::{Picks, may_stand};
 use box_eval::Side;
 
-/// A line of a record's text.
+/// The form of a record's text.
 #[derive(Debug, Clone, Copy, PartialEq, Eq)]
+pub enum Form {
+    /// A record without a sum.
+    One,
+    /// A record with a sum at least.
+    Two,
+}
+
+/// A line of a record's text.
+#[derive(Drop)]
 pub enum TextLine {
-    /// The heading of a record of form 1.
-    Head { undecided: bool },
+    /// The heading of a record.
+    Head { undecided: bool, form: Form },
     /// The number of slots of the flat form.
     Slots(u64),
     /// The number of its rules.
@@ -22,6 +32,8 @@ pub enum TextLine {
     Cut { side: Side, slot: u64, value: i64 },
     /// The present box has no point at which the rule is true.
     Close { rule: u64 },
+    /// The present box has no point at which all of these rules are true.
+    Sum(Picks),
     /// Nothing is said of the present box.
     Open,
     /// The end of the record.
@@ -38,6 +50,8 @@ pub(crate) fn line_of(text: &[u8]) -> Option<TextLine>
         cut(Side::High, &text[5..])
     } else if text.starts_with(b"close ") {
         close(natural(&text[6..]))
+    } else if text.starts_with(b"sum") {
+        sum(&text[3..])
     } else if text.starts_with(b"o") || text.starts_with(b"e") {
         word(text)
     } else {
@@ -54,12 +68,22 @@ fn word(text: &[u8]) -> Option<TextLine>
     } else if text == b"end".as_slice() {
         Some(TextLine::End)
     } else if text == b"osc-refutation 1".as_slice() {
-        Some(TextLine::Head { undecided: false })
+        head(false, Form::One)
+    } else if text == b"osc-refutation 2".as_slice() {
+        head(false, Form::Two)
     } else if text == b"osc-undecided 1".as_slice() {
-        Some(TextLine::Head { undecided: true })
+        head(true, Form::One)
+    } else if text == b"osc-undecided 2".as_slice() {
+        head(true, Form::Two)
     } else {
         None
     }
+}
+
+fn head(undecided: bool, form: Form) -> Option<TextLine>
+    ensures { result ≡ Some (Head undecided form) }
+{
+    Some(TextLine::Head { undecided, form })
 }
 
 /// The line of this spelling, of those with a number before the first cut.
@@ -113,17 +137,31 @@ fn cut(side: Side, text: &[u8]) -> Option<TextLine>
     }
 }
 
-fn length_before_space(text: &[u8]) -> usize
-    ensures { result ≡ prefix_len is_no_space text.now }
-{
-    text.iter().take_while(|byte| **byte != b' ').count()
-}
-
 fn cut_of(side: Side, slot: Option<u64>, value: Option<i64>) -> Option<TextLine>
     ensures { result ≡ cut_of side slot value }
 {
     match (slot, value) {
         (Some(slot), Some(value)) => Some(TextLine::Cut { side, slot, value }),
         _ => None,
+    }
+}
+
+/// The sum of these rules, with a space before each of their numbers.
+fn sum(text: &[u8]) -> Option<TextLine>
+    ensures { result ≡ sum_at text.now }
+{
+    match picks_of(text) {
+        Some(picks) => sum_of(picks),
+        None => None,
+    }
+}
+
+fn sum_of(picks: Picks) -> Option<TextLine>
+    ensures { result ≡ sum_of picks }
+{
+    if may_stand(picks.as_slice()) {
+        Some(TextLine::Sum(picks))
+    } else {
+        None
     }
 }

@@ -1,9 +1,9 @@
 ghost use Rattle.std.specs.Prelude.{◌≡◌, ◌+◌, ◌≤◌, ◌<◌, ◌^◌, ◌∷◌, [], ◌++◌, length, decimal, unsigned_abs};
 ghost use Rattle.std.specs.Fmt.{signed_decimal};
-ghost use Rattle.record_text.specs.declared.line.TextLine.TheVariants.{Head};
-ghost use Rattle.record_text.specs.Lines.{spelled, word_of, slot_and_value, IsShort};
+ghost use Rattle.record_text.specs.Lines.{heading_of, word_of, slot_and_value};
+ghost use Rattle.record_text.specs.Pieces.{piece_bytes, IsShortPiece};
 
-use crate::TextLine;
+use crate::Form;
 use arrayvec::ArrayVec;
 use box_eval::Side;
 use itoa::Buffer;
@@ -11,33 +11,55 @@ use itoa::Buffer;
 /// The bytes that wait to be written.
 pub(crate) const PAGE: usize = 4096;
 
-/// The most bytes that a line has, with its line feed.
-pub(crate) const LONGEST_LINE: usize = 44;
+/// The most bytes that a piece has.
+pub(crate) const LONGEST_PIECE: usize = 44;
 
-/// Adds a line.
-pub(crate) fn spell(page: &mut ArrayVec<u8, PAGE>, line: TextLine)
-    requires room { length page.old.items + 44 ≤ 4096 }
-    requires short { IsShort line }
-    ensures items { page.new.items ≡ page.old.items ++ (spelled line ++ 10 ∷ []) }
-    ensures few { length page.new.items ≤ length page.old.items + 44 }
-{
-    push_line(page, line);
+/// What is added to a page at once: a line with its line feed, or a part of a sum's line.
+#[derive(Clone, Copy)]
+pub(crate) enum Piece {
+    Head { undecided: bool, form: Form },
+    Slots(u64),
+    Rules(u64),
+    Room(u64),
+    Cut { side: Side, slot: u64, value: i64 },
+    Close { rule: u64 },
+    Open,
+    End,
+    /// The word that a sum's line begins with.
+    Word,
+    /// A rule of a sum.
+    Pick { times: u64, rule: u64 },
+    /// The line feed of a sum's line.
+    Feed,
 }
 
-fn push_line(page: &mut ArrayVec<u8, PAGE>, line: TextLine)
+/// Adds a piece.
+pub(crate) fn spell(page: &mut ArrayVec<u8, PAGE>, piece: Piece)
     requires room { length page.old.items + 44 ≤ 4096 }
-    requires short { IsShort line }
-    ensures { page.new.items ≡ page.old.items ++ (spelled line ++ 10 ∷ []) }
+    requires short { IsShortPiece piece }
+    ensures items { page.new.items ≡ page.old.items ++ piece_bytes piece }
+    ensures few { length page.new.items ≤ length page.old.items + 44 }
 {
-    match line {
-        TextLine::Head { undecided } => push_head(page, undecided),
-        TextLine::Slots(number) => push_numbered(page, b"slots ", number),
-        TextLine::Rules(number) => push_numbered(page, b"rules ", number),
-        TextLine::Room(number) => push_numbered(page, b"room ", number),
-        TextLine::Cut { side, slot, value } => push_cut(page, side, slot, value),
-        TextLine::Close { rule } => push_numbered(page, b"close ", rule),
-        TextLine::Open => push(page, b"open\n"),
-        TextLine::End => push(page, b"end\n"),
+    push_piece(page, piece);
+}
+
+fn push_piece(page: &mut ArrayVec<u8, PAGE>, piece: Piece)
+    requires room { length page.old.items + 44 ≤ 4096 }
+    requires short { IsShortPiece piece }
+    ensures { page.new.items ≡ page.old.items ++ piece_bytes piece }
+{
+    match piece {
+        Piece::Head { undecided, form } => push_head(page, undecided, form),
+        Piece::Slots(number) => push_numbered(page, b"slots ", number),
+        Piece::Rules(number) => push_numbered(page, b"rules ", number),
+        Piece::Room(number) => push_numbered(page, b"room ", number),
+        Piece::Cut { side, slot, value } => push_cut(page, side, slot, value),
+        Piece::Close { rule } => push_numbered(page, b"close ", rule),
+        Piece::Open => push(page, b"open\n"),
+        Piece::End => push(page, b"end\n"),
+        Piece::Word => push(page, b"sum"),
+        Piece::Pick { times, rule } => push_pick(page, times, rule),
+        Piece::Feed => push(page, b"\n"),
     }
 }
 
@@ -52,14 +74,15 @@ fn push(page: &mut ArrayVec<u8, PAGE>, bytes: &[u8])
     }
 }
 
-fn push_head(page: &mut ArrayVec<u8, PAGE>, undecided: bool)
+fn push_head(page: &mut ArrayVec<u8, PAGE>, undecided: bool, form: Form)
     requires { length page.old.items + 44 ≤ 4096 }
-    ensures { page.new.items ≡ page.old.items ++ (spelled (Head undecided) ++ 10 ∷ []) }
+    ensures { page.new.items ≡ page.old.items ++ (heading_of undecided form ++ 10 ∷ []) }
 {
-    if undecided {
-        push(page, b"osc-undecided 1\n");
-    } else {
-        push(page, b"osc-refutation 1\n");
+    match (undecided, form) {
+        (true, Form::One) => push(page, b"osc-undecided 1\n"),
+        (true, Form::Two) => push(page, b"osc-undecided 2\n"),
+        (false, Form::One) => push(page, b"osc-refutation 1\n"),
+        (false, Form::Two) => push(page, b"osc-refutation 2\n"),
     }
 }
 
@@ -86,6 +109,18 @@ fn push_cut(page: &mut ArrayVec<u8, PAGE>, side: Side, slot: u64, value: i64)
     push(page, b" ");
     push_value(page, value);
     push(page, b"\n");
+}
+
+fn push_pick(page: &mut ArrayVec<u8, PAGE>, times: u64, rule: u64)
+    requires room { length page.old.items + 44 ≤ 4096 }
+    requires times { times < 10 ^ 18 }
+    requires rule { rule < 10 ^ 18 }
+    ensures { page.new.items ≡ page.old.items ++ (32 ∷ (decimal times ++ 32 ∷ decimal rule)) }
+{
+    push(page, b" ");
+    push_number(page, times);
+    push(page, b" ");
+    push_number(page, rule);
 }
 
 fn push_side(page: &mut ArrayVec<u8, PAGE>, side: Side)

@@ -6,7 +6,7 @@ ghost use Rattle.record_text.specs.Stops.{shelf_failed};
 ghost use Rattle.record_text.specs.Reader.{NoneWanted, GivesLine, Stops};
 
 use crate::TextLine;
-use crate::found::{Wanted, wanted_line};
+use crate::found::{Wanted, is_nothing, wanted_line};
 use crate::next_line::{next_line, read_on};
 use crate::source::Source;
 use crate::stop::VerifyStop;
@@ -65,11 +65,12 @@ impl Reader {
         ensures shelf { ReadsOn (H.files shelf.old) (H.files shelf.new) (H.left shelf.old) (H.left shelf.new) (H.faults shelf.old) (H.faults shelf.new) (shelf_failed result) }
     {
         let found = next_line(&mut self.source, shelf)?;
+        let ended = is_nothing(&found);
         if let Some(line) = wanted_line(wanted, found) {
             self.lines += 1;
             return Ok(line);
         }
-        read_on(&mut self.source, shelf, found)?;
+        read_on(&mut self.source, shelf, ended)?;
         Err(self.bad_line())
     }
 

@@ -19,8 +19,9 @@ pub fn next_node<H: Shelf>(
     ensures shelf { ReadsOn (H.files shelf.old) (H.files shelf.new) (H.left shelf.old) (H.left shelf.new) (H.faults shelf.old) (H.faults shelf.new) (shelf_failed result) }
 {
     let undecided = nodes.undecided;
-    let line = reader.expect(shelf, Wanted::Node { undecided })?;
-    nodes.count(line);
+    let form = nodes.form;
+    let line = reader.expect(shelf, Wanted::Node { undecided, form })?;
+    nodes.count(&line);
     Ok(line)
 }
 

@@ -9,7 +9,7 @@ use Rattle.box_eval.specs.declared.verdict.Verdict.TheVariants.{True, False, Ope
 use Rattle.box_eval.specs.Box.{IsBox, IsInside}
 use Rattle.box_eval.specs.Verdict.{verdict_of}
 use Rattle.box_eval.specs.Rules.{IsFlat, CanJudge}
-use Rattle.box_eval.specs.Record.{is_false, may_close}
+use Rattle.record_trees.specs.Record.{is_false, may_close}
 use Rattle.box_eval.proofs.Fits.{fits_at, can_judge_inside}
 
 pub there : {A : Type 0} (xs : List A) (k : ℕ) (x : A) → k < length xs → x ≡ get_or xs k x → slice_get xs k ≡ Some x

@@ -2,8 +2,8 @@
 use Rattle.std.proofs.Common.{◌≡◌, refl, sym, ap, ◌∙◌, subst, ℕ, zero, suc, Bool, true, false, List, [], ◌∷◌, slice_get, Some}
 use Rattle.std.proofs.lemmas.Bool.{false≢true}
 use Rattle.box_eval.specs.declared.flat.Flat.{Flat}
-use Rattle.box_eval.specs.declared.record.Record.{Record}
-use Rattle.box_eval.specs.Record.{Tree, has_open, cuts_of, AllTrue, marks, IsAcceptedAs, IsRefutation}
+use Rattle.record_trees.specs.declared.record.Record.{Record}
+use Rattle.record_trees.specs.Record.{Tree, has_open, cuts_of, AllTrue, marks, IsAcceptedAs, IsRefutation}
 use Rattle.record_text.specs.Lines.{AllShort}
 use Rattle.record_text.specs.Text.{record_lines, record_text, IsTextOf}
 use Rattle.record_text.proofs.Texts.{text_of_one}

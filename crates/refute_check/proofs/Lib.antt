@@ -1,5 +1,6 @@
 pub mod Closes
 pub mod Laws
+pub mod MissingRules
 pub mod Verdicts
 pub mod Walking
 pub mod Walks

@@ -5,20 +5,21 @@ use Rattle.std.proofs.lemmas.Bool.{ltb-true}
 use Rattle.std.proofs.lemmas.List.{length-append, length-take, get_or-take}
 use Rattle.std.proofs.Math.ListN.{get_or-append}
 use Rattle.std.proofs.Math.Seq.{get_or-append_seam}
-use Rattle.box_eval.proofs.Empty.{cut_facts}
+use Rattle.record_trees.proofs.Empty.{cut_facts}
 use Rattle.box_eval.proofs.Parts.{inside_trans, first_part_inside, second_part_inside}
-use Rattle.box_eval.specs.declared.rule.Rule.{Rule}
+use Rattle.box_eval.specs.declared.flat.Flat.{Flat}
 use Rattle.box_eval.specs.declared.bounds.Pair.{Pair}
 use Rattle.box_eval.specs.declared.cut.Cut.{Cut}
 use Rattle.box_eval.specs.declared.cut.Side.{Side}
-use Rattle.box_eval.specs.declared.record.Line.{Line}
-use Rattle.box_eval.specs.declared.record.Line.TheVariants as L
+use Rattle.record_trees.specs.declared.record.Line.{Line}
+use Rattle.record_trees.specs.declared.record.Line.TheVariants as L
 use Rattle.box_eval.specs.Box.{cut_at, first_part, second_part, IsInside, IsCutOf}
-use Rattle.box_eval.specs.Record.{Tree, branch, leaf, close, unknown, line_at, lines_of, may_cut, accepts}
+use Rattle.linear_sums.specs.declared.pick.Pick.{Pick}
+use Rattle.record_trees.specs.Record.{Tree, branch, leaf, close, added, unknown, line_at, FullLine, full_lines, may_cut, accepts}
 use Rattle.bound_trail.specs.History.{History, mark_of, present, with_box, back_to}
 use Rattle.refute_check.specs.declared.stack.Pending.{Pending}
 use Rattle.refute_check.specs.Stack.{popped, rest}
-use Rattle.refute_check.specs.Walk.{Place, place, mark, parts, next, marks_at, places_after, untried, places_now, AllWait, IsStanding, trail_cut, trail_leaf, trail_after, waiting, stack_after}
+use Rattle.refute_check.specs.Walk.{Place, place, mark, mark_line, parts, next, marks_at, places_after, untried, places_now, AllWait, IsStanding, trail_cut, trail_leaf, trail_after, waiting, stack_after}
 
 -- ---- the cuts that wait
 
@@ -164,9 +165,9 @@ pub record Stepped (root : List Pair) (h : History) (ds : List Pending) (l : Lin
   pub places : 0 < length ps → places_now (trail_after h ds l) (stack_after h ds l) ≡ ps
   pub room : (trail_after h ds l).room ≡ h.room
 
-cut_step : (root : List Pair) (rules : List Rule) (h : History) (ds : List Pending) (s : IsStanding root h ds) (cut : Cut) → may_cut h.room (present h) (mark_of h) cut ≡ true
+cut_step : (root : List Pair) (h : History) (ds : List Pending) (s : IsStanding root h ds) (cut : Cut) → may_cut h.room (present h) (mark_of h) cut ≡ true
     → IsStanding root (trail_cut h cut) (waiting h cut ∷ ds) × (places_now (trail_cut h cut) (waiting h cut ∷ ds) ≡ parts cut (place (present h) (mark_of h)) ++ untried h.boxes ds)
-cut_step root rules h ds s cut m =
+cut_step root h ds s cut m =
     let f = cut_facts h.room (present h) (mark_of h) cut m in
     (cut_standing root h ds s cut f.few f.parts, cut_places root h ds s cut f.few f.parts)
 
@@ -179,57 +180,59 @@ leaf_room : (h : History) (ds : List Pending) → (trail_leaf h ds).room ≡ h.r
 leaf_room h [] = refl
 leaf_room h (d ∷ ds) = refl
 
-pub stepped : (root : List Pair) (rules : List Rule) (h : History) (ds : List Pending) (l : Line) → IsStanding root h ds → mark rules h.room (place (present h) (mark_of h)) l ≡ true
-    → Stepped root h ds l (next (place (present h) (mark_of h)) l ++ untried h.boxes ds)
-stepped root rules h ds (L.Low slot value) s m =
-    let c = cut_step root rules h ds s (cut_at Side.Low slot value) m in record { standing = c.0; places = λ _. c.1; room = refl }
-stepped root rules h ds (L.High slot value) s m =
-    let c = cut_step root rules h ds s (cut_at Side.High slot value) m in record { standing = c.0; places = λ _. c.1; room = refl }
-stepped root rules h ds (L.Close rule) s m = let c = leaf_step root h ds s in record { standing = c.0; places = c.1; room = leaf_room h ds }
-stepped root rules h ds L.Unknown s m = let c = leaf_step root h ds s in record { standing = c.0; places = c.1; room = leaf_room h ds }
+pub stepped : (root : List Pair) (flat : Flat) (h : History) (ds : List Pending) (picks : List Pick) (l : Line) → IsStanding root h ds
+    → mark_line flat h.room (place (present h) (mark_of h)) picks l ≡ true → Stepped root h ds l (next (place (present h) (mark_of h)) l ++ untried h.boxes ds)
+stepped root flat h ds picks (L.Low slot value) s m =
+    let c = cut_step root h ds s (cut_at Side.Low slot value) m in record { standing = c.0; places = λ _. c.1; room = refl }
+stepped root flat h ds picks (L.High slot value) s m =
+    let c = cut_step root h ds s (cut_at Side.High slot value) m in record { standing = c.0; places = λ _. c.1; room = refl }
+stepped root flat h ds picks (L.Close rule) s m = let c = leaf_step root h ds s in record { standing = c.0; places = c.1; room = leaf_room h ds }
+stepped root flat h ds picks (L.Sum count) s m = let c = leaf_step root h ds s in record { standing = c.0; places = c.1; room = leaf_room h ds }
+stepped root flat h ds picks L.Unknown s m = let c = leaf_step root h ds s in record { standing = c.0; places = c.1; room = leaf_room h ds }
 
 -- ---- lists of marks
 
-pub marks_more : (rules : List Rule) (room : ℕ) (ps : List Place) (ls : List Line) (l : Line) → marks_at rules room ps (ls ++ l ∷ []) ≡ marks_at rules room ps ls ++ marks_at rules room (places_after ps ls) (l ∷ [])
-marks_more rules room [] [] l = refl
-marks_more rules room (p ∷ ps) [] l = refl
-marks_more rules room [] (k ∷ ls) l = refl
-marks_more rules room (p ∷ ps) (k ∷ ls) l = ap (λ (bs : List Bool). mark rules room p k ∷ bs) (marks_more rules room (next p k ++ ps) ls l)
+pub marks_more : (flat : Flat) (room : ℕ) (ps : List Place) (ls : List FullLine) (l : FullLine) → marks_at flat room ps (ls ++ l ∷ []) ≡ marks_at flat room ps ls ++ marks_at flat room (places_after ps ls) (l ∷ [])
+marks_more flat room [] [] l = refl
+marks_more flat room (p ∷ ps) [] l = refl
+marks_more flat room [] (k ∷ ls) l = refl
+marks_more flat room (p ∷ ps) (k ∷ ls) l = ap (λ (bs : List Bool). mark flat room p k ∷ bs) (marks_more flat room (next p k.line ++ ps) ls l)
 
-pub places_more : (ps : List Place) (ls : List Line) (l : Line) → places_after ps (ls ++ l ∷ []) ≡ places_after (places_after ps ls) (l ∷ [])
+pub places_more : (ps : List Place) (ls : List FullLine) (l : FullLine) → places_after ps (ls ++ l ∷ []) ≡ places_after (places_after ps ls) (l ∷ [])
 places_more [] [] l = refl
 places_more (p ∷ ps) [] l = refl
 places_more [] (k ∷ ls) l = refl
-places_more (p ∷ ps) (k ∷ ls) l = places_more (next p k ++ ps) ls l
+places_more (p ∷ ps) (k ∷ ls) l = places_more (next p k.line ++ ps) ls l
 
-pub marks_both : (rules : List Rule) (room : ℕ) (ps : List Place) (ls ms : List Line) → marks_at rules room ps (ls ++ ms) ≡ marks_at rules room ps ls ++ marks_at rules room (places_after ps ls) ms
-marks_both rules room [] [] ms = refl
-marks_both rules room (p ∷ ps) [] ms = refl
-marks_both rules room [] (k ∷ ls) [] = refl
-marks_both rules room [] (k ∷ ls) (m ∷ ms) = refl
-marks_both rules room (p ∷ ps) (k ∷ ls) ms = ap (λ (bs : List Bool). mark rules room p k ∷ bs) (marks_both rules room (next p k ++ ps) ls ms)
+pub marks_both : (flat : Flat) (room : ℕ) (ps : List Place) (ls ms : List FullLine) → marks_at flat room ps (ls ++ ms) ≡ marks_at flat room ps ls ++ marks_at flat room (places_after ps ls) ms
+marks_both flat room [] [] ms = refl
+marks_both flat room (p ∷ ps) [] ms = refl
+marks_both flat room [] (k ∷ ls) [] = refl
+marks_both flat room [] (k ∷ ls) (m ∷ ms) = refl
+marks_both flat room (p ∷ ps) (k ∷ ls) ms = ap (λ (bs : List Bool). mark flat room p k ∷ bs) (marks_both flat room (next p k.line ++ ps) ls ms)
 
-mark_cut : (rules : List Rule) (room : ℕ) (p : Place) (side : Side) (slot : ℕ) (value : ℤ) → mark rules room p (line_at side slot value) ≡ may_cut room p.ends p.above (cut_at side slot value)
-mark_cut rules room p Side.Low slot value = refl
-mark_cut rules room p Side.High slot value = refl
+mark_cut : (flat : Flat) (room : ℕ) (p : Place) (side : Side) (slot : ℕ) (value : ℤ) → mark_line flat room p [] (line_at side slot value) ≡ may_cut room p.ends p.above (cut_at side slot value)
+mark_cut flat room p Side.Low slot value = refl
+mark_cut flat room p Side.High slot value = refl
 
 next_cut : (p : Place) (side : Side) (slot : ℕ) (value : ℤ) → next p (line_at side slot value) ≡ parts (cut_at side slot value) p
 next_cut p Side.Low slot value = refl
 next_cut p Side.High slot value = refl
 
 -- a tree's lines are accepted at the first place that is left as the tree is
-pub tree_marks : (rules : List Rule) (room : ℕ) (t : Tree) (p : Place) (ps : List Place) (ls : List Line)
-    → marks_at rules room (p ∷ ps) (lines_of t ++ ls) ≡ accepts rules room p.ends p.above t ++ marks_at rules room ps ls
-tree_marks rules room (leaf (close rule)) p ps ls = refl
-tree_marks rules room (leaf unknown) p ps ls = refl
-tree_marks rules room (branch cut a b) p ps ls =
-    let here = mark_cut rules room p cut.side cut.slot cut.value in
+pub tree_marks : (flat : Flat) (room : ℕ) (t : Tree) (p : Place) (ps : List Place) (ls : List FullLine)
+    → marks_at flat room (p ∷ ps) (full_lines t ++ ls) ≡ accepts flat room p.ends p.above t ++ marks_at flat room ps ls
+tree_marks flat room (leaf (close rule)) p ps ls = refl
+tree_marks flat room (leaf (added picks)) p ps ls = refl
+tree_marks flat room (leaf unknown) p ps ls = refl
+tree_marks flat room (branch cut a b) p ps ls =
+    let here = mark_cut flat room p cut.side cut.slot cut.value in
     let after = next_cut p cut.side cut.slot cut.value in
     let one = place (first_part cut p.ends) (p.above + 1) in
     let two = place (second_part cut p.ends) (p.above + 1) in
-    ap₂ (λ (m : Bool) (qs : List Place). m ∷ marks_at rules room (qs ++ ps) (lines_of a ++ lines_of b ++ ls)) here after
+    ap₂ (λ (m : Bool) (qs : List Place). m ∷ marks_at flat room (qs ++ ps) (full_lines a ++ full_lines b ++ ls)) here after
     ∙ ap (λ (bs : List Bool). may_cut room p.ends p.above cut ∷ bs)
-    (ap (marks_at rules room (one ∷ two ∷ ps)) (append_assoc (lines_of a) (lines_of b) ls)
-    ∙ (tree_marks rules room a one (two ∷ ps) (lines_of b ++ ls)
-    ∙ (ap (λ (bs : List Bool). accepts rules room one.ends one.above a ++ bs) (tree_marks rules room b two ps ls)
-    ∙ sym (append_assoc (accepts rules room one.ends one.above a) (accepts rules room two.ends two.above b) (marks_at rules room ps ls)))))
+    (ap (marks_at flat room (one ∷ two ∷ ps)) (append_assoc (full_lines a) (full_lines b) ls)
+    ∙ (tree_marks flat room a one (two ∷ ps) (full_lines b ++ ls)
+    ∙ (ap (λ (bs : List Bool). accepts flat room one.ends one.above a ++ bs) (tree_marks flat room b two ps ls)
+    ∙ sym (append_assoc (accepts flat room one.ends one.above a) (accepts flat room two.ends two.above b) (marks_at flat room ps ls)))))

@@ -1,9 +1,8 @@
 -- What each answer of `verify` means.
 use Rattle.std.specs.Prelude.{◌≡◌, ℕ, ◌+◌, ◌≤◌, Bool, true, false, not, nat_eq, nat_le, if◌then◌else◌, List, ◌∷◌, length, Option, Some, None}
 use Rattle.box_eval.specs.declared.flat.Flat.{Flat}
-use Rattle.box_eval.specs.declared.record.Line.{Line}
-use Rattle.box_eval.specs.declared.record.Record.{Record}
-use Rattle.box_eval.specs.Record.{Tree, has_open, cuts_of, AllTrue, IsFirstFalse, marks, IsAcceptedAs}
+use Rattle.record_trees.specs.declared.record.Record.{Record}
+use Rattle.record_trees.specs.Record.{FullLine, Tree, has_open, cuts_of, AllTrue, IsFirstFalse, marks, IsAcceptedAs}
 use Rattle.box_eval.specs.Rules.{IsEmpty}
 use Rattle.record_text.specs.declared.nodes.Nodes.{Nodes}
 use Rattle.record_text.specs.declared.header.Header.{Header}
@@ -63,9 +62,9 @@ Answers flat (V.No line) left = (text : List ℕ) → left ≡ Some text → IsR
 -- ---- the steps of the check
 
 -- the marks of a record's lines so far
-abbrev pub marks_so_far : Flat → Header → List Line → List Bool
+abbrev pub marks_so_far : Flat → Header → List FullLine → List Bool
 marks_so_far flat h lines =
-    true ∷ nat_eq h.slots (length flat.bounds.pairs) ∷ nat_eq h.rules (length flat.rules) ∷ nat_le h.room 1000000 ∷ marks_at flat.rules h.room (whole flat) lines
+    true ∷ nat_eq h.slots (length flat.bounds.pairs) ∷ nat_eq h.rules (length flat.rules) ∷ nat_le h.room 1000000 ∷ marks_at flat h.room (whole flat) lines
 
 -- the number of the first of lines 2 to 4 that isn't accepted
 abbrev pub first_refused : Bool → Bool → Bool → Option ℕ
@@ -75,13 +74,13 @@ abbrev pub refused_header : Flat → Header → Option ℕ
 refused_header flat h = first_refused (nat_eq h.slots (length flat.bounds.pairs)) (nat_eq h.rules (length flat.rules)) (nat_le h.room 1000000)
 
 -- all lines so far are accepted, up to the last leaf, or this one is the first that isn't
-abbrev pub JudgesAll : Flat → Header → List Line → Nodes → Option ℕ → Type 0
+abbrev pub JudgesAll : Flat → Header → List FullLine → Nodes → Option ℕ → Type 0
 JudgesAll flat h lines n None = AllTrue (marks_so_far flat h lines) × (n.left ≡ 0)
 JudgesAll flat h lines n (Some line) = (k : ℕ) × IsFirstFalse (marks_so_far flat h lines) k × (line ≡ k + 1)
 
 -- cuts and leaves were read and judged
 pub record HasJudged (flat : Flat) (h : Header) (refused : Option ℕ) (n n_after : Nodes) (r r_after : Reading) (left left_after : Option (List ℕ)) : Type 0 where
-  pub lines : List Line
+  pub lines : List FullLine
   pub nodes : HasNodes lines n n_after r r_after left left_after
   pub judged : JudgesAll flat h lines n_after refused
 

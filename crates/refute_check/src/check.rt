@@ -11,6 +11,7 @@ ghost use Rattle.record_text.specs.Text.{IsFirstBadLine};
 ghost use Rattle.refute_check.specs.Answers.{refused_header, verdict_of, HasJudged, Answers, SomeVerified, IsRefutationText, IsOpenText, IsRefusedAt};
 
 use crate::stack::Stack;
+use crate::sums::no_sums;
 use crate::walk::walk;
 use bound_trail::Trail;
 use box_eval::Flat;
@@ -36,7 +37,8 @@ pub enum Verified {
 ///
 /// The text is read to its end even after a line that is bad or isn't accepted. So a failing shelf and a text that is too
 /// long come before a bad line, and that before a line that isn't accepted. After the fourth line it takes memory for as
-/// many cuts as the record has room for, if the first four lines are accepted, and none after that.
+/// many cuts as the record has room for and for a number for each slot, if the first four lines are accepted, and none
+/// after that.
 ///
 /// Each answer about a text is that of some text, also of a shelf that tells nothing.
 pub fn verify<H: Shelf>(alloc: Global, flat: &Flat, shelf: &mut H) -> Result<Verified, VerifyStop>
@@ -74,7 +76,7 @@ fn checked<H: Shelf>(alloc: Global, flat: &Flat, shelf: &mut H) -> Result<Verifi
 {
     let mut reader = Reader::new();
     let header = read_header(&mut reader, shelf)?;
-    let mut nodes = Nodes::new(header.undecided);
+    let mut nodes = Nodes::new(header.undecided, header.form);
     let refused = judge_lines(alloc, flat, &header, &mut reader, shelf, &mut nodes)?;
     read_rest(&mut reader, shelf, &mut nodes)?;
     Ok(verdict_of(refused, &nodes))
@@ -92,7 +94,7 @@ fn judge_lines<H: Shelf>(
 ) -> Result<Option<u32>, VerifyStop>
     requires flat { IsFlat flat.now }
     requires few { AreFew nodes.old reader.old }
-    requires nodes { nodes.old ≡ no_nodes nodes.old.undecided }
+    requires nodes { nodes.old ≡ no_nodes nodes.old.undecided nodes.old.form }
     requires four { reader.old.lines ≡ 4 }
     ensures judged { IfOk result (λ refused. HasJudged flat.now header.now refused nodes.old nodes.new reader.old reader.new (H.left shelf.old) (H.left shelf.new)) }
     ensures stop { IfErr result (λ stop. StoppedFrom stop nodes.old reader.old (H.left shelf.old) (H.left shelf.new)) }
@@ -104,7 +106,16 @@ fn judge_lines<H: Shelf>(
     let room = header.room as u32;
     let mut trail = Trail::new(alloc, &flat.bounds, room)?;
     let mut stack = Stack::new(alloc, room)?;
-    walk(flat, reader, shelf, nodes, &mut trail, &mut stack)
+    let mut sums = no_sums(alloc, flat)?;
+    walk(
+        flat,
+        reader,
+        shelf,
+        nodes,
+        &mut trail,
+        &mut stack,
+        sums.as_mut_slice(),
+    )
 }
 
 /// The first of a record's first four lines that isn't accepted.

@@ -5,6 +5,7 @@ mod check;
 mod cuts;
 mod stack;
 mod step;
+mod sums;
 mod walk;
 
 pub use check::{Verified, verify};

@@ -1,14 +1,16 @@
 ghost use Rattle.std.specs.Prelude.{◌≡◌, ◌<◌, ◌≤◌, ◌∷◌, length, is_some, IfSome, true};
 ghost use Rattle.bound_trail.specs.History.{mark_of, present, with_box};
 ghost use Rattle.box_eval.specs.Box.{cut_at, first_part, IsInside, IsCutOf};
-ghost use Rattle.box_eval.specs.Record.{may_cut, may_close};
+ghost use Rattle.record_trees.specs.Record.{may_cut, may_close};
 ghost use Rattle.box_eval.specs.Rules.{IsFlat};
+ghost use Rattle.record_text.specs.Lines.{IsShort};
 ghost use Rattle.record_text.specs.Rest.{node_line};
 ghost use Rattle.refute_check.specs.Stack.{rest};
-ghost use Rattle.refute_check.specs.Walk.{place, mark, AllWait, IsStanding, trail_cut, trail_leaf, trail_after, waiting, stack_after};
+ghost use Rattle.refute_check.specs.Walk.{place, mark, AllWait, AreSums, IsStanding, trail_cut, trail_leaf, trail_after, waiting, stack_after};
 
 use crate::cuts::{set_first, set_second};
 use crate::stack::{Pending, Stack};
+use crate::sums::accepts_sum;
 use bound_trail::Trail;
 use box_eval::{Cut, Ends, Flat, Side, Verdict, judge};
 use record_text::TextLine;
@@ -74,16 +76,25 @@ fn leave(trail: &mut Trail, stack: &mut Stack)
 }
 
 /// Reads a line at the present box, and says whether it is accepted. Where it isn't, nothing changes.
-pub(crate) fn step(flat: &Flat, trail: &mut Trail, stack: &mut Stack, line: TextLine) -> bool
+pub(crate) fn step(
+    flat: &Flat,
+    trail: &mut Trail,
+    stack: &mut Stack,
+    sums: &mut [i128],
+    line: &TextLine,
+) -> bool
     requires flat { IsFlat flat.now }
+    requires short { IsShort line.now }
+    requires sums { AreSums flat.now sums.old }
     requires standing { IsStanding flat.now.bounds.pairs trail.old stack.old.items }
     requires rooms { stack.old.room ≡ trail.old.room }
-    ensures accepts { result ≡ mark flat.now.rules trail.old.room (place (present trail.old) (mark_of trail.old)) (node_line line) }
-    ensures trail { result ≡ true → trail.new ≡ trail_after trail.old stack.old.items (node_line line) }
-    ensures stack { result ≡ true → stack.new ≡ record { items = stack_after trail.old stack.old.items (node_line line); room = stack.old.room } }
+    ensures accepts { result ≡ mark flat.now trail.old.room (place (present trail.old) (mark_of trail.old)) (node_line line.now) }
+    ensures trail { result ≡ true → trail.new ≡ trail_after trail.old stack.old.items (node_line line.now).line }
+    ensures stack { result ≡ true → stack.new ≡ record { items = stack_after trail.old stack.old.items (node_line line.now).line; room = stack.old.room } }
+    ensures sums { AreSums flat.now sums.new }
 {
     match line {
-        TextLine::Cut { side, slot, value } => match accepted_cut(trail, side, slot, value) {
+        TextLine::Cut { side, slot, value } => match accepted_cut(trail, *side, *slot, *value) {
             Some(cut) => {
                 enter(trail, stack, cut);
                 true
@@ -91,7 +102,14 @@ pub(crate) fn step(flat: &Flat, trail: &mut Trail, stack: &mut Stack, line: Text
             None => false,
         },
         TextLine::Close { rule } => {
-            let accepted = accepts_close(flat, trail, rule);
+            let accepted = accepts_close(flat, trail, *rule);
+            if accepted {
+                leave(trail, stack);
+            }
+            accepted
+        }
+        TextLine::Sum(picks) => {
+            let accepted = accepts_sum(flat, trail, picks, sums);
             if accepted {
                 leave(trail, stack);
             }

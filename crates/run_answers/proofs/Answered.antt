@@ -17,11 +17,16 @@ use Rattle.run_answers.specs.RunFiles.{IsNoRun, IsRun, OnRunFile, run_limit}
 use Rattle.run_answers.specs.TextFiles.{in_file}
 use Rattle.run_answers.proofs.OneFile.{onward_file}
 
+-- what is answered of what is wrong first
+pub run_judged : {E : Type 0} (answer : Option Wrong → Answer) (scene : Scene) (run : Run) (wrong : Option Wrong) (r : Result Answer E) →
+    wrong ≡ first_wrong scene run → IfOk r (λ reply. reply ≡ answer wrong) → IfOk r (λ reply. reply ≡ answer (first_wrong scene run))
+run_judged answer scene run wrong (Ok reply) is told = told ∙ ap answer is
+run_judged answer scene run wrong (Err e) is told = tt
+
 -- the run is checked
 pub run_checked : {E : Type 0} (program : List AddedFile) (scene : Scene) (run : Run) (wrong : Option Wrong) (r : Result Answer E) →
     wrong ≡ first_wrong scene run → IfOk r (λ reply. reply ≡ verdict program wrong) → IfOk r (λ reply. reply ≡ verdict program (first_wrong scene run))
-run_checked program scene run wrong (Ok reply) is told = told ∙ ap (verdict program) is
-run_checked program scene run wrong (Err e) is told = tt
+run_checked program = run_judged (verdict program)
 
 module _ (told_files : Option (List NamedBytes)) (file : List ℕ) (Says : Run → Answer → Type 0) (before after : ℕ) where
   abbrev Found : FoundRun → List NamedBytes → Type 0

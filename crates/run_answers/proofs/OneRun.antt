@@ -10,9 +10,12 @@ use Rattle.run_texts.specs.composition.Scenes.{Scene}
 use Rattle.instance_check.specs.run_check.Answers.{first_wrong}
 use Rattle.instance_check.specs.run_check.RunText.{run_text}
 use Rattle.run_texts.specs.RunShape.{Shaped, Fits, Differs, run_from}
+use Rattle.run_exports.specs.declared.forms.Form.{Form}
+use Rattle.run_exports.specs.declared.road.Road.{Road}
 use Rattle.command_replies.specs.Reply.{Answer}
 use Rattle.command_replies.specs.Replies.{done}
 use Rattle.run_answers.specs.Checks.{Checks, verdict}
+use Rattle.run_answers.specs.Exports.{Exports, export_verdict}
 use Rattle.run_answers.specs.Migrations.{Migrates}
 use Rattle.run_answers.specs.RunFiles.{IsNoRun, no_json, no_run, IsRun, run_limit}
 use Rattle.run_answers.proofs.OneFile.{IsOneReading, IsSomeReading, one_file, some_file}
@@ -83,6 +86,13 @@ one_check texts file program scene reply other =
     one_file run_limit IsNoRun IsRun (λ run reply. reply ≡ verdict program (first_wrong scene run)) texts file one_reading
     (λ run. same_answer (verdict program (first_wrong scene run))) reply other
 
+-- the file of a run has one answer of `export`
+pub one_export : (form : Form) (road : Road) (left : List ℕ) (texts : List NamedBytes) (file : List ℕ) (program : List AddedFile) (scene : Scene) (reply other : Answer) →
+    Exports form road left texts file program scene reply → Exports form road left texts file program scene other → reply ≡ other
+one_export form road left texts file program scene reply other =
+    one_file run_limit IsNoRun IsRun (λ run reply. reply ≡ export_verdict form road left program run (first_wrong scene run)) texts file one_reading
+    (λ run. same_answer (export_verdict form road left program run (first_wrong scene run))) reply other
+
 -- the file of a run has one answer of `migrate`
 pub one_migration : (texts : List NamedBytes) (file : List ℕ) (reply other : Answer) → Migrates texts file reply → Migrates texts file other → reply ≡ other
 one_migration texts file reply other =
@@ -97,6 +107,13 @@ some_equal answer none = none answer refl
 pub some_check : (texts : List NamedBytes) (file : List ℕ) (program : List AddedFile) (scene : Scene) → ((reply : Answer) → Checks texts file program scene reply → ⊥) → ⊥
 some_check texts file program scene =
     some_file run_limit IsNoRun IsRun (λ run reply. reply ≡ verdict program (first_wrong scene run)) texts file some_reading (λ run. some_equal (verdict program (first_wrong scene run)))
+
+-- and some answer of `export`
+pub some_export : (form : Form) (road : Road) (left : List ℕ) (texts : List NamedBytes) (file : List ℕ) (program : List AddedFile) (scene : Scene) →
+    ((reply : Answer) → Exports form road left texts file program scene reply → ⊥) → ⊥
+some_export form road left texts file program scene =
+    some_file run_limit IsNoRun IsRun (λ run reply. reply ≡ export_verdict form road left program run (first_wrong scene run)) texts file some_reading
+    (λ run. some_equal (export_verdict form road left program run (first_wrong scene run)))
 
 -- and some answer of `migrate`
 pub some_migration : (texts : List NamedBytes) (file : List ℕ) → ((reply : Answer) → Migrates texts file reply → ⊥) → ⊥

@@ -6,6 +6,7 @@ ghost use Rattle.command_replies.specs.Shelves.{AnswersOrFails, CountsOnce};
 ghost use Rattle.run_texts.specs.composition.SeenScenes.{seen_scene};
 ghost use Rattle.outside_io.specs.Files.{SomeFiles};
 ghost use Rattle.run_answers.specs.Checks.{Checks, verdict};
+ghost use Rattle.run_answers.specs.Exports.{Exports, export_verdict};
 ghost use Rattle.run_answers.specs.Migrations.{Migrates};
 ghost use Rattle.instance_check.specs.run_check.Answers.{first_wrong};
 ghost use Rattle.instance_check.specs.run_check.RunText.{run_text};
@@ -13,11 +14,12 @@ ghost use Rattle.instance_check.specs.run_values.Frames.{IsCheckable};
 
 use crate::found::FoundRun;
 use crate::run_files::load_run;
-use crate::verdicts::verdict;
+use crate::verdicts::{no_line, verdict};
 use command_replies::{Reply, done};
-use instance_check::{Scene, write_run};
+use instance_check::{Scene, Wrong, write_run};
 use name_scope::Program;
 use outside_io::Shelf;
+use run_exports::{Style, run_in_form};
 use run_texts::Run;
 use std::alloc::{AllocError, Global};
 
@@ -37,6 +39,27 @@ pub fn check<H: Shelf>(
 {
     match load_run(alloc, file, shelf)? {
         FoundRun::Run(run) => check_run(alloc, program, scene, &run),
+        FoundRun::Refused(reply) => Ok(reply),
+    }
+}
+
+/// What `export` replies about a scene of the program, and the file of a run.
+pub fn export<H: Shelf>(
+    alloc: Global,
+    program: &Program,
+    scene: &Scene,
+    file: &str,
+    style: Style<'_>,
+    shelf: &mut H,
+) -> Result<Reply, AllocError>
+    requires { IsCheckable (seen_scene scene.now) }
+    ensures reply { IfOk result (λ reply. SomeFiles (H.files shelf.old) (λ texts.
+        AnswersOrFails (Exports style.entry.form style.entry.road style.entry.left.now texts file.now program.now (seen_scene scene.now)) file.now (H.faults shelf.old) (H.faults shelf.new) reply)) }
+    ensures counted { CountsOnce (H.faults shelf.old) (H.faults shelf.new) }
+    ensures files_kept { H.files shelf.new ≡ H.files shelf.old }
+{
+    match load_run(alloc, file, shelf)? {
+        FoundRun::Run(run) => export_run(alloc, program, scene, &run, style),
         FoundRun::Refused(reply) => Ok(reply),
     }
 }
@@ -66,6 +89,37 @@ fn check_run(
 {
     let wrong = instance_check::check(alloc, scene, run)?;
     verdict(alloc, program, wrong)
+}
+
+/// The run in a form if it is an instance of the scene; else what is wrong with it.
+fn export_run(
+    alloc: Global,
+    program: &Program,
+    scene: &Scene,
+    run: &Run,
+    style: Style<'_>,
+) -> Result<Reply, AllocError>
+    requires { IsCheckable (seen_scene scene.now) }
+    ensures { IfOk result (λ reply. reply ≡ export_verdict style.entry.form style.entry.road style.entry.left.now program.now run.now (first_wrong (seen_scene scene.now) run.now)) }
+{
+    let wrong = instance_check::check(alloc, scene, run)?;
+    exported(alloc, program, run, style, wrong)
+}
+
+/// The run in a form if nothing is wrong with it; else the `no` line.
+fn exported(
+    alloc: Global,
+    program: &Program,
+    run: &Run,
+    style: Style<'_>,
+    wrong: Option<Wrong>,
+) -> Result<Reply, AllocError>
+    ensures { IfOk result (λ reply. reply ≡ export_verdict style.entry.form style.entry.road style.entry.left.now program.now run.now wrong) }
+{
+    match wrong {
+        Some(wrong) => no_line(alloc, program, &wrong),
+        None => Ok(done(run_in_form(alloc, run, style)?)),
+    }
 }
 
 /// The text of the run.

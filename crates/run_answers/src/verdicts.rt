@@ -22,7 +22,7 @@ pub fn verdict(alloc: Global, program: &Program, wrong: Option<Wrong>) -> Result
 }
 
 /// The `no` line of what is wrong.
-fn no_line(alloc: Global, program: &Program, wrong: &Wrong) -> Result<Reply, AllocError>
+pub fn no_line(alloc: Global, program: &Program, wrong: &Wrong) -> Result<Reply, AllocError>
     ensures { IfOk result (λ reply. reply ≡ verdict program.now (Some wrong.now)) }
 {
     let path = wrong.path.text(alloc)?;

@@ -4,6 +4,6 @@
 mod run_text;
 mod wrong;
 
-pub use composition::{Clause, Run, Scene};
+pub use composition::{Clause, Run, Scene, Trace};
 pub use run_text::write_run;
 pub use wrong::Wrong;

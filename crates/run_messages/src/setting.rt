@@ -12,7 +12,9 @@ pub struct Asked<'a> {
     pub setting: Setting,
     /// Of `generate` the most cuts.
     pub cuts: u32,
-    /// Of `check` and `verify` the file of the run or the record.
+    /// Of `generate` the most searches.
+    pub tries: u32,
+    /// Of `check`, `export` and `verify` the file of the run or the record.
     pub file: &'a str,
 }
 
@@ -21,6 +23,7 @@ pub struct Asked<'a> {
 pub enum Command {
     Generate,
     Check,
+    Export,
     Verify,
 }
 
@@ -32,6 +35,7 @@ pub fn asked_in(alloc: Global, words: &[String]) -> Result<Option<Asked<'_>>, Al
             source: asked.source,
             setting: asked.setting,
             cuts: asked.cuts,
+            tries: asked.tries,
             file: "",
         },
         Request::Check(asked) => Asked {
@@ -39,6 +43,15 @@ pub fn asked_in(alloc: Global, words: &[String]) -> Result<Option<Asked<'_>>, Al
             source: asked.source,
             setting: asked.setting,
             cuts: 0,
+            tries: 0,
+            file: asked.run,
+        },
+        Request::Export(asked) => Asked {
+            command: Command::Export,
+            source: asked.source,
+            setting: asked.setting,
+            cuts: 0,
+            tries: 0,
             file: asked.run,
         },
         Request::Verify(asked) => Asked {
@@ -46,6 +59,7 @@ pub fn asked_in(alloc: Global, words: &[String]) -> Result<Option<Asked<'_>>, Al
             source: asked.source,
             setting: asked.setting,
             cuts: 0,
+            tries: 0,
             file: asked.record,
         },
         _ => return Ok(None),

@@ -1,5 +1,7 @@
+pub mod DataWeights
 pub mod LineFeeds
 pub mod Migrations
 pub mod NarrowData
 pub mod RoundTrips
+pub mod SampleCounts
 pub mod WrittenData

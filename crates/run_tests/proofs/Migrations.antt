@@ -202,9 +202,13 @@ run_fits form d n =
     fits_then (is_from_to form form) is_written_run (key_at (form_in form) (codes "form") d) _
     (fits_key (is_from_to form form) (form_in form) (within_fits form form) (codes "form") d n) (λ told f. with_fits form choices end c e d n)))
 
-pub migrated_back : (bytes : List ℕ) (run : Run) → option_map run_from (read bytes) ≡ Some (Fits run) → option_map run_from (read (run_text run)) ≡ Some (Fits run)
-migrated_back bytes run e = text_back run (by (read bytes) refl e)
+-- each run that a text is read as is one whose text can be read back
+pub read_is_written : (bytes : List ℕ) (run : Run) → option_map run_from (read bytes) ≡ Some (Fits run) → is_written_run run ≡ true
+read_is_written bytes run e = by (read bytes) refl e
   where
     by : (o : Option Data) → read bytes ≡ o → option_map run_from o ≡ Some (Fits run) → is_written_run run ≡ true
     by None r h = cc
     by (Some d) r h = let same : run_from d ≡ Fits run = cc in subst (IfFits is_written_run) same (run_fits (form_of d) d (read_narrow bytes d r))
+
+pub migrated_back : (bytes : List ℕ) (run : Run) → option_map run_from (read bytes) ≡ Some (Fits run) → option_map run_from (read (run_text run)) ≡ Some (Fits run)
+migrated_back bytes run e = text_back run (read_is_written bytes run e)

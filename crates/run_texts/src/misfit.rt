@@ -11,7 +11,7 @@ use std::alloc::{AllocError, Global};
 
 /// Why a JSON value is no part of a run.
 #[derive(Debug, PartialEq, Eq, Drop)]
-pub(crate) enum Misfit {
+pub enum Misfit {
     /// The JSON pointer, from the value on, of the first place that differs.
     At(Text),
     /// Out of memory.
@@ -30,18 +30,14 @@ impl From<AllocError> for Misfit {
 }
 
 /// The value itself differs.
-pub(crate) fn here(alloc: Global) -> Misfit
+pub fn here(alloc: Global) -> Misfit
     ensures { result ≡ misfit.At [] }
 {
     Misfit::At(Text::of(String::new(alloc)))
 }
 
 /// What is told of an item, as it is told of its list.
-pub(crate) fn in_item<T: Drop>(
-    alloc: Global,
-    place: usize,
-    told: Result<T, Misfit>,
-) -> Result<T, Misfit>
+pub fn in_item<T: Drop>(alloc: Global, place: usize, told: Result<T, Misfit>) -> Result<T, Misfit>
     ensures { (s : shape.Shaped T) → IsTold s told → IsTold (shape.inside (decimal place) s) result }
 {
     match told {
@@ -55,11 +51,7 @@ pub(crate) fn in_item<T: Drop>(
 }
 
 /// What is told of what stands at a key, as it is told of the object.
-pub(crate) fn in_key<T: Drop>(
-    alloc: Global,
-    key: &str,
-    told: Result<T, Misfit>,
-) -> Result<T, Misfit>
+pub fn in_key<T: Drop>(alloc: Global, key: &str, told: Result<T, Misfit>) -> Result<T, Misfit>
     ensures { (s : shape.Shaped T) → IsTold s told → IsTold (shape.inside key.now s) result }
 {
     match told {

@@ -33,7 +33,8 @@ pub fn read_run(alloc: Global, bytes: &[u8]) -> Result<Run, RunStop>
     }
 }
 
-fn read_json(alloc: Global, bytes: &[u8]) -> Result<Json, RunStop>
+/// The JSON value of a text. `BadJson` comes exactly if the bytes aren't UTF-8 or are no JSON text.
+pub fn read_json(alloc: Global, bytes: &[u8]) -> Result<Json, RunStop>
     ensures { IsJson bytes.now result }
 {
     match Json::from_slice(alloc, bytes) {
@@ -146,7 +147,7 @@ fn tick_of(alloc: Global, json: &Json, form: u32) -> Result<u32, Misfit>
 }
 
 /// The number at a key, which is from one number to another.
-fn number_at(alloc: Global, json: &Json, key: &str, low: u32, high: u32) -> Result<u32, Misfit>
+pub fn number_at(alloc: Global, json: &Json, key: &str, low: u32, high: u32) -> Result<u32, Misfit>
     ensures { IsTold (shape.key_at (shape.count_within low high) key.now (view json.now)) result }
 {
     in_key(alloc, key, if_within(alloc, json.get(key), low, high))

@@ -15,7 +15,7 @@ use serde_json::Value as Json;
 use std::alloc::{AllocError, Global};
 
 /// What a JSON value may be.
-pub(crate) trait FromJson {
+pub trait FromJson {
     ghost from_data: { Data → shape.Shaped Self };
 
     /// What the value is, or where it differs.
@@ -34,25 +34,21 @@ fn if_there<T: FromJson + Drop>(alloc: Global, json: Option<&Json>) -> Result<T,
 }
 
 /// What stands in a list at a place.
-pub(crate) fn item_at<T: FromJson + Drop>(
-    alloc: Global,
-    json: &Json,
-    place: usize,
-) -> Result<T, Misfit>
+pub fn item_at<T: FromJson + Drop>(alloc: Global, json: &Json, place: usize) -> Result<T, Misfit>
     ensures { IsTold (shape.item_at T.from_data place (view json.now)) result }
 {
     in_item(alloc, place, if_there(alloc, json.get(place)))
 }
 
 /// What stands at a key.
-pub(crate) fn key_at<T: FromJson + Drop>(alloc: Global, json: &Json, key: &str) -> Result<T, Misfit>
+pub fn key_at<T: FromJson + Drop>(alloc: Global, json: &Json, key: &str) -> Result<T, Misfit>
     ensures { IsTold (shape.key_at T.from_data key.now (view json.now)) result }
 {
     in_key(alloc, key, if_there(alloc, json.get(key)))
 }
 
 /// The value is a list of so many items.
-pub(crate) fn is_list_of(json: &Json, count: usize) -> bool
+pub fn is_list_of(json: &Json, count: usize) -> bool
     ensures { result ≡ shape.is_list_of count (view json.now) }
 {
     match json.as_array() {
@@ -62,7 +58,7 @@ pub(crate) fn is_list_of(json: &Json, count: usize) -> bool
 }
 
 /// A list, each of whose items is a part.
-pub(crate) fn list_in<T: FromJson + Drop>(alloc: Global, json: &Json) -> Result<Row<T>, Misfit>
+pub fn list_in<T: FromJson + Drop>(alloc: Global, json: &Json) -> Result<Row<T>, Misfit>
     ensures { IsTold (shape.list_in T.from_data (view json.now)) result }
 {
     match json.as_array() {

@@ -21,19 +21,22 @@ use Rattle.run_answers.specs.command_replies.declared.status.Status.TheVariants.
 use Rattle.run_answers.specs.command_replies.Reply.{Answer}
 use Rattle.run_answers.specs.command_replies.Replies.{done}
 use Rattle.readable_runs.specs.named_scenario.Naming.{types_in}
-use Rattle.readable_runs.specs.search_answers.SearchAnswers.{Generates, runs, refuted, undecided}
+use Rattle.readable_runs.specs.search_answers.SearchAnswers.{Generates, GeneratesWithin, runs, refuted, undecided, seed_after}
 use Rattle.readable_runs.proofs.of_search_answers.Accepted.{spent_more}
 use Rattle.run_answers.specs.Checks.{Checks, verdict}
 use Rattle.run_answers.specs.RunFiles.{IsNoRun, no_json, no_run, OnRunFile, run_limit}
 use Rattle.run_answers.specs.TextFiles.{no_file, too_long, bad_text, in_file}
+use Rattle.run_answers.specs.Exports.{Exports, export_verdict}
 use Rattle.run_answers.specs.Migrations.{Migrates}
+use Rattle.run_answers.specs.run_exports.declared.forms.Form.{Form}
+use Rattle.run_answers.specs.run_exports.declared.road.Road.{Road}
 use Rattle.form_answers.specs.RecordAnswers.{OnRecordFile, OnRecordText}
 use Rattle.form_answers.specs.RecordAnswers as record_reply
 use Rattle.scenario_tool.specs.Completeness.{DecidedByPoints, HasRecord, HasRun, SoundInputsHaveOutcomes}
 use Rattle.scenario_tool.specs.Laws.{IsOutcome}
-use Rattle.scenario_tool.specs.Settings.{scene_setting}
+use Rattle.scenario_tool.specs.Settings.{road_of, run_form, scene_setting}
 use Rattle.scenario_tool.proofs.Said.{IsRefusal, IsUndecided, no_status, none_some, other_status, said_of, said_of_sound, said_on_source, some_is, status_of}
-use Rattle.scenario_tool.proofs.Sole.{is_outcome}
+use Rattle.scenario_tool.proofs.Sole.{is_outcome, is_outcome_within}
 
 -- ---- the run in a file
 
@@ -78,6 +81,18 @@ run_outcome texts file program scene reply has is =
     let its = said_of_run (λ run reply. reply ≡ verdict program (first_wrong scene run)) texts file reply has is in
     verdict_status program reply (first_wrong scene its.0) its.1
 
+-- what `export` answers to a file that holds a run
+export_status : (form : Form) (road : Road) (left : List ℕ) (program : List AddedFile) (run : Run) (reply : Answer) (wrong : Option Wrong) →
+    reply ≡ export_verdict form road left program run wrong → IsSaidOfRun reply
+export_status form road left program run reply None told = inl (status_is reply _ told)
+export_status form road left program run reply (Some wrong) told = inr (status_is reply _ told)
+
+export_outcome : (form : Form) (road : Road) (left : List ℕ) (texts : List NamedBytes) (file : List ℕ) (program : List AddedFile) (scene : Scene) (reply : Answer) →
+    HasRun texts file → Exports form road left texts file program scene reply → IsSaidOfRun reply
+export_outcome form road left texts file program scene reply has is =
+    let its = said_of_run (λ run reply. reply ≡ export_verdict form road left program run (first_wrong scene run)) texts file reply has is in
+    export_status form road left program its.0 reply (first_wrong scene its.0) its.1
+
 -- what `migrate` answers to a file that holds a run
 migration_outcome : (texts : List NamedBytes) (file : List ℕ) (reply : Answer) → HasRun texts file → Migrates texts file reply → reply.status ≡ Done
 migration_outcome texts file reply has is =
@@ -102,10 +117,14 @@ record_outcome texts file flat reply has (record_reply.in_file bytes there withi
 
 pub sound_outcomes : SoundInputsHaveOutcomes
 sound_outcomes inputs (Wanted.Help text) reply sound is = status_is reply _ is
-sound_outcomes inputs (Wanted.Generate asked) reply sound is = is_outcome _ _ _ _ reply (said_of_sound _ _ _ _ _ reply sound is).said
+sound_outcomes inputs (Wanted.Generate asked) reply sound is = is_outcome_within asked.tries _ asked.seed asked.cuts reply (said_of_sound _ _ _ _ _ reply sound is).said
 sound_outcomes inputs (Wanted.Check asked) reply sound is =
     let its = said_of_sound inputs.sources (scene_setting asked.setting) asked.source.file asked.source.scenario (Checks inputs.texts asked.run) reply sound.0 is in
     run_outcome inputs.texts asked.run its.program (scene (types_in its.program) its.scenario (scene_setting asked.setting)) reply sound.1 its.said
+sound_outcomes inputs (Wanted.Export asked) reply sound is =
+    let its = said_of_sound inputs.sources (scene_setting asked.setting) asked.source.file asked.source.scenario
+    (Exports (run_form asked.form) (road_of asked.setting asked.lane_width) asked.ego inputs.texts asked.run) reply sound.0 is in
+    export_outcome _ _ asked.ego inputs.texts asked.run its.program (scene (types_in its.program) its.scenario (scene_setting asked.setting)) reply sound.1 its.said
 sound_outcomes inputs (Wanted.Verify asked) reply sound is =
     record_outcome inputs.texts asked.«record» _ reply sound.1 (said_of_sound _ _ _ _ _ reply sound.0 is).said.answers
 sound_outcomes inputs (Wanted.Flat asked) reply sound is = status_is reply _ (said_of_sound _ _ _ _ _ reply sound is).said
@@ -122,5 +141,6 @@ decided scene seed cuts reply few (undecided claim is told) as_open = let more =
 
 pub decided_by_points : DecidedByPoints
 decided_by_points inputs asked program scenario reply whole named few is status =
-    let a = said_on_source _ _ _ _ (λ program scene. Generates scene asked.seed asked.cuts) reply (λ bad. no_status IsRefusal _ _ status bad) is in
-    decided _ asked.seed asked.cuts reply few (said_of _ _ _ _ _ reply a program scenario whole named) (no_status IsUndecided _ _ (sym status) tt)
+    let a = said_on_source _ _ _ _ (λ program scene. GeneratesWithin asked.tries scene asked.seed asked.cuts) reply (λ bad. no_status IsRefusal _ _ status bad) is in
+    let its = said_of _ _ _ _ _ reply a program scenario whole named in
+    decided _ (seed_after asked.seed its.before) asked.cuts reply few its.last (no_status IsUndecided _ _ (sym status) tt)

@@ -8,16 +8,17 @@ use Rattle.run_answers.specs.composition.declared.setting.Setting.{Setting}
 use Rattle.run_answers.specs.composition.SeenScenes.{seen_scene}
 use Rattle.run_answers.specs.command_replies.Reply.{Answer}
 use Rattle.run_answers.specs.command_replies.Shelves.{AnswersOrFails, CountsOnce}
-use Rattle.command_words.specs.Words.{CheckAsked, FlatAsked, GenerateAsked, MigrateAsked, VerifyAsked, Wanted}
-use Rattle.readable_runs.specs.search_answers.SearchAnswers.{Generates}
+use Rattle.command_words.specs.Words.{CheckAsked, ExportAsked, FlatAsked, GenerateAsked, MigrateAsked, VerifyAsked, Wanted}
+use Rattle.readable_runs.specs.search_answers.SearchAnswers.{GeneratesWithin}
 use Rattle.run_answers.specs.Checks.{Checks}
+use Rattle.run_answers.specs.Exports.{Exports}
 use Rattle.run_answers.specs.Migrations.{Migrates}
 use Rattle.form_answers.specs.RecordAnswers.{Verifies}
 use Rattle.form_answers.specs.Lists.{Lists}
 use Rattle.scenario_tool.specs.declared.sources.FoundSource.{FoundSource}
 use Rattle.scenario_tool.specs.Answers.{Inputs}
 use Rattle.scenario_tool.specs.FoundSources.{IsFoundSource, IsRefusal}
-use Rattle.scenario_tool.specs.Settings.{scene_setting}
+use Rattle.scenario_tool.specs.Settings.{road_of, run_form, scene_setting}
 use Rattle.scenario_tool.proofs.CallEnds.{bare_text_reply, refused_reply, Replies, scene_reply, text_reply}
 
 -- what holds whatever the inputs are
@@ -35,9 +36,9 @@ module _ (told : Option (List NamedBytes)) (before middle after : ℕ) (program 
   Found setting main word now = SomeFiles told (λ sources. IsFoundSource sources setting main word before now (FoundSource.Scene program scene))
 
   pub generate_reply : {E : Type 0} (asked : GenerateAsked) (r : Result Answer E) → Found (scene_setting asked.setting) asked.source.file asked.source.scenario after →
-      IfOk r (Generates (seen_scene scene) asked.seed asked.cuts) → IfOk r (Replies told (Wanted.Generate asked) before after)
+      IfOk r (GeneratesWithin asked.tries (seen_scene scene) asked.seed asked.cuts) → IfOk r (Replies told (Wanted.Generate asked) before after)
   generate_reply asked r found is =
-      scene_reply told (Wanted.Generate asked) asked.source (scene_setting asked.setting) (λ inputs program scene. Generates scene asked.seed asked.cuts)
+      scene_reply told (Wanted.Generate asked) asked.source (scene_setting asked.setting) (λ inputs program scene. GeneratesWithin asked.tries scene asked.seed asked.cuts)
       (λ inputs reply is. is) (λ inputs name is. is) program scene before after r found (for_inputs _ r is)
 
   pub flat_reply : {E : Type 0} (asked : FlatAsked) (r : Result Answer E) → Found (scene_setting asked.setting) asked.source.file asked.source.scenario after →
@@ -53,6 +54,16 @@ module _ (told : Option (List NamedBytes)) (before middle after : ℕ) (program 
   check_reply asked kept r same found is =
       text_reply told (Wanted.Check asked) asked.source (scene_setting asked.setting) (λ inputs. Checks inputs.texts asked.run)
       (λ inputs reply is. is) (λ inputs name is. inl is) program scene asked.run (λ texts. Checks texts asked.run program (seen_scene scene))
+      (λ inputs reply is. is) (λ inputs turn. inr (refl, turn)) kept before middle after r found same is
+
+  pub export_reply : {E : Type 0} (asked : ExportAsked) (kept : Option (List NamedBytes)) (r : Result Answer E) → kept ≡ told →
+      Found (scene_setting asked.setting) asked.source.file asked.source.scenario middle →
+      IfOk r (λ reply. SomeFiles kept (λ texts. AnswersOrFails (Exports (run_form asked.form) (road_of asked.setting asked.lane_width) asked.ego texts asked.run program (seen_scene scene)) asked.run middle after reply)) →
+      IfOk r (Replies told (Wanted.Export asked) before after)
+  export_reply asked kept r same found is =
+      let Said = Exports (run_form asked.form) (road_of asked.setting asked.lane_width) asked.ego in
+      text_reply told (Wanted.Export asked) asked.source (scene_setting asked.setting) (λ inputs. Said inputs.texts asked.run)
+      (λ inputs reply is. is) (λ inputs name is. inl is) program scene asked.run (λ texts. Said texts asked.run program (seen_scene scene))
       (λ inputs reply is. is) (λ inputs turn. inr (refl, turn)) kept before middle after r found same is
 
   pub verify_reply : {E : Type 0} (asked : VerifyAsked) (kept : Option (List NamedBytes)) (r : Result Answer E) → kept ≡ told →
@@ -76,7 +87,7 @@ module _ (told : Option (List NamedBytes)) (before after : ℕ) (reply : Answer)
   Refused setting main word = SomeFiles told (λ sources. IsRefusal sources setting main word before after reply)
 
   pub generate_refused : (asked : GenerateAsked) → Refused (scene_setting asked.setting) asked.source.file asked.source.scenario → Replies told (Wanted.Generate asked) before after reply
-  generate_refused asked = refused_reply told (Wanted.Generate asked) asked.source (scene_setting asked.setting) (λ inputs program scene. Generates scene asked.seed asked.cuts)
+  generate_refused asked = refused_reply told (Wanted.Generate asked) asked.source (scene_setting asked.setting) (λ inputs program scene. GeneratesWithin asked.tries scene asked.seed asked.cuts)
       (λ inputs reply is. is) (λ inputs name is. is) before after reply
 
   pub flat_refused : (asked : FlatAsked) → Refused (scene_setting asked.setting) asked.source.file asked.source.scenario → Replies told (Wanted.Flat asked) before after reply
@@ -85,6 +96,11 @@ module _ (told : Option (List NamedBytes)) (before after : ℕ) (reply : Answer)
 
   pub check_refused : (asked : CheckAsked) → Refused (scene_setting asked.setting) asked.source.file asked.source.scenario → Replies told (Wanted.Check asked) before after reply
   check_refused asked = refused_reply told (Wanted.Check asked) asked.source (scene_setting asked.setting) (λ inputs. Checks inputs.texts asked.run)
+      (λ inputs reply is. is) (λ inputs name is. inl is) before after reply
+
+  pub export_refused : (asked : ExportAsked) → Refused (scene_setting asked.setting) asked.source.file asked.source.scenario → Replies told (Wanted.Export asked) before after reply
+  export_refused asked = refused_reply told (Wanted.Export asked) asked.source (scene_setting asked.setting)
+      (λ inputs. Exports (run_form asked.form) (road_of asked.setting asked.lane_width) asked.ego inputs.texts asked.run)
       (λ inputs reply is. is) (λ inputs name is. inl is) before after reply
 
   pub verify_refused : (asked : VerifyAsked) → Refused (scene_setting asked.setting) asked.source.file asked.source.scenario → Replies told (Wanted.Verify asked) before after reply

@@ -4,7 +4,7 @@ use Rattle.command_words.specs.Words.{Wanted, request}
 use Rattle.run_answers.specs.command_replies.Reply.{Answer}
 use Rattle.run_answers.specs.command_replies.Replies.{done, words_refused}
 use Rattle.readable_runs.proofs.of_source_scenes.Total.{some_on_source}
-use Rattle.run_answers.proofs.OneRun.{some_check, some_migration}
+use Rattle.run_answers.proofs.OneRun.{some_check, some_export, some_migration}
 use Rattle.form_answers.proofs.SomeText.{some_verdict}
 use Rattle.scenario_tool.specs.Answers.{AnswersTo, Inputs}
 use Rattle.scenario_tool.specs.Laws.{IsSearch, SomeAnswer}
@@ -13,6 +13,7 @@ some_wanted : (inputs : Inputs) (wanted : Wanted) → (IsSearch wanted → ⊥) 
 some_wanted inputs (Wanted.Help text) searched none = none (done text) refl
 some_wanted inputs (Wanted.Generate asked) searched none = searched tt
 some_wanted inputs (Wanted.Check asked) searched none = some_on_source _ _ (λ program scene. some_check inputs.texts asked.run program scene) _ _ _ none
+some_wanted inputs (Wanted.Export asked) searched none = some_on_source _ _ (λ program scene. some_export _ _ asked.ego inputs.texts asked.run program scene) _ _ _ none
 some_wanted inputs (Wanted.Verify asked) searched none = some_on_source _ _ (λ program scene. some_verdict inputs.texts asked.«record» scene) _ _ _ none
 some_wanted inputs (Wanted.Flat asked) searched none = some_on_source _ _ (λ program scene none. none _ refl) _ _ _ none
 some_wanted inputs (Wanted.Make asked) searched none = searched tt

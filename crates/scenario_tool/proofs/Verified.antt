@@ -5,7 +5,7 @@ use Rattle.run_answers.specs.composition.Claims.{IsInstance}
 use Rattle.run_answers.specs.composition.Scenes.{Scene}
 use Rattle.run_answers.specs.command_replies.Reply.{Answer}
 use Rattle.run_answers.specs.command_replies.Replies.{done}
-use Rattle.readable_runs.specs.search_answers.SearchAnswers.{Generates, runs, refuted, undecided}
+use Rattle.readable_runs.specs.search_answers.SearchAnswers.{Generates, GeneratesWithin, runs, refuted, undecided, seed_after}
 use Rattle.form_answers.specs.RecordAnswers.{Verifies}
 use Rattle.form_answers.proofs.Meaning.{yes_means_none}
 use Rattle.scenario_tool.specs.Settings.{scene_setting}
@@ -38,7 +38,7 @@ found_run scene seed cuts reply as_done (undecided claim is told) = absurd (othe
 
 pub never_found_and_verified : NeverFoundAndVerified
 never_found_and_verified inputs asked reply ranges is status texts file verified =
-    let a = said_on_source _ _ _ _ (λ program scene. Generates scene asked.seed asked.cuts) reply (λ bad. no_status IsRefusal _ _ status bad) is in
-    let found = found_run _ asked.seed asked.cuts reply (no_status IsDone _ _ (sym status) tt) a.said in
+    let a = said_on_source _ _ _ _ (λ program scene. GeneratesWithin asked.tries scene asked.seed asked.cuts) reply (λ bad. no_status IsRefusal _ _ status bad) is in
+    let found = found_run _ (seed_after asked.seed a.said.before) asked.cuts reply (no_status IsDone _ _ (sym status) tt) a.said.last in
     verified_means_none (with_texts inputs texts) (record { source = asked.source; «record» = file; setting = asked.setting }) ranges verified found.0
     (record { program = a.program; whole = a.whole; scenario = a.scenario; named = a.named; instance = found.1 })

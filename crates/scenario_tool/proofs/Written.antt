@@ -14,7 +14,7 @@ use Rattle.readable_runs.specs.scene_search.Findings.{IsReachedRun}
 use Rattle.readable_runs.specs.source_scenes.SoundScenes.{IsSoundScene}
 use Rattle.readable_runs.specs.ReadableRuns.{CanBeRead}
 use Rattle.readable_runs.proofs.ReadableScenes.{reached_runs_can_be_read}
-use Rattle.readable_runs.specs.search_answers.SearchAnswers.{Generates, runs, refuted, undecided}
+use Rattle.readable_runs.specs.search_answers.SearchAnswers.{Generates, GeneratesWithin, runs, refuted, undecided, seed_after}
 use Rattle.readable_runs.proofs.of_search_answers.Accepted.{reached_right, refutation_accepted, refutation_within, spent_open, spent_within}
 use Rattle.run_answers.specs.Checks.{Checks, verdict}
 use Rattle.run_answers.specs.RunFiles.{run_limit}
@@ -68,22 +68,22 @@ module _ (scene : Scene) (seed cuts : ℕ) (reply : Answer) (texts : List NamedB
 pub written_runs : WrittenRunsAreAccepted
 written_runs inputs asked reply ranges is status short texts file kept =
     let setting = setting_in_range asked.setting (scene_setting asked.setting) refl ranges.setting_ranges in
-    let a = said_on_source _ _ _ _ (λ program scene. Generates scene asked.seed asked.cuts) reply (λ bad. no_status IsRefusal _ _ status bad) is in
-    say _ _ _ _ (λ program scene. Generates scene asked.seed asked.cuts) reply (Checks texts file) (done (codes "yes\n")) a
-    (run_accepted _ asked.seed asked.cuts reply texts file kept a.program
-    (λ run reached. let known = scene_is_known _ _ _ _ _ reply setting a in reached_runs_can_be_read a.program a.scenario (scene_setting asked.setting) known.0 known.1 asked.seed asked.cuts run reached)
-    short a.said (no_status IsDone _ _ (sym status) tt))
+    let a = said_on_source _ _ _ _ (λ program scene. GeneratesWithin asked.tries scene asked.seed asked.cuts) reply (λ bad. no_status IsRefusal _ _ status bad) is in
+    say _ _ _ _ (λ program scene. GeneratesWithin asked.tries scene asked.seed asked.cuts) reply (Checks texts file) (done (codes "yes\n")) a
+    (run_accepted _ (seed_after asked.seed a.said.before) asked.cuts reply texts file kept a.program
+    (λ run reached. let known = scene_is_known _ _ _ _ _ reply setting a in reached_runs_can_be_read a.program a.scenario (scene_setting asked.setting) known.0 known.1 (seed_after asked.seed a.said.before) asked.cuts run reached)
+    short a.said.last (no_status IsDone _ _ (sym status) tt))
 
 pub written_refutations : WrittenRefutationsAreAccepted
 written_refutations inputs asked reply ranges is status texts file kept =
     let setting = setting_in_range asked.setting (scene_setting asked.setting) refl ranges.setting_ranges in
-    let a = said_on_source _ _ _ _ (λ program scene. Generates scene asked.seed asked.cuts) reply (λ bad. no_status IsRefusal _ _ status bad) is in
-    say _ _ _ _ (λ program scene. Generates scene asked.seed asked.cuts) reply (λ program. Verifies texts file) (done (codes "yes\n")) a
-    (refutation_verified _ asked.seed asked.cuts reply texts file kept (scene_is_sound _ _ _ _ _ reply setting a) ranges.cuts_range.1 a.said (no_status IsRefuted _ _ (sym status) tt))
+    let a = said_on_source _ _ _ _ (λ program scene. GeneratesWithin asked.tries scene asked.seed asked.cuts) reply (λ bad. no_status IsRefusal _ _ status bad) is in
+    say _ _ _ _ (λ program scene. GeneratesWithin asked.tries scene asked.seed asked.cuts) reply (λ program. Verifies texts file) (done (codes "yes\n")) a
+    (refutation_verified _ (seed_after asked.seed a.said.before) asked.cuts reply texts file kept (scene_is_sound _ _ _ _ _ reply setting a) ranges.cuts_range.1 a.said.last (no_status IsRefuted _ _ (sym status) tt))
 
 pub written_records : WrittenRecordsAreOpen
 written_records inputs asked reply ranges is status texts file kept =
     let setting = setting_in_range asked.setting (scene_setting asked.setting) refl ranges.setting_ranges in
-    let a = said_on_source _ _ _ _ (λ program scene. Generates scene asked.seed asked.cuts) reply (λ bad. no_status IsRefusal _ _ status bad) is in
-    say _ _ _ _ (λ program scene. Generates scene asked.seed asked.cuts) reply (λ program. Verifies texts file) (open_cuts asked.cuts) a
-    (record_verified _ asked.seed asked.cuts reply texts file kept (scene_is_sound _ _ _ _ _ reply setting a) ranges.cuts_range.1 a.said (no_status IsUndecided _ _ (sym status) tt))
+    let a = said_on_source _ _ _ _ (λ program scene. GeneratesWithin asked.tries scene asked.seed asked.cuts) reply (λ bad. no_status IsRefusal _ _ status bad) is in
+    say _ _ _ _ (λ program scene. GeneratesWithin asked.tries scene asked.seed asked.cuts) reply (λ program. Verifies texts file) (open_cuts asked.cuts) a
+    (record_verified _ (seed_after asked.seed a.said.before) asked.cuts reply texts file kept (scene_is_sound _ _ _ _ _ reply setting a) ranges.cuts_range.1 a.said.last (no_status IsUndecided _ _ (sym status) tt))

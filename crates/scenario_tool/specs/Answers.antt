@@ -18,14 +18,15 @@ use Rattle.run_answers.specs.command_replies.Reply.{Answer}
 use Rattle.run_answers.specs.command_replies.Replies.{done, failed_shelf, status_number, words_refused}
 use Rattle.run_answers.specs.command_replies.Shelves.{CountsOnce}
 use Rattle.readable_runs.specs.source_scenes.Sources.{IsTextTurn, OnSource}
-use Rattle.readable_runs.specs.search_answers.SearchAnswers.{Generates, Makes}
+use Rattle.readable_runs.specs.search_answers.SearchAnswers.{GeneratesWithin, Makes}
 use Rattle.run_answers.specs.Checks.{Checks}
+use Rattle.run_answers.specs.Exports.{Exports}
 use Rattle.run_answers.specs.Migrations.{Migrates}
 use Rattle.form_answers.specs.RecordAnswers.{Verifies}
 use Rattle.form_answers.specs.Lists.{Lists}
 use Rattle.made_programs.specs.MadeLoads.{main_name, made_files}
 use Rattle.made_programs.specs.MadeText.{made_line}
-use Rattle.scenario_tool.specs.Settings.{made_cuts, made_scenario, made_seed, made_setting, scene_setting}
+use Rattle.scenario_tool.specs.Settings.{made_cuts, made_scenario, made_seed, made_setting, road_of, run_form, scene_setting}
 
 -- ---- Answers
 
@@ -39,9 +40,12 @@ pub record Inputs : Type 0 where
 abbrev pub AnswersTo : Inputs → Wanted → Answer → Type 0
 AnswersTo inputs (Wanted.Help text) reply = reply ≡ done text
 AnswersTo inputs (Wanted.Generate asked) reply =
-    OnSource inputs.sources (scene_setting asked.setting) asked.source.file asked.source.scenario (λ program scene. Generates scene asked.seed asked.cuts) reply
+    OnSource inputs.sources (scene_setting asked.setting) asked.source.file asked.source.scenario (λ program scene. GeneratesWithin asked.tries scene asked.seed asked.cuts) reply
 AnswersTo inputs (Wanted.Check asked) reply =
     OnSource inputs.sources (scene_setting asked.setting) asked.source.file asked.source.scenario (Checks inputs.texts asked.run) reply
+AnswersTo inputs (Wanted.Export asked) reply =
+    OnSource inputs.sources (scene_setting asked.setting) asked.source.file asked.source.scenario
+    (Exports (run_form asked.form) (road_of asked.setting asked.lane_width) asked.ego inputs.texts asked.run) reply
 AnswersTo inputs (Wanted.Verify asked) reply =
     OnSource inputs.sources (scene_setting asked.setting) asked.source.file asked.source.scenario (λ program. Verifies inputs.texts asked.«record») reply
 AnswersTo inputs (Wanted.Flat asked) reply =
@@ -62,6 +66,7 @@ abbrev pub HasTurn : Inputs → Wanted → List ℕ → Type 0
 HasTurn inputs (Wanted.Help text) name = ⊥
 HasTurn inputs (Wanted.Generate asked) name = IsTurn inputs.sources asked.source.file name
 HasTurn inputs (Wanted.Check asked) name = IsTurnOr inputs.sources (scene_setting asked.setting) asked.source asked.run name
+HasTurn inputs (Wanted.Export asked) name = IsTurnOr inputs.sources (scene_setting asked.setting) asked.source asked.run name
 HasTurn inputs (Wanted.Verify asked) name = IsTurnOr inputs.sources (scene_setting asked.setting) asked.source asked.«record» name
 HasTurn inputs (Wanted.Flat asked) name = IsTurn inputs.sources asked.source.file name
 HasTurn inputs (Wanted.Make asked) name = ⊥

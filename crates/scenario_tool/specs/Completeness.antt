@@ -5,8 +5,8 @@ use Rattle.outside_io.specs.Files.{file_named}
 use Rattle.name_scope.specs.FileNumbers.{AddedFile}
 use Rattle.made_programs.specs.program_load.Loading.{IsLoaded}
 use Rattle.readable_runs.specs.named_scenario.Naming.{types_in}
-use Rattle.form_answers.specs.box_eval.Record.{Tree}
-use Rattle.form_answers.specs.box_eval.declared.record.Record.{Record}
+use Rattle.form_answers.specs.record_trees.Record.{Tree}
+use Rattle.form_answers.specs.record_trees.declared.record.Record.{Record}
 use Rattle.run_answers.specs.record_text.Source.{limit}
 use Rattle.run_answers.specs.record_text.Text.{IsTextOf}
 use Rattle.readable_runs.specs.record_laws.Points.{points_of}
@@ -56,18 +56,20 @@ abbrev pub AreSound : Inputs → Wanted → Type 0
 AreSound inputs (Wanted.Help text) = ⊤
 AreSound inputs (Wanted.Generate asked) = IsSoundSource inputs.sources asked.source asked.setting
 AreSound inputs (Wanted.Check asked) = IsSoundSource inputs.sources asked.source asked.setting × HasRun inputs.texts asked.run
+AreSound inputs (Wanted.Export asked) = IsSoundSource inputs.sources asked.source asked.setting × HasRun inputs.texts asked.run
 AreSound inputs (Wanted.Verify asked) = IsSoundSource inputs.sources asked.source asked.setting × HasRecord inputs.texts asked.«record»
 AreSound inputs (Wanted.Flat asked) = IsSoundSource inputs.sources asked.source asked.setting
 AreSound inputs (Wanted.Make asked) = IsTextTurn (made_files asked.count) (made_setting asked.count) main_name made_scenario
 AreSound inputs (Wanted.Migrate asked) = HasRun inputs.texts asked.run
 AreSound inputs Wanted.Refused = ⊥
 
--- the statuses of answers that are no refusal: of a search a run, a refutation or an open record; of a check `yes` or `no`;
+-- the statuses of answers that are no refusal: of a search a run, a refutation or an open record; of a check `yes` or `no`; of an export the text or `no`;
 -- of a record `yes`, `no` or open; of all else that it is done
 abbrev pub IsOutcomeOf : Wanted → Status → Type 0
 IsOutcomeOf (Wanted.Help text) status = status ≡ Done
 IsOutcomeOf (Wanted.Generate asked) status = IsOutcome status
 IsOutcomeOf (Wanted.Check asked) status = (status ≡ Done) ⊎ (status ≡ Refuted)
+IsOutcomeOf (Wanted.Export asked) status = (status ≡ Done) ⊎ (status ≡ Refuted)
 IsOutcomeOf (Wanted.Verify asked) status = IsOutcome status
 IsOutcomeOf (Wanted.Flat asked) status = status ≡ Done
 IsOutcomeOf (Wanted.Make asked) status = IsOutcome status

@@ -25,10 +25,11 @@ OneAnswer = (inputs : Inputs) (words : List (List ℕ)) (reply other : Answer) �
     AnswersTo inputs (request words) reply → AnswersTo inputs (request words) other →
     (reply ≡ other) ⊎ (IsLeftOpen (request words) reply × IsLeftOpen (request words) other)
 
--- no scenario has both a run and a refutation, whatever the seeds and the cuts are
+-- no scenario has both a run and a refutation, whatever the seeds, the cuts and the tries are
 abbrev pub NeverBoth : Type 0
-NeverBoth = (inputs : Inputs) (asked : GenerateAsked) (seed cuts : ℕ) (reply other : Answer) →
-    AnswersTo inputs (Wanted.Generate asked) reply → AnswersTo inputs (Wanted.Generate (record { source = asked.source; setting = asked.setting; seed = seed; cuts = cuts })) other →
+NeverBoth = (inputs : Inputs) (asked : GenerateAsked) (seed cuts tries : ℕ) (reply other : Answer) →
+    AnswersTo inputs (Wanted.Generate asked) reply →
+    AnswersTo inputs (Wanted.Generate (record { source = asked.source; setting = asked.setting; seed = seed; cuts = cuts; tries = tries })) other →
     reply.status ≡ Done → other.status ≡ Refuted → ⊥
 
 -- whether what is wanted is a search, whose outcome no law on the answers gives

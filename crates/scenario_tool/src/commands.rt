@@ -2,17 +2,18 @@
 
 ghost use Rattle.std.specs.Prelude.{◌≡◌, ◌≤◌, IfOk};
 ghost use Rattle.run_answers.specs.command_replies.Shelves.{CountsOnce};
-ghost use Rattle.command_words.specs.Seen.{asked_by, checked_by, flattened_by, migrated_by, verified_by};
+ghost use Rattle.command_words.specs.Seen.{asked_by, checked_by, exported_by, flattened_by, migrated_by, verified_by};
 ghost use Rattle.command_words.specs.Shared.{IsSettingInRanges};
 ghost use Rattle.command_words.specs.Words.{Wanted};
 ghost use Rattle.scenario_tool.specs.Answers.{AnswersOrShelfFails, SomeInputs};
 
+use crate::settings::export_style;
 use crate::sources::{FoundSource, source_scene};
-use command_words::{CheckWords, FlatWords, GenerateWords, MigrateWords, VerifyWords};
+use command_words::{CheckWords, ExportWords, FlatWords, GenerateWords, MigrateWords, VerifyWords};
 use form_answers::{flat, verify};
 use outside_io::Shelf;
 use readable_runs::generate;
-use run_answers::{Reply, check, migrate};
+use run_answers::{Reply, check, export, migrate};
 use std::alloc::{AllocError, Global};
 
 /// The reply to what `generate` is asked for.
@@ -23,13 +24,16 @@ pub fn reply_to_generate<H: Shelf>(
 ) -> Result<Reply, AllocError>
     requires ranges { IsSettingInRanges asked.setting }
     requires cuts { asked.cuts ≤ 1000000 }
+    requires tries { 1 ≤ asked.tries }
     ensures reply { IfOk result (λ reply. SomeInputs (H.files shelf.old) (λ inputs.
         AnswersOrShelfFails inputs (Wanted.Generate (asked_by asked.entry)) (H.faults shelf.old) (H.faults shelf.new) reply)) }
     ensures counted { CountsOnce (H.faults shelf.old) (H.faults shelf.new) }
     ensures files_kept { H.files shelf.new ≡ H.files shelf.old }
 {
     match source_scene(alloc, asked.source, asked.setting, shelf)? {
-        FoundSource::Scene(_program, scene) => generate(alloc, &scene, asked.seed, asked.cuts),
+        FoundSource::Scene(_program, scene) => {
+            generate(alloc, &scene, asked.seed, asked.cuts, asked.tries)
+        }
         FoundSource::Refused(reply) => Ok(reply),
     }
 }
@@ -48,6 +52,33 @@ pub fn reply_to_check<H: Shelf>(
 {
     match source_scene(alloc, asked.source, asked.setting, shelf)? {
         FoundSource::Scene(program, scene) => check(alloc, &program, &scene, asked.run, shelf),
+        FoundSource::Refused(reply) => Ok(reply),
+    }
+}
+
+/// The reply to what `export` is asked for.
+pub fn reply_to_export<H: Shelf>(
+    alloc: Global,
+    asked: ExportWords<'_>,
+    shelf: &mut H,
+) -> Result<Reply, AllocError>
+    requires ranges { IsSettingInRanges asked.setting }
+    ensures reply { IfOk result (λ reply. SomeInputs (H.files shelf.old) (λ inputs.
+        AnswersOrShelfFails inputs (Wanted.Export (exported_by asked.entry)) (H.faults shelf.old) (H.faults shelf.new) reply)) }
+    ensures counted { CountsOnce (H.faults shelf.old) (H.faults shelf.new) }
+    ensures files_kept { H.files shelf.new ≡ H.files shelf.old }
+{
+    match source_scene(alloc, asked.source, asked.setting, shelf)? {
+        FoundSource::Scene(program, scene) => {
+            export(
+                alloc,
+                &program,
+                &scene,
+                asked.run,
+                export_style(asked),
+                shelf,
+            )
+        }
         FoundSource::Refused(reply) => Ok(reply),
     }
 }

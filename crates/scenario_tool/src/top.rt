@@ -4,7 +4,8 @@ ghost use Rattle.command_words.specs.Words.{request};
 ghost use Rattle.scenario_tool.specs.Answers.{AnswersOrShelfFails, IsAnswered, SomeInputs};
 
 use crate::commands::{
-    reply_to_check, reply_to_flat, reply_to_generate, reply_to_migrate, reply_to_verify,
+    reply_to_check, reply_to_export, reply_to_flat, reply_to_generate, reply_to_migrate,
+    reply_to_verify,
 };
 use crate::made::reply_to_make;
 use command_words::{Request, read_words};
@@ -56,6 +57,7 @@ fn reply_to<H: Shelf>(alloc: Global, words: &[String], shelf: &mut H) -> Result<
         Request::Explain(topic) => Ok(done(explanation(alloc, topic)?)),
         Request::Generate(asked) => reply_to_generate(alloc, asked, shelf),
         Request::Check(asked) => reply_to_check(alloc, asked, shelf),
+        Request::Export(asked) => reply_to_export(alloc, asked, shelf),
         Request::Verify(asked) => reply_to_verify(alloc, asked, shelf),
         Request::Flat(asked) => reply_to_flat(alloc, asked, shelf),
         Request::Make(asked) => reply_to_make(alloc, asked.count),

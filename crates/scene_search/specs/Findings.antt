@@ -2,51 +2,53 @@
 use Rattle.std.specs.Prelude.{◌≡◌, ℕ, ◌+◌, ◌*◌, ◌≤◌, List, length, ℤ}
 use Rattle.box_eval.specs.declared.bounds.Pair.{Pair}
 use Rattle.box_eval.specs.declared.flat.Flat.{Flat}
-use Rattle.box_eval.specs.declared.record.Record.{Record}
-use Rattle.box_eval.specs.Record.{Tree, cuts_of, depth_of}
-use Rattle.box_eval.specs.Guided.{IsGuidedRefutation, IsReached, IsSpent}
+use Rattle.seeded_search.specs.record_trees.declared.record.Record.{Record}
+use Rattle.seeded_search.specs.record_trees.Record.{Tree, cuts_of, depth_of}
+use Rattle.seeded_search.specs.record_trees.Guided.{IsGuidedRefutation, IsReached, IsSpent}
 use Rattle.flat_forms.specs.composition.declared.run.Run.{Run}
 use Rattle.flat_forms.specs.composition.Claims.{IsInstance}
 use Rattle.flat_forms.specs.composition.Scenes.{Scene}
 use Rattle.scene_runs.specs.field_flatten.Exactness.{IsFlatOf}
 use Rattle.scene_runs.specs.field_flatten.Points.{run_of}
 use Rattle.record_laws.specs.record_text.Text.{record_lines}
-use Rattle.seeded_search.specs.Draws.{number_of}
+use Rattle.scene_search.specs.Choices.{choice_of}
 use Rattle.scene_search.specs.declared.finding.Finding.{Finding}
 
--- An instance of the scene: the run of a point of its flat form that is reached with the seed and at most so many cuts.
+-- An instance of the scene: the run of a point of its flat form that is reached with the plan, the seed and at most so many cuts.
 pub record IsReachedRun (scene : Scene) (seed cuts : ℕ) (run : Run) : Type 0 where
   pub flat : Flat
   pub flat_of : IsFlatOf scene flat
   pub values : List ℤ
   pub claim : Record
   pub tree : Tree
-  pub reached : IsReached (number_of seed) cuts flat values claim tree
+  pub reached : IsReached (choice_of scene seed) cuts flat values claim tree
   pub gives : run ≡ run_of scene values
   pub instance : IsInstance scene run
 
 -- The room of a record is the greatest number of cuts above a leaf of its tree. Its text has two lines for each cut, and six more.
+-- Its sums have at most 262,144 rules together: 4,096 full ones.
 pub record IsSizedBy (claim : Record) (tree : Tree) : Type 0 where
   pub room : claim.room ≡ depth_of tree
   pub lines : length (record_lines claim) ≡ 2 * cuts_of tree + 6
+  pub picks : length claim.picks ≤ 262144
 
--- The scene has no instance: a refutation of its flat form that is guided by the seed, of at most so many cuts.
+-- The scene has no instance: a refutation of its flat form that is guided by the plan and the seed, of at most so many cuts.
 pub record IsSceneRefutation (scene : Scene) (seed cuts : ℕ) (claim : Record) : Type 0 where
   pub flat : Flat
   pub flat_of : IsFlatOf scene flat
   pub tree : Tree
-  pub refutation : IsGuidedRefutation (number_of seed) flat claim tree
+  pub refutation : IsGuidedRefutation (choice_of scene seed) flat claim tree
   pub cuts_are : cuts_of tree ≤ cuts
   pub sized : IsSizedBy claim tree
   pub none : (run : Run) → IsInstance scene run → ⊥
 
--- A record of the scene's flat form that is spent for the seed and so many cuts.
+-- A record of the scene's flat form that is spent for the plan, the seed and so many cuts.
 pub record IsSpentRecord (scene : Scene) (seed cuts : ℕ) (claim : Record) : Type 0 where
   pub flat : Flat
   pub flat_of : IsFlatOf scene flat
   pub tree : Tree
   pub box : List Pair
-  pub spent : IsSpent (number_of seed) cuts flat claim tree box
+  pub spent : IsSpent (choice_of scene seed) cuts flat claim tree box
   pub sized : IsSizedBy claim tree
 
 -- what is found with a seed and at most so many cuts

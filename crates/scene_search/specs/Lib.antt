@@ -1,3 +1,4 @@
+pub mod Choices
 pub mod Findings
 pub mod Outcomes
 -- Crates below, for the crates above.
@@ -5,3 +6,5 @@ pub use Rattle.record_laws.specs as record_laws
 pub use Rattle.record_laws.specs.refute_check as refute_check
 pub use Rattle.seeded_search.specs as seeded_search
 pub use Rattle.box_eval.specs as box_eval
+pub use Rattle.seeded_search.specs.record_trees as record_trees
+pub use Rattle.seeded_search.specs.linear_sums as linear_sums

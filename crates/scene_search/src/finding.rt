@@ -1,5 +1,5 @@
-use box_eval::Record;
 use flat_forms::Run;
+use seeded_search::Record;
 
 /// What a search for a run of a scene finds.
 #[derive(Drop)]

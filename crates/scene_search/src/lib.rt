@@ -2,6 +2,7 @@
 #![tactic(auto)]
 
 mod finding;
+mod plan;
 mod search;
 
 pub use finding::Finding;

@@ -1,13 +1,14 @@
 -- What is written of a search is accepted.
 use Rattle.std.proofs.Common.{◌≡◌, sym, subst, ℕ, ◌≤◌, ◌<◌, None, length, arith}
 use Rattle.scene_search.specs.box_eval.declared.flat.Flat.{Flat}
-use Rattle.scene_search.specs.box_eval.declared.record.Record.{Record}
-use Rattle.scene_search.specs.box_eval.Record.{Tree, IsAcceptedAs}
-use Rattle.scene_search.proofs.of_box_eval.Ways.{ends_open}
+use Rattle.scene_search.specs.record_trees.declared.record.Record.{Record}
+use Rattle.scene_search.specs.record_trees.Record.{Tree, IsAcceptedAs}
+use Rattle.scene_search.proofs.of_record_trees.Ways.{ends_open}
 use Rattle.command_replies.specs.record_text.Lines.{AllShort}
 use Rattle.command_replies.specs.record_text.Source.{limit}
 use Rattle.command_replies.specs.record_text.Text.{record_lines, record_text}
-use Rattle.command_replies.specs.record_text.Written.{HaveShortValues}
+use Rattle.command_replies.specs.record_text.Written.{HaveShortValues, HaveSums}
+use Rattle.command_replies.proofs.of_record_text.ShortSums.{values_of, sums_of}
 use Rattle.scene_search.specs.refute_check.Answers.{IsRefutationText, IsOpenText}
 use Rattle.scene_search.proofs.of_refute_check.Laws.{refutation_text, open_text}
 use Rattle.scene_search.specs.record_laws.Points.{points_of}
@@ -24,9 +25,8 @@ use Rattle.instance_check.proofs.of_field_flatten.RuleTrees.{one_form}
 use Rattle.instance_check.specs.run_check.Answers.{first_wrong}
 use Rattle.instance_check.proofs.FirstClaims.{none_fails}
 use Rattle.scene_search.specs.Findings.{IsReachedRun, IsSceneRefutation, IsSpentRecord}
-use Rattle.scene_search.specs.seeded_search.Draws.{number_of}
+use Rattle.scene_search.specs.Choices.{choice_of}
 use Rattle.search_answers.proofs.ShortEnds.{short_ends}
-use Rattle.search_answers.proofs.ShortValues.{values_of}
 use Rattle.search_answers.proofs.TextLengths.{within_limit}
 
 -- ---- records
@@ -43,6 +43,12 @@ module _ (scene : Scene) (expanded : IsExpanded scene) (limited : IsLimited scen
   pub spent_short : (seed cuts : ℕ) (claim : Record) → IsSpentRecord scene seed cuts claim → HaveShortValues claim.lines
   spent_short seed cuts claim r = values_of claim (short_record r.flat claim r.tree r.flat_of r.spent.guided.accepted)
 
+  pub refutation_sums : (seed cuts : ℕ) (claim : Record) → IsSceneRefutation scene seed cuts claim → HaveSums claim.lines claim.picks
+  refutation_sums seed cuts claim r = sums_of claim r.tree r.refutation.guided.accepted.record_of (short_record r.flat claim r.tree r.flat_of r.refutation.guided.accepted)
+
+  pub spent_sums : (seed cuts : ℕ) (claim : Record) → IsSpentRecord scene seed cuts claim → HaveSums claim.lines claim.picks
+  spent_sums seed cuts claim r = sums_of claim r.tree r.spent.guided.accepted.record_of (short_record r.flat claim r.tree r.flat_of r.spent.guided.accepted)
+
   pub refutation_accepted : (seed cuts : ℕ) (claim : Record) → IsSceneRefutation scene seed cuts claim → (flat : Flat) → IsFlatOf scene flat → IsRefutationText flat (record_text claim)
   refutation_accepted seed cuts claim r flat is =
       subst (λ f. IsRefutationText f (record_text claim)) (one_form scene r.flat flat r.flat_of is)
@@ -58,17 +64,17 @@ module _ (scene : Scene) (expanded : IsExpanded scene) (limited : IsLimited scen
 
   pub refutation_within : (seed cuts : ℕ) (claim : Record) → IsSceneRefutation scene seed cuts claim → cuts ≤ 1000000 → length (record_text claim) ≤ limit
   refutation_within seed cuts claim r few =
-      within_limit claim r.tree r.refutation.guided.accepted.record_of (short_record r.flat claim r.tree r.flat_of r.refutation.guided.accepted)
+      within_limit claim r.tree r.refutation.guided.accepted.record_of r.sized.picks (short_record r.flat claim r.tree r.flat_of r.refutation.guided.accepted)
       (omega (arith, r.cuts_are, few))
 
   pub spent_within : (seed cuts : ℕ) (claim : Record) → IsSpentRecord scene seed cuts claim → cuts ≤ 1000000 → length (record_text claim) ≤ limit
   spent_within seed cuts claim r few =
-      within_limit claim r.tree r.spent.guided.accepted.record_of (short_record r.flat claim r.tree r.flat_of r.spent.guided.accepted)
+      within_limit claim r.tree r.spent.guided.accepted.record_of r.sized.picks (short_record r.flat claim r.tree r.flat_of r.spent.guided.accepted)
       (subst (λ n. n ≤ 1000000) (sym r.spent.cuts_are) few)
 
 pub spent_more : (scene : Scene) (seed cuts : ℕ) (claim : Record) → IsSpentRecord scene seed cuts claim → cuts < points_of (bounds scene)
 spent_more scene seed cuts claim r =
-    subst (λ ends. cuts < points_of ends) r.flat_of.same_ends (spent_points (number_of seed) cuts r.flat claim r.tree r.box r.spent)
+    subst (λ ends. cuts < points_of ends) r.flat_of.same_ends (spent_points (choice_of scene seed) cuts r.flat claim r.tree r.box r.spent)
 
 -- ---- runs
 

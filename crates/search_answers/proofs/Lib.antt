@@ -1,5 +1,5 @@
 pub mod Accepted
 pub mod NoRun
 pub mod ShortEnds
-pub mod ShortValues
 pub mod TextLengths
+pub mod Tries

@@ -1,7 +1,7 @@
 -- What is written of a search is what the checks of records and of runs accept.
 use Rattle.std.specs.Prelude.{◌≡◌, ℕ, ◌≤◌, None, length}
 use Rattle.scene_search.specs.box_eval.declared.flat.Flat.{Flat}
-use Rattle.scene_search.specs.box_eval.declared.record.Record.{Record}
+use Rattle.scene_search.specs.record_trees.declared.record.Record.{Record}
 use Rattle.instance_check.specs.composition.declared.run.Run.{Run}
 use Rattle.instance_check.specs.composition.Scenes.{Scene}
 use Rattle.instance_check.specs.field_flatten.Exactness.{IsExpanded, IsLimited, IsFlatOf}

@@ -1,7 +1,8 @@
 -- What a search for a run of a scene ends with.
-use Rattle.std.specs.Prelude.{◌≡◌, ◌⊎◌, ℕ}
-use Rattle.scene_search.specs.box_eval.declared.record.Record.{Record}
+use Rattle.std.specs.Prelude.{◌≡◌, ◌⊎◌, ℕ, Bool, true, false}
+use Rattle.scene_search.specs.record_trees.declared.record.Record.{Record}
 use Rattle.instance_check.specs.composition.Scenes.{Scene}
+use Rattle.command_replies.specs.declared.status.Status.{Status}
 use Rattle.command_replies.specs.Reply.{Answer}
 use Rattle.command_replies.specs.Replies.{refutation, undecided}
 use Rattle.scene_search.specs.Findings.{IsReachedRun, IsSceneRefutation, IsSpentRecord}
@@ -16,3 +17,8 @@ IsNoRun scene seed cuts reply =
 abbrev pub IsSearched : Scene → ℕ → ℕ → RunOrReply → Type 0
 IsSearched scene seed cuts (RunOrReply.Run run) = IsReachedRun scene seed cuts run
 IsSearched scene seed cuts (RunOrReply.Reply reply) = IsNoRun scene seed cuts reply
+
+-- whether a search that is answered with this status is decided
+abbrev pub is_decided : Status → Bool
+is_decided Status.Undecided = false
+is_decided _ = true

@@ -1,6 +1,6 @@
 -- How few cuts a search makes that stays undecided.
 use Rattle.std.specs.Prelude.{ℕ, ◌<◌}
-use Rattle.scene_search.specs.box_eval.declared.record.Record.{Record}
+use Rattle.scene_search.specs.record_trees.declared.record.Record.{Record}
 use Rattle.scene_search.specs.record_laws.Points.{points_of}
 use Rattle.instance_check.specs.composition.Scenes.{Scene}
 use Rattle.instance_check.specs.field_flatten.Ends.{bounds}

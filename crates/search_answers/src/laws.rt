@@ -2,6 +2,7 @@
 
 ghost use Rattle.search_answers.specs.AcceptedTexts.{WrittenRecordsAreOpen, WrittenRecordsAreWithinLimit, WrittenRefutationsAreAccepted, WrittenRefutationsAreWithinLimit, WrittenRunsAreRight};
 ghost use Rattle.search_answers.specs.SpentBoxes.{SpentBoxesHaveMorePoints};
+ghost use Rattle.search_answers.specs.Tries.{MoreTriesKeepWhatIsDecided, OneTryIsOneSearch};
 
 /// The law that the text of a refutation is accepted by the check of refutations.
 pub fn written_refutations_are_accepted()
@@ -31,4 +32,14 @@ pub fn written_runs_are_right()
 /// The law that a record is spent only if the scene's flat form has more points than the record has cuts.
 pub fn spent_boxes_have_more_points()
     ensures { SpentBoxesHaveMorePoints }
+{}
+
+/// The law that with one try the reply is that of a search with the given seed.
+pub fn one_try_is_one_search()
+    ensures { OneTryIsOneSearch }
+{}
+
+/// The law that a reply which is decided within some tries is right with more tries too.
+pub fn more_tries_keep_what_is_decided()
+    ensures { MoreTriesKeepWhatIsDecided }
 {}

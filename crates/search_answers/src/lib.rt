@@ -7,7 +7,8 @@ mod search;
 
 pub use found::RunOrReply;
 pub use laws::{
-    spent_boxes_have_more_points, written_records_are_open, written_records_are_within_limit,
-    written_refutations_are_accepted, written_refutations_are_within_limit, written_runs_are_right,
+    more_tries_keep_what_is_decided, one_try_is_one_search, spent_boxes_have_more_points,
+    written_records_are_open, written_records_are_within_limit, written_refutations_are_accepted,
+    written_refutations_are_within_limit, written_runs_are_right,
 };
 pub use search::{generate, run_or_reply};

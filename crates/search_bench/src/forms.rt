@@ -27,11 +27,17 @@ pub(crate) fn root(alloc: Global) -> Result<Flat, AllocError> {
     Ok(flat)
 }
 
-/// Two numbers, each of which is below the other.
-pub(crate) fn both_below(alloc: Global) -> Result<Flat, AllocError> {
-    let mut flat = slots(alloc, 2, -1_000_000_000, 1_000_000_000)?;
-    flat.rules.push(Rule::Below(Term::Slot(0), Term::Slot(1)))?;
-    flat.rules.push(Rule::Below(Term::Slot(1), Term::Slot(0)))?;
+/// Three numbers in a circle, each of which is one less than the next. No sum of such rules is looked for, so each end creeps.
+pub(crate) fn circle(alloc: Global) -> Result<Flat, AllocError> {
+    let mut flat = slots(alloc, 3, -1_000_000_000, 1_000_000_000)?;
+    for number in 0..3 {
+        let more = Term::Sum(
+            Boxed::new(alloc, Term::Slot(number))?,
+            Boxed::new(alloc, Term::Whole(1))?,
+        );
+        flat.rules
+            .push(Rule::Equal(more, Term::Slot((number + 1) % 3)))?;
+    }
     Ok(flat)
 }
 

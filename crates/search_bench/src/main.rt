@@ -29,7 +29,7 @@ fn total(rt: &impl AllocGlobal, part: &str, number: u32) -> Result<u64> {
     let alloc = rt.alloc();
     match part {
         "root" => searches::roots(alloc, number),
-        "below" => searches::both_below(alloc, number),
+        "below" => searches::circle(alloc, number),
         "field" => searches::vehicles(alloc, number),
         "form" => searches::many_rules(alloc, number, 0),
         "desk" => searches::many_rules(alloc, number, 1_000_000),

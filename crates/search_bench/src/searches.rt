@@ -12,7 +12,7 @@ use seeded_search::{Desk, search};
 use std::alloc::{AllocError, Global};
 use wake_ring::WakeRing;
 
-/// A number that depends on the answer of a search with this seed, over memory that is made for it.
+/// A number that depends on the answer of a search without a plan and with this seed, over memory that is made for it.
 fn answer(alloc: Global, flat: &Flat, seed: u64, cuts: u32) -> Result<u64, AllocError>
     requires flat { IsFlat flat.now }
     requires cuts { cuts ≤ 1000000 }
@@ -20,7 +20,7 @@ fn answer(alloc: Global, flat: &Flat, seed: u64, cuts: u32) -> Result<u64, Alloc
     let desk = Desk::new(alloc, flat, cuts)?;
     let mut trail = Trail::new(alloc, &flat.bounds, cuts)?;
     let mut ring = WakeRing::new(alloc, flat.rules.as_slice().len() as u32)?;
-    let outcome = search(flat, desk, &mut trail, &mut ring, seed, cuts);
+    let outcome = search(flat, &[], desk, &mut trail, &mut ring, seed, cuts);
     Ok(of_outcome(&outcome))
 }
 
@@ -43,12 +43,12 @@ pub(crate) fn roots(alloc: Global, seeds: u32) -> Result<u64> {
     answers(alloc, &forms::root(alloc)?, seeds, 10)
 }
 
-/// One search for two numbers, each of which is below the other, with so many cuts.
-pub(crate) fn both_below(alloc: Global, cuts: u32) -> Result<u64> {
+/// One search for three numbers, each of which is one less than the next in a circle, with so many cuts.
+pub(crate) fn circle(alloc: Global, cuts: u32) -> Result<u64> {
     if cuts > 1_000_000 {
         bail!("there are at most 1,000,000 cuts");
     }
-    answers(alloc, &forms::both_below(alloc)?, 1, cuts)
+    answers(alloc, &forms::circle(alloc)?, 1, cuts)
 }
 
 /// So many searches for the way of two vehicles, with 20,000 cuts each.

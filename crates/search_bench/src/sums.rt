@@ -1,7 +1,7 @@
 //! Numbers that depend on all of an answer.
 
-use box_eval::{Line, Point, Record};
-use seeded_search::Outcome;
+use box_eval::Point;
+use seeded_search::{Line, Outcome, Record};
 
 /// A sum that depends on a number too, and on all before it.
 pub(crate) fn mixed(sum: u64, number: u64) -> u64 {
@@ -29,6 +29,9 @@ fn of_record(record: &Record) -> u64 {
     for line in record.lines.as_slice() {
         sum = with_line(sum, line);
     }
+    for pick in record.picks.as_slice() {
+        sum = mixed(mixed(sum, u64::from(pick.times)), u64::from(pick.rule));
+    }
     sum
 }
 
@@ -38,6 +41,7 @@ fn with_line(sum: u64, line: &Line) -> u64 {
         Line::High { slot, value } => (1, *slot, value.unsigned_abs()),
         Line::Close { rule } => (2, *rule, 0),
         Line::Unknown => (3, 0, 0),
+        Line::Sum { count } => (4, *count, 0),
     };
     mixed(mixed(mixed(sum, kind), u64::from(number)), value)
 }

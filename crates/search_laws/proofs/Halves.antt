@@ -1,5 +1,5 @@
 -- The longest first part on which a rule is false, by halving.
-use Rattle.std.proofs.Common.{◌≡◌, ◌≢◌, refl, sym, ap, ◌∙◌, subst, ⊎_elim, ℕ, ◌+◌, ◌-◌, ◌<◌, ◌≤◌, Bool, true, false, not, ◌||◌, List, length, slice_get, slice_set, Option, Some, None, ℤ, pos, ◌+ℤ◌, ◌-ℤ◌, ◌<ℤ◌, ◌≤ℤ◌, int_le, arith}
+use Rattle.std.proofs.Common.{◌≡◌, ◌≢◌, refl, sym, ap, ◌∙◌, subst, ⊎_elim, ℕ, ◌+◌, ◌-◌, ◌<◌, ◌≤◌, Bool, true, false, not, ◌||◌, List, length, slice_get, slice_set, Option, Some, ℤ, pos, ◌+ℤ◌, ◌-ℤ◌, ◌<ℤ◌, ◌≤ℤ◌, int_le, arith}
 use Rattle.std.proofs.lemmas.Int.{ints}
 use Rattle.std.proofs.lemmas.Bool.{false≢true, or_cases}
 use Rattle.std.proofs.lemmas.Bool.Decides.{nat_tests}
@@ -10,15 +10,14 @@ use Rattle.box_eval.specs.declared.bounds.Pair.{Pair}
 use Rattle.box_eval.specs.declared.cut.Cut.{Cut}
 use Rattle.box_eval.specs.declared.cut.Side.{Side}
 use Rattle.box_eval.specs.declared.cut.Side.TheVariants.{Low, High}
-use Rattle.box_eval.specs.declared.verdict.Verdict.{Verdict}
-use Rattle.box_eval.specs.declared.verdict.Verdict.TheVariants.{True, False, Open}
-use Rattle.box_eval.specs.Box.{pair, low_at, high_at, up_to, from, fixed, end_at, first_at, cut_at, IsBox, IsCutOf, first_part}
+use Rattle.box_eval.specs.declared.verdict.Verdict.TheVariants.{True, False}
+use Rattle.box_eval.specs.Box.{pair, low_at, high_at, fixed, end_at, first_at, cut_at, IsBox, first_part}
 use Rattle.box_eval.specs.Verdict.{verdict_of}
-use Rattle.box_eval.specs.Record.{is_false, may_close}
-use Rattle.box_eval.specs.Guided.{longer_at, is_whole_at, is_longest, IsDeadEnd}
+use Rattle.record_trees.specs.Record.{is_false, may_close}
+use Rattle.record_trees.specs.Guided.{longer_at, is_whole_at, IsDeadEnd}
 use Rattle.box_eval.proofs.Smaller.{smaller_keeps}
 use Rattle.box_eval.proofs.Parts.{first_part_box, first_part_inside}
-use Rattle.box_eval.proofs.Empty.{close_facts}
+use Rattle.record_trees.proofs.Empty.{close_facts}
 use Rattle.search_laws.specs.Halves.{value_at, first_pair, width, part_of, IsHalved, IsLongest}
 
 -- ---- parts by their number of values

@@ -1,6 +1,6 @@
 -- Which rules are settled and which are true, as a slot gets other ends.
-use Rattle.std.proofs.Common.{◌≡◌, ◌≢◌, refl, sym, ap, ◌∙◌, subst, ◌⊎◌, inl, inr, ⊎_elim, ℕ, suc, zero, ◌<◌, ◌≤◌, Bool, true, false, ◌||◌, eqb, List, [], ◌∷◌, ◌++◌, length, take, slice_get, slice_set, Option, Some, None, ℤ, arith}
-use Rattle.std.proofs.lemmas.Bool.{false≢true, or_parts, or_from, or_cases, eqb-true}
+use Rattle.std.proofs.Common.{◌≡◌, refl, sym, ap, ◌∙◌, subst, ◌⊎◌, inl, inr, ⊎_elim, ℕ, suc, zero, Bool, true, false, ◌||◌, eqb, List, [], ◌∷◌, ◌++◌, take, slice_get, slice_set, Some, ℤ}
+use Rattle.std.proofs.lemmas.Bool.{false≢true, or_from, or_cases, eqb-true}
 use Rattle.std.proofs.lemmas.List.Folds.{list_any-append}
 use Rattle.wake_ring.specs.Queue.{is_in}
 use Rattle.box_eval.specs.declared.rule.Rule.{Rule}
@@ -8,14 +8,13 @@ use Rattle.box_eval.specs.declared.bounds.Pair.{Pair}
 use Rattle.box_eval.specs.declared.cut.Cut.{Cut}
 use Rattle.box_eval.specs.declared.cut.Side.{Side}
 use Rattle.box_eval.specs.declared.cut.Side.TheVariants.{Low, High}
-use Rattle.box_eval.specs.declared.verdict.Verdict.{Verdict}
-use Rattle.box_eval.specs.declared.verdict.Verdict.TheVariants.{True, False, Open}
-use Rattle.box_eval.specs.Box.{pair, low_at, high_at, IsBox, IsInside, first_at, second_at, first_part, second_part}
+use Rattle.box_eval.specs.declared.verdict.Verdict.TheVariants.{True}
+use Rattle.box_eval.specs.Box.{IsBox, IsInside, first_at, second_at, first_part, second_part}
 use Rattle.box_eval.specs.Verdict.{verdict_of}
 use Rattle.box_eval.specs.Reads.{reads}
-use Rattle.box_eval.specs.Guided.{IsDeadEnd, IsSettledFor, IsSettled}
+use Rattle.record_trees.specs.Guided.{IsSettledFor, IsSettled}
 use Rattle.box_eval.proofs.Smaller.{smaller_keeps}
-use Rattle.box_eval.proofs.Settled.{settled_at, settled_from, true_settled, unread_settled}
+use Rattle.record_trees.proofs.Settled.{settled_at, settled_from, true_settled, unread_settled}
 use Rattle.search_laws.specs.State.{IsLively, AllDone, IsWoken}
 
 -- ---- parts as boxes with one slot changed

@@ -1,24 +1,27 @@
 -- Each step of the search keeps its invariant.
-use Rattle.std.proofs.Common.{◌≡◌, ◌≢◌, refl, sym, ap, ap₂, ◌∙◌, subst, ℕ, suc, zero, ◌+◌, ◌-◌, ◌*◌, ◌<◌, ◌≤◌, max, Bool, true, false, List, [], ◌∷◌, ◌++◌, length, get_or, take, slice_get, Option, Some, None, arith, append_assoc, length-append}
+use Rattle.std.proofs.Common.{◌≡◌, refl, sym, ap, ap₂, ◌∙◌, subst, ℕ, suc, zero, ◌+◌, ◌-◌, ◌<◌, ◌≤◌, max, true, false, List, [], ◌∷◌, ◌++◌, length, get_or, take, slice_get, Some, arith, length-append}
 use Rattle.std.proofs.lemmas.Bool.{false≢true}
 use Rattle.std.proofs.Math.Seq.{take-length}
 use Rattle.std.proofs.Math.ListN.{get_or-append}
-use Rattle.std.proofs.lemmas.List.{take-append-le, length-take-le, get_or-take}
+use Rattle.std.proofs.lemmas.List.{append-nil, take-append-le, length-take-le, get_or-take}
 use Rattle.wake_ring.specs.Queue.{is_in}
 use Rattle.box_eval.specs.declared.rule.Rule.{Rule}
 use Rattle.box_eval.specs.declared.bounds.Pair.{Pair}
 use Rattle.box_eval.specs.declared.cut.Cut.{Cut}
-use Rattle.box_eval.specs.declared.record.Line.{Line}
-use Rattle.box_eval.specs.declared.record.Line.TheVariants as L
-use Rattle.box_eval.specs.declared.verdict.Verdict.TheVariants.{True, False}
+use Rattle.box_eval.specs.declared.flat.Flat.{Flat}
+use Rattle.linear_sums.specs.declared.pick.Pick.{Pick}
+use Rattle.record_trees.specs.declared.record.Line.{Line}
+use Rattle.record_trees.specs.declared.record.Line.TheVariants as L
+use Rattle.box_eval.specs.declared.verdict.Verdict.TheVariants.{True}
 use Rattle.box_eval.specs.Box.{IsBox, IsInside, IsCutOf, first_part, second_part}
-use Rattle.box_eval.specs.Record.{cut_line, may_close}
+use Rattle.record_trees.specs.Record.{Leaf, close, added, cut_line, leaf_line, leaf_picks, is_open, may_close, may_add, may_leave}
 use Rattle.box_eval.specs.Verdict.{verdict_of}
-use Rattle.box_eval.specs.Guided.{is_longest, IsDrawn, IsSettledFor, IsSettled}
+use Rattle.linear_sums.specs.FacingPairs.{NoneFacing}
+use Rattle.record_trees.specs.Guided.{is_longest, IsSettledFor, IsSettled}
 use Rattle.box_eval.proofs.Parts.{inside_self, inside_trans, first_part_box, second_part_box, first_part_inside, second_part_inside}
 use Rattle.search_laws.specs.declared.decision.Decision.{Decision}
 use Rattle.search_laws.specs.Forest.{Place, place, Grown}
-use Rattle.search_laws.specs.State.{State, last_of, last_place, IsLively, AllDone, decided_box, IsStanding, AllStanding, untried, IsSearching, IsClosed, IsWoken}
+use Rattle.search_laws.specs.State.{State, most_picks, last_of, last_place, IsLively, AllDone, decided_box, IsStanding, AllStanding, untried, IsSearching, IsClosed, IsWoken}
 use Rattle.search_laws.proofs.Forests.{started, closed, narrowed, decided}
 use Rattle.search_laws.proofs.Lists.{length_push, last_push, front_push, front_last, length_front}
 use Rattle.search_laws.proofs.Lively.{first_part_set, second_part_set, done_inside, done_push, lively_without, lively_all, lively_after}
@@ -67,17 +70,24 @@ module _ (rules : List Rule) (root : List Pair) where
 
 -- ---- the steps
 
-abbrev pub state : List (List Pair) → List ℕ → List Line → List Decision → List ℕ → ℕ → ℕ → ℕ → State
-state boxes queue out ds marks made drawn deepest = record { boxes = boxes; queue = queue; out = out; decisions = ds; marks = marks; made = made; drawn = drawn; deepest = deepest }
+abbrev pub state : List (List Pair) → List ℕ → List Line → List Pick → List Decision → List ℕ → ℕ → ℕ → ℕ → State
+state boxes queue out picked ds marks made drawn deepest = record { boxes = boxes; queue = queue; out = out; picked = picked; decisions = ds; marks = marks; made = made; drawn = drawn; deepest = deepest }
 
-module _ (rules : List Rule) (root : List Pair) (draws : ℕ → ℕ) (cuts : ℕ) where
+module _ (choose : ℕ → List Pair → Cut) (flat : Flat) (cuts : ℕ) where
+  abbrev rules : List Rule
+  rules = flat.rules
+
+  abbrev root : List Pair
+  root = flat.bounds.pairs
+
   abbrev Searching : State → Type 0
-  Searching = IsSearching rules root draws cuts
+  Searching = IsSearching choose flat cuts
 
   -- at first every rule waits
-  pub starts : (queue : List ℕ) → IsBox root → ((k : ℕ) → k < length rules → is_in k queue ≡ true) → Searching (state (root ∷ []) queue [] [] [] 0 0 0)
-  starts queue box all = record {
-    grown = started rules draws root;
+  pub starts : (queue : List ℕ) → NoneFacing flat → IsBox root → ((k : ℕ) → k < length rules → is_in k queue ≡ true) → Searching (state (root ∷ []) queue [] [] [] [] 0 0 0)
+  starts queue none box all = record {
+    none_facing = none;
+    grown = started choose flat;
     standing = tt;
     done = λ k rule is in_it. absurd (false≢true in_it);
     lively = λ k rule is out. absurd (false≢true (sym out ∙ all k (there rules k rule is)));
@@ -91,6 +101,7 @@ module _ (rules : List Rule) (root : List Pair) (draws : ℕ → ℕ) (cuts : �
     few_open = omega arith;
     deep = omega arith;
     few_deep = omega arith;
+    few_picks = omega arith;
   }
     where
       there : (rs : List Rule) (k : ℕ) (rule : Rule) → slice_get rs k ≡ Some rule → k < length rs
@@ -117,6 +128,7 @@ module _ (rules : List Rule) (root : List Pair) (draws : ℕ → ℕ) (cuts : �
     -- the queue may grow
     pub requeued : (later : List ℕ) → ((k : ℕ) → is_in k later ≡ false → is_in k s.queue ≡ false) → Searching (record s { queue = later })
     requeued later kept = record {
+      none_facing = h.none_facing;
       grown = h.grown;
       standing = h.standing;
       done = h.done;
@@ -131,11 +143,13 @@ module _ (rules : List Rule) (root : List Pair) (draws : ℕ → ℕ) (cuts : �
       few_open = h.few_open;
       deep = h.deep;
       few_deep = h.few_deep;
+      few_picks = h.few_picks;
     }
 
     -- a rule that is settled leaves the queue
     pub passed : (c : ℕ) (rule : Rule) (queue : List ℕ) → s.queue ≡ c ∷ queue → slice_get rules c ≡ Some rule → IsSettledFor box rule → Searching (record s { queue = queue })
     passed c rule queue is there settled = record {
+      none_facing = h.none_facing;
       grown = h.grown;
       standing = h.standing;
       done = h.done;
@@ -150,11 +164,13 @@ module _ (rules : List Rule) (root : List Pair) (draws : ℕ → ℕ) (cuts : �
       few_open = h.few_open;
       deep = h.deep;
       few_deep = h.few_deep;
+      few_picks = h.few_picks;
     }
 
     -- a rule that is true is marked
     pub marked : (c : ℕ) (rule : Rule) → slice_get rules c ≡ Some rule → verdict_of box rule ≡ True → Searching (record s { marks = s.marks ++ c ∷ [] })
     marked c rule is says = record {
+      none_facing = h.none_facing;
       grown = h.grown;
       standing = standing_marks rules root s.boxes s.marks (c ∷ []) s.decisions h.standing;
       done = done_push rules box s.marks c rule h.done is says;
@@ -169,12 +185,13 @@ module _ (rules : List Rule) (root : List Pair) (draws : ℕ → ℕ) (cuts : �
       few_open = h.few_open;
       deep = h.deep;
       few_deep = h.few_deep;
+      few_picks = h.few_picks;
     }
 
     -- a cut whose first part is closed by a rule that is false on no longer one
     pub narrows_by : (cut : Cut) (k : ℕ) (later : List ℕ) → IsCutOf box cut → s.made < cuts → may_close rules (first_part cut box) k ≡ true → is_longest rules box cut k ≡ true
         → IsWoken rules cut.slot s.marks s.queue later
-        → Searching (state (s.boxes ++ second_part cut box ∷ []) later (s.out ++ cut_line cut ∷ L.Close k ∷ []) s.decisions s.marks (s.made + 1) s.drawn (max s.deepest (length s.boxes)))
+        → Searching (state (s.boxes ++ second_part cut box ∷ []) later (s.out ++ cut_line cut ∷ L.Close k ∷ []) s.picked s.decisions s.marks (s.made + 1) s.drawn (max s.deepest (length s.boxes)))
     narrows_by cut k later is room may longest woken =
         let part = second_part cut box in
         let part_box = second_part_box box cut is h.is_box in
@@ -183,10 +200,11 @@ module _ (rules : List Rule) (root : List Pair) (draws : ℕ → ℕ) (cuts : �
         let last : last_of boxes ≡ part = last_push s.boxes part [] in
         let places : place (above ++ box ∷ []) part ∷ untried s.boxes s.decisions ≡ last_place boxes ∷ untried boxes s.decisions
         = ap₂ (λ (p : Place) (ps : List Place). p ∷ ps) (ap (λ (bs : List (List Pair)). place bs part) above_box ∙ last_place_push part) (sym (untried_push rules root s.boxes (part ∷ []) s.marks s.decisions h.standing)) in
-        let grown = narrowed rules draws root s.out s.made s.drawn s.deepest (last_place s.boxes) (untried s.boxes s.decisions) h.grown cut k is may longest in
+        let grown = narrowed choose flat s.out s.picked s.made s.drawn s.deepest (last_place s.boxes) (untried s.boxes s.decisions) h.grown cut k is may longest in
         record {
-          grown = subst (λ (n : ℕ). Grown rules draws root (s.out ++ cut_line cut ∷ L.Close k ∷ []) (s.made + 1) s.drawn n (last_place boxes ∷ untried boxes s.decisions)) (ap (max s.deepest) long)
-              (subst (Grown rules draws root (s.out ++ cut_line cut ∷ L.Close k ∷ []) (s.made + 1) s.drawn (max s.deepest (length above + 1))) places grown);
+          none_facing = h.none_facing;
+          grown = subst (λ (n : ℕ). Grown choose flat (s.out ++ cut_line cut ∷ L.Close k ∷ []) s.picked (s.made + 1) s.drawn n (last_place boxes ∷ untried boxes s.decisions)) (ap (max s.deepest) long)
+              (subst (Grown choose flat (s.out ++ cut_line cut ∷ L.Close k ∷ []) s.picked (s.made + 1) s.drawn (max s.deepest (length above + 1))) places grown);
           standing = standing_push rules root s.boxes (part ∷ []) s.marks s.decisions h.standing;
           done = subst (λ (b : List Pair). AllDone rules b s.marks) (sym last) (done_inside rules part box s.marks part_box part_inside h.done);
           lively = subst (λ (b : List Pair). IsLively rules b later) (sym last) (lively_after rules box cut.slot part s.marks s.queue later (second_part_set box cut) part_box part_inside h.done h.lively woken);
@@ -200,15 +218,16 @@ module _ (rules : List Rule) (root : List Pair) (draws : ℕ → ℕ) (cuts : �
           few_open = omega (arith, h.few_open);
           deep = omega (arith, h.deep, length_push s.boxes part);
           few_deep = omega (arith, h.few_deep, h.deep);
+          few_picks = h.few_picks;
         }
 
     abbrev decision : Cut → Decision
     decision cut = record { cut = cut; mark = length s.boxes - 1; marked = length s.marks }
 
-    -- a cut of a settled box that is drawn
-    pub decides : (cut : Cut) (later : List ℕ) → IsCutOf box cut → s.made < cuts → IsDrawn (draws s.drawn) rules box cut → IsWoken rules cut.slot s.marks s.queue later
-        → Searching (state (s.boxes ++ first_part cut box ∷ []) later (s.out ++ cut_line cut ∷ []) (decision cut ∷ s.decisions) s.marks (s.made + 1) (s.drawn + 1) (max s.deepest (length s.boxes)))
-    decides cut later is room drawn woken =
+    -- a cut of a settled box that is the one chosen
+    pub decides : (cut : Cut) (later : List ℕ) → IsCutOf box cut → s.made < cuts → IsSettled rules box → cut ≡ choose s.drawn box → IsWoken rules cut.slot s.marks s.queue later
+        → Searching (state (s.boxes ++ first_part cut box ∷ []) later (s.out ++ cut_line cut ∷ []) s.picked (decision cut ∷ s.decisions) s.marks (s.made + 1) (s.drawn + 1) (max s.deepest (length s.boxes)))
+    decides cut later is room settled chosen woken =
         let part = first_part cut box in
         let part_box = first_part_box box cut is h.is_box in
         let part_inside = first_part_inside box cut is in
@@ -220,18 +239,19 @@ module _ (rules : List Rule) (root : List Pair) (draws : ℕ → ℕ) (cuts : �
         = ap₂ (λ (p : Place) (ps : List Place). p ∷ ps) (ap (λ (bs : List (List Pair)). place bs part) above_box ∙ last_place_push part)
         (ap (λ (bs : List (List Pair)). place bs (second_part cut box) ∷ untried s.boxes s.decisions) (above_box)
         ∙ ap₂ (λ (bs : List (List Pair)) (b : List Pair). place bs (second_part cut b) ∷ untried bs s.decisions) (sym front) (sym at)) in
-        let grown = decided rules draws root s.out s.made s.drawn s.deepest (last_place s.boxes) (untried s.boxes s.decisions) h.grown cut h.is_box is drawn in
+        let grown = decided choose flat s.out s.picked s.made s.drawn s.deepest (last_place s.boxes) (untried s.boxes s.decisions) h.grown cut h.is_box is (record { settled = settled; none_facing = h.none_facing; cut_chosen = chosen }) in
         let all : take (length s.marks) s.marks ≡ s.marks = take-length s.marks in
         record {
-          grown = subst (λ (n : ℕ). Grown rules draws root (s.out ++ cut_line cut ∷ []) (s.made + 1) (s.drawn + 1) n (last_place boxes ∷ untried boxes (decision cut ∷ s.decisions))) (ap (max s.deepest) long)
-              (subst (Grown rules draws root (s.out ++ cut_line cut ∷ []) (s.made + 1) (s.drawn + 1) (max s.deepest (length above + 1))) places grown);
+          none_facing = h.none_facing;
+          grown = subst (λ (n : ℕ). Grown choose flat (s.out ++ cut_line cut ∷ []) s.picked (s.made + 1) (s.drawn + 1) n (last_place boxes ∷ untried boxes (decision cut ∷ s.decisions))) (ap (max s.deepest) long)
+              (subst (Grown choose flat (s.out ++ cut_line cut ∷ []) s.picked (s.made + 1) (s.drawn + 1) (max s.deepest (length above + 1))) places grown);
           standing = (
             record {
               mark = omega (arith, h.some, length_push s.boxes part);
               marked = omega arith;
               is_box = subst IsBox (sym at) h.is_box;
               inside = subst (λ (b : List Pair). IsInside b root) (sym at) h.inside;
-              settled = subst (IsSettled rules) (sym at) drawn.settled;
+              settled = subst (IsSettled rules) (sym at) settled;
               done = subst (λ (b : List Pair). AllDone rules b (take (length s.marks) s.marks)) (sym at) (subst (AllDone rules box) (sym all) h.done);
               cuts = subst (λ (b : List Pair). IsCutOf b cut) (sym at) is;
             },
@@ -249,27 +269,44 @@ module _ (rules : List Rule) (root : List Pair) (draws : ℕ → ℕ) (cuts : �
           few_open = omega (arith, h.few_open);
           deep = omega (arith, h.deep, length_push s.boxes part);
           few_deep = omega (arith, h.few_deep, h.deep);
+          few_picks = h.few_picks;
         }
 
-    -- the present box is closed
-    pub closes : (k : ℕ) → may_close rules box k ≡ true → IsClosed rules root draws cuts (record s { out = s.out ++ L.Close k ∷ [] })
-    closes k may = record {
-      grown = closed rules draws root s.out s.made s.drawn s.deepest (last_place s.boxes) (untried s.boxes s.decisions) h.grown k may (omega (arith, length_front s.boxes, h.deep));
+    -- the present box is closed by a leaf
+    pub closes_by : (l : Leaf) → is_open l ≡ false → may_leave flat box l ≡ true → length (s.picked ++ leaf_picks l) ≤ most_picks
+        → IsClosed choose flat cuts (record s { out = s.out ++ leaf_line l ∷ []; picked = s.picked ++ leaf_picks l })
+    closes_by l shut may few = record {
+      none_facing = h.none_facing;
+      grown = closed choose flat s.out s.picked s.made s.drawn s.deepest (last_place s.boxes) (untried s.boxes s.decisions) h.grown l shut may (omega (arith, length_front s.boxes, h.deep));
       standing = h.standing;
       root_is = h.root_is;
       some = h.some;
-      lines = omega (arith, length_push s.out (L.Close k), h.lines);
+      lines = omega (arith, length_push s.out (leaf_line l), h.lines);
       few_cuts = h.few_cuts;
       few_drawn = h.few_drawn;
       few_open = h.few_open;
       deep = h.deep;
       few_deep = h.few_deep;
+      few_picks = few;
     }
 
+    -- by a rule that is false on it
+    pub closes : (k : ℕ) → may_close rules box k ≡ true → IsClosed choose flat cuts (record s { out = s.out ++ L.Close k ∷ [] })
+    closes k may = subst (λ (ps : List Pick). IsClosed choose flat cuts (record s { out = s.out ++ L.Close k ∷ []; picked = ps })) same
+        (closes_by (close k) refl may (omega (arith, ap (λ (ps : List Pick). length ps) same, h.few_picks)))
+      where
+        same : s.picked ++ [] ≡ s.picked
+        same = append-nil s.picked
+
+    -- by a sum that is false on it
+    pub closes_sum : (picks : List Pick) → may_add flat box picks ≡ true → length s.picked + length picks ≤ most_picks
+        → IsClosed choose flat cuts (record s { out = s.out ++ L.Sum (length picks) ∷ []; picked = s.picked ++ picks })
+    closes_sum picks may few = closes_by (added picks) refl may (omega (arith, length-append s.picked picks, few))
+
   -- back to the newest decision, and into its second part
-  pub returns_to : (s : State) → IsClosed rules root draws cuts s → (d : Decision) (ds : List Decision) (later : List ℕ) → s.decisions ≡ d ∷ ds
+  pub returns_to : (s : State) → IsClosed choose flat cuts s → (d : Decision) (ds : List Decision) (later : List ℕ) → s.decisions ≡ d ∷ ds
       → IsWoken rules d.cut.slot (take d.marked s.marks) [] later
-      → Searching (state (take (d.mark + 1) s.boxes ++ second_part d.cut (decided_box s.boxes d) ∷ []) later s.out ds (take d.marked s.marks) s.made s.drawn s.deepest)
+      → Searching (state (take (d.mark + 1) s.boxes ++ second_part d.cut (decided_box s.boxes d) ∷ []) later s.out s.picked ds (take d.marked s.marks) s.made s.drawn s.deepest)
   returns_to s h d ds later is woken =
       let standing : AllStanding rules root s.boxes s.marks (d ∷ ds) = subst (AllStanding rules root s.boxes s.marks) is h.standing in
       let one = standing.0 in
@@ -286,10 +323,11 @@ module _ (rules : List Rule) (root : List Pair) (draws : ℕ → ℕ) (cuts : �
       let some : 0 < length front = omega arith in
       let places : place front part ∷ untried front ds ≡ last_place boxes ∷ untried boxes ds
       = ap₂ (λ (p : Place) (ps : List Place). p ∷ ps) (ap₂ place (sym (front_push front part)) (sym last)) (sym (untried_push rules root front (part ∷ []) marks ds standing.1)) in
-      let grown : Grown rules draws root s.out s.made s.drawn s.deepest (place front part ∷ untried front ds) = subst (λ (l : List Decision). Grown rules draws root s.out s.made s.drawn s.deepest (untried s.boxes l)) is h.grown in
+      let grown : Grown choose flat s.out s.picked s.made s.drawn s.deepest (place front part ∷ untried front ds) = subst (λ (l : List Decision). Grown choose flat s.out s.picked s.made s.drawn s.deepest (untried s.boxes l)) is h.grown in
       let count : length s.decisions ≡ length ds + 1 = ap (λ (l : List Decision). length l) is ∙ omega arith in
       record {
-        grown = subst (Grown rules draws root s.out s.made s.drawn s.deepest) places grown;
+        none_facing = h.none_facing;
+        grown = subst (Grown choose flat s.out s.picked s.made s.drawn s.deepest) places grown;
         standing = standing_push rules root front (part ∷ []) marks ds standing.1;
         done = subst (λ (b : List Pair). AllDone rules b marks) (sym last) (done_inside rules part box marks part_box part_inside one.done);
         lively = subst (λ (b : List Pair). IsLively rules b later) (sym last) (lively_after rules box d.cut.slot part marks [] later (second_part_set box d.cut) part_box part_inside one.done (lively_all rules box [] one.settled) woken);
@@ -303,4 +341,5 @@ module _ (rules : List Rule) (root : List Pair) (draws : ℕ → ℕ) (cuts : �
         few_open = omega (arith, h.few_open, count);
         deep = omega (arith, h.deep, length_push front part);
         few_deep = h.few_deep;
+        few_picks = h.few_picks;
       }

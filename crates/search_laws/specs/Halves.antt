@@ -1,14 +1,14 @@
 -- The first part of a cut by its number of values, and the longest on which a rule is false.
-use Rattle.std.specs.Prelude.{◌≡◌, ℕ, ◌+◌, ◌<◌, ◌≤◌, true, not, ◌||◌, nat_le, List, slice_get, Some, unsigned_abs, ℤ, pos, ◌+ℤ◌, ◌-ℤ◌}
+use Rattle.std.specs.Prelude.{◌≡◌, ℕ, ◌+◌, ◌<◌, ◌≤◌, true, not, ◌||◌, nat_le, List, unsigned_abs, ℤ, pos, ◌+ℤ◌, ◌-ℤ◌}
 use Rattle.box_eval.specs.declared.rule.Rule.{Rule}
 use Rattle.box_eval.specs.declared.bounds.Pair.{Pair}
 use Rattle.box_eval.specs.declared.cut.Cut.{Cut}
 use Rattle.box_eval.specs.declared.cut.Side.{Side}
 use Rattle.box_eval.specs.declared.cut.Side.TheVariants.{Low, High}
-use Rattle.box_eval.specs.Box.{pair, low_at, high_at, first_at, cut_at, IsCutOf, first_part}
+use Rattle.box_eval.specs.Box.{pair, low_at, high_at, first_at, IsCutOf, first_part}
 use Rattle.box_eval.specs.Verdict.{verdict_of}
-use Rattle.box_eval.specs.Record.{is_false, may_close}
-use Rattle.box_eval.specs.Guided.{is_longest}
+use Rattle.record_trees.specs.Record.{is_false, may_close}
+use Rattle.record_trees.specs.Guided.{is_longest}
 
 -- the value of the cut whose first part has so many values of a slot
 abbrev pub value_at : Side → ℤ → ℤ → ℕ → ℤ

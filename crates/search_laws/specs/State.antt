@@ -1,15 +1,19 @@
 -- The state of the search, and what holds of it at the start of each turn and of each decision.
-use Rattle.std.specs.Prelude.{◌≡◌, ◌≢◌, ℕ, ◌+◌, ◌-◌, ◌*◌, ◌<◌, ◌≤◌, true, false, List, [], ◌∷◌, length, get_or, take, slice_get, Some, ⊤}
+use Rattle.std.specs.Prelude.{◌≡◌, ℕ, ◌+◌, ◌-◌, ◌*◌, ◌<◌, ◌≤◌, true, false, List, [], ◌∷◌, length, get_or, take, slice_get, Some, ⊤}
 use Rattle.wake_ring.specs.Queue.{is_in}
 use Rattle.box_eval.specs.declared.rule.Rule.{Rule}
 use Rattle.box_eval.specs.declared.bounds.Pair.{Pair}
+use Rattle.box_eval.specs.declared.cut.Cut.{Cut}
 use Rattle.box_eval.specs.declared.cut.Side.{Side}
-use Rattle.box_eval.specs.declared.record.Line.{Line}
+use Rattle.box_eval.specs.declared.flat.Flat.{Flat}
+use Rattle.linear_sums.specs.declared.pick.Pick.{Pick}
+use Rattle.record_trees.specs.declared.record.Line.{Line}
 use Rattle.box_eval.specs.declared.verdict.Verdict.TheVariants.{True}
 use Rattle.box_eval.specs.Box.{IsBox, IsInside, IsCutOf, second_part}
 use Rattle.box_eval.specs.Verdict.{verdict_of}
 use Rattle.box_eval.specs.Reads.{reads}
-use Rattle.box_eval.specs.Guided.{IsDeadEnd, IsSettledFor, IsSettled}
+use Rattle.linear_sums.specs.FacingPairs.{NoneFacing}
+use Rattle.record_trees.specs.Guided.{IsDeadEnd, IsSettledFor, IsSettled}
 use Rattle.search_laws.specs.declared.decision.Decision.{Decision}
 use Rattle.search_laws.specs.Forest.{Place, place, Grown}
 
@@ -20,6 +24,8 @@ pub record State : Type 0 where
   pub queue : List ℕ
   -- the lines of the record so far
   pub out : List Line
+  -- the rules of the sums so far, line by line
+  pub picked : List Pick
   -- the decisions whose second part is untried, the newest first
   pub decisions : List Decision
   -- the numbers of the rules that are done
@@ -28,6 +34,10 @@ pub record State : Type 0 where
   pub made : ℕ
   pub drawn : ℕ
   pub deepest : ℕ
+
+-- the most rules that all sums of a search have together
+abbrev pub most_picks : ℕ
+most_picks = 262144
 
 -- the last of a list of boxes
 abbrev pub last_of : List (List Pair) → List Pair
@@ -79,15 +89,17 @@ untried boxes (d ∷ ds) = place (take (d.mark + 1) boxes) (second_part d.cut (d
 
 -- ---- the invariant
 
-pub record IsSearching (rules : List Rule) (root : List Pair) (draws : ℕ → ℕ) (cuts : ℕ) (s : State) : Type 0 where
+pub record IsSearching (choose : ℕ → List Pair → Cut) (flat : Flat) (cuts : ℕ) (s : State) : Type 0 where
+  -- false facing pairs are looked for first
+  pub none_facing : NoneFacing flat
   -- the lines so far want a tree for the present box, and one for the second part of each decision
-  pub grown : Grown rules draws root s.out s.made s.drawn s.deepest (last_place s.boxes ∷ untried s.boxes s.decisions)
-  pub standing : AllStanding rules root s.boxes s.marks s.decisions
-  pub done : AllDone rules (last_of s.boxes) s.marks
-  pub lively : IsLively rules (last_of s.boxes) s.queue
+  pub grown : Grown choose flat s.out s.picked s.made s.drawn s.deepest (last_place s.boxes ∷ untried s.boxes s.decisions)
+  pub standing : AllStanding flat.rules flat.bounds.pairs s.boxes s.marks s.decisions
+  pub done : AllDone flat.rules (last_of s.boxes) s.marks
+  pub lively : IsLively flat.rules (last_of s.boxes) s.queue
   pub is_box : IsBox (last_of s.boxes)
-  pub inside : IsInside (last_of s.boxes) root
-  pub root_is : get_or s.boxes 0 [] ≡ root
+  pub inside : IsInside (last_of s.boxes) flat.bounds.pairs
+  pub root_is : get_or s.boxes 0 [] ≡ flat.bounds.pairs
   pub some : 0 < length s.boxes
   pub lines : length s.out + length s.decisions ≡ 2 * s.made
   pub few_cuts : s.made ≤ cuts
@@ -95,12 +107,14 @@ pub record IsSearching (rules : List Rule) (root : List Pair) (draws : ℕ → �
   pub few_open : length s.decisions ≤ s.made
   pub deep : length s.boxes ≤ s.deepest + 1
   pub few_deep : s.deepest ≤ s.made
+  pub few_picks : length s.picked ≤ most_picks
 
 -- the present box is closed: the lines so far want a tree for the second part of each decision alone
-pub record IsClosed (rules : List Rule) (root : List Pair) (draws : ℕ → ℕ) (cuts : ℕ) (s : State) : Type 0 where
-  pub grown : Grown rules draws root s.out s.made s.drawn s.deepest (untried s.boxes s.decisions)
-  pub standing : AllStanding rules root s.boxes s.marks s.decisions
-  pub root_is : get_or s.boxes 0 [] ≡ root
+pub record IsClosed (choose : ℕ → List Pair → Cut) (flat : Flat) (cuts : ℕ) (s : State) : Type 0 where
+  pub none_facing : NoneFacing flat
+  pub grown : Grown choose flat s.out s.picked s.made s.drawn s.deepest (untried s.boxes s.decisions)
+  pub standing : AllStanding flat.rules flat.bounds.pairs s.boxes s.marks s.decisions
+  pub root_is : get_or s.boxes 0 [] ≡ flat.bounds.pairs
   pub some : 0 < length s.boxes
   pub lines : length s.out + length s.decisions ≡ 2 * s.made + 1
   pub few_cuts : s.made ≤ cuts
@@ -108,6 +122,7 @@ pub record IsClosed (rules : List Rule) (root : List Pair) (draws : ℕ → ℕ)
   pub few_open : length s.decisions ≤ s.made
   pub deep : length s.boxes ≤ s.deepest + 1
   pub few_deep : s.deepest ≤ s.made
+  pub few_picks : length s.picked ≤ most_picks
 
 -- ---- what a change of a slot wakes
 

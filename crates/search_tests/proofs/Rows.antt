@@ -7,8 +7,9 @@ use Rattle.box_eval.specs.declared.rule.Term.TheVariants.{Whole, Slot, Times, Le
 use Rattle.box_eval.specs.declared.rule.Rule.TheFolds.{fold-Rule}
 use Rattle.box_eval.specs.declared.bounds.Pair.{Pair}
 use Rattle.box_eval.specs.declared.flat.Flat.{Flat}
-use Rattle.box_eval.specs.declared.record.Record.{Record}
-use Rattle.box_eval.specs.declared.record.Line.TheVariants as L
+use Rattle.seeded_search.specs.record_trees.declared.record.Record.{Record}
+use Rattle.seeded_search.specs.record_trees.declared.record.Line.TheVariants as L
+use Rattle.box_eval.specs.declared.cut.Cut.{Cut}
 use Rattle.box_eval.specs.declared.cut.Side.TheVariants.{Low, High}
 use Rattle.box_eval.specs.declared.verdict.Verdict.{Verdict}
 use Rattle.box_eval.specs.declared.verdict.Verdict.TheVariants.{False, Open}
@@ -17,8 +18,9 @@ use Rattle.box_eval.specs.Rules.{CanJudge}
 use Rattle.box_eval.specs.Truth.{true_at}
 use Rattle.box_eval.specs.Verdict.{verdict_of, span_of}
 use Rattle.box_eval.specs.Reach.{slot_bound, Judged, Seen, rule_judged, term_seen}
-use Rattle.box_eval.specs.Guided.{decisions, Guided, drawn}
-use Rattle.box_eval.specs.Record.{Tree, branch, leaf, close, lines_of, depth_of, accepts, IsFirstFalse, marks, IsRefutation}
+use Rattle.seeded_search.specs.record_trees.Guided.{decisions, Guided}
+use Rattle.seeded_search.specs.search_plans.Drawn.{drawn}
+use Rattle.seeded_search.specs.record_trees.Record.{Tree, branch, leaf, close, lines_of, depth_of, accepts, IsFirstFalse, marks, IsRefutation}
 use Rattle.box_eval.proofs.Equations.{folds}
 use Rattle.box_eval.proofs.Parts.{inside_self, inside_both}
 use Rattle.box_eval.proofs.Fits.{can_judge_inside}
@@ -51,7 +53,7 @@ abbrev tree : Tree
 tree = branch (cut_at Low 0 (negsuc 0)) (leaf (close 0)) (branch (cut_at High 0 (pos 5)) (leaf (close 0)) (branch (cut_at Low 0 (pos 3)) (leaf (close 1)) (leaf (close 2))))
 
 abbrev claim : Record
-claim = record { undecided = false; slots = 1; rules = 3; room = 3; lines = lines_of tree }
+claim = record { undecided = false; slots = 1; rules = 3; room = 3; lines = lines_of tree; picks = [] }
 
 -- ---- rules
 
@@ -130,7 +132,7 @@ row_marks = simp folds
 row_refutation : IsRefutation flat claim
 row_refutation = record {
   tree = tree;
-  accepted = record { record_of = record { lines = refl; undecided = refl }; accepted = simp folds (refl, (refl, (refl, (refl, (refl, (refl, (refl, (refl, (refl, (refl, (refl, tt))))))))))) };
+  accepted = record { record_of = record { lines = refl; picks = refl; undecided = refl }; accepted = simp folds (refl, (refl, (refl, (refl, (refl, (refl, (refl, (refl, (refl, (refl, (refl, tt))))))))))) };
   closed = refl;
 }
 
@@ -146,8 +148,8 @@ fifth bs cs is = rw is (record { there = refl; before = earlier })
     earlier (suc (suc (suc (suc j)))) h = absurd (omega arith)
 
 -- with room for two cuts alone, the third isn't accepted
-row_room : IsFirstFalse (accepts flat.rules 2 flat.bounds.pairs 0 tree) 4
-row_room = fifth (accepts flat.rules 2 flat.bounds.pairs 0 tree) (true ∷ true ∷ []) (simp folds)
+row_room : IsFirstFalse (accepts flat 2 flat.bounds.pairs 0 tree) 4
+row_room = fifth (accepts flat 2 flat.bounds.pairs 0 tree) (true ∷ true ∷ []) (simp folds)
 
 -- nor is a cut at the greatest value of a slot, which is the fifth line of the record as it is written
 row_upper : IsFirstFalse (marks flat claim (branch (cut_at Low 0 (pos 1000000000)) (leaf (close 0)) (leaf (close 0)))) 4
@@ -159,8 +161,8 @@ row_upper = fifth (marks flat claim (branch (cut_at Low 0 (pos 1000000000)) (lea
 row_decisions : decisions flat.rules flat.bounds.pairs tree ≡ 0
 row_decisions = simp folds
 
-row_guided : (draws : ℕ → ℕ) → Guided draws flat.rules flat.bounds.pairs 0 tree
-row_guided draws = simp folds tt
+row_guided : (choose : ℕ → List Pair → Cut) → Guided choose flat flat.bounds.pairs 0 tree
+row_guided choose = simp folds tt
 
 -- cuts that numbers pick of a slot from 0 to 9
 row_drawn_low : drawn 4 0 (pos 0) (pos 9) ≡ cut_at Low 0 (pos 0)

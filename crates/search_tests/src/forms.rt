@@ -73,11 +73,41 @@ pub fn overridden(alloc: Global, last: bool) -> Result<Flat, AllocError> {
     Ok(flat)
 }
 
-/// Two whole numbers, each of which is below the other.
+/// Two whole numbers, each of which is below the other: a false facing pair.
 pub fn both_below(alloc: Global) -> Result<Flat, AllocError> {
     let mut flat = whole_numbers(alloc, 2)?;
     flat.rules.push(Rule::Below(slot(0), slot(1)))?;
     flat.rules.push(Rule::Below(slot(1), slot(0)))?;
+    Ok(flat)
+}
+
+/// So many whole numbers in a circle, each of which is below the next. No two of three or more such rules face each other.
+pub fn circle(alloc: Global, count: u32) -> Result<Flat, AllocError> {
+    let mut flat = whole_numbers(alloc, count)?;
+    for number in 0..count {
+        let next = (number + 1) % count;
+        flat.rules.push(Rule::Below(slot(number), slot(next)))?;
+    }
+    Ok(flat)
+}
+
+/// Three whole numbers in a circle, each of which is one less than the next. No sum of such rules is looked for.
+pub fn creeping_circle(alloc: Global) -> Result<Flat, AllocError> {
+    let mut flat = whole_numbers(alloc, 3)?;
+    for number in 0..3 {
+        let more = sum(alloc, slot(number), whole(1))?;
+        flat.rules.push(Rule::Equal(more, slot((number + 1) % 3)))?;
+    }
+    Ok(flat)
+}
+
+/// Three whole numbers, of which the third is above 0, and the first with it at most the second, which is at most the first.
+pub fn ends_as_it_starts(alloc: Global) -> Result<Flat, AllocError> {
+    let mut flat = whole_numbers(alloc, 3)?;
+    let end = sum(alloc, slot(0), slot(2))?;
+    flat.rules.push(Rule::AtMost(end, slot(1)))?;
+    flat.rules.push(Rule::AtMost(slot(1), slot(0)))?;
+    flat.rules.push(Rule::Below(whole(0), slot(2)))?;
     Ok(flat)
 }
 

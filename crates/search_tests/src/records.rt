@@ -1,5 +1,6 @@
 //! Answers of the search as text.
-use box_eval::{Line, Point, Record};
+use box_eval::Point;
+use seeded_search::{Line, Pick, Record};
 use std::alloc::AllocError;
 use std::fmt::Write;
 
@@ -12,7 +13,7 @@ pub(crate) fn write_point(text: &mut String, point: &Point) -> Result<(), AllocE
     Ok(())
 }
 
-/// A record's kind, numbers of slots, rules, room and lines, and its first lines up to a number of them.
+/// A record's kind, numbers of slots, rules, room and lines, its first lines up to a number of them, and all of its picks.
 pub(crate) fn write_record(
     text: &mut String,
     record: &Record,
@@ -32,7 +33,7 @@ pub(crate) fn write_record(
     for line in record.lines.as_slice().iter().take(most) {
         write_line(text, line)?;
     }
-    Ok(())
+    write_picks(text, record.picks.as_slice())
 }
 
 fn write_line(text: &mut String, line: &Line) -> Result<(), AllocError> {
@@ -40,6 +41,14 @@ fn write_line(text: &mut String, line: &Line) -> Result<(), AllocError> {
         Line::Low { slot, value } => writeln!(text, "low {slot} {value}"),
         Line::High { slot, value } => writeln!(text, "high {slot} {value}"),
         Line::Close { rule } => writeln!(text, "close {rule}"),
+        Line::Sum { count } => writeln!(text, "sum {count}"),
         Line::Unknown => writeln!(text, "open"),
     }
+}
+
+fn write_picks(text: &mut String, picks: &[Pick]) -> Result<(), AllocError> {
+    for pick in picks {
+        writeln!(text, "{} of {}", pick.times, pick.rule)?;
+    }
+    Ok(())
 }

@@ -3,10 +3,9 @@ ghost use Rattle.std.specs.Prelude.{IfOk, [], ◌∷◌, negsuc, pos, ◌≤ℤ�
 ghost use Rattle.box_eval.specs.Box.{pair};
 ghost use Rattle.box_eval.specs.Rules.{CanJudge};
 
-use box_eval::{
-    Bounds, Flat, Line, Pair, Record, Rule, Term, Verdict, judge, refuted, slots_of, truth,
-};
+use box_eval::{Bounds, Flat, Pair, Rule, Term, Verdict, judge, slots_of, truth};
 use osc_base::{Boxed, Row};
+use seeded_search::{Line, Record, refuted};
 use std::alloc::{AllocError, Global};
 
 fn within(alloc: Global) -> Result<Rule, AllocError>
@@ -58,6 +57,7 @@ fn record(alloc: Global) -> Result<Record, AllocError> {
         rules: 3,
         room: 3,
         lines,
+        picks: Row::new(alloc),
     })
 }
 

@@ -8,10 +8,10 @@ use Rattle.box_eval.specs.declared.rule.Rule.{Rule}
 use Rattle.box_eval.specs.declared.bounds.Pair.{Pair}
 use Rattle.box_eval.specs.declared.cut.Cut.{Cut}
 use Rattle.box_eval.specs.declared.cut.Side.{Side}
-use Rattle.box_eval.specs.declared.record.Line.{Line}
-use Rattle.box_eval.specs.declared.record.Line.TheVariants as L
+use Rattle.search_laws.specs.record_trees.declared.record.Line.{Line}
+use Rattle.search_laws.specs.record_trees.declared.record.Line.TheVariants as L
 use Rattle.box_eval.specs.Box.{low_at, high_at, cut_at, second_part}
-use Rattle.box_eval.specs.Record.{cut_line}
+use Rattle.search_laws.specs.record_trees.Record.{cut_line}
 use Rattle.search_laws.specs.Halves.{value_at, IsHalved, IsLongest}
 use Rattle.search_laws.specs.State.{IsSearching}
 use Rattle.search_laws.proofs.Halves.{half_done, longest_open}
@@ -20,10 +20,9 @@ use Rattle.search_laws.proofs.Steps.{state, narrows_by}
 use Rattle.seeded_search.specs.declared.task.Task.{Task}
 use Rattle.seeded_search.specs.declared.work.Work.{Work}
 use Rattle.seeded_search.specs.declared.turns.Step.{Step}
-use Rattle.seeded_search.specs.Draws.{number_of}
 use Rattle.seeded_search.specs.Joined.{joined}
 use Rattle.seeded_search.specs.Listed.{slots_at, rules_at}
-use Rattle.seeded_search.specs.Runs.{state_of, Runs, IsCutBy, IsStuck, IsSame, Stepped}
+use Rattle.seeded_search.specs.Runs.{choice, state_of, Runs, IsCutBy, IsStuck, IsSame, Stepped}
 use Rattle.seeded_search.specs.Waking.{IsWokenFrom}
 use Rattle.seeded_search.proofs.Working.{rule_there, slot_read, slot_there, waits_more, kept_in, out_parts, woken_in_turn}
 
@@ -55,12 +54,12 @@ module _ (task : Task) (w : Work) (t : History) (q : Queue) (number : ℕ) (cut 
   there : cut.slot < length task.flat.now.bounds.pairs
   there = omega (arith, longest.cuts.slot_there, runs.searching.inside.as_long)
 
-  searching : IsSearching task.flat.now.rules task.flat.now.bounds.pairs (number_of task.seed) task.cuts (state_of after trail_after (number ∷ q'.items))
+  searching : IsSearching (choice task) task.flat.now task.cuts (state_of after trail_after (number ∷ q'.items))
   searching =
-      let h = narrows_by task.flat.now.rules task.flat.now.bounds.pairs (number_of task.seed) task.cuts (state_of w t (number ∷ q.items)) runs.searching cut number (number ∷ q'.items) longest.cuts room
+      let h = narrows_by (choice task) task.flat.now task.cuts (state_of w t (number ∷ q.items)) runs.searching cut number (number ∷ q'.items) longest.cuts room
       longest.closes longest.longest (woken_in_turn task cut.slot number w.marks.listed q.items q'.items (runs.roomy.listed.rules.each cut.slot there) woken) in
-      subst (λ (out : List Line). IsSearching task.flat.now.rules task.flat.now.bounds.pairs (number_of task.seed) task.cuts
-      (state trail_after.boxes (number ∷ q'.items) out w.decisions.items w.marks.listed (w.made + 1) w.draws.count (max w.deepest (length t.boxes))))
+      subst (λ (out : List Line). IsSearching (choice task) task.flat.now task.cuts
+      (state trail_after.boxes (number ∷ q'.items) out w.picks.items w.decisions.items w.marks.listed (w.made + 1) w.draws.count (max w.deepest (length t.boxes))))
       (sym (append_assoc w.script.lines (cut_line cut ∷ []) (L.Close number ∷ []))) h
 
   waits : (b : Bool) → is_in number q'.items ≡ b → b ≡ true
@@ -83,6 +82,8 @@ module _ (task : Task) (w : Work) (t : History) (q : Queue) (number : ℕ) (cut 
       decisions = runs.roomy.decisions;
       marks = runs.roomy.marks;
       seed = runs.roomy.seed;
+      picks = runs.roomy.picks;
+      sums = runs.roomy.sums;
     };
     searching = searching;
   }

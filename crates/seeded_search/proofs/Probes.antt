@@ -9,7 +9,7 @@ use Rattle.box_eval.specs.declared.cut.Side.TheVariants.{Low, High}
 use Rattle.box_eval.specs.Box.{pair, low_at, high_at}
 use Rattle.box_eval.specs.Verdict.{verdict_of}
 use Rattle.box_eval.specs.Rules.{CanJudge}
-use Rattle.box_eval.specs.Record.{is_false}
+use Rattle.search_laws.specs.record_trees.Record.{is_false}
 use Rattle.box_eval.proofs.Parts.{box_set, inside_set}
 use Rattle.box_eval.proofs.Fits.{can_judge_inside}
 use Rattle.search_laws.specs.Halves.{value_at, first_pair, part_of}

@@ -1,27 +1,24 @@
 -- What comes of the turn of a rule.
-use Rattle.std.proofs.Common.{◌≡◌, refl, sym, ap, ◌∙◌, subst, ℕ, Bool, true, false, ◌||◌, not, cond, eqb, List, [], ◌∷◌, ◌++◌, slice_get, Option, Some}
-use Rattle.std.proofs.lemmas.Bool.{false≢true, or_parts, or_from}
-use Rattle.std.proofs.lemmas.List.Folds.{list_any-append}
+use Rattle.std.proofs.Common.{◌≡◌, refl, sym, ap, ◌∙◌, subst, ℕ, Bool, true, false, cond, List, [], ◌∷◌, ◌++◌, slice_get, Option, Some}
+use Rattle.std.proofs.lemmas.Bool.{false≢true}
 use Rattle.std.specs.Option.{option_map_or}
-use Rattle.std.specs.Bool.{OnTrue, OnFalse}
 use Rattle.wake_ring.specs.Queue.{Queue, is_in, without}
 use Rattle.bound_trail.specs.History.{History, present}
 use Rattle.box_eval.specs.declared.rule.Rule.{Rule}
 use Rattle.box_eval.specs.declared.bounds.Pair.{Pair}
 use Rattle.box_eval.specs.declared.verdict.Verdict.TheVariants.{True, False}
 use Rattle.box_eval.specs.Verdict.{verdict_of}
-use Rattle.box_eval.specs.Record.{is_false, may_close}
-use Rattle.box_eval.specs.Guided.{IsSettledFor}
-use Rattle.box_eval.proofs.Settled.{true_settled, read_settled}
+use Rattle.search_laws.specs.record_trees.Record.{is_false, may_close}
+use Rattle.search_laws.specs.record_trees.Guided.{IsSettledFor}
+use Rattle.search_laws.proofs.of_record_trees.Settled.{true_settled, read_settled}
 use Rattle.search_laws.proofs.Steps.{passed, marked}
 use Rattle.seeded_search.specs.declared.task.Task.{Task}
 use Rattle.seeded_search.specs.declared.work.Work.{Work}
 use Rattle.seeded_search.specs.declared.turns.Turned.TheVariants as Turned
-use Rattle.seeded_search.specs.Draws.{number_of}
 use Rattle.seeded_search.specs.Listed.{slots_at}
 use Rattle.seeded_search.specs.Rooms.{with_mark}
-use Rattle.seeded_search.specs.Runs.{state_of, Runs, IsCutBy, IsRetired, IsStuck, IsSame, NoDeadEnd, TurnedTo}
-use Rattle.seeded_search.proofs.Working.{out_parts, kept_in, out_without, waits_more}
+use Rattle.seeded_search.specs.Runs.{choice, state_of, Runs, IsCutBy, IsRetired, IsStuck, IsSame, NoDeadEnd, TurnedTo}
+use Rattle.seeded_search.proofs.Working.{out_parts, out_without, waits_more}
 
 -- the rule of a number closes the box where it is false there
 pub may_close_is : (rules : List Rule) (ends : List Pair) (k : ℕ) (rule : Rule) → slice_get rules k ≡ Some rule → may_close rules ends k ≡ is_false (verdict_of ends rule)
@@ -32,7 +29,7 @@ module _ (task : Task) (w : Work) (t : History) (q : Queue) (number : ℕ) (runs
   gone : IsSettledFor (present t) rule → Runs task w t q q.items
   gone settled = record {
     roomy = runs.roomy;
-    searching = passed task.flat.now.rules task.flat.now.bounds.pairs (number_of task.seed) task.cuts (state_of w t (number ∷ q.items)) runs.searching number rule q.items refl is settled;
+    searching = passed (choice task) task.flat.now task.cuts (state_of w t (number ∷ q.items)) runs.searching number rule q.items refl is settled;
   }
 
   pub open_over : may_close task.flat.now.rules (present t) number ≡ false → NoDeadEnd task t number (λ side slot. is_in slot (slots_at task.lists.now number) ≡ true) → TurnedTo task number Turned.Over w t q w t q
@@ -67,8 +64,10 @@ module _ (task : Task) (w : Work) (t : History) (q : Queue) (number : ℕ) (runs
             decisions = runs.roomy.decisions;
             marks = runs.roomy.marks;
             seed = runs.roomy.seed;
+            picks = runs.roomy.picks;
+            sums = runs.roomy.sums;
           };
-          searching = marked task.flat.now.rules task.flat.now.bounds.pairs (number_of task.seed) task.cuts (state_of w t q.items) passed_on.searching number rule is says;
+          searching = marked (choice task) task.flat.now task.cuts (state_of w t q.items) passed_on.searching number rule is says;
         },
         refl,
         refl,
@@ -89,46 +88,29 @@ over_same task number w t q w' t' q' same h =
 pub cut_turn : (task : Task) (number : ℕ) (w : Work) (t : History) (q : Queue) (w' : Work) (t' : History) (q' : Queue) → IsCutBy task w w' t' q' → TurnedTo task number Turned.Cut w t q w' t' q'
 cut_turn task number w t q w' t' q' h = (h.runs, h.decisions, h.made)
 
+-- a rule that is taken has its turn
+pub in_turn : (task : Task) (w : Work) (t : History) (q : Queue) (number : ℕ) (q' : Queue) → Runs task w t q q.items → q' ≡ record { bound = q.bound; items = without number q.items } → Runs task w t q' (number ∷ q'.items)
+in_turn task w t q number q' runs taken =
+    waits_more task w t q q.items runs q' (number ∷ q'.items) (ap (λ (r : Queue). r.bound) taken)
+    (λ k out. let parts = out_parts k number q'.items out in out_without k number q.items parts.0 (ap (λ (r : Queue). is_in k r.items) (sym taken) ∙ parts.1))
+
 -- a rule that waits and is true is done
 pub retired : (task : Task) (w : Work) (t : History) (q : Queue) (number : ℕ) (rule : Rule) (w' : Work) (q' : Queue) → Runs task w t q q.items → slice_get task.flat.now.rules number ≡ Some rule → verdict_of (present t) rule ≡ True
     → w' ≡ record w { marks = with_mark number w.marks } → q' ≡ record { bound = q.bound; items = without number q.items } → IsRetired task w t w' q'
 retired task w t q number rule w' q' runs is says marked removed =
-    let kept : (k : ℕ) → is_in k (number ∷ q'.items) ≡ false → is_in k q.items ≡ false
-    = λ k out. let parts = out_parts k number q'.items out in out_without k number q.items parts.0 (ap (λ (r : Queue). is_in k r.items) (sym removed) ∙ parts.1) in
-    let in_turn = waits_more task w t q q.items runs q' (number ∷ q'.items) (ap (λ (r : Queue). r.bound) removed) kept in
-    let over = true_over task w t q' number in_turn rule is says w' marked in
+    let over = true_over task w t q' number (in_turn task w t q number q' runs removed) rule is says w' marked in
     record { runs = over.0; decisions = over.2; made = over.3 }
 
 pub retired_more : (task : Task) (w : Work) (t : History) (w1 : Work) (q1 : Queue) (w2 : Work) (q2 : Queue) → IsRetired task w t w1 q1 → IsRetired task w1 t w2 q2 → IsRetired task w t w2 q2
 retired_more task w t w1 q1 w2 q2 first second = record { runs = second.runs; decisions = second.decisions ∙ first.decisions; made = second.made ∙ first.made }
 
 -- the rule is put back
-record IsBack (number : ℕ) (q q' : Queue) : Type 0 where
-  bound : q'.bound ≡ q.bound
-  kept : (k : ℕ) → is_in k q'.items ≡ false → is_in k (number ∷ q.items) ≡ false
-
-back : (number : ℕ) (q q' : Queue) (b : Bool) → b ≡ not (is_in number q.items) → OnTrue b (q' ≡ record { bound = q.bound; items = q.items ++ number ∷ [] }) → OnFalse b (q' ≡ q) → IsBack number q q'
-back number q q' true there added same = record {
-  bound = ap (λ (r : Queue). r.bound) added;
-  kept = λ k out. pushed k (sym (list_any-append (eqb k) q.items (number ∷ [])) ∙ (ap (λ (r : Queue). is_in k r.items) (sym added) ∙ out));
+pub spent_turn : (task : Task) (number : ℕ) (w : Work) (t : History) (q : Queue) (w' : Work) (t' : History) (q1 q' : Queue) → IsStuck task w w' t' q1 (number ∷ q1.items)
+    → q'.bound ≡ q1.bound → ((k : ℕ) → is_in k q'.items ≡ is_in k (number ∷ q1.items)) → TurnedTo task number Turned.Spent w t q w' t' q'
+spent_turn task number w t q w' t' q1 q' h bound added = record {
+  runs = waits_more task w' t' q1 (number ∷ q1.items) h.runs q' q'.items bound (λ k out. sym (added k) ∙ out);
+  decisions = h.decisions;
+  made = h.made;
+  all = h.all;
+  wide = h.wide;
 }
-  where
-    pushed : (k : ℕ) → is_in k q.items || is_in k (number ∷ []) ≡ false → is_in k (number ∷ q.items) ≡ false
-    pushed k out =
-        let parts = or_parts (is_in k q.items) (is_in k (number ∷ [])) out in
-        let last = or_parts (eqb k number) false parts.1 in
-        or_from (eqb k number) (is_in k q.items) last.0 parts.0
-back number q q' false there added same = record {
-  bound = ap (λ (r : Queue). r.bound) same;
-  kept = λ k out. kept_in number q.items (was_there (is_in number q.items) there) k (ap (λ (r : Queue). is_in k r.items) (sym same) ∙ out);
-}
-  where
-    was_there : (b : Bool) → false ≡ not b → b ≡ true
-    was_there true e = refl
-    was_there false e = absurd (false≢true e)
-
-pub spent_turn : (task : Task) (number : ℕ) (w : Work) (t : History) (q : Queue) (w' : Work) (t' : History) (q1 q' : Queue) (b : Bool) → IsStuck task w w' t' q1 (number ∷ q1.items)
-    → b ≡ not (is_in number q1.items) → OnTrue b (q' ≡ record { bound = q1.bound; items = q1.items ++ number ∷ [] }) → OnFalse b (q' ≡ q1) → TurnedTo task number Turned.Spent w t q w' t' q'
-spent_turn task number w t q w' t' q1 q' b h there added same =
-    let r = back number q1 q' b there added same in
-    record { runs = waits_more task w' t' q1 (number ∷ q1.items) h.runs q' q'.items r.bound r.kept; decisions = h.decisions; made = h.made; all = h.all; wide = h.wide }

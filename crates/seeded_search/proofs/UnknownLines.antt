@@ -1,7 +1,7 @@
 -- Lines that leave a box unknown, one more at a time.
 use Rattle.std.proofs.Common.{◌≡◌, refl, ap, ◌∙◌, ℕ, zero, suc, ◌+◌, List, [], ◌∷◌, ◌++◌, length, arith, append_assoc}
-use Rattle.box_eval.specs.declared.record.Line.{Line}
-use Rattle.box_eval.specs.declared.record.Line.TheVariants as L
+use Rattle.search_laws.specs.record_trees.declared.record.Line.{Line}
+use Rattle.search_laws.specs.record_trees.declared.record.Line.TheVariants as L
 use Rattle.search_laws.specs.Answers.{unknown_lines}
 
 unknown_lines-push : (n : ℕ) → unknown_lines n ++ L.Unknown ∷ [] ≡ unknown_lines (suc n)

@@ -1,6 +1,6 @@
 -- What waking a list of rules one by one leaves in a queue.
 use Rattle.std.proofs.Common.{◌≡◌, refl, sym, ap, ◌∙◌, ◌⊎◌, inl, inr, ℕ, zero, suc, ◌+◌, ◌<◌, Bool, true, false, ◌||◌, eqb, List, [], ◌∷◌, ◌++◌, length, get_or, take, arith}
-use Rattle.std.proofs.lemmas.Bool.{false≢true, or_cases, eq-eqb, eqb-true}
+use Rattle.std.proofs.lemmas.Bool.{false≢true, or_cases, or_parts, eq-eqb, eqb-true}
 use Rattle.std.proofs.lemmas.List.{take_more}
 use Rattle.std.proofs.lemmas.List.Folds.{list_any-append}
 use Rattle.wake_ring.specs.Queue.{is_in}
@@ -9,6 +9,17 @@ use Rattle.seeded_search.specs.Waking.{IsWokenFrom}
 
 pub woken_none : (marks queue : List ℕ) → IsWokenFrom [] marks queue queue
 woken_none marks queue = record { kept = λ k out. out; over = λ k here out. absurd (false≢true here) }
+
+-- a number more waits
+pub woken_one : (number : ℕ) (marks queue later : List ℕ) → ((k : ℕ) → is_in k later ≡ is_in k (number ∷ queue)) → IsWokenFrom (number ∷ []) marks queue later
+woken_one number marks queue later added = record {
+  kept = λ k out. (or_parts (eqb k number) (is_in k queue) (sym (added k) ∙ out)).1;
+  over = λ k here out. absurd (false≢true (sym (or_parts (eqb k number) (is_in k queue) (sym (added k) ∙ out)).0 ∙ alone (eqb k number) here));
+}
+  where
+    alone : (b : Bool) → b || false ≡ true → b ≡ true
+    alone true e = refl
+    alone false e = e
 
 pub woken_more : (xs marks q0 q1 q2 : List ℕ) (i x : ℕ) → i < length xs → get_or xs i 0 ≡ x → IsWokenFrom (take i xs) marks q0 q1 → IsWokenFrom (x ∷ []) marks q1 q2 → IsWokenFrom (take (i + 1) xs) marks q0 q2
 woken_more xs marks q0 q1 q2 i x less is first second = record {

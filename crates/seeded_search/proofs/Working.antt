@@ -13,11 +13,10 @@ use Rattle.search_laws.specs.State.{IsWoken}
 use Rattle.search_laws.proofs.Steps.{requeued}
 use Rattle.seeded_search.specs.declared.task.Task.{Task}
 use Rattle.seeded_search.specs.declared.work.Work.{Work}
-use Rattle.seeded_search.specs.Draws.{number_of}
 use Rattle.seeded_search.specs.Listed.{slots_at, rules_at}
 use Rattle.seeded_search.specs.SlotLists.{IsRuleList}
 use Rattle.seeded_search.specs.Probe.{IsProbe}
-use Rattle.seeded_search.specs.Runs.{state_of, Runs}
+use Rattle.seeded_search.specs.Runs.{choice, state_of, Runs}
 use Rattle.seeded_search.specs.Waking.{IsWokenFrom}
 
 -- the rule of a number below the number of rules
@@ -75,8 +74,10 @@ module _ (task : Task) (w : Work) (t : History) (q : Queue) (waiting : List ℕ)
       decisions = runs.roomy.decisions;
       marks = runs.roomy.marks;
       seed = runs.roomy.seed;
+      picks = runs.roomy.picks;
+      sums = runs.roomy.sums;
     };
-    searching = requeued rules task.flat.now.bounds.pairs (number_of task.seed) task.cuts (state_of w t waiting) runs.searching later kept;
+    searching = requeued (choice task) task.flat.now task.cuts (state_of w t waiting) runs.searching later kept;
   }
 
 -- ---- waking

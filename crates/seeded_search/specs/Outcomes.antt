@@ -1,7 +1,7 @@
 -- Facts on the answer of a search, each for one kind of answer.
 use Rattle.std.specs.Prelude.{⊤}
 use Rattle.box_eval.specs.declared.point.Point.{Point}
-use Rattle.box_eval.specs.declared.record.Record.{Record}
+use Rattle.search_laws.specs.record_trees.declared.record.Record.{Record}
 use Rattle.seeded_search.specs.declared.outcome.Outcome.{Outcome}
 
 -- the answer is a point, with this fact

@@ -2,12 +2,18 @@
 use Rattle.std.specs.Prelude.{ℕ, List, [], ◌∷◌, ◌++◌, if◌then◌else◌}
 use Rattle.wake_ring.specs.Queue.{is_in}
 use Rattle.box_eval.specs.declared.cut.Cut.{Cut}
-use Rattle.box_eval.specs.declared.record.Line.{Line}
+use Rattle.search_laws.specs.linear_sums.declared.pick.Pick.{Pick}
+use Rattle.search_laws.specs.record_trees.declared.record.Line.{Line}
 use Rattle.search_laws.specs.declared.decision.Decision.{Decision}
 
 -- the lines of a record, and how many there may be
 pub record Page : Type 0 where
   pub lines : List Line
+  pub room : ℕ
+
+-- the rules of a record's sums, and how many there may be
+pub record Picked : Type 0 where
+  pub items : List Pick
   pub room : ℕ
 
 -- the decisions whose second part is untried, the newest first, and how many there may be

@@ -3,13 +3,15 @@ use Rattle.std.specs.Prelude.{◌≡◌, ◌≢◌, ℕ, ◌+◌, ◌*◌, ◌<�
 use Rattle.wake_ring.specs.Queue.{Queue, is_in}
 use Rattle.bound_trail.specs.History.{History, present}
 use Rattle.box_eval.specs.declared.rule.Rule.{Rule}
+use Rattle.box_eval.specs.declared.bounds.Pair.{Pair}
+use Rattle.box_eval.specs.declared.cut.Cut.{Cut}
 use Rattle.box_eval.specs.declared.cut.Side.{Side}
 use Rattle.box_eval.specs.Box.{IsOnePoint}
 use Rattle.box_eval.specs.Rules.{IsFlat}
-use Rattle.box_eval.specs.Record.{may_close}
-use Rattle.box_eval.specs.Guided.{IsDeadEnd, HasTwoPoints, NoneFalse}
+use Rattle.search_laws.specs.record_trees.Record.{may_close}
+use Rattle.search_laws.specs.record_trees.Guided.{IsDeadEnd, HasTwoPoints, NoneFalse}
 use Rattle.search_laws.specs.declared.decision.Decision.{Decision}
-use Rattle.search_laws.specs.State.{State, IsSearching, IsClosed}
+use Rattle.search_laws.specs.State.{State, most_picks, IsSearching, IsClosed}
 use Rattle.search_laws.specs.Answers.{IsRefutedAnswer, claim_of}
 use Rattle.seeded_search.specs.declared.task.Task.{Task}
 use Rattle.seeded_search.specs.declared.work.Work.{Work}
@@ -17,8 +19,14 @@ use Rattle.seeded_search.specs.declared.turns.Step.{Step}
 use Rattle.seeded_search.specs.declared.turns.Turned.{Turned}
 use Rattle.seeded_search.specs.declared.course.Ran.{Ran}
 use Rattle.seeded_search.specs.declared.course.End.{End}
-use Rattle.seeded_search.specs.Draws.{number_of}
+use Rattle.seeded_search.specs.Draws.{chosen_by}
 use Rattle.seeded_search.specs.Listed.{IsListed, slots_at}
+
+-- ---- the choice
+
+-- how the search chooses its cuts: by its plan and its seed
+abbrev pub choice : Task → ℕ → List Pair → Cut
+choice task = chosen_by task.plan.now task.seed
 
 -- ---- the state
 
@@ -28,6 +36,7 @@ state_of w t waiting = record {
   boxes = t.boxes;
   queue = waiting;
   out = w.script.lines;
+  picked = w.picks.items;
   decisions = w.decisions.items;
   marks = w.marks.listed;
   made = w.made;
@@ -46,16 +55,23 @@ pub record IsRoomy (task : Task) (w : Work) (t : History) (q : Queue) : Type 0 w
   pub decisions : w.decisions.room ≡ task.cuts
   pub marks : w.marks.bound ≡ length task.flat.now.rules
   pub seed : w.draws.seed ≡ task.seed
+  pub picks : w.picks.room ≤ most_picks
+  pub sums : w.sums ≡ length task.flat.now.bounds.pairs
 
 -- the search goes on, and these rules wait. A rule in its turn is one of them, in front
 pub record Runs (task : Task) (w : Work) (t : History) (q : Queue) (waiting : List ℕ) : Type 0 where
   pub roomy : IsRoomy task w t q
-  pub searching : IsSearching task.flat.now.rules task.flat.now.bounds.pairs (number_of task.seed) task.cuts (state_of w t waiting)
+  pub searching : IsSearching (choice task) task.flat.now task.cuts (state_of w t waiting)
+
+-- the present box is closed
+pub record IsShut (task : Task) (w : Work) (t : History) (q : Queue) : Type 0 where
+  pub roomy : IsRoomy task w t q
+  pub closed : IsClosed (choice task) task.flat.now task.cuts (state_of w t [])
 
 -- the present box is closed, and this decision was the newest
 pub record IsLeft (task : Task) (d : Decision) (w : Work) (t : History) (q : Queue) : Type 0 where
   pub roomy : IsRoomy task w t q
-  pub closed : IsClosed task.flat.now.rules task.flat.now.bounds.pairs (number_of task.seed) task.cuts (record (state_of w t []) { decisions = d ∷ w.decisions.items })
+  pub closed : IsClosed (choice task) task.flat.now task.cuts (record (state_of w t []) { decisions = d ∷ w.decisions.items })
 
 -- rules were marked, or the search went back, without a cut
 pub record IsRetired (task : Task) (w : Work) (t' : History) (w' : Work) (q' : Queue) : Type 0 where
@@ -125,7 +141,7 @@ IsNearer w w' = 2 * w.made + length w'.decisions.items < 2 * w'.made + length w.
 -- what the search has found at its end
 abbrev pub Found : Task → End → Work → History → Queue → Type 0
 Found task End.Point w t q = Runs task w t q q.items × (q.items ≡ []) × IsOnePoint (present t)
-Found task End.Refuted w t q = IsRefutedAnswer (number_of task.seed) task.cuts task.flat.now (claim_of task.flat.now false w.deepest w.script.lines) t.boxes
+Found task End.Refuted w t q = IsRefutedAnswer (choice task) task.cuts task.flat.now (claim_of task.flat.now false w.deepest w.script.lines w.picks.items) t.boxes
 Found task End.Undecided w t q = Runs task w t q q.items × (w.made ≡ task.cuts) × HasTwoPoints (present t) × NoneFalse (present t) task.flat.now.rules
 
 -- the search goes on, nearer to its end
@@ -136,3 +152,8 @@ GoesOn task w w' t' q' = Runs task w' t' q' q'.items × IsNearer w w'
 abbrev pub Staged : Task → Option End → Work → Work → History → Queue → Type 0
 Staged task None w w' t' q' = GoesOn task w w' t' q'
 Staged task (Some end) w w' t' q' = Found task end w' t' q'
+
+-- a sum may have closed the present box: the search is no farther from its end
+abbrev pub Tried : Task → Option End → Work → Work → History → Queue → Type 0
+Tried task None w w' t' q' = Runs task w' t' q' q'.items × (2 * w.made + length w'.decisions.items ≤ 2 * w'.made + length w.decisions.items)
+Tried task (Some end) w w' t' q' = Found task end w' t' q'

@@ -1,20 +1,20 @@
 //! The course of the search: turns until the queue is empty, decisions, and ways back.
-ghost use Rattle.std.specs.Prelude.{◌≡◌, ◌<◌, ◌∷◌, [], length, true};
-ghost use Rattle.box_eval.specs.Record.{may_close};
-ghost use Rattle.box_eval.specs.Guided.{IsFirstWide, HasTwoPoints};
+ghost use Rattle.std.specs.Prelude.{◌≡◌, ◌<◌, ◌∷◌, [], length, true, Some, ◌<ℤ◌};
+ghost use Rattle.box_eval.specs.Box.{low_at, high_at};
+ghost use Rattle.search_laws.specs.record_trees.Record.{may_close};
+ghost use Rattle.search_laws.specs.record_trees.Guided.{HasTwoPoints};
+ghost use Rattle.search_plans.specs.Plans.{next_entry};
 ghost use Rattle.bound_trail.specs.History.{present};
-ghost use Rattle.seeded_search.specs.Runs.{Runs, IsLeft, IsRetired, RanTo, Found, GoesOn, Staged};
+ghost use Rattle.seeded_search.specs.Runs.{Runs, IsLeft, IsShut, IsRetired, RanTo, Found, GoesOn, Staged, Tried};
 
-use crate::draws::drawn;
-use crate::halving::ends_of;
-use crate::places::{cut_line, enter_first, enter_second, first_false, first_wide};
+use crate::places::{cut_line, enter_first, enter_second, first_false, next_here};
 use crate::retiring::retire;
 use crate::task::Task;
 use crate::turns::{Turned, take_turn, wake};
 use crate::work::Work;
 use bound_trail::Trail;
-use box_eval::Line;
-use search_laws::Decision;
+use search_laws::{Decision, Line};
+use search_plans::{Entry, wished};
 use wake_ring::WakeRing;
 
 /// What comes of taking turns.
@@ -46,7 +46,7 @@ fn run_queue(task: &Task<'_>, work: &mut Work, trail: &mut Trail, ring: &mut Wak
     requires { Runs task.now work.old trail.old ring.old ring.old.items }
     ensures { RanTo task.now result work.old work.new trail.new ring.new }
 {
-    while let Some(number) = ring.pop_front() {
+    while let Some(number) = ring.take() {
         match take_turn(task, work, trail, ring, number) {
             Turned::Over => {}
             Turned::Cut => return Ran::Cut,
@@ -58,33 +58,42 @@ fn run_queue(task: &Task<'_>, work: &mut Work, trail: &mut Trail, ring: &mut Wak
 }
 
 /// Decides in the present box, which is settled, and marks the rules that are done by it.
-fn decide(task: &Task<'_>, work: &mut Work, trail: &mut Trail, ring: &mut WakeRing, slot: u32)
+fn decide(task: &Task<'_>, work: &mut Work, trail: &mut Trail, ring: &mut WakeRing, entry: &Entry)
     requires runs { Runs task.now work.old trail.old ring.old ring.old.items }
     requires empty { ring.old.items ≡ [] }
     requires room { work.old.made < task.now.cuts }
-    requires slot { IsFirstWide (present trail.old) slot }
+    requires entry { next_entry task.now.plan.now (present trail.old) ≡ Some entry.now }
+    requires wide { low_at (present trail.old) entry.now.slot <ℤ high_at (present trail.old) entry.now.slot }
     ensures { GoesOn task.now work.old work.new trail.new ring.new }
 {
-    divide(task, work, trail, ring, slot);
+    let slot = divide(task, work, trail, ring, entry);
     retire(task, work, trail, ring, slot);
 }
 
-/// Cuts the present box, which is settled, at its first slot with two values or more, as the next number picks it.
-fn divide(task: &Task<'_>, work: &mut Work, trail: &mut Trail, ring: &mut WakeRing, slot: u32)
+/// Cuts the present box, which is settled, at the slot that is decided next, as it is wished and the next number picks it.
+/// Returns the slot of the cut.
+fn divide(
+    task: &Task<'_>,
+    work: &mut Work,
+    trail: &mut Trail,
+    ring: &mut WakeRing,
+    entry: &Entry,
+) -> u32
     requires runs { Runs task.now work.old trail.old ring.old ring.old.items }
     requires empty { ring.old.items ≡ [] }
     requires room { work.old.made < task.now.cuts }
-    requires slot { IsFirstWide (present trail.old) slot }
+    requires entry { next_entry task.now.plan.now (present trail.old) ≡ Some entry.now }
+    requires wide { low_at (present trail.old) entry.now.slot <ℤ high_at (present trail.old) entry.now.slot }
     ensures goes_on { GoesOn task.now work.old work.new trail.new ring.new }
-    ensures slot { slot < length (present trail.new) }
+    ensures slot { result < length (present trail.new) }
 {
-    let ends = ends_of(trail, slot);
-    let cut = drawn(work.draw(), slot, ends.low, ends.high);
+    let cut = wished(&entry.wish, trail, entry.slot, work.draw());
     work.note(cut_line(cut));
     work.leave(cut, trail.mark());
     enter_first(trail, cut);
     work.count_cut(trail.mark());
-    wake(task.lists, &work.marks, ring, slot);
+    wake(task.lists, &work.marks, ring, cut.slot);
+    cut.slot
 }
 
 /// Takes every rule out of the queue.
@@ -92,7 +101,7 @@ fn empty(ring: &mut WakeRing)
     ensures bound { ring.new.bound ≡ ring.old.bound }
     ensures items { ring.new.items ≡ [] }
 {
-    while ring.pop_front().is_some() {}
+    while let Some(_) = ring.take() {}
 }
 
 /// Goes back to the box of a decision, into its second part, and marks the rules that are done by it.
@@ -129,6 +138,23 @@ fn enter_other(
     wake(task.lists, &work.marks, ring, decision.cut.slot);
 }
 
+/// Goes on in the second part of the newest decision, if there is one, from a box that is closed.
+fn leave(task: &Task<'_>, work: &mut Work, trail: &mut Trail, ring: &mut WakeRing) -> Option<End>
+    requires { IsShut task.now work.old trail.old ring.old }
+    ensures { Staged task.now result work.old work.new trail.new ring.new }
+{
+    match work.take_decision() {
+        None => {
+            trail.undo_to(0);
+            Some(End::Refuted)
+        }
+        Some(decision) => {
+            go_back(task, work, trail, ring, decision);
+            None
+        }
+    }
+}
+
 /// Closes the present box by a rule, and goes on in the second part of the newest decision, if there is one.
 fn close(
     task: &Task<'_>,
@@ -142,16 +168,31 @@ fn close(
     ensures { Staged task.now result work.old work.new trail.new ring.new }
 {
     work.note(Line::Close { rule: number });
-    match work.take_decision() {
-        None => {
-            trail.undo_to(0);
-            Some(End::Refuted)
-        }
-        Some(decision) => {
-            go_back(task, work, trail, ring, decision);
-            None
-        }
+    leave(task, work, trail, ring)
+}
+
+/// Closes the present box by a sum, if a slot creeps and one is found, and goes on.
+fn close_by_sum(
+    task: &Task<'_>,
+    work: &mut Work,
+    trail: &mut Trail,
+    ring: &mut WakeRing,
+) -> Option<End>
+    requires { Runs task.now work.old trail.old ring.old ring.old.items }
+    ensures { Tried task.now result work.old work.new trail.new ring.new }
+{
+    if !work.reasons.is_wanted() {
+        return None;
     }
+    let sum = work.reasons.guess(task.flat);
+    let picks = sum.picks();
+    if !work.may_add(task.flat, trail, picks) {
+        return None;
+    }
+    if !work.add(picks) {
+        return None;
+    }
+    leave(task, work, trail, ring)
 }
 
 /// Closes the present box, which wants another cut, by the first rule that is false on it, or leaves it open.
@@ -173,13 +214,13 @@ fn settle(task: &Task<'_>, work: &mut Work, trail: &mut Trail, ring: &mut WakeRi
     requires empty { ring.old.items ≡ [] }
     ensures { Staged task.now result work.old work.new trail.new ring.new }
 {
-    let Some(slot) = first_wide(trail) else {
+    let Some(entry) = next_here(task.plan, trail) else {
         return Some(End::Point);
     };
     if work.made == task.cuts {
         return give_up(task, work, trail, ring);
     }
-    decide(task, work, trail, ring, slot);
+    decide(task, work, trail, ring, &entry);
     None
 }
 
@@ -189,7 +230,7 @@ fn advance(task: &Task<'_>, work: &mut Work, trail: &mut Trail, ring: &mut WakeR
     ensures { Staged task.now result work.old work.new trail.new ring.new }
 {
     match run_queue(task, work, trail, ring) {
-        Ran::Cut => None,
+        Ran::Cut => close_by_sum(task, work, trail, ring),
         Ran::Closed(number) => close(task, work, trail, ring, number),
         Ran::Spent => give_up(task, work, trail, ring),
         Ran::Settled => settle(task, work, trail, ring),

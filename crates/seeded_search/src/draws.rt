@@ -1,8 +1,6 @@
-ghost use Rattle.std.specs.Prelude.{◌≡◌, ◌+◌, ◌-◌, ◌<◌, ◌≤◌, ◌^◌, ◌<ℤ◌};
-ghost use Rattle.box_eval.specs.Guided.{picked, drawn};
+ghost use Rattle.std.specs.Prelude.{◌≡◌, ◌+◌, ◌-◌, ◌<◌, ◌≤◌, ◌^◌};
 ghost use Rattle.seeded_search.specs.Draws.{number_of, seed_bytes, word_of};
 
-use box_eval::{Cut, Side};
 use rand_chacha::ChaCha8Rng;
 use rand_core::SeedableRng;
 use rand_core::utils::NextWord;
@@ -63,27 +61,4 @@ fn key_of(seed: u64) -> [u8; 32]
         a, b, c, d, e, f, g, h, 0, 0, 0, 0, 0, 0, 0, 0, 0, 0, 0, 0, 0, 0, 0, 0, 0, 0, 0, 0, 0, 0,
         0, 0,
     ]
-}
-
-/// The cut that a number picks of a slot with these ends.
-pub(crate) fn drawn(number: u64, slot: u32, low: i64, high: i64) -> Cut
-    requires { low <ℤ high }
-    ensures { result ≡ drawn number slot low high }
-{
-    let (side, value) = match number % 4 {
-        0 => (Side::Low, low),
-        1 => (Side::High, high - 1),
-        2 => (Side::Low, picked(number, low, high)),
-        _ => (Side::High, picked(number, low, high)),
-    };
-    Cut { side, slot, value }
-}
-
-/// The value from the low end on that a number picks, below the high end.
-fn picked(number: u64, low: i64, high: i64) -> i64
-    requires { low <ℤ high }
-    ensures { result ≡ picked number low high }
-{
-    let offset = number / 4 % high.abs_diff(low);
-    (i128::from(low) + i128::from(offset)) as i64
 }

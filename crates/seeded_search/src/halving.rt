@@ -1,14 +1,15 @@
-//! The longest first part of a cut on which a rule is false, found by halving.
+//! The longest first part of a cut on which a rule is false, found by a guess, and by halving where it fails.
 ghost use Rattle.std.specs.Prelude.{◌≡◌, ℕ, ◌+◌, ◌<◌, ◌≤◌, ◌≤ℤ◌, ◌<ℤ◌, length, slice_set, IfSome, MatchOption};
 ghost use Rattle.box_eval.specs.Box.{pair, low_at, high_at, IsBox, cut_at};
 ghost use Rattle.box_eval.specs.Verdict.{verdict_of};
 ghost use Rattle.box_eval.specs.Rules.{CanJudge};
-ghost use Rattle.box_eval.specs.Record.{is_false};
-ghost use Rattle.box_eval.specs.Guided.{IsDeadEnd};
+ghost use Rattle.search_laws.specs.record_trees.Record.{is_false};
+ghost use Rattle.search_laws.specs.record_trees.Guided.{IsDeadEnd};
 ghost use Rattle.bound_trail.specs.History.{present};
 ghost use Rattle.seeded_search.specs.Probe.{IsProbe, IsPartOf};
 ghost use Rattle.search_laws.specs.Halves.{value_at, first_pair, width, part_of, IsHalved};
 
+use crate::guessing::guess;
 use bound_trail::Trail;
 use box_eval::{Ends, Pair, Rule, Side, Verdict, judge};
 
@@ -141,13 +142,29 @@ fn halved(rule: &Rule, trail: &Trail, slot: u32, side: Side, ends: Pair) -> u64
 {
     let mut least = 1;
     let mut most = ends.high.abs_diff(ends.low);
+    let guess = guess(rule, trail, slot, side, ends);
     while least < most {
-        let half = most - (most - least) / 2;
-        if is_false_on(rule, trail, slot, side, ends, half) {
-            least = half;
+        let count = next_count(least, most, guess);
+        if is_false_on(rule, trail, slot, side, ends, count) {
+            least = count;
         } else {
-            most = half - 1;
+            most = count - 1;
         }
     }
     least
+}
+
+/// The number of values to try next, above the least and at most the greatest: a guess, then one more than it, then half way.
+fn next_count(least: u64, most: u64, guess: u64) -> u64
+    requires { least < most }
+    ensures above { least < result }
+    ensures within { result ≤ most }
+{
+    if guess == least {
+        least + 1
+    } else if least < guess && guess <= most {
+        guess
+    } else {
+        most - (most - least) / 2
+    }
 }

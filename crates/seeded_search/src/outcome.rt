@@ -1,4 +1,5 @@
-use box_eval::{Point, Record};
+use box_eval::Point;
+use search_laws::Record;
 
 /// What a search answers.
 #[derive(Drop)]

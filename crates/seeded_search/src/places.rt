@@ -1,15 +1,18 @@
-//! The present box: its cuts, its first slot with two values or more, and the first rule that is false on it.
+//! The present box: its cuts, the slot that a plan decides next, and the first rule that is false on it.
 ghost use Rattle.std.specs.Prelude.{◌≡◌, ℕ, ◌<◌, ◌^◌, pos, ◌+ℤ◌, ◌<ℤ◌, length, slice_get, true, false, Some, IfSome, MatchOption};
-ghost use Rattle.box_eval.specs.Box.{IsBox, IsCutOf, IsOnePoint, first_part, second_part, up_to, from};
+ghost use Rattle.box_eval.specs.Box.{low_at, high_at, IsBox, IsCutOf, IsOnePoint, first_part, second_part, up_to, from};
 ghost use Rattle.box_eval.specs.declared.rule.Rule.{Rule};
-ghost use Rattle.box_eval.specs.Record.{may_close, cut_line};
+ghost use Rattle.search_laws.specs.record_trees.Record.{may_close, cut_line};
 ghost use Rattle.box_eval.specs.Verdict.{verdict_of};
 ghost use Rattle.box_eval.specs.Rules.{AllFit};
-ghost use Rattle.box_eval.specs.Guided.{NoneFalse, IsFirstWide};
+ghost use Rattle.search_laws.specs.record_trees.Guided.{NoneFalse};
+ghost use Rattle.search_plans.specs.Plans.{next_entry};
 ghost use Rattle.bound_trail.specs.History.{mark_of, present, with_box};
 
 use bound_trail::Trail;
-use box_eval::{Cut, Ends, Flat, Line, Rule, Side, Verdict, judge};
+use box_eval::{Cut, Ends, Flat, Rule, Side, Verdict, judge};
+use search_laws::Line;
+use search_plans::{Entry, next_entry};
 
 /// The line of a cut.
 pub(crate) fn cut_line(cut: Cut) -> Line
@@ -73,18 +76,15 @@ pub(crate) fn enter_second(trail: &mut Trail, cut: Cut)
     }
 }
 
-/// The first slot of the present box with two values or more.
-pub(crate) fn first_wide(trail: &Trail) -> Option<u32>
+/// The entry of a plan that is decided next in the present box: its slot has two values or more.
+pub(crate) fn next_here(plan: &[Entry], trail: &Trail) -> Option<Entry>
     requires few { length (present trail.now) < 2 ^ 32 }
     requires ordered { IsBox (present trail.now) }
-    ensures { MatchOption result (IsOnePoint (present trail.now)) (IsFirstWide (present trail.now)) }
+    ensures is { result ≡ next_entry plan.now (present trail.now) }
+    ensures wide { MatchOption result (IsOnePoint (present trail.now))
+        (λ e. low_at (present trail.now) e.slot <ℤ high_at (present trail.now) e.slot) }
 {
-    for slot in 0..trail.len() {
-        if trail.low(slot) < trail.high(slot) {
-            return Some(slot);
-        }
-    }
-    None
+    next_entry(plan, trail)
 }
 
 /// The rule of a number.

@@ -1,8 +1,8 @@
 ghost use Rattle.std.specs.Prelude.{◌≡◌, ◌+◌, ◌<◌, ◌≤◌, [], ◌∷◌, ◌++◌, length, IfOk};
 ghost use Rattle.search_laws.specs.Answers.{unknown_lines};
 
-use box_eval::Line;
 use osc_base::Row;
+use search_laws::Line;
 use std::alloc::{AllocError, Global};
 use std::marker::Model;
 

@@ -6,7 +6,7 @@ ghost use Rattle.bound_trail.specs.History.{present};
 ghost use Rattle.box_eval.specs.declared.cut.Side.{Side};
 ghost use Rattle.box_eval.specs.Reads.{reads};
 ghost use Rattle.box_eval.specs.declared.rule.Rule.{Rule};
-ghost use Rattle.box_eval.specs.Record.{may_close};
+ghost use Rattle.search_laws.specs.record_trees.Record.{may_close};
 ghost use Rattle.box_eval.specs.Rules.{AllFit};
 ghost use Rattle.box_eval.specs.Verdict.{verdict_of};
 ghost use Rattle.search_laws.specs.Halves.{IsLongest};
@@ -23,7 +23,8 @@ use crate::retiring::retire;
 use crate::task::Task;
 use crate::work::Work;
 use bound_trail::Trail;
-use box_eval::{Cut, Line, Side, Verdict};
+use box_eval::{Cut, Side, Verdict};
+use search_laws::Line;
 use wake_ring::WakeRing;
 
 /// What comes of looking at some ends of slots in the turn of a rule.
@@ -64,6 +65,7 @@ pub(crate) fn wake(lists: &Lists, marks: &Marks, ring: &mut WakeRing, slot: u32)
 }
 
 /// Puts a rule into the queue if it isn't done.
+#[tactic(auto, using(crate::proofs::Wakings::woken_one))]
 fn wake_one(marks: &Marks, ring: &mut WakeRing, number: u32)
     requires ring { number < ring.old.bound }
     requires marks { marks.now.bound ≡ ring.old.bound }
@@ -71,7 +73,7 @@ fn wake_one(marks: &Marks, ring: &mut WakeRing, number: u32)
     ensures woken { IsWokenFrom (number ∷ []) marks.now.listed ring.old.items ring.new.items }
 {
     if !marks.has(number) {
-        ring.push_back(number);
+        ring.add(number);
     }
 }
 
@@ -113,6 +115,7 @@ fn narrow_to(
 {
     work.note(cut_line(cut));
     work.note(Line::Close { rule: number });
+    work.remember(cut, number);
     enter_second(trail, cut);
     work.count_cut(trail.mark());
     wake(task.lists, &work.marks, ring, cut.slot);
@@ -217,13 +220,13 @@ fn take_open_turn(
         Step::None => Turned::Over,
         Step::Cut => Turned::Cut,
         Step::Spent => {
-            ring.push_back(number);
+            ring.add(number);
             Turned::Spent
         }
     }
 }
 
-/// Takes the turn of the rule that waited in front.
+/// Takes the turn of a rule that waited.
 pub(crate) fn take_turn(
     task: &Task<'_>,
     work: &mut Work,

@@ -1,13 +1,23 @@
-ghost use Rattle.std.specs.Prelude.{◌≡◌, ◌+◌, ◌<◌, ◌≤◌, ◌^◌, ◌∷◌, [], ◌++◌, length, max, take, MatchOption};
+ghost use Rattle.std.specs.Prelude.{◌≡◌, ◌+◌, ◌<◌, ◌≤◌, ◌^◌, ◌∷◌, [], ◌++◌, length, true, max, take, MatchOption};
+ghost use Rattle.std.specs.Bool.{OnTrue, OnFalse};
+ghost use Rattle.bound_trail.specs.History.{present};
+ghost use Rattle.box_eval.specs.Box.{IsInside};
+ghost use Rattle.box_eval.specs.Rules.{IsFlat};
+ghost use Rattle.search_laws.specs.record_trees.Record.{may_add};
+ghost use Rattle.seeded_search.specs.Added.{added};
 ghost use Rattle.seeded_search.specs.Draws.{number_of};
 ghost use Rattle.seeded_search.specs.Rooms.{with_mark, decision_of};
 
 use crate::decisions::Decisions;
 use crate::draws::Draws;
 use crate::marks::Marks;
+use crate::picks::Picks;
+use crate::reasons::Reasons;
 use crate::script::Script;
-use box_eval::{Cut, Line};
-use search_laws::Decision;
+use crate::sums::Sums;
+use bound_trail::Trail;
+use box_eval::{Cut, Flat};
+use search_laws::{Decision, Line, Pick};
 
 /// What the search has done so far, beside its trail and its ring.
 #[derive(Drop)]
@@ -16,6 +26,9 @@ pub struct Work {
     pub decisions: Decisions,
     pub marks: Marks,
     pub draws: Draws,
+    pub picks: Picks,
+    pub sums: Sums,
+    pub reasons: Reasons,
     /// The number of cuts.
     pub made: u32,
     /// The greatest number of cuts above one another.
@@ -38,6 +51,41 @@ impl Work {
     {
         self.made += 1;
         self.deepest = self.deepest.max(depth);
+    }
+
+    /// Keeps which rule closes the first part of a cut.
+    pub(crate) fn remember(&mut self, cut: Cut, rule: u32)
+        ensures { self.new ≡ self.old }
+    {
+        self.reasons.remember(cut, rule);
+    }
+
+    /// Whether the sum of these rules closes the present box.
+    pub(crate) fn may_add(&mut self, flat: &Flat, trail: &Trail, picks: &[Pick]) -> bool
+        requires flat { IsFlat flat.now }
+        requires inside { IsInside (present trail.now) flat.now.bounds.pairs }
+        requires slots { self.old.sums ≡ length flat.now.bounds.pairs }
+        ensures may { result ≡ true → may_add flat.now (present trail.now) picks.now ≡ true }
+        ensures same { self.new ≡ self.old }
+    {
+        self.sums.may_add(flat, trail, picks)
+    }
+
+    /// Writes the line of a sum, if there is room for its rules. Returns whether there is.
+    pub(crate) fn add(&mut self, picks: &[Pick]) -> bool
+        requires room { length self.old.script.lines < self.old.script.room }
+        requires few { length picks.now ≤ 64 }
+        ensures added { OnTrue result (self.new ≡ added self.old picks.now) }
+        ensures few { OnTrue result (length self.old.picks.items + length picks.now ≤ self.old.picks.room) }
+        ensures same { OnFalse result (self.new ≡ self.old) }
+    {
+        if !self.picks.add(picks) {
+            return false;
+        }
+        self.note(Line::Sum {
+            count: picks.len() as u32,
+        });
+        true
     }
 
     /// Marks a rule as done, unless it is.
@@ -77,6 +125,7 @@ impl Work {
     {
         let marked = self.marks.len();
         self.decisions.push(Decision { cut, mark, marked });
+        self.reasons.decide();
     }
 
     /// Takes the newest decision whose second part is untried, if there is one.

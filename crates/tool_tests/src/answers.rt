@@ -111,12 +111,14 @@ fn sources_with_faulty_names(rt: HostRuntime) -> Result<(), Fail> {
 #[test]
 fn words_that_are_refused(rt: HostRuntime) -> Result<(), Fail> {
     let main = [("main.osc", SOURCE.as_bytes())];
-    let rows: [&[&str]; 13] = [
+    let rows: [&[&str]; 15] = [
         &[],
         &["generate", "main.osc"],
         &["generate", "-f", "top"],
         &["generate", "main.osc", "-s"],
         &["generate", "main.osc", "top", "--cuts", "0"],
+        &["generate", "main.osc", "top", "--tries", "0"],
+        &["generate", "main.osc", "top", "--tries=101"],
         &["generate", "main.osc", "top", "--tick", "9"],
         &["generate", "main.osc", "top", "--tick=1001"],
         &["flat", "main.osc", "top", "--tick=50", "--tick=50"],

@@ -58,15 +58,15 @@ settled end n l xs ring count = subst (λ ys. IsRing end l ys) (sym (read_back e
 pub unlinked_ring : (end : ℕ) (l : Links) → end < 2 ^ 32 → IsUnlinked (suc end) l → IsRing end l []
 unlinked_ring end l few alone = record {
   few = few;
-  nexts = alone.nexts;
-  prevs = alone.prevs;
+  nexts = alone.nexts.0;
+  prevs = alone.prevs.0;
   distinct = tt;
   below = tt;
-  forth = λ x le. alone.next x (omega arith) ∙ elim (cases_eq x end) [
+  forth = λ x le. alone.nexts.1 x (omega arith) ∙ elim (cases_eq x end) [
     | inl e ↦ e ∙ sym (same x end end x e)
     | inr ne ↦ sym (other x end end x ne)
   ];
-  back = λ x le. alone.prev x (omega arith) ∙ elim (cases_eq x end) [
+  back = λ x le. alone.prevs.1 x (omega arith) ∙ elim (cases_eq x end) [
     | inl e ↦ e ∙ sym (same x end end x e)
     | inr ne ↦ sym (other x end end x ne)
   ];
@@ -172,6 +172,13 @@ has_when end i l xs lt ring ne = elim (cases_Bool (is_in i xs)) [
 -- the node after `end` is the first number's, or `end` itself
 pub front_node : (end : ℕ) (l : Links) (xs : List ℕ) → IsRing end l xs → next_at l end ≡ front xs end
 front_node end l xs ring = ring.forth end (omega arith) ∙ after_first end end xs
+
+-- what stands beside a number, or beside the end, has links too
+pub prev_there : (end i : ℕ) (l : Links) (xs : List ℕ) → i ≤ end → IsRing end l xs → prev_at l i < length l.nexts
+prev_there end i l xs le ring = omega (arith, ring.nexts, ring.back i le, before_within end i end end xs (omega arith) le ring.below)
+
+pub next_there : (end i : ℕ) (l : Links) (xs : List ℕ) → i ≤ end → IsRing end l xs → next_at l i < length l.nexts
+next_there end i l xs le ring = omega (arith, ring.nexts, ring.forth i le, after_within end i end end xs (omega arith) le ring.below)
 
 -- ---- a queue's fields after a call
 -- a number below the queue's bound is below the number of the ring's end

@@ -1,6 +1,4 @@
-pub mod Addresses
+pub mod Flags
 pub mod Links
-pub mod Nodes
 pub mod Order
-pub mod Ownership
 pub mod Queue

@@ -1,4 +1,4 @@
--- How the nodes of a list of numbers are linked in a ring. The node `end` stands before the first number and after the last.
+-- How a list of numbers is linked in a ring. The number `end` stands before the first and after the last.
 use Prim.Native.Nat.{zero, suc}
 use Rattle.std.specs.Prelude.{◌≡◌, ◌≢◌, ℕ, ◌<◌, ◌≤◌, ◌^◌, ◌==◌, List, [], ◌∷◌, length, slice_index, if◌then◌else◌}
 use Rattle.wake_ring.specs.Links.{Links, next_at, prev_at}
@@ -32,7 +32,7 @@ abbrev pub walk : ℕ → ℕ → List ℕ → List ℕ
 walk zero x nexts = []
 walk (suc n) x nexts = x ∷ walk n (slice_index nexts x) nexts
 
--- the links of the nodes 0 to `end` are those of the list; a node that is not in the list is linked to itself
+-- the links of the numbers 0 to `end` are those of the list; a number that is not in the list is linked to itself
 pub record IsRing (end : ℕ) (l : Links) (items : List ℕ) : Type 0 where
   pub few : end < 2 ^ 32
   pub nexts : length l.nexts ≡ suc end
@@ -42,6 +42,6 @@ pub record IsRing (end : ℕ) (l : Links) (items : List ℕ) : Type 0 where
   pub forth : (x : ℕ) → x ≤ end → next_at l x ≡ after_in x end items end
   pub back : (x : ℕ) → x ≤ end → prev_at l x ≡ before_in x end items end
 
--- the n numbers that the links lead to from the node `end`
+-- the n numbers that the links lead to from `end`
 abbrev pub items_of : ℕ → ℕ → Links → List ℕ
 items_of end n l = walk n (next_at l end) l.nexts

@@ -1,16 +1,17 @@
-//! A queue of distinct numbers below a bound: each number has a node of its own, the nodes lie in one block of
-//! memory, and those of the numbers in the queue are linked in a ring.
+//! Distinct numbers below a bound that wait, and the order in which they are taken.
 #![tactic(auto)]
 
-mod block;
-mod memory;
+mod chain;
+mod queue;
 mod ring;
+mod sweep;
 #[cfg(test)]
 mod tests;
 
-// A contract of another crate can name the queue only if the types of its fields are exported.
+// A contract of another crate can name the ring only if the types of its fields are exported.
 #[doc(hidden)]
-pub use block::{Block, Node};
-#[doc(hidden)]
-pub use memory::{Address, FreeRight, Places};
+pub use chain::Chain;
+pub use queue::NumberQueue;
 pub use ring::WakeRing;
+#[doc(hidden)]
+pub use sweep::Sweep;

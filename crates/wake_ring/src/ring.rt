@@ -1,98 +1,147 @@
-//! The queue over the block: the node past the last number is the ring's end, and stands before the first number and
-//! after the last. A node whose number is not in the queue is linked to itself.
-ghost use Rattle.std.specs.Prelude.{◌≡◌, ◌≢◌, ℕ, ◌<◌, ◌≤◌, [], ◌∷◌, ◌++◌, not, length, All, AllPairs, IfOk, IfSome};
-ghost use Rattle.std.specs.Bool.{OnTrue, OnFalse};
-ghost use Rattle.wake_ring.specs.Queue.{is_in, without, first, rest};
+//! The numbers that wait, each with a flag, and the order in which they are taken: those below a border first in, first
+//! out, and where none of them waits, the others in sweeps. The order is a guess to the contracts, which speak of the
+//! flags: each number that is taken is looked up there.
+ghost use Rattle.std.specs.Prelude.{◌≡◌, ℕ, ◌<◌, ◌^◌, [], ◌∷◌, not, length, true, IfOk, IfSome, MatchOption};
+ghost use Rattle.std.specs.Bool.{OnFalse};
+ghost use Rattle.wake_ring.specs.Queue.{is_in, without, queue};
+ghost use Rattle.wake_ring.specs.Flags.{flag_at, flagged};
 
-use crate::block::Block;
+use crate::queue::NumberQueue;
+use crate::sweep::{Sweep, least_from};
 use std::alloc::{AllocError, Global};
 use std::marker::Model;
 
-/// A queue of distinct numbers below a bound. Each call but `new` takes constant time, and only `new` allocates.
+/// Distinct numbers below a bound that wait. No call but those that make it allocates.
 #[derive(Drop)]
 pub struct WakeRing {
-    block: Block,
-    end: u32,
-    len: u32,
+    flags: Vec<bool>,
+    count: u32,
+    queue: NumberQueue,
+    sweep: Sweep,
 }
 
 impl Model for WakeRing {
+    ghost use Rattle.std.specs.Prelude.{length};
     ghost use Rattle.wake_ring.specs.Queue.{Queue};
+    ghost use Rattle.wake_ring.specs.Flags.{flagged, IsFlagged};
 
     ghost Value = { Queue };
 
-    ghost use Rattle.wake_ring.specs.Order.{items_of, IsRing};
+    ghost view = { λ r. record { bound = length r.flags.items; items = flagged r.flags.items } };
 
-    ghost view = { λ r. record { bound = r.end; items = items_of r.end r.len r.block } };
+    ghost invariant = { λ r. IsFlagged r.flags.items r.count r.queue };
+}
 
-    ghost invariant = { λ r. IsRing r.end r.block (items_of r.end r.len r.block) };
+/// A number that is flagged: the one that was guessed, if it is.
+#[tactic(auto, using(crate::proofs::Flags::none_flagged))]
+fn flagged_one(flags: &[bool], guess: usize) -> Option<u32>
+    requires { length flags.now < 2 ^ 32 }
+    ensures { MatchOption result (flagged flags.now ≡ []) (λ k. (k < length flags.now) × (flag_at flags.now k ≡ true)) }
+{
+    if guess < flags.len() && flags[guess] {
+        return Some(guess as u32);
+    }
+    let least = least_from(flags, 0)?;
+    Some(least as u32)
+}
+
+/// The number whose turn is next.
+fn guessed(flags: &[bool], queue: &mut NumberQueue, sweep: &mut Sweep) -> usize
+    ensures { queue.new.bound ≡ queue.old.bound }
+{
+    match queue.pop_front() {
+        Some(number) => number as usize,
+        None => sweep.next(flags),
+    }
+}
+
+/// Puts a number last in the queue if it is below the border.
+fn queue_below(queue: &mut NumberQueue, number: u32, border: usize)
+    requires { number < queue.old.bound }
+    ensures { queue.new.bound ≡ queue.old.bound }
+{
+    if (number as usize) < border {
+        queue.push_back(number);
+    }
 }
 
 impl WakeRing {
-    /// An empty queue for the numbers below `n`. Out of memory is its only error.
+    /// An empty ring for the numbers below `n`, all of which are taken first in, first out. Out of memory is its only
+    /// error.
     pub fn new(alloc: Global, n: u32) -> Result<WakeRing, AllocError>
-        ensures { IfOk result (λ r. r ≡ record { bound = n; items = [] }) }
+        ensures { IfOk result (λ r. r ≡ queue n []) }
     {
-        let block = Block::new(alloc, n as usize + 1)?;
+        WakeRing::swept(alloc, n, n)
+    }
+
+    /// An empty ring for the numbers below `n`. Those from `first` on are taken in sweeps, where no other waits. Out of
+    /// memory is its only error.
+    #[tactic(auto, using(crate::proofs::Flags::fresh))]
+    pub fn swept(alloc: Global, n: u32, first: u32) -> Result<WakeRing, AllocError>
+        ensures { IfOk result (λ r. r ≡ queue n []) }
+    {
+        let flags = vec![in alloc; false; n as usize]?;
+        let queue = NumberQueue::new(alloc, n)?;
         Ok(WakeRing {
-            block,
-            end: n,
-            len: 0,
+            flags,
+            count: 0,
+            queue,
+            sweep: Sweep::new(first as usize),
         })
     }
 
-    /// How many numbers are in the queue. They are distinct and below the bound, so they are at most that many.
-    pub fn len(&self) -> u32
-        ensures len { result ≡ length self.now.items }
-        ensures fits { result ≤ self.now.bound }
-        ensures distinct { AllPairs (λ x y. x ≢ y) self.now.items }
-        ensures below { All (λ x. x < self.now.bound) self.now.items }
-    {
-        self.len
-    }
-
-    /// Puts `i`, which is below the bound, last. If `i` is in the queue already, it changes nothing and returns false.
-    pub fn push_back(&mut self, i: u32) -> bool
+    /// Lets `i`, which is below the bound, wait. If it waits already, this changes nothing and returns false.
+    #[tactic(auto, using(crate::proofs::Flags::in_flagged, crate::proofs::Flags::in_more, crate::proofs::Flags::one_more, crate::proofs::Flags::few_flagged))]
+    pub fn add(&mut self, i: u32) -> bool
         requires { i < self.old.bound }
         ensures there { result ≡ not (is_in i self.old.items) }
-        ensures added { OnTrue result (self.new ≡ record { bound = self.old.bound; items = self.old.items ++ i ∷ [] }) }
+        ensures bound { self.new.bound ≡ self.old.bound }
+        ensures added { (k : ℕ) → is_in k self.new.items ≡ is_in k (i ∷ self.old.items) }
         ensures same { OnFalse result (self.new ≡ self.old) }
     {
-        if self.block.next(i) != i {
+        if self.flags[i as usize] {
             return false;
         }
-        self.block.link_before(self.end, i);
-        self.len += 1;
+        queue_below(&mut self.queue, i, self.sweep.first);
+        self.flags[i as usize] = true;
+        self.count += 1;
         true
     }
 
-    /// Takes the first number. `None` exactly when the queue is empty.
-    pub fn pop_front(&mut self) -> Option<u32>
-        ensures first { result ≡ first self.old.items }
+    /// Takes a number that waits. `None` exactly when none does, and then the sweep begins anew.
+    #[tactic(auto, using(crate::proofs::Flags::in_flagged, crate::proofs::Flags::none_counted, crate::proofs::Flags::without_flag, crate::proofs::Flags::one_less))]
+    pub fn take(&mut self) -> Option<u32>
+        ensures there { MatchOption result (self.old.items ≡ []) (λ i. is_in i self.old.items ≡ true) }
         ensures below { IfSome result (λ i. i < self.old.bound) }
-        ensures rest { self.new ≡ record { bound = self.old.bound; items = rest self.old.items } }
+        ensures taken { MatchOption result (self.new ≡ self.old)
+            (λ i. self.new ≡ queue self.old.bound (without i self.old.items)) }
+        ensures fewer { IfSome result (λ i. length self.new.items < length self.old.items) }
     {
-        let i = self.block.next(self.end);
-        if i == self.end {
+        if self.count == 0 {
+            self.sweep = Sweep::new(self.sweep.first);
             return None;
         }
-        self.block.unlink(i);
-        self.len -= 1;
+        let guess = guessed(&self.flags, &mut self.queue, &mut self.sweep);
+        let i = flagged_one(&self.flags, guess)?;
+        self.flags[i as usize] = false;
+        self.count -= 1;
         Some(i)
     }
 
-    /// Takes `i`, which is below the bound, out of the queue. If it isn't there, this changes nothing and returns false.
+    /// Takes `i`, which is below the bound. If it doesn't wait, this changes nothing and returns false.
+    #[tactic(auto, using(crate::proofs::Flags::in_flagged, crate::proofs::Flags::without_flag, crate::proofs::Flags::one_less))]
     pub fn remove(&mut self, i: u32) -> bool
         requires { i < self.old.bound }
         ensures there { result ≡ is_in i self.old.items }
-        ensures removed { self.new ≡ record { bound = self.old.bound; items = without i self.old.items } }
+        ensures removed { self.new ≡ queue self.old.bound (without i self.old.items) }
         ensures same { OnFalse result (self.new ≡ self.old) }
     {
-        if self.block.next(i) == i {
+        if !self.flags[i as usize] {
             return false;
         }
-        self.block.unlink(i);
-        self.len -= 1;
+        self.queue.remove(i);
+        self.flags[i as usize] = false;
+        self.count -= 1;
         true
     }
 }

@@ -8,4 +8,5 @@ pub returns : goal.returns
 unfolding generate
 returns c =
     let with_seed = c.in_ok-with_seed.ensures.shape c.number.ensures.local ∙ ap₂ with_rule c.in_ok-with_setting.ensures c.number.ensures.rule in
-    IfOk-weaker c.arg-2.result _ _ (λ r added. added.shape c.number-2.ensures.local ∙ ap₂ with_rule with_seed c.number-2.ensures.rule) c.arg-2.ensures
+    let with_cuts = c.in_ok-with_cuts.ensures.shape c.number-2.ensures.local ∙ ap₂ with_rule with_seed c.number-2.ensures.rule in
+    IfOk-weaker c.arg-3.result _ _ (λ r added. added.shape c.number-3.ensures.local ∙ ap₂ with_rule with_cuts c.number-3.ensures.rule) c.arg-3.ensures

@@ -42,6 +42,11 @@ returns-in-check-clause-request c =
     let words = words_are c.args.words.now c.in-Some.rest.now c.in-Some.first.now c.as_str.result.now c.in-Some.ensures.cases.0 c.as_str.ensures.value in
     picked c.args.words.now c.in-Some.rest.now c.as_str.result.now command.Check words c.in-check.is c.read_command-in-check.result c.read_command-in-check.ensures.request
 
+pub returns-in-export-clause-request : goal.returns-in-export-clause-request
+returns-in-export-clause-request c =
+    let words = words_are c.args.words.now c.in-Some.rest.now c.in-Some.first.now c.as_str.result.now c.in-Some.ensures.cases.0 c.as_str.ensures.value in
+    picked c.args.words.now c.in-Some.rest.now c.as_str.result.now command.Export words c.in-export.is c.read_command-in-export.result c.read_command-in-export.ensures.request
+
 pub returns-in-verify-clause-request : goal.returns-in-verify-clause-request
 returns-in-verify-clause-request c =
     let words = words_are c.args.words.now c.in-Some.rest.now c.in-Some.first.now c.as_str.result.now c.in-Some.ensures.cases.0 c.as_str.ensures.value in
@@ -71,7 +76,7 @@ pub returns-in_default-as_str-clause-request : goal.returns-in_default-as_str-cl
 returns-in_default-as_str-clause-request c =
     let words = words_are c.args.words.now c.in-Some.rest.now c.in-Some.first.now c.as_str.result.now c.in-Some.ensures.cases.0 c.as_str.ensures.value in
     let other = c.in_default-as_str in
-    sym (unknown_word c.as_str.result.now (map string_bytes c.in-Some.rest.now) other.not-help other.not-text other.not-text-2 other.not-text-3 other.not-text-4 other.not-generate other.not-check other.not-verify other.not-flat other.not-make other.not-migrate other.not-explain)
+    sym (unknown_word c.as_str.result.now (map string_bytes c.in-Some.rest.now) other.not-help other.not-text other.not-text-2 other.not-text-3 other.not-text-4 other.not-generate other.not-check other.not-export other.not-verify other.not-flat other.not-make other.not-migrate other.not-explain)
     ∙ ap request words
 
 pub returns-in-text-2-clause-request : goal.returns-in-text-2-clause-request

@@ -1,50 +1,38 @@
-use Rattle.std.proofs.Common.{◌≤◌, ◌∙◌, ap, length, List, arith}
-use Rattle.box_eval.specs.declared.record.Line.{Line}
-use Rattle.record_text.proofs.Writing.{value_short, same_item, line_written, part_put, end_written, all_short, exit_part, last_whole, last_part, on_ok}
-use Rattle.record_text.proofs.Texts.{own_text}
+use Rattle.std.proofs.Common.{◌∙◌, refl, rules}
+use Rattle.record_text.proofs.Writing.{end_written, end_fails, exit_part, last_part, on_ok}
+use Rattle.record_text.proofs.Recording.{record_begun, line_kept, line_stops, may_write, has_own}
 use Rattle.record_text.proofs.write.write_record.Goals as goal
 
-pub put-requires : goal.put-requires
-put-requires g c = c.line_of.ensures.short (value_short c.args.claim.now.lines c.loop-line.line-index _ c.requires
-    (omega (arith, c.loop-line-test.true, ap (λ (ls : List Line). length ls) c.loop-line.invariant.items))
-    (same_item c.as_slice-line-items.result.now c.args.claim.now.lines c.loop-line.line-index _ c.loop-line.invariant.items c.loop-line-test.true))
-
-pub returns-in_err-put-clause-part : goal.returns-in_err-put-clause-part
-returns-in_err-put-clause-part g c = exit_part c.from_residual.result _ _ _ (part_put c.args.claim.now c.loop-line.line-index _ _ _ _ c.loop-line.invariant.written c.in_err-put.ensures.part)
-
-pub loop-line-preserved : goal.loop-line-preserved
-loop-line-preserved g c = record {
-  items = c.loop-line.invariant.items;
-  written = line_written c.args.claim.now c.loop-line.line-index _ c.line_of.result _ _ _ _ _
-      (omega (arith, c.loop-line-test.true, ap (λ (ls : List Line). length ls) c.loop-line.invariant.items))
-      (same_item c.as_slice-line-items.result.now c.args.claim.now.lines c.loop-line.line-index _ c.loop-line.invariant.items c.loop-line-test.true)
-      c.line_of.ensures.line c.loop-line.invariant.written
-      (c.line_of.ensures.short (value_short c.args.claim.now.lines c.loop-line.line-index _ c.requires
-      (omega (arith, c.loop-line-test.true, ap (λ (ls : List Line). length ls) c.loop-line.invariant.items))
-      (same_item c.as_slice-line-items.result.now c.args.claim.now.lines c.loop-line.line-index _ c.loop-line.invariant.items c.loop-line-test.true))) c.in_ok-put.ensures.puts;
-  counted = c.in_ok-put.ensures.steady ∙ c.loop-line.invariant.counted;
-  telling = c.in_ok-put.ensures.telling_kept ∙ c.loop-line.invariant.telling;
+pub loop-lines-init : goal.loop-lines-init
+loop-lines-init g c = record {
+  left = record_begun c.args.claim.now _ _ _ _ c.as_slice-lines.ensures c.as_slice-picks.ensures c.spell_header.ensures.items c.spell_header.ensures.short c.requires.values c.requires.sums;
+  counted = refl;
+  telling = refl;
 }
 
-pub returns-in_err-put-2-clause-part : goal.returns-in_err-put-2-clause-part
-returns-in_err-put-2-clause-part g c = exit_part c.from_residual-in_err-put-2.result _ _ _ (part_put c.args.claim.now c.loop-line.line-index _ _ _ _ c.loop-line.invariant.written c.in_err-put-2.ensures.part)
+pub returns-in_err-put_line-clause-part : goal.returns-in_err-put_line-clause-part
+returns-in_err-put_line-clause-part g c = exit_part c.from_residual.result _ _ _ (line_stops c.args.claim.now c.loop-lines.lines.now _ c.loop-lines.picks.now _ _ _ c.loop-lines.invariant.left
+    c.in-len1-up.len_at_least c.taken-count.result c.taken-count.ensures _ _ c.in_err-put_line.ensures.part (search rules))
 
-pub returns-clause-whole : goal.returns-clause-whole
-returns-clause-whole g c =
-    let all : length c.args.claim.now.lines ≤ c.loop-line.line-index = omega (arith, c.loop-line-test.false, ap (λ (ls : List Line). length ls) c.loop-line.invariant.items) in
-    last_whole c.args.claim.now c.write_all.result _ _ _ _ _ (end_written c.args.claim.now c.loop-line.line-index _ _ _ _ _ all c.loop-line.invariant.written c.in_ok-put-2.ensures.puts) c.as_slice.ensures.value c.write_all.ensures.whole
+pub loop-lines-preserved : goal.loop-lines-preserved
+loop-lines-preserved g c = record {
+  left = line_kept c.args.claim.now c.loop-lines.lines.now _ c.loop-lines.picks.now _ _ _ c.loop-lines.invariant.left c.in-len1-up.len_at_least c.taken-count.result c.taken-count.ensures _ _ _
+      c.in_ok-put_line.ensures.short c.in_ok-put_line.ensures.puts (search rules);
+  counted = c.in_ok-put_line.ensures.steady ∙ c.loop-lines.invariant.counted;
+  telling = c.in_ok-put_line.ensures.telling_kept ∙ c.loop-lines.invariant.telling;
+}
 
-pub returns-clause-short : goal.returns-clause-short
-returns-clause-short g c =
-    let all : length c.args.claim.now.lines ≤ c.loop-line.line-index = omega (arith, c.loop-line-test.false, ap (λ (ls : List Line). length ls) c.loop-line.invariant.items) in
-    on_ok c.write_all.result _ (all_short c.args.claim.now c.loop-line.line-index _ _ _ all c.loop-line.invariant.written)
+pub returns-in_err-put-clause-part : goal.returns-in_err-put-clause-part
+returns-in_err-put-clause-part g c = exit_part c.from_residual-in_err-put.result _ _ _
+    (end_fails c.args.claim.now c.loop-lines.lines.now c.loop-lines.picks.now _ _ _ c.loop-lines.invariant.left c.in_default.len_below _ c.in_err-put.ensures.part)
+
+pub returns-clause-writable : goal.returns-clause-writable
+returns-clause-writable g c = on_ok c.write_all.result _ (may_write c.args.claim.now c.loop-lines.lines.now c.loop-lines.picks.now _ _ _ c.loop-lines.invariant.left c.in_default.len_below c.requires.sums)
 
 pub returns-clause-own : goal.returns-clause-own
-returns-clause-own g c =
-    let all : length c.args.claim.now.lines ≤ c.loop-line.line-index = omega (arith, c.loop-line-test.false, ap (λ (ls : List Line). length ls) c.loop-line.invariant.items) in
-    on_ok c.write_all.result _ (own_text c.args.claim.now (all_short c.args.claim.now c.loop-line.line-index _ _ _ all c.loop-line.invariant.written))
+returns-clause-own g c = on_ok c.write_all.result _ (has_own c.args.claim.now c.loop-lines.lines.now c.loop-lines.picks.now _ _ _ c.loop-lines.invariant.left c.in_default.len_below c.requires.sums)
 
 pub returns-clause-part : goal.returns-clause-part
-returns-clause-part g c =
-    let all : length c.args.claim.now.lines ≤ c.loop-line.line-index = omega (arith, c.loop-line-test.false, ap (λ (ls : List Line). length ls) c.loop-line.invariant.items) in
-    last_part c.args.claim.now c.write_all.result _ _ _ _ _ (end_written c.args.claim.now c.loop-line.line-index _ _ _ _ _ all c.loop-line.invariant.written c.in_ok-put-2.ensures.puts) c.as_slice.ensures.value c.write_all.ensures.part
+returns-clause-part g c = last_part c.args.claim.now c.write_all.result _ _ _ _ _
+    (end_written c.args.claim.now c.loop-lines.lines.now c.loop-lines.picks.now _ _ _ c.loop-lines.invariant.left c.in_default.len_below _ _ c.in_ok-put.ensures.puts)
+    c.as_slice.ensures.value c.write_all.ensures.part

@@ -6,9 +6,10 @@ use Rattle.refute_check.proofs.walk.walk.Goals as goal
 
 pub loop-nodes-init : goal.loop-nodes-init
 loop-nodes-init g c = record {
-  walking = walk_starts c.args.flat.now c.args.trail.now.room c.args.nodes.now.undecided c.args.nodes.now c.args.reader.now _ c.args.trail.now c.args.stack.now c.requires.few c.requires.nodes
+  walking = walk_starts c.args.flat.now c.args.trail.now.room c.args.nodes.now.undecided c.args.nodes.now.form c.args.nodes.now c.args.reader.now _ c.args.trail.now c.args.stack.now c.requires.few c.requires.nodes
       c.requires.trail c.requires.stack;
   shelf = reads_nothing _ _ _;
+  sums = c.requires.sums;
 }
 
 pub returns-in_err-line-clause-stop : goal.returns-in_err-line-clause-stop
@@ -25,6 +26,7 @@ loop-nodes-preserved g c = record {
       c.loop-nodes.invariant.walking c.loop-nodes-test.true c.in_ok-line.ensures.line (sym c.if-not-step.false ∙ c.step.ensures.accepts)
       (c.step.ensures.trail c.if-not-step.false) (c.step.ensures.stack c.if-not-step.false);
   shelf = reads_then _ _ _ _ _ _ _ _ _ _ c.loop-nodes.invariant.shelf c.in_ok-line.ensures.shelf;
+  sums = c.step.ensures.sums;
 }
 
 pub returns-clause-walked : goal.returns-clause-walked

@@ -1,8 +1,8 @@
 use Rattle.std.proofs.Common.{◌∙◌, sym, ap}
 use Rattle.fault_texts.specs.Explained.{explanation, topic_list}
 use Rattle.run_answers.specs.command_replies.Replies.{done}
-use Rattle.command_words.specs.Seen.{asked_by, checked_by, flattened_by, made_by, migrated_by, seen, verified_by}
-use Rattle.command_words.specs.Words.{IsGenerateInRanges, IsMakeInRange, Wanted}
+use Rattle.command_words.specs.Seen.{asked_by, checked_by, exported_by, flattened_by, made_by, migrated_by, seen, verified_by}
+use Rattle.command_words.specs.Words.{IsExportInRanges, IsGenerateInRanges, IsMakeInRange, Wanted}
 use Rattle.scenario_tool.proofs.CallEnds.{help_reply, made_reply, same_reply, words_reply}
 use Rattle.scenario_tool.proofs.top.reply_to.Goals as goal
 
@@ -29,6 +29,15 @@ pub returns-in-Check-clause-reply : goal.returns-in-Check-clause-reply
 returns-in-Check-clause-reply g c = same_reply (g.H.Shelf.files c.args.shelf.now) (Wanted.Check (checked_by c.in-Check.asked)) _ _ _ c.reply_to_check.result
     (sym (ap seen c.in-Check.is) ∙ c.in_ok-text.ensures.request) c.reply_to_check.ensures.reply
 
+pub reply_to_export-requires : goal.reply_to_export-requires
+reply_to_export-requires g c =
+    let its : IsExportInRanges (exported_by c.in-Export.asked) = rw c.in-Export.is at c.in_ok-text.ensures.ranges in
+    record { ranges = its.setting_ranges }
+
+pub returns-in-Export-clause-reply : goal.returns-in-Export-clause-reply
+returns-in-Export-clause-reply g c = same_reply (g.H.Shelf.files c.args.shelf.now) (Wanted.Export (exported_by c.in-Export.asked)) _ _ _ c.reply_to_export.result
+    (sym (ap seen c.in-Export.is) ∙ c.in_ok-text.ensures.request) c.reply_to_export.ensures.reply
+
 pub returns-in-Refused-clause-reply : goal.returns-in-Refused-clause-reply
 returns-in-Refused-clause-reply g c = words_reply (g.H.Shelf.files c.args.shelf.now) _ _ c.words_refused.result
     (sym (ap seen c.in-Refused.is) ∙ c.in_ok-text.ensures.request) c.words_refused.ensures
@@ -54,7 +63,7 @@ returns-in-Migrate-clause-reply g c = same_reply (g.H.Shelf.files c.args.shelf.n
 pub reply_to_generate-requires : goal.reply_to_generate-requires
 reply_to_generate-requires g c =
     let its : IsGenerateInRanges (asked_by c.in-Generate.asked) = rw c.in-Generate.is at c.in_ok-text.ensures.ranges in
-    record { ranges = its.setting_ranges; cuts = its.cuts_range.1 }
+    record { ranges = its.setting_ranges; cuts = its.cuts_range.1; tries = its.tries_range.0 }
 
 pub reply_to_make-requires : goal.reply_to_make-requires
 reply_to_make-requires g c =

@@ -1,8 +1,9 @@
-use Rattle.seeded_search.proofs.Decidings.{is_left, is_refuted}
+use Rattle.std.proofs.Common.{subst, sym}
+use Rattle.seeded_search.specs.declared.work.Work.{Work}
+use Rattle.seeded_search.specs.Runs.{IsShut}
+use Rattle.seeded_search.proofs.Decidings.{shut_by_rule}
 use Rattle.seeded_search.proofs.course.close.Goals as goal
 
-pub go_back-requires : goal.go_back-requires
-go_back-requires c = is_left c.args.task.now c.args.work.now c.args.trail.now c.args.ring.now c.args.number _ c.requires.runs c.requires.closes c.note.new.self c.take_decision.new.self c.in-Some.decision c.note.ensures c.in-Some.ensures
-
-pub returns-in-None : goal.returns-in-None
-returns-in-None c = is_refuted c.args.task.now c.args.work.now c.args.trail.now c.args.ring.now c.args.number _ c.requires.runs c.requires.closes c.note.new.self c.take_decision.new.self c.undo_to.new.self c.note.ensures c.in-None.ensures.0 c.in-None.ensures.1 c.undo_to.ensures
+pub leave-requires : goal.leave-requires
+leave-requires c = subst (λ (v : Work). IsShut c.args.task.now v c.args.trail.now c.args.ring.now) (sym c.note.ensures)
+    (shut_by_rule c.args.task.now c.args.work.now c.args.trail.now c.args.ring.now _ c.requires.runs c.args.number c.requires.closes)

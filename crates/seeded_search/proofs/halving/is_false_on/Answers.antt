@@ -1,6 +1,6 @@
 use Rattle.std.proofs.Common.{◌∙◌, ap}
 use Rattle.bound_trail.specs.History.{present}
-use Rattle.box_eval.specs.Record.{is_false}
+use Rattle.search_laws.specs.record_trees.Record.{is_false}
 use Rattle.seeded_search.proofs.Probes.{can_judge_pair, part_verdict}
 use Rattle.seeded_search.proofs.halving.is_false_on.Goals as goal
 

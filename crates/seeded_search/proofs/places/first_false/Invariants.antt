@@ -1,5 +1,5 @@
 use Rattle.std.proofs.Common.{◌≡◌, ℕ, ◌<◌, false}
-use Rattle.box_eval.specs.Record.{may_close}
+use Rattle.search_laws.specs.record_trees.Record.{may_close}
 use Rattle.bound_trail.specs.History.{present}
 use Rattle.seeded_search.proofs.places.first_false.Given as goal
 

@@ -1,15 +1,7 @@
-use Rattle.std.proofs.Common.{◌+◌, ap, arith, length}
-use Rattle.seeded_search.proofs.Searches.{started, point_answer, undecided_answer}
+use Rattle.seeded_search.proofs.Searches.{some_picks, faced_answer}
 use Rattle.seeded_search.proofs.searching.search.Goals as goal
 
-pub go-requires : goal.go-requires
-go-requires c = started _ c.args.desk.script c.args.desk.decisions c.args.desk.marks c.new.result c.args.trail.now c.args.ring.now c.fill.new.ring c.requires.flat c.requires.desk.listed c.requires.cuts
-    c.requires.desk.script c.requires.desk.decisions c.requires.desk.marks c.new.ensures c.requires.trail c.requires.ring c.fill.ensures.bound
-    (λ k less. c.fill.ensures.all k (omega (arith, less, ap length c.as_slice.ensures)))
-
-pub returns-in-Point-clause-point : goal.returns-in-Point-clause-point
-returns-in-Point-clause-point c = point_answer _ c.go.new.work c.go.new.trail c.go.new.ring c.in-Point.ensures.0 c.point_of.result.values c.point_of.ensures c.in-Point.ensures.1 c.in-Point.ensures.2
-
-pub returns-clause-undecided : goal.returns-clause-undecided
-returns-clause-undecided c = undecided_answer _ c.go.new.work c.go.new.trail c.go.new.ring c.in-Undecided.ensures.0 (1 + c.len-open.result) c.push_unknowns.new.self c.record-in-Undecided.result (ap (λ n. 1 + n) c.len-open.ensures) c.push_unknowns.ensures c.record-in-Undecided.ensures
-    c.in-Undecided.ensures.1 c.in-Undecided.ensures.2 c.in-Undecided.ensures.3
+pub returns-then-not-is_empty-clause-refuted : goal.returns-then-not-is_empty-clause-refuted
+returns-then-not-is_empty-clause-refuted c =
+    faced_answer _ c.args.cuts c.args.flat.now c.args.desk.sum c.summed.result c.args.trail.now c.requires.desk.faced
+    (some_picks c.as_slice.result.now c.args.desk.sum c.is_empty.result c.is_empty.ensures c.if-not-is_empty.true c.as_slice.ensures) c.summed.ensures c.requires.trail

@@ -12,4 +12,4 @@ pub returns-in-Cut : goal.returns-in-Cut
 returns-in-Cut c = cut_turn c.args.task.now c.args.number c.args.work.now c.args.trail.now c.args.ring.now _ _ _ c.in-Cut.ensures
 
 pub returns-in-Spent : goal.returns-in-Spent
-returns-in-Spent c = spent_turn c.args.task.now c.args.number c.args.work.now c.args.trail.now c.args.ring.now _ _ c.sweep.new.ring _ c.push_back.result c.in-Spent.ensures c.push_back.ensures.there c.push_back.ensures.added c.push_back.ensures.same
+returns-in-Spent c = spent_turn c.args.task.now c.args.number c.args.work.now c.args.trail.now c.args.ring.now _ _ c.sweep.new.ring _ c.in-Spent.ensures c.add.ensures.bound c.add.ensures.added

@@ -1,5 +1,5 @@
 use Rattle.std.proofs.Common.{sym, ◌∙◌, ap, Err}
-use Rattle.record_text.proofs.Wanting.{line_given, source_stops, refuses_none, too_long_at, too_long_first}
+use Rattle.record_text.proofs.Wanting.{ended_if, line_given, source_stops, refuses_none, too_long_at, too_long_first}
 use Rattle.record_text.proofs.reader.Reader.expect.Goals as goal
 
 pub returns-in_err-found-clause-stop : goal.returns-in_err-found-clause-stop
@@ -18,3 +18,6 @@ pub returns-clause-stop : goal.returns-clause-stop
 returns-clause-stop g c =
     refuses_none c.args.wanted c.in_ok-found.found c.args.self.now _ _ _ _ _ _ _ c.bad_line.result c.in_ok-found.ensures.finds (sym c.wanted_line.ensures ∙ c.in_default.is) (sym c.self.view_is)
     c.in_ok-found.ensures.further.few c.in_ok-read_on.ensures.within c.in_ok-read_on.ensures.end c.bad_line.ensures
+
+pub read_on-requires-clause-end : goal.read_on-requires-clause-end
+read_on-requires-clause-end g c = ended_if c.in_ok-found.found c.is_nothing-ended.result _ _ c.in_ok-found.ensures.finds.at_end c.is_nothing-ended.ensures

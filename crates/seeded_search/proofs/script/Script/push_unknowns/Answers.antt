@@ -1,6 +1,6 @@
 use Rattle.std.proofs.Common.{◌∙◌, ap, List, [], ◌∷◌, ◌++◌, length, arith, length-append}
-use Rattle.box_eval.specs.declared.record.Line.{Line}
-use Rattle.box_eval.specs.declared.record.Line.TheVariants as L
+use Rattle.search_laws.specs.record_trees.declared.record.Line.{Line}
+use Rattle.search_laws.specs.record_trees.declared.record.Line.TheVariants as L
 use Rattle.search_laws.specs.Answers.{unknown_lines}
 use Rattle.seeded_search.specs.Rooms.{Page}
 use Rattle.seeded_search.proofs.UnknownLines.{length_unknown, unknown_more}

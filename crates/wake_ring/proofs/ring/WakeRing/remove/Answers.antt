@@ -1,45 +1,28 @@
-use Rattle.std.proofs.Common.{◌-◌, sym, ap, ◌∙◌}
-use Rattle.wake_ring.specs.Order.{items_of}
-use Rattle.wake_ring.specs.Queue.{Queue, is_in, without, queue}
-use Rattle.wake_ring.proofs.Members.{lacks_from}
-use Rattle.wake_ring.proofs.Order.{without_absent}
-use Rattle.wake_ring.proofs.Rings.{in_bound, has_when, lacks_when, removed_stands, ring_of, queue_is}
+use Rattle.std.proofs.Common.{rules, ◌≡◌, false, ap, arith}
+use Rattle.wake_ring.specs.Queue.{Queue}
+use Rattle.wake_ring.specs.Flags.{flag_at}
+use Rattle.wake_ring.proofs.Flags.{has_flag, is_flagged, one_less, fewer_wait, left_out, as_before}
 use Rattle.wake_ring.proofs.ring.WakeRing.remove.Goals as goal
 
-pub returns-then-next-i-clause-there : goal.returns-then-next-i-clause-there
-returns-then-next-i-clause-there c =
+pub returns-then-not-index-clause-removed : goal.returns-then-not-index-clause-removed
+returns-then-not-index-clause-removed c =
     let r = c.self.inside in let i = c.args.i in
-    let lt = in_bound c.args.self.now r.end r.len i r.block c.self.view_is c.requires in
-    let gone = lacks_when r.end i r.block (items_of r.end r.len r.block) lt c.self.invariant (sym c.next.ensures ∙ c.if-next-i.true) in
-    sym (ap (λ (q : Queue). is_in i q.items) (sym c.self.view_is) ∙ gone)
+    let out : flag_at r.flags.items i ≡ false = search rules in
+    as_before c.args.self.now r.flags.items i c.self.view_is out
 
-pub returns-then-next-i-clause-removed : goal.returns-then-next-i-clause-removed
-returns-then-next-i-clause-removed c =
+pub overflow_sub-self : goal.overflow_sub-self
+overflow_sub-self c =
     let r = c.self.inside in let i = c.args.i in
-    let lt = in_bound c.args.self.now r.end r.len i r.block c.self.view_is c.requires in
-    let xs = items_of r.end r.len r.block in
-    let gone = lacks_when r.end i r.block xs lt c.self.invariant (sym c.next.ensures ∙ c.if-next-i.true) in
-    sym c.self.view_is ∙ ap (λ l. queue r.end l) (sym (without_absent i xs (lacks_from i xs gone)))
-    ∙ ap (λ (q : Queue). queue q.bound (without i q.items)) c.self.view_is
+    let less = has_flag c.args.self.now r.flags.items i c.self.view_is c.requires in
+    let here = is_flagged r.flags.items i c.index.result.now less c.index.ensures c.if-not-index.false in
+    omega (arith, c.self.invariant.count, one_less r.flags.items i here)
 
 pub invariant_of-self : goal.invariant_of-self
 invariant_of-self c =
     let r = c.self.inside in let i = c.args.i in
-    let lt = in_bound c.args.self.now r.end r.len i r.block c.self.view_is c.requires in
-    ring_of r.end (r.len - 1) c.unlink.new.self (without i (items_of r.end r.len r.block))
-    (removed_stands r.end i r.len r.block c.unlink.new.self lt c.self.invariant (λ e. c.if-next-i.false (c.next.ensures ∙ e)) c.unlink.ensures)
-
-pub returns-clause-there : goal.returns-clause-there
-returns-clause-there c =
-    let r = c.self.inside in let i = c.args.i in
-    let lt = in_bound c.args.self.now r.end r.len i r.block c.self.view_is c.requires in
-    let here = has_when r.end i r.block (items_of r.end r.len r.block) lt c.self.invariant (λ e. c.if-next-i.false (c.next.ensures ∙ e)) in
-    sym (ap (λ (q : Queue). is_in i q.items) (sym c.self.view_is) ∙ here)
+    let less = has_flag c.args.self.now r.flags.items i c.self.view_is c.requires in
+    let here = is_flagged r.flags.items i c.index.result.now less c.index.ensures c.if-not-index.false in
+    fewer_wait r.flags.items r.count i r.queue c.remove.new.self c.self.invariant here (ap (λ (q : Queue). q.bound) c.remove.ensures.removed)
 
 pub returns-clause-removed : goal.returns-clause-removed
-returns-clause-removed c =
-    let r = c.self.inside in let i = c.args.i in
-    let lt = in_bound c.args.self.now r.end r.len i r.block c.self.view_is c.requires in
-    queue_is r.end (r.len - 1) c.unlink.new.self (without i (items_of r.end r.len r.block))
-    (removed_stands r.end i r.len r.block c.unlink.new.self lt c.self.invariant (λ e. c.if-next-i.false (c.next.ensures ∙ e)) c.unlink.ensures)
-    ∙ ap (λ (q : Queue). queue q.bound (without i q.items)) c.self.view_is
+returns-clause-removed c = left_out c.args.self.now c.self.inside.flags.items c.args.i c.self.view_is

@@ -1,0 +1,17 @@
+pub mod Cancelling
+pub mod Dots
+pub mod Empty
+pub mod FacingTests
+pub mod Found
+pub mod Gathering
+pub mod Listing
+pub mod Pairing
+pub mod PickSteps
+pub mod Products
+pub mod Searching
+pub mod Sizes
+pub mod SumRows
+pub mod Taking
+pub mod TermParts
+pub mod Verdicts
+pub mod Weights

@@ -1,0 +1,6 @@
+use Rattle.std.proofs.Common.{drop}
+use Rattle.linear_sums.proofs.PickSteps.{Weighs}
+use Rattle.linear_sums.proofs.summing.weight_of_picks.Given as goal
+
+abbrev pub invariant-loop-pick : goal.invariant-loop-pick
+invariant-loop-pick l = Weighs l.flat l.total l.picks (drop l.pick-index l.picks)

@@ -1,0 +1,3 @@
+pub mod Guided
+pub mod Record
+pub mod Trees

@@ -1,0 +1,12 @@
+pub mod Written
+pub mod Padding
+pub mod Cuts
+pub mod PlainTexts
+pub mod NumbersBack
+pub mod CsvBack
+pub mod Attributes
+pub mod Across
+pub mod XoscBack
+pub mod XodrBack
+pub mod PageBack
+pub mod Marked

@@ -1,0 +1,17 @@
+pub mod Decimals
+pub mod Timed
+pub mod CsvText
+pub mod World
+pub mod XoscParts
+pub mod XoscText
+pub mod XodrParts
+pub mod XodrText
+pub mod PageText
+pub mod FormText
+pub mod Plain
+pub mod Reading
+pub mod CsvReader
+pub mod XoscReader
+pub mod XodrReader
+pub mod PageReader
+pub mod RoundTrips

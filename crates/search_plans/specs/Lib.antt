@@ -1,0 +1,4 @@
+pub mod Drawn
+pub mod Plans
+pub mod Steps
+pub mod Wishes

@@ -1,0 +1,4 @@
+pub mod Seen
+pub mod Items
+pub mod Keys
+pub mod Sound

@@ -1,0 +1,2 @@
+pub mod Halvings
+pub mod Joins

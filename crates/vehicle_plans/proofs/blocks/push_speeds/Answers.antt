@@ -1,0 +1,6 @@
+use Rattle.std.proofs.lemmas.Result.{on_ok_weaker}
+use Rattle.vehicle_plans.proofs.Joins as Joins
+use Rattle.vehicle_plans.proofs.blocks.push_speeds.Goals as goal
+
+pub returns : goal.returns
+returns c = on_ok_weaker c.push_between.result (Joins.joined _ _ _ _ _ c.in_ok-push_ends.ensures) c.push_between.ensures

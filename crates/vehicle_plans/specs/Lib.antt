@@ -1,0 +1,3 @@
+pub mod Grids
+pub mod Means
+pub mod VehiclePlan
