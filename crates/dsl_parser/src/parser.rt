@@ -3,6 +3,7 @@ ghost use Rattle.dsl_cursor.specs.Words.{IfOk, IfErr, Part, PartFault, Ended, []
 ghost use Rattle.dsl_parser.specs.Words.{FileTree, file_tree, Spelled, FirstFault, fault_code, OnStop, HasViableFront, HasDeadToken, file as file_forest};
 
 use crate::declarations::declarations;
+use crate::modifiers::modifiers;
 use dsl_cursor::{Cursor, Stop};
 use dsl_headings::imports::imports;
 use dsl_tree::{File, Token, TokenKind, Tokens};
@@ -65,10 +66,12 @@ fn file(alloc: Global, tokens: &mut Cursor<'_>) -> Result<File, Stop>
     ensures err { IfErr result (λ e. e ≢ Memory → read Part.File tokens.old ≡ Err e) }
 {
     let imports = imports(alloc, tokens)?;
+    let modifiers = modifiers(alloc, tokens)?;
     let decls = declarations(alloc, tokens)?;
     let end = tokens.expect_end()?;
     Ok(File {
         imports,
+        modifiers,
         decls,
         end,
     })

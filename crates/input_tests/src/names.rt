@@ -48,6 +48,7 @@ fn linked(alloc: Global, file: u32, import: &str) -> Result<File, AllocError>
     }))?;
     Ok(File {
         imports,
+        modifiers: Row::new(alloc),
         decls,
         end: place(file, 3, 1, 6),
     })
@@ -64,6 +65,7 @@ fn with_library(alloc: Global) -> Result<File, AllocError>
     imports.push(Import::Dotted { names })?;
     Ok(File {
         imports,
+        modifiers: Row::new(alloc),
         decls: Row::new(alloc),
         end: place(0, 2, 1, 5),
     })
