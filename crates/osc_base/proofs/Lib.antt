@@ -7,3 +7,4 @@ pub mod Numbers
 pub mod Rows
 pub mod PathEquality
 pub mod PathReading
+pub mod RelationsToday
