@@ -3,12 +3,14 @@
 It needs Python 3.9 or later.
 """
 import os
+import re
 import shutil
 import subprocess
 import sys
 from typing import NamedTuple
 
 TOP = os.path.dirname(os.path.dirname(os.path.abspath(__file__)))
+SCENARIOS = f"{TOP}/bench/scenarios"
 
 
 class Run(NamedTuple):
@@ -43,6 +45,17 @@ def program_of(crate):
     if not os.path.exists(program):
         sys.exit(f"{program} isn't there: run `rt run` in crates/{crate}, or name another program")
     return program
+
+
+def listed_scenarios():
+    """The scenarios of bench/scenarios with their options, as the table of its README.md has them."""
+    with open(f"{SCENARIOS}/README.md", encoding="utf-8") as it:
+        rows = re.findall(r"^\| (\w+) \|(.*)\|$", it.read(), re.M)
+    found = {name: words.replace("`", "").split() for name, words in rows if name != "File"}
+    files = {it[:-len(".osc")] for it in os.listdir(SCENARIOS) if it.endswith(".osc")}
+    if files != set(found):
+        sys.exit(f"bench/scenarios/README.md lists other files than there are: {' '.join(sorted(files ^ set(found)))}")
+    return found
 
 
 def plain_program(name, folder):

@@ -2,6 +2,7 @@
 import csv
 import json
 import os
+import sys
 import xml.etree.ElementTree as xml
 from html import escape
 
@@ -179,9 +180,14 @@ def extremes(campaign, rows):
     return "".join(extreme(campaign, row, names, *moment) for (_, *moment), (row, *names) in found.items())
 
 
+def run_name(row):
+    """The file of a run in the folder of all that is made, without its ending."""
+    return f"runs/{row['scenario']}/{row['setting']}/{row['cuts']}/seed-{row['seed']}"
+
+
 def extreme(campaign, row, names, tick, own, ahead):
     """A picture of a run at a tick, at which a vehicle is behind the one ahead."""
-    name = f"runs/{row['scenario']}/{row['setting']}/{row['cuts']}/seed-{row['seed']}"
+    name = run_name(row)
     path = f"{campaign.out}/{name}.json"
     with open(path, encoding="utf-8") as file:
         run = json.load(file)
@@ -226,6 +232,19 @@ def write_page(campaign, rows, order, path):
         it.write("".join(page))
 
 
+def without_ego(campaign, rows):
+    """A warning if `ego` is no vehicle of some scenarios; else none. All runs of a scenario have the same vehicles."""
+    ego = next((it.partition("=")[2] for it in campaign.export_options if it.startswith("--ego=")), None)
+    if ego is None or "xosc" not in campaign.exports:
+        return None
+    found = []
+    for name, row in {row["scenario"]: row for row in rows if row["outcome"] == "run"}.items():
+        with open(f"{campaign.out}/{run_name(row)}.json", encoding="utf-8") as file:
+            if ego not in [path for path, _ in json.load(file)["traces"]]:
+                found.append(name)
+    return f"campaign: ego: no vehicle of {', '.join(found)} is {ego}: there all vehicles follow the run" if found else None
+
+
 def write(campaign, names, summary, junit, page):
     """Writes the three files over the rows in the files of these names."""
     rows = list(read_rows(campaign, names))
@@ -236,6 +255,9 @@ def write(campaign, names, summary, junit, page):
     write_page(campaign, rows, order, page)
     if not_exported(campaign, order):
         print(f"campaign: {order['version']} has no command export: nothing is exported")
+    warning = without_ego(campaign, rows)
+    if warning:
+        print(warning, file=sys.stderr)
     print(f"{told(rows)}\n{page}", flush=True)
 
 

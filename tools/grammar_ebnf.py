@@ -234,7 +234,7 @@ def check():
             raise Bad(f"{name}: docs/LANGUAGE.md and Grammar.antt have different lines")
     texts = {}
     for path in KINDS:
-        for text, kind in re.findall(r'\(codes "([^"]+)", (?:Reserved )?(\w+)\)', path.read_text()):
+        for text, kind in re.findall(r'\(codes "([^"]+)", (?:(?:Reserved|LeftOut) )?(\w+)\)', path.read_text()):
             if kind in grammar.kinds:
                 texts[text] = grammar.kinds[kind]
     codes = {**grammar.named, **grammar.kinds}

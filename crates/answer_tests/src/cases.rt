@@ -73,17 +73,13 @@ fn said(alloc: Global, command: &str, case: &Case, written: &str) -> Result<Stri
     answer_to(alloc, line.as_str(), case.source, written)
 }
 
-/// What the checker of runs or of records says of the answer of `generate`.
-fn verdict(alloc: Global, case: &Case, got: &str) -> Result<String, AllocError> {
-    match got.strip_prefix("0 ") {
-        Some(run) => said(alloc, "check", case, run),
-        None => said(alloc, "verify", case, got.strip_prefix("1 ").unwrap_or("")),
-    }
-}
-
-/// Whether what `generate` wrote about the case is accepted.
+/// Whether the checker of runs or of records accepts the answer of `generate`.
 fn is_accepted(alloc: Global, case: &Case, got: &str) -> Result<bool, AllocError> {
-    let checked = verdict(alloc, case, got)?;
+    let (command, written) = match got.strip_prefix("0 ") {
+        Some(run) => ("check", run),
+        None => ("verify", got.strip_prefix("1 ").unwrap_or("")),
+    };
+    let checked = said(alloc, command, case, written)?;
     Ok(checked.as_str() == "0 yes\n")
 }
 
@@ -93,19 +89,38 @@ fn is_listed(alloc: Global, case: &Case) -> Result<bool, AllocError> {
     Ok(listing.as_str().starts_with("0 slots "))
 }
 
-/// Sees that `generate` gives each answer, that what it wrote is accepted, and that `flat` has a listing.
-pub(crate) fn cases_hold(rt: &(impl Abort + AllocGlobal), cases: &[Case]) -> Result<(), Fail> {
+/// Sees that `generate` gives the answer, that what it wrote is accepted, and that `flat` has a listing.
+fn case_holds(rt: &(impl Abort + AllocGlobal), case: &Case) -> Result<(), Fail> {
     let alloc = rt.alloc();
+    let got = said(alloc, "generate", case, "")?;
+    assert!(rt;
+        case.wanted.is_met(alloc, got.as_str())?,
+        "{}",
+        got.as_str()
+    );
+    assert!(rt; is_accepted(alloc, case, got.as_str())?, "{}", case.source);
+    assert!(rt; is_listed(alloc, case)?, "{}", case.source);
+    Ok(())
+}
+
+/// Sees that each case holds.
+pub(crate) fn cases_hold(rt: &(impl Abort + AllocGlobal), cases: &[Case]) -> Result<(), Fail> {
     for case in cases {
-        let got = said(alloc, "generate", case, "")?;
-        assert!(rt;
-            case.wanted.is_met(alloc, got.as_str())?,
-            "{}",
-            got.as_str()
-        );
-        assert!(rt; is_accepted(alloc, case, got.as_str())?, "{}", case.source);
-        assert!(rt; is_listed(alloc, case)?, "{}", case.source);
+        case_holds(rt, case)?;
     }
+    Ok(())
+}
+
+/// Sees that a line of words over `main.osc` and `written` has this answer.
+pub(crate) fn answer_is(
+    rt: &(impl Abort + AllocGlobal),
+    line: &str,
+    source: &str,
+    written: &str,
+    want: &str,
+) -> Result<(), Fail> {
+    let got = answer_to(rt.alloc(), line, source, written)?;
+    assert_eq!(rt; got.as_str(), want, "{line}: {written}");
     Ok(())
 }
 
@@ -115,8 +130,7 @@ pub(crate) fn answers_are(
     rows: &[(&str, &str, &str)],
 ) -> Result<(), Fail> {
     for (line, source, want) in rows {
-        let got = answer_to(rt.alloc(), line, source, "")?;
-        assert_eq!(rt; got.as_str(), *want, "{source}");
+        answer_is(rt, *line, *source, "", *want)?;
     }
     Ok(())
 }

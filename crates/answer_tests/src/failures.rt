@@ -1,7 +1,7 @@
 //! Shelves that fail, and sources and runs that go deep.
 
 use crate::call::{Outside, SOUND, answer};
-use crate::cases::{answer_to, count_of};
+use crate::cases::{answer_is, answer_to, count_of};
 use std::alloc::{AllocError, Global};
 use std::test::Fail;
 
@@ -16,24 +16,28 @@ struct small:
         keep(it == 7)
 ";
 
+/// What is answered when the first call of the shelf fails, the second, and so on.
+const WANTED: [&str; 7] = [
+    "6 shelf a.osc\n",
+    "6 shelf a.osc\n",
+    "6 shelf a.osc\n",
+    "6 shelf b.osc\n",
+    "6 shelf b.osc\n",
+    "6 shelf b.osc\n",
+    "0 {\"choices\":[],\"end\":0,\"form\":2,\"phases\":[],\"tick\":100,\"traces\":[],\"values\":[[\"x.n\",7]]}\n",
+];
+
 /// Two files import each other. Each has three calls: one that looks for it, and two that read.
 #[test]
 fn a_shelf_that_fails_at_each_call(rt: HostRuntime) -> Result<(), Fail> {
     let files = [("a.osc", FIRST.as_bytes()), ("b.osc", SECOND.as_bytes())];
-    for call in 0..7 {
+    for (call, want) in WANTED.iter().enumerate() {
         let fails = Outside {
-            shelf_failing: &[call],
+            shelf_failing: &[call as u64],
             ..SOUND
         };
         let got = answer(rt.alloc(), &["generate", "a.osc", "top"], &files, fails)?;
-        let want = if call < 3 {
-            "6 shelf a.osc\n"
-        } else if call < 6 {
-            "6 shelf b.osc\n"
-        } else {
-            "0 {\"choices\":[],\"end\":0,\"form\":2,\"phases\":[],\"tick\":100,\"traces\":[],\"values\":[[\"x.n\",7]]}\n"
-        };
-        assert_eq!(rt; got.as_str(), want, "call {call}");
+        assert_eq!(rt; got.as_str(), *want);
     }
     Ok(())
 }
@@ -50,9 +54,8 @@ fn many_imports(alloc: Global) -> Result<String, AllocError> {
 #[test]
 fn a_file_too_many(rt: HostRuntime) -> Result<(), Fail> {
     let source = many_imports(rt.alloc())?;
-    let got = answer_to(rt.alloc(), "generate main.osc top", source.as_str(), "")?;
-    assert_eq!(rt; got.as_str(), "3 fault 302 main.osc:64:8\n");
-    Ok(())
+    let want = "3 fault 302 main.osc:64:8\n";
+    answer_is(&rt, "generate main.osc top", source.as_str(), "", want)
 }
 
 /// Structs each of which holds the one before.
@@ -81,10 +84,10 @@ fn a_path_of_1001_steps(rt: HostRuntime) -> Result<(), Fail> {
 fn brackets(alloc: Global) -> Result<String, AllocError> {
     let mut text = String::new(alloc);
     for _ in 0..128 {
-        write!(text, "[")?;
+        text.push_str("[")?;
     }
     for _ in 0..128 {
-        write!(text, "]")?;
+        text.push_str("]")?;
     }
     Ok(text)
 }
@@ -94,7 +97,5 @@ fn a_run_of_brackets(rt: HostRuntime) -> Result<(), Fail> {
     let source = "scenario top:\n    x: int\n    keep(x in [3..3])\n";
     let text = brackets(rt.alloc())?;
     let line = "check main.osc top written";
-    let got = answer_to(rt.alloc(), line, source, text.as_str())?;
-    assert_eq!(rt; got.as_str(), "5 text json\n");
-    Ok(())
+    answer_is(&rt, line, source, text.as_str(), "5 text json\n")
 }

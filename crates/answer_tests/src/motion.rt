@@ -1,6 +1,6 @@
 //! Vehicles: each modifier with each of its arguments, and the vehicles that inherit.
 
-use crate::cases::{Case, Wanted, answer_to, cases_hold, count_of};
+use crate::cases::{Case, Wanted, answer_is, answer_to, cases_hold, count_of};
 use std::alloc::{AllocError, Global};
 use std::test::Fail;
 
@@ -273,7 +273,5 @@ fn a_cut_in(rt: HostRuntime) -> Result<(), Fail> {
     assert!(rt; got.as_str().contains(",230000000,"), "{}", got.as_str());
     let run = got.as_str().strip_prefix("0 ").unwrap_or("");
     let words = "check main.osc top written --ticks 60 --road 230";
-    let said = answer_to(alloc, words, CUT_IN, run)?;
-    assert_eq!(rt; said.as_str(), "0 yes\n");
-    Ok(())
+    answer_is(&rt, words, CUT_IN, run, "0 yes\n")
 }

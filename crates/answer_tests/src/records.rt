@@ -1,6 +1,6 @@
 //! Texts of records about a scenario without a run.
 
-use crate::cases::answer_to;
+use crate::cases::answer_is;
 use std::test::Fail;
 
 /// A number that is to be greater and less than 3.
@@ -75,8 +75,7 @@ const ROWS: [(&str, &str); 15] = [
 #[test]
 fn records_with_one_line_changed(rt: HostRuntime) -> Result<(), Fail> {
     for (record, want) in ROWS.as_slice() {
-        let got = answer_to(rt.alloc(), "verify main.osc top written", SOURCE, record)?;
-        assert_eq!(rt; got.as_str(), *want, "{record}");
+        answer_is(&rt, "verify main.osc top written", SOURCE, *record, *want)?;
     }
     Ok(())
 }

@@ -1,7 +1,8 @@
 //! Searches that make all their cuts.
 
-use crate::cases::{answer_to, count_of};
-use std::alloc::{AllocError, Global};
+use crate::cases::{answer_is, answer_to, answers_are, count_of};
+use std::alloc::AllocGlobal;
+use std::process::Abort;
 use std::test::Fail;
 
 /// Three numbers, each of which is to be one less than the next.
@@ -28,9 +29,8 @@ fn an_undecided_search(rt: HostRuntime) -> Result<(), Fail> {
     assert!(rt; record.starts_with(start));
     assert!(rt; record.ends_with("\nopen\nend\n"));
     assert_eq!(rt; count_of(record, b'\n'), 2006);
-    let said = answer_to(alloc, "verify main.osc top written", CREEPING, record)?;
-    assert_eq!(rt; said.as_str(), "2 open 1000\n");
-    Ok(())
+    let line = "verify main.osc top written";
+    answer_is(&rt, line, CREEPING, record, "2 open 1000\n")
 }
 
 /// Two numbers, each of which is to be below the other, contradict each other at a glance.
@@ -42,13 +42,16 @@ fn a_refutation_by_a_sum(rt: HostRuntime) -> Result<(), Fail> {
     keep(x < y)
     keep(y < x)
 ";
-    let alloc = rt.alloc();
-    let record = "osc-refutation 2\nslots 2\nrules 2\nroom 0\nsum 1 0 1 1\nend\n";
-    let got = answer_to(alloc, "generate main.osc top --cuts 1", source, "")?;
-    assert_eq!(rt; got.as_str().strip_prefix("1 "), Some(record));
-    let said = answer_to(alloc, "verify main.osc top written", source, record)?;
-    assert_eq!(rt; said.as_str(), "0 yes\n");
-    Ok(())
+    let want = "1 osc-refutation 2\nslots 2\nrules 2\nroom 0\nsum 1 0 1 1\nend\n";
+    answer_is(&rt, "generate main.osc top --cuts 1", source, "", want)?;
+    let record = want.strip_prefix("1 ").unwrap_or("");
+    answer_is(
+        &rt,
+        "verify main.osc top written",
+        source,
+        record,
+        "0 yes\n",
+    )
 }
 
 /// Three numbers, each of which is to be below the next, are refuted by sums of the rules that narrowed last.
@@ -70,9 +73,13 @@ fn a_refutation_by_sums_after_cuts(rt: HostRuntime) -> Result<(), Fail> {
     };
     assert!(rt; record.starts_with("osc-refutation 2\nslots 3\nrules 3\nroom 46\n"));
     assert!(rt; record.ends_with("\nsum 1 0 1 1 1 2\nend\n"));
-    let said = answer_to(alloc, "verify main.osc top written", source, record)?;
-    assert_eq!(rt; said.as_str(), "0 yes\n");
-    Ok(())
+    answer_is(
+        &rt,
+        "verify main.osc top written",
+        source,
+        record,
+        "0 yes\n",
+    )
 }
 
 /// A number takes two cuts.
@@ -84,41 +91,27 @@ fn a_search_with_too_few_cuts(rt: HostRuntime) -> Result<(), Fail> {
 ";
     let rows = [
         (
-            "1",
+            "generate main.osc top --cuts 1",
+            source,
             "2 osc-undecided 1\nslots 1\nrules 1\nroom 1\nlow 0 2\nclose 0\nopen\nend\n",
         ),
         (
-            "2",
+            "generate main.osc top --cuts 2",
+            source,
             "0 {\"choices\":[],\"end\":0,\"form\":2,\"phases\":[],\"tick\":100,\"traces\":[],\"values\":[[\"x\",3]]}\n",
         ),
     ];
-    let alloc = rt.alloc();
-    for (cuts, want) in rows {
-        let line = format!(in alloc; "generate main.osc top --cuts {cuts}")?;
-        let got = answer_to(alloc, line.as_str(), source, "")?;
-        assert_eq!(rt; got.as_str(), want, "{cuts} cuts");
-    }
-    Ok(())
+    answers_are(&rt, &rows)
 }
 
 /// Whatever the seed is, no search decides it.
 #[test]
 fn searches_that_are_all_undecided(rt: HostRuntime) -> Result<(), Fail> {
-    let alloc = rt.alloc();
-    let last = answer_to(
-        alloc,
-        "generate main.osc top --cuts 1000 --seed 1",
-        CREEPING,
-        "",
-    )?;
-    let got = answer_to(
-        alloc,
-        "generate main.osc top --cuts 1000 --tries 2",
-        CREEPING,
-        "",
-    )?;
-    assert!(rt; got.as_str().starts_with("2 "));
-    assert_eq!(rt; got.as_str(), last.as_str());
+    let one = "generate main.osc top --cuts 1000 --seed 1";
+    let last = answer_to(rt.alloc(), one, CREEPING, "")?;
+    let two = "generate main.osc top --cuts 1000 --tries 2";
+    answer_is(&rt, two, CREEPING, "", last.as_str())?;
+    assert!(rt; last.as_str().starts_with("2 "));
     Ok(())
 }
 
@@ -131,20 +124,33 @@ const DRAWN: &str = "scenario top:
     keep(x * x + y * y == 4005)
 ";
 
+/// Sees that the first line leaves it undecided, and that the second and the third decide it alike.
+fn seeds_decide(
+    rt: &(impl Abort + AllocGlobal),
+    alone: &str,
+    further: &str,
+    tried: &str,
+) -> Result<(), Fail> {
+    let left = answer_to(rt.alloc(), alone, DRAWN, "")?;
+    assert!(rt; left.as_str().starts_with("2 "), "{alone}");
+    let want = answer_to(rt.alloc(), further, DRAWN, "")?;
+    assert!(rt; want.as_str().starts_with("0 "), "{further}");
+    answer_is(rt, tried, DRAWN, "", want.as_str())
+}
+
 /// The answer is that of the first seed that decides it, also after the greatest seed.
 #[test]
 fn a_search_that_another_seed_decides(rt: HostRuntime) -> Result<(), Fail> {
-    let alloc = rt.alloc();
-    for (seed, next) in [("1", "2"), ("18446744073709551615", "0")] {
-        let alone = format!(in alloc; "generate main.osc top --cuts 20 --seed {seed}")?;
-        let left = answer_to(alloc, alone.as_str(), DRAWN, "")?;
-        assert!(rt; left.as_str().starts_with("2 "), "seed {seed}");
-        let further = format!(in alloc; "generate main.osc top --cuts 20 --seed {next}")?;
-        let want = answer_to(alloc, further.as_str(), DRAWN, "")?;
-        assert!(rt; want.as_str().starts_with("0 "), "seed {next}");
-        let tried = format!(in alloc; "{} --tries 100", alone.as_str())?;
-        let got = answer_to(alloc, tried.as_str(), DRAWN, "")?;
-        assert_eq!(rt; got.as_str(), want.as_str(), "seed {seed}");
-    }
-    Ok(())
+    seeds_decide(
+        &rt,
+        "generate main.osc top --cuts 20 --seed 1",
+        "generate main.osc top --cuts 20 --seed 2",
+        "generate main.osc top --cuts 20 --seed 1 --tries 100",
+    )?;
+    seeds_decide(
+        &rt,
+        "generate main.osc top --cuts 20 --seed 18446744073709551615",
+        "generate main.osc top --cuts 20 --seed 0",
+        "generate main.osc top --cuts 20 --seed 18446744073709551615 --tries 100",
+    )
 }

@@ -1,5 +1,5 @@
 -- The parts of a box at a value of a slot.
-use Rattle.std.proofs.Common.{◌≡◌, refl, sym, ap, ◌∙◌, ◌⊎◌, inl, inr, ⊎_elim, ℕ, suc, zero, ◌<◌, List, [], ◌∷◌, length, slice_set, ℤ, pos, ◌+ℤ◌, ◌≤ℤ◌, ◌<ℤ◌, arith}
+use Rattle.std.proofs.Common.{◌≡◌, refl, sym, ap, ◌∙◌, ◌⊎◌, inl, inr, ⊎_elim, ℕ, suc, zero, ◌<◌, ◌≤◌, List, [], ◌∷◌, length, slice_set, ℤ, pos, ◌+ℤ◌, ◌≤ℤ◌, ◌<ℤ◌, arith}
 use Rattle.std.proofs.lemmas.Int.{ints, by_lt_z}
 use Rattle.std.proofs.lemmas.Bool.{cases_eq}
 use Rattle.std.proofs.lemmas.List.{length-set}
@@ -199,3 +199,23 @@ module _ (ends : List Pair) (cut : Cut) (is : IsCutOf ends cut) where
 
   pub fixed_in_first : IsInside (fixed ends cut.slot (end_at cut.side ends cut.slot)) (first_part cut ends)
   fixed_in_first = fixed_in_first_at ends cut.slot cut.value is.slot_there is.low is.high cut.side
+
+-- ---- a slot with two values or more is one of the box
+
+pub low_past : (ends : List Pair) (slot : ℕ) → length ends ≤ slot → low_at ends slot ≡ high_at ends slot
+low_past [] slot h = refl
+low_past (p ∷ ps) zero h = absurd (omega arith)
+low_past (p ∷ ps) (suc slot) h = low_past ps slot (omega arith)
+
+pub wide_there : (ends : List Pair) (slot : ℕ) → low_at ends slot <ℤ high_at ends slot → slot < length ends
+wide_there ends slot wide = by_lt_or ends slot wide
+  where
+    by_lt_or : (es : List Pair) (s : ℕ) → low_at es s <ℤ high_at es s → s < length es
+    by_lt_or [] s w = absurd (omega (arith, ints, w))
+    by_lt_or (p ∷ ps) zero w = omega arith
+    by_lt_or (p ∷ ps) (suc s) w = omega (arith, by_lt_or ps s w)
+
+-- the end of a side lies between both
+pub end_between : (side : Side) (ends : List Pair) (slot : ℕ) → low_at ends slot ≤ℤ high_at ends slot → (low_at ends slot ≤ℤ end_at side ends slot) × (end_at side ends slot ≤ℤ high_at ends slot)
+end_between Low ends slot box = (omega (arith, ints), box)
+end_between High ends slot box = (box, omega (arith, ints))

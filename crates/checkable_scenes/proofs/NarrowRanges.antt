@@ -10,7 +10,8 @@ use Rattle.expr_eval.specs.expr_nodes.Fits.{sample_size}
 use Rattle.run_values.specs.modifier_rules.Relations.{position_scale}
 use Rattle.run_values.specs.field_flatten.Exactness.{quantity_reach}
 use Rattle.run_values.proofs.of_field_flatten.Tests.{both}
-use Rattle.run_values.proofs.of_field_flatten.Multiples.{gcd_is, Common, common, share_of, lcm_swap}
+use Rattle.osc_base.proofs.Divisors.{gcd_is}
+use Rattle.run_values.proofs.of_field_flatten.Multiples.{Common, common, share_of, lcm_swap}
 use Rattle.scene_laws.proofs.FaultRows.{no_right, not_so}
 use Rattle.scene_laws.proofs.LowestTerms.{below, within}
 

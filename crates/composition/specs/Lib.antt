@@ -17,6 +17,8 @@ pub mod Claims
 pub mod Homes
 pub mod Tokens
 pub mod ModifierLines
+pub mod ModifierRows
+pub mod RowSpots
 pub mod Givens
 pub mod Expansion
 pub mod Expanded

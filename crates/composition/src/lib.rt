@@ -20,7 +20,6 @@ mod spot;
 pub use clause::Clause;
 pub use cond_inherit::Condition;
 pub use expr_nodes::Compare;
-pub use expr_nodes::size::gcd;
 pub use guard::Guard;
 pub use keep_rules::path_index::{HasPath, PathIndex};
 pub use part::{Binding, Content, ModifierSpot, Occurrence, Spot};

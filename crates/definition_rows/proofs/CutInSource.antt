@@ -37,6 +37,7 @@ use Rattle.definition_rows.proofs.VehicleSources.{library}
 abbrev pub cut_in_file : FileTree
 cut_in_file = record {
   imports = [];
+  modifiers = [];
   decls =
       DeclarationTree.CompoundDeclaration
       (record {

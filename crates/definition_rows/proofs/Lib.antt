@@ -12,3 +12,5 @@ mod Clauses
 mod NamedScenarios
 mod Scenes
 mod ExpandedScenes
+mod Phases
+mod Movement

@@ -22,6 +22,7 @@ other_name_asked = refl
 abbrev fleet_file : ℕ → FileTree
 fleet_file count = record {
   imports = [];
+  modifiers = [];
   decls =
       DeclarationTree.CompoundDeclaration (record {
         place = at 0 2 1 4;

@@ -20,6 +20,7 @@ use Rattle.definition_rows.proofs.Makers.{at, name_at, digits_at}
 abbrev pub single_value_file : FileTree
 single_value_file = record {
   imports = [];
+  modifiers = [];
   decls =
       DeclarationTree.CompoundDeclaration
       (record {
@@ -58,6 +59,7 @@ single_value = record { files = single_value_file ∷ []; library = None }
 abbrev pub no_value_file : FileTree
 no_value_file = record {
   imports = [];
+  modifiers = [];
   decls =
       DeclarationTree.CompoundDeclaration
       (record {
@@ -110,6 +112,7 @@ no_value = record { files = no_value_file ∷ []; library = None }
 abbrev pub import_cycle_file : FileTree
 import_cycle_file = record {
   imports = [];
+  modifiers = [];
   decls =
       DeclarationTree.CompoundDeclaration
       (record {
@@ -134,6 +137,7 @@ import_cycle_file = record {
 abbrev pub import_cycle_file1 : FileTree
 import_cycle_file1 = record {
   imports = [];
+  modifiers = [];
   decls =
       DeclarationTree.CompoundDeclaration
       (record {
@@ -174,6 +178,7 @@ import_cycle = record { files = import_cycle_file ∷ import_cycle_file1 ∷ [];
 abbrev pub cargo_truck_file : FileTree
 cargo_truck_file = record {
   imports = [];
+  modifiers = [];
   decls =
       DeclarationTree.EnumDeclaration
       (record {
@@ -265,6 +270,7 @@ cargo_truck = record { files = cargo_truck_file ∷ []; library = None }
 abbrev pub cargo_car_file : FileTree
 cargo_car_file = record {
   imports = [];
+  modifiers = [];
   decls =
       DeclarationTree.EnumDeclaration
       (record {
@@ -355,6 +361,7 @@ cargo_car = record { files = cargo_car_file ∷ []; library = None }
 abbrev pub removed_before_file : FileTree
 removed_before_file = record {
   imports = [];
+  modifiers = [];
   decls =
       DeclarationTree.CompoundDeclaration
       (record {
@@ -426,6 +433,7 @@ removed_before = record { files = removed_before_file ∷ []; library = None }
 abbrev pub removed_after_file : FileTree
 removed_after_file = record {
   imports = [];
+  modifiers = [];
   decls =
       DeclarationTree.CompoundDeclaration
       (record {
@@ -492,6 +500,7 @@ removed_after = record { files = removed_after_file ∷ []; library = None }
 abbrev pub two_elements_file : FileTree
 two_elements_file = record {
   imports = [];
+  modifiers = [];
   decls =
       DeclarationTree.CompoundDeclaration
       (record {
@@ -537,6 +546,7 @@ two_elements = record { files = two_elements_file ∷ []; library = None }
 abbrev pub overridden_argument_file : FileTree
 overridden_argument_file = record {
   imports = [];
+  modifiers = [];
   decls =
       DeclarationTree.CompoundDeclaration
       (record {

@@ -73,7 +73,7 @@ fault line column token code = record { place = p line column token; code = code
 
 -- the program of one file with these declarations
 abbrev pub program : List DeclarationTree → Program
-program declarations = record { files = record { imports = []; decls = declarations; end = p 99 1 999 } ∷ []; library = None }
+program declarations = record { files = record { imports = []; modifiers = []; decls = declarations; end = p 99 1 999 } ∷ []; library = None }
 
 -- its first fault of headings, members and uses
 abbrev pub judged : List DeclarationTree → Option Fault

@@ -15,6 +15,7 @@ use Rattle.definition_rows.proofs.Makers.{at, name_at, digits_at, signed_at}
 abbrev pub library : FileTree
 library = record {
   imports = [];
+  modifiers = [];
   decls =
       DeclarationTree.TypeDeclaration
       (record {
@@ -176,6 +177,7 @@ library = record {
 abbrev pub kilometres_an_hour_file : FileTree
 kilometres_an_hour_file = record {
   imports = [];
+  modifiers = [];
   decls =
       DeclarationTree.CompoundDeclaration
       (record {
@@ -214,6 +216,7 @@ kilometres_an_hour = record { files = kilometres_an_hour_file ∷ library ∷ []
 abbrev pub one_vehicle_file : FileTree
 one_vehicle_file = record {
   imports = [];
+  modifiers = [];
   decls =
       DeclarationTree.CompoundDeclaration
       (record {
@@ -261,6 +264,7 @@ one_vehicle = record { files = one_vehicle_file ∷ library ∷ []; library = So
 abbrev pub other_name_file : FileTree
 other_name_file = record {
   imports = [];
+  modifiers = [];
   decls =
       DeclarationTree.CompoundDeclaration
       (record {
@@ -327,6 +331,7 @@ other_name = record { files = other_name_file ∷ library ∷ []; library = Some
 abbrev pub not_chosen_file : FileTree
 not_chosen_file = record {
   imports = [];
+  modifiers = [];
   decls =
       DeclarationTree.CompoundDeclaration
       (record {
@@ -387,6 +392,7 @@ not_chosen = record { files = not_chosen_file ∷ library ∷ []; library = Some
 abbrev pub robot_file : FileTree
 robot_file = record {
   imports = [];
+  modifiers = [];
   decls =
       DeclarationTree.CompoundDeclaration
       (record {
@@ -474,6 +480,7 @@ robot = record { files = robot_file ∷ library ∷ []; library = Some 1 }
 abbrev pub one_wait_file : FileTree
 one_wait_file = record {
   imports = [];
+  modifiers = [];
   decls =
       DeclarationTree.CompoundDeclaration
       (record {

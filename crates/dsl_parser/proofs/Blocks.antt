@@ -4,7 +4,7 @@ use Rattle.std.proofs.Common.{◌≡◌, ◌<◌, List, [], ◌∷◌, length, m
 use Rattle.dsl_cursor.specs.Words.{MarkKind, WordKind, nil, sub, mark, in_block, Place, Ident, Forest, ident, Token, Part, in_part, read}
 use Rattle.dsl_headings.specs.Words.{CompoundKind, is_plain, kind_word}
 use Rattle.dsl_expressions.specs.Words.{Argument, argument_tree, word_at}
-use Rattle.dsl_parser.specs.Words.{RuleDecl, Member, InvokePart, rule_tree, member_tree, part_tree, word, CompoundDecl, Heir, QName, compound_tree, body, compound_heading, optional_heir, qualified_name}
+use Rattle.dsl_parser.specs.Words.{RuleDecl, Member, InvokePart, ModifierPart, rule_tree, member_tree, modifier_part_tree, part_tree, word, CompoundDecl, Heir, QName, compound_tree, body, compound_heading, optional_heir, qualified_name}
 use Rattle.dsl_tree.specs.WrittenPhases as phases
 use Rattle.dsl_tree.specs.WrittenFile as file
 use Rattle.std.proofs.lemmas.Bool.{false≢true}
@@ -19,6 +19,9 @@ step_invocation_end ts = read_step Part.InvocationEnd ts
 pub step_body : (ts : List Token) → read Part.Body ts ≡ in_part read Part.Body ts
 step_body ts = read_step Part.Body ts
 
+pub step_modifier : (ts : List Token) → read Part.ModifierDeclaration ts ≡ in_part read Part.ModifierDeclaration ts
+step_modifier ts = read_step Part.ModifierDeclaration ts
+
 pub rules_block : (rs : List RuleDecl) → 0 < length rs → file.field_end (map rule_tree rs) ≡ word WordKind.WithWord (mark MarkKind.Colon (in_block (λ r. phases.rule (rule_tree r)) (λ xs. phases.rules_tail (map rule_tree xs)) rs))
 rules_block [] some = absurd (omega (arith, some))
 rules_block (r ∷ rs) some = refl
@@ -26,6 +29,11 @@ rules_block (r ∷ rs) some = refl
 pub parts_block : (ps : List InvokePart) → 0 < length ps → phases.invocation_end (map part_tree ps) ≡ word WordKind.WithWord (mark MarkKind.Colon (in_block (λ p. phases.invocation_part (part_tree p)) (λ xs. phases.parts_tail (map part_tree xs)) ps))
 parts_block [] some = absurd (omega (arith, some))
 parts_block (p ∷ ps) some = refl
+
+pub modifier_lines : (ps : List ModifierPart)
+    → file.modifier_block (map modifier_part_tree ps) ≡ in_block (λ p. file.modifier_part (modifier_part_tree p)) (λ xs. file.modifier_parts_tail (map modifier_part_tree xs)) ps
+modifier_lines [] = refl
+modifier_lines (p ∷ ps) = refl
 
 pub members_block : (ms : List Member) → file.block (map member_tree ms) ≡ in_block (λ m. file.member (member_tree m)) (λ xs. file.members_tail (map member_tree xs)) ms
 members_block [] = refl

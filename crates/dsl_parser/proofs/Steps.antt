@@ -23,3 +23,9 @@ step_wait ts = read_step Part.Wait ts
 
 pub step_invocation_rest : (ts : List Token) → read Part.InvocationRest ts ≡ in_part read Part.InvocationRest ts
 step_invocation_rest ts = read_step Part.InvocationRest ts
+
+pub step_named_part : (ts : List Token) → read Part.NamedPart ts ≡ in_part read Part.NamedPart ts
+step_named_part ts = read_step Part.NamedPart ts
+
+pub step_file : (ts : List Token) → read Part.File ts ≡ in_part read Part.File ts
+step_file ts = read_step Part.File ts

@@ -20,7 +20,7 @@ fn modifier(alloc: Global, tokens: &mut Cursor<'_>) -> Result<InvokePart, Stop>
 {
     let name = tokens.expect_name(alloc)?;
     tokens.expect(Mark(MarkKind::OpenRound))?;
-    let arguments = arguments(alloc, tokens)?;
+    let arguments = invocation_arguments(alloc, tokens)?;
     tokens.expect(Sign::Newline)?;
     Ok(InvokePart::Modifier(ModifierNode { name, arguments }))
 }
@@ -67,8 +67,9 @@ fn invocation_end(alloc: Global, tokens: &mut Cursor<'_>) -> Result<Row<InvokePa
     Ok(parts)
 }
 
+/// The arguments of an invocation or a modifier, if there are any, and the closing bracket.
 #[tactic(auto, using(dsl_cursor::proofs::ReadSteps::read_step, crate::proofs::Blocks::some_arguments))]
-fn invocation_arguments(alloc: Global, tokens: &mut Cursor<'_>) -> Result<Row<Argument>, Stop>
+pub fn invocation_arguments(alloc: Global, tokens: &mut Cursor<'_>) -> Result<Row<Argument>, Stop>
     ensures { Gives (λ xs. written.invocation_arguments (map argument_tree xs)) (read Part.InvocationArguments tokens.old) result tokens.new }
 {
     if tokens.take(Mark(MarkKind::CloseRound)).is_some() {

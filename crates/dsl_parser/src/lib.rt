@@ -5,6 +5,7 @@
 mod declarations;
 mod invocations;
 mod members;
+mod modifiers;
 mod parser;
 mod phases;
 mod rules;

@@ -3,6 +3,7 @@ ghost use Rattle.dsl_cursor.specs.Words.{IfOk, IfErr, Part, PartFault, Ended, []
 ghost use Rattle.dsl_parser.specs.Words.{FileTree, file_tree, Spelled, FirstFault, fault_code, OnStop, HasViableFront, HasDeadToken, file as file_forest};
 
 use crate::declarations::declarations;
+use crate::modifiers::modifiers;
 use dsl_cursor::{Cursor, Stop};
 use dsl_headings::imports::imports;
 use dsl_tree::{File, Token, TokenKind, Tokens};
@@ -59,16 +60,18 @@ fn fault_at(tokens: &[Token], left: usize) -> Fault
 }
 
 /// A file, to the end of its tokens.
-#[tactic(auto, using(dsl_cursor::proofs::ReadSteps::read_step))]
+#[tactic(auto, using(crate::proofs::Steps::step_file))]
 fn file(alloc: Global, tokens: &mut Cursor<'_>) -> Result<File, Stop>
     ensures ok { IfOk result (λ f. read Part.File tokens.old ≡ Ok (file_forest (file_tree f), [])) }
     ensures err { IfErr result (λ e. e ≢ Memory → read Part.File tokens.old ≡ Err e) }
 {
     let imports = imports(alloc, tokens)?;
+    let modifiers = modifiers(alloc, tokens)?;
     let decls = declarations(alloc, tokens)?;
     let end = tokens.expect_end()?;
     Ok(File {
         imports,
+        modifiers,
         decls,
         end,
     })

@@ -2,14 +2,14 @@
 pub use Rattle.std.specs.Prelude.{OnOk, ◌≡◌, [], map, List, refl, IfOk, None, Option, Some, nat_lt, option_map, ℕ, ◌++◌, ◌==◌, ◌||◌, ◌∷◌}
 pub use Rattle.osc_base.specs.declared.fault.Place.{Place}
 pub use Rattle.dsl_tree.specs.ExprTree.{ExprTree, row_of}
-pub use Rattle.dsl_tree.specs.FileTree.{DeclarationTree}
+pub use Rattle.dsl_tree.specs.FileTree.{DeclarationTree, ModifierPartTree}
 pub use Rattle.dsl_tree.specs.Forest.{nil, Forest, sub, wrong, bare, seen, Spells}
 pub use Rattle.dsl_tree.specs.Grammar.{Part}
 pub use Rattle.dsl_tree.specs.Language.{FollowsGrammar, Spelled}
 pub use Rattle.dsl_tree.specs.PhaseTree.{ArgumentTree}
-pub use Rattle.dsl_tree.specs.Views.{expr_tree, suffix_tree, further_tree, At, FurtherTree, Named, SuffixTree, argument_tree, file_tree, head_tree, phase_tree, comp_tree, compound_tree, declaration_tree, field_tree, grouped, indexed_row, member_tree, more_tree, named_row, part_tree, path_row, path_tree, phase_step, rule_tree, with_suffixes}
+pub use Rattle.dsl_tree.specs.Views.{expr_tree, suffix_tree, further_tree, At, FurtherTree, Named, SuffixTree, argument_tree, file_tree, head_tree, phase_tree, comp_tree, compound_tree, declaration_tree, field_tree, grouped, indexed_row, member_tree, modifier_decl_tree, modifier_part_tree, modifier_tree, more_tree, named_row, part_tree, path_row, path_tree, phase_step, rule_tree, with_suffixes}
 pub use Rattle.dsl_tree.specs.Written.{ident, mark, written, at, expr, listed, next_index, next_name, next_part, operator_kind, path, level, listed_tail, raised, sign_kind, truth_word}
-pub use Rattle.dsl_tree.specs.WrittenFile.{base, bases_tail, file, unit_bases, unit_end, block, body, compound_heading, declaration, declarations, enum_declaration, enum_item, enum_items, field, field_type, imports, initial, items_tail, member, members_tail, names_tail, optional_heir, qualified_name, signed, type_declaration, unit_declaration, unit_tail}
+pub use Rattle.dsl_tree.specs.WrittenFile.{base, bases_tail, file, unit_bases, unit_end, block, body, compound_heading, declaration, declarations, enum_declaration, enum_item, enum_items, field, field_type, imports, initial, items_tail, member, members_tail, modifier_block, modifier_part, modifier_parts_tail, modifiers, names_tail, optional_heir, qualified_name, signed, type_declaration, unit_declaration, unit_tail}
 pub use Rattle.dsl_tree.specs.WrittenTails.{further_tail, suffix_tail}
 pub use Rattle.dsl_tree.specs.WrittenPhases.{dotted_names, block_phases, invocation_arguments, phase, arguments, arguments_tail, block_end, composition_arguments, invocation_rest, modifier, named_tail, newline, parts_tail, phases_tail, rule, rules_tail, with_block}
 pub use Rattle.dsl_tree.specs.declared.expr.{Expr.Expr, Further.Further, Operator.Operator, Suffix.Suffix}

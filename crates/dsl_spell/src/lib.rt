@@ -4,6 +4,7 @@
 mod rows;
 mod spell_expr;
 mod spell_file;
+mod spell_modifiers;
 mod spell_phase;
 mod spell_tree;
 mod writer;

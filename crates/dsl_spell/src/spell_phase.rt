@@ -1,5 +1,5 @@
 ghost use Rattle.std.specs.Prelude.{◌≡◌};
-ghost use Rattle.dsl_spell.specs.Writing.{map, refl, OnOk, nil, Phase-F, path, rule, rules_tail, dotted_names, invocation_arguments, modifier, parts_tail, composition_arguments, phase, block_phases, head_tree, path_tree, rule_tree, argument_tree, part_tree, phase_tree, comp_tree, phase_step, wrote, Writes, label_of, argument_of};
+ghost use Rattle.dsl_spell.specs.Writing.{map, refl, OnOk, nil, Phase-F, path, rule, rules_tail, dotted_names, invocation_arguments, modifier, parts_tail, composition_arguments, phase, block_phases, head_tree, path_tree, rule_tree, argument_tree, modifier_tree, part_tree, phase_tree, comp_tree, phase_step, wrote, Writes, label_of, argument_of};
 ghost use Rattle.dsl_tree.specs.Written.{path_row};
 ghost use Rattle.dsl_tree.specs.PhaseTree.{row_of};
 
@@ -8,7 +8,7 @@ use crate::spell_expr::{push_expr, push_suffixes};
 use crate::writer::Writer;
 use dsl_tree::{
     Argument, CompKind, CompNode, Ident, InvokeHead, InvokeNode, InvokePart, KeepKind, MarkKind,
-    PathHead, PathNode, Phase, RuleDecl, WaitNode, WordKind,
+    ModifierNode, PathHead, PathNode, Phase, RuleDecl, WaitNode, WordKind,
 };
 use std::alloc::AllocError;
 
@@ -109,6 +109,15 @@ fn push_brackets(w: &mut Writer, arguments: &[Argument]) -> Result<(), AllocErro
     Ok(())
 }
 
+pub(crate) fn push_modifier(w: &mut Writer, tree: &ModifierNode) -> Result<(), AllocError>
+    ensures { OnOk result (Writes w.old (modifier (modifier_tree tree.now)) w.new) }
+{
+    w.name(&tree.name)?;
+    w.bare_mark(MarkKind::OpenRound)?;
+    push_arguments(w, tree.arguments.as_slice())?;
+    w.line_end()
+}
+
 impl Next for InvokePart {
     ghost tail = { λ parts. parts_tail (map part_tree parts) };
 
@@ -117,12 +126,7 @@ impl Next for InvokePart {
     fn next(&self, w: &mut Writer) -> Result<(), AllocError> {
         match self {
             InvokePart::Rule(rule) => push_rule(w, rule),
-            InvokePart::Modifier(modifier) => {
-                w.name(&modifier.name)?;
-                w.bare_mark(MarkKind::OpenRound)?;
-                push_arguments(w, modifier.arguments.as_slice())?;
-                w.line_end()
-            }
+            InvokePart::Modifier(modifier) => push_modifier(w, modifier),
         }
     }
 }

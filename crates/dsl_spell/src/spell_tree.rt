@@ -27,6 +27,7 @@ fn push_file(w: &mut Writer, tree: &File) -> Result<(), AllocError>
     ensures { OnOk result (Writes w.old (file_forest (file_tree tree.now)) w.new) }
 {
     push_rest(w, tree.imports.as_slice())?;
+    push_rest(w, tree.modifiers.as_slice())?;
     push_rest(w, tree.decls.as_slice())?;
     w.push(tree.end, TokenKind::End)
 }

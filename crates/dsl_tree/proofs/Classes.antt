@@ -9,7 +9,7 @@ use Rattle.dsl_tree.specs.declared.token.ExcludedWord.{ExcludedWord}
 use Rattle.dsl_tree.specs.declared.token.MarkKind.{MarkKind}
 use Rattle.dsl_tree.specs.declared.token.MarkKind.TheVariants.{OpenRound, CloseRound, OpenSquare, CloseSquare, Colon, Comma, Dot, TwoDots, Assign, Equal, Differ, Below, AtMost, Above, AtLeast, Arrow, Plus, Dash, Star, Slash, Bang}
 use Rattle.dsl_tree.specs.declared.token.WordKind.{WordKind}
-use Rattle.dsl_tree.specs.declared.token.WordKind.TheVariants.{ImportWord, TypeWord, UnitWord, IsWord, OfWord, EnumWord, StructWord, ActorWord, ActionWord, ScenarioWord, InheritsWord, ExtendWord, ListWord, KeepWord, HardWord, DefaultWord, RemoveDefaultWord, DoWord, SerialWord, ParallelWord, OneOfWord, WaitWord, ElapsedWord, WithWord, ItWord, InWord, RangeWord, AndWord, OrWord, NotWord, TrueWord, FalseWord}
+use Rattle.dsl_tree.specs.declared.token.WordKind.TheVariants.{ImportWord, TypeWord, UnitWord, IsWord, OfWord, EnumWord, StructWord, ActorWord, ActionWord, ScenarioWord, InheritsWord, ExtendWord, ListWord, KeepWord, HardWord, DefaultWord, RemoveDefaultWord, DoWord, SerialWord, ParallelWord, OneOfWord, WaitWord, ElapsedWord, WithWord, ItWord, InWord, RangeWord, AndWord, OrWord, NotWord, TrueWord, FalseWord, ModifierWord}
 use Rattle.dsl_tree.specs.Codes.{code, has, si_text, factor_text, offset_text, si_name, factor_name, offset_name, other_name, name_code, small_number, large_number, point_number, physical_code, text_code, mark_code, word_code}
 use Rattle.dsl_tree.proofs.Tests.{either_of}
 
@@ -46,7 +46,7 @@ marks = OpenRound ∷ CloseRound ∷ OpenSquare ∷ CloseSquare ∷ Colon ∷ Co
 abbrev words : List WordKind
 words =
     ImportWord ∷ TypeWord ∷ UnitWord ∷ IsWord ∷ OfWord ∷ EnumWord ∷ StructWord ∷ ActorWord ∷ ActionWord ∷ ScenarioWord ∷ InheritsWord ∷ ExtendWord ∷ ListWord ∷ KeepWord ∷ HardWord ∷ DefaultWord
-    ∷ RemoveDefaultWord ∷ DoWord ∷ SerialWord ∷ ParallelWord ∷ OneOfWord ∷ WaitWord ∷ ElapsedWord ∷ WithWord ∷ ItWord ∷ InWord ∷ RangeWord ∷ AndWord ∷ OrWord ∷ NotWord ∷ TrueWord ∷ []
+    ∷ RemoveDefaultWord ∷ DoWord ∷ SerialWord ∷ ParallelWord ∷ OneOfWord ∷ WaitWord ∷ ElapsedWord ∷ WithWord ∷ ItWord ∷ InWord ∷ RangeWord ∷ AndWord ∷ OrWord ∷ NotWord ∷ TrueWord ∷ ModifierWord ∷ []
 
 abbrev first_with : ℕ → List TokenKind → TokenKind
 first_with c [] = TokenKind.Word FalseWord

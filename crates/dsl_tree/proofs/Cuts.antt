@@ -20,7 +20,7 @@ use Rattle.dsl_tree.specs.declared.token.MarkKind.{MarkKind}
 use Rattle.dsl_tree.specs.declared.units.BasePart.{BasePart}
 use Rattle.dsl_tree.specs.ExprTree.{ExprTree, Implies, Not, Relation, Minus, Dot, Index, Number, Physical, Chars, Truth, It, Actor, Name, EnumName, Group, Span, Listed, RangeCall, Start, ExprRow, Or, And, Sum, Product}
 use Rattle.dsl_tree.specs.PhaseTree.{Keep, Remove, ArgumentTree, RulePart, ModifierPart, Comp, Invoke, Wait, PhaseRow}
-use Rattle.dsl_tree.specs.FileTree.{Field, Rule, Do, MemberTree, DeclarationTree, TypeDeclaration, UnitDeclaration, EnumDeclaration, CompoundDeclaration, MemberExtension, EnumExtension}
+use Rattle.dsl_tree.specs.FileTree.{Field, Rule, Do, MemberTree, DeclarationTree, TypeDeclaration, UnitDeclaration, EnumDeclaration, CompoundDeclaration, MemberExtension, EnumExtension, Parameter, ModifierRule, Application}
 use Rattle.dsl_tree.specs.Views.{FurtherTree, SuffixTree, Named, At, grouped, with_suffixes, path_row}
 use Rattle.dsl_tree.specs.Grammar.{Part, rules}
 use Rattle.dsl_tree.specs.Forest.{Forest, nil, sub, wrong, IsOf}
@@ -28,7 +28,7 @@ use Rattle.dsl_tree.specs.Written.{mark, ident, digits, level, lifted, raised, w
 use Rattle.dsl_tree.specs.WrittenFile.{same_place, signed, qualified_name}
 use Rattle.dsl_tree.proofs.Tests.{is_whole, right_of, is_not}
 use Rattle.dsl_tree.proofs.WrittenRows.{at_lower, suffix_tail, or_written, and_written, sum_written, product_written, post_written, path_written, further_tail}
-use Rattle.dsl_tree.proofs.PartTrees.{Made, Choice, choice_forest, is_only, Another, Factor, Offset, MoreItems, MoreMembers, Invoked, InOrder, Pause, Labelled, Unlabelled, High, Items, at_level, dash, Tree, forest_of}
+use Rattle.dsl_tree.proofs.PartTrees.{Made, Choice, choice_forest, is_only, OfType, With, Another, Factor, Offset, MoreItems, MoreMembers, Invoked, InOrder, Pause, Labelled, Unlabelled, High, Items, at_level, dash, Tree, forest_of}
 use Rattle.dsl_tree.proofs.WholeForests.{whole_lifted}
 
 -- names and numbers, and what their tokens hold
@@ -99,7 +99,7 @@ lower l t = go (nat_lt (level t) (suc l)) refl
 
 -- the tree that is made from a row
 abbrev pub makes : (p : Part) (choice : Choice (rules p)) → Made p (choice_forest (rules p) choice)
-makes Part.File (is, (ds, (end, u))) = (record { imports = is; decls = ds; end = end.0 }, λ h. refl)
+makes Part.File (is, (ms, (ds, (end, u)))) = (record { imports = is; modifiers = ms; decls = ds; end = end.0 }, λ h. refl)
 makes Part.Imports (inl u) = ([], λ h. refl)
 makes Part.Imports (inr (i, (is, u))) = (i ∷ is, λ h. refl)
 makes Part.Import (word, (i, u)) = (i, λ h. refl)
@@ -107,6 +107,17 @@ makes Part.ImportRest (inl (text, u)) = (Import.Named text.0 text.1, λ h. refl)
 makes Part.ImportRest (inr (name, (names, u))) = (Import.Dotted (named name ∷ names), λ h. refl)
 makes Part.DottedNames (inl u) = ([], λ h. refl)
 makes Part.DottedNames (inr (dot, (name, (rest, u)))) = (named name ∷ rest, λ h. refl)
+makes Part.Modifiers (inl u) = ([], λ h. refl)
+makes Part.Modifiers (inr (d, (ds, u))) = (d ∷ ds, λ h. refl)
+makes Part.ModifierDeclaration (word, (name, (colon, (line, (wider, (p, (ps, u))))))) =
+    (record { place = word.0; name = named name; parts = p ∷ ps }, λ h. refl)
+makes Part.ModifierPart (inl (name, (OfType of, u))) = (Parameter (named name) of, λ h. refl)
+makes Part.ModifierPart (inl (name, (With args, u))) = (Application (record { name = named name; arguments = args }), λ h. refl)
+makes Part.ModifierPart (inr (r, u)) = (ModifierRule r, λ h. refl)
+makes Part.NamedPart (inl (colon, (of, u))) = (OfType (named of), λ h. refl)
+makes Part.NamedPart (inr (opens, (args, u))) = (With args, λ h. refl)
+makes Part.ModifierPartsTail (inl u) = ([], λ h. refl)
+makes Part.ModifierPartsTail (inr (p, (ps, u))) = (p ∷ ps, λ h. refl)
 makes Part.Declarations (inl u) = ([], λ h. refl)
 makes Part.Declarations (inr (d, (ds, u))) = (d ∷ ds, λ h. refl)
 makes Part.Declaration (inl (word, (name, (is_word, (si, (opens, (b, (rest, u)))))))) =
@@ -219,7 +230,7 @@ makes Part.InvocationArguments (inr (args, u)) = (args.0 ∷ args.1, λ h. refl)
 makes Part.InvocationEnd (inl row) = ([], λ h. refl)
 makes Part.InvocationEnd (inr (with_word, (colon, (line, (wider, (p, (rest, u))))))) = (p ∷ rest, λ h. refl)
 makes Part.InvocationPart (inl (r, u)) = (RulePart r, λ h. refl)
-makes Part.InvocationPart (inr (name, (opens, (args, u)))) = (ModifierPart (record { name = named name; arguments = args.0 ∷ args.1 }), λ h. refl)
+makes Part.InvocationPart (inr (name, (opens, (args, u)))) = (ModifierPart (record { name = named name; arguments = args }), λ h. refl)
 makes Part.PartsTail (inl u) = ([], λ h. refl)
 makes Part.PartsTail (inr (p, (rest, u))) = (p ∷ rest, λ h. refl)
 makes Part.Arguments (inl (e, (rest, u))) = ((argument None e, rest), λ h. refl)
@@ -388,7 +399,7 @@ product_sign place operator part rest fit w = absurd (is_not Part.ProductTail (f
 
 -- the row of each tree
 pub cut : (p : Part) (t : Tree p) → IsOf p (forest_of p t) → is_whole (forest_of p t) ≡ true → Cut p t
-cut Part.File f fit w = ((f.imports, (f.decls, ((f.end, tt), tt))), refl, refl, w)
+cut Part.File f fit w = ((f.imports, (f.modifiers, (f.decls, ((f.end, tt), tt)))), refl, refl, w)
 cut Part.Imports [] fit w = (inl tt, refl, refl, w)
 cut Part.Imports (i ∷ is) fit w = (inr (i, (is, tt)), refl, refl, w)
 cut Part.Import i fit w = ((tt, (i, tt)), refl, refl, w)
@@ -397,6 +408,18 @@ cut Part.ImportRest (Import.Dotted []) fit w = absurd (false≢true w)
 cut Part.ImportRest (Import.Dotted (name ∷ names)) fit w = (inr (held name, (names, (tt, tt))), refl, refl, w)
 cut Part.DottedNames [] fit w = (inl tt, refl, refl, w)
 cut Part.DottedNames (name ∷ names) fit w = (inr (tt, (held name, (names, tt))), refl, refl, w)
+cut Part.Modifiers [] fit w = (inl tt, refl, refl, w)
+cut Part.Modifiers (d ∷ ds) fit w = (inr (d, (ds, tt)), refl, refl, w)
+cut Part.ModifierDeclaration d fit w =
+    by_items (λ parts. WholeCut Part.ModifierDeclaration (record d { parts = parts })) (λ w. absurd (false≢true w))
+    (λ p rest w. (((d.place, tt), (held d.name, (tt, (tt, (tt, (p, (rest, (tt, tt)))))))), refl, refl, w)) d.parts w
+cut Part.ModifierPart (Parameter name of) fit w = (inl (held name, (OfType of, tt)), refl, refl, w)
+cut Part.ModifierPart (ModifierRule r) fit w = (inr (r, tt), refl, refl, w)
+cut Part.ModifierPart (Application m) fit w = (inl (held m.name, (With m.arguments, tt)), refl, refl, w)
+cut Part.NamedPart (OfType of) fit w = (inl (tt, (held of, (tt, tt))), refl, refl, w)
+cut Part.NamedPart (With args) fit w = (inr (tt, (args, (tt, tt))), refl, refl, w)
+cut Part.ModifierPartsTail [] fit w = (inl tt, refl, refl, w)
+cut Part.ModifierPartsTail (p ∷ ps) fit w = (inr (p, (ps, tt)), refl, refl, w)
 cut Part.Declarations [] fit w = (inl tt, refl, refl, w)
 cut Part.Declarations (d ∷ ds) fit w = (inr (d, (ds, tt)), refl, refl, w)
 cut Part.Declaration (TypeDeclaration d) fit w =
@@ -518,9 +541,7 @@ cut Part.InvocationArguments (a ∷ rest) fit w = (inr ((a, rest), tt), refl, re
 cut Part.InvocationEnd [] fit w = (inl (tt, tt), refl, refl, w)
 cut Part.InvocationEnd (p ∷ rest) fit w = (inr (tt, (tt, (tt, (tt, (p, (rest, (tt, tt))))))), refl, refl, w)
 cut Part.InvocationPart (RulePart r) fit w = (inl (r, tt), refl, refl, w)
-cut Part.InvocationPart (ModifierPart m) fit w =
-    by_items (λ arguments. WholeCut Part.InvocationPart (ModifierPart (record m { arguments = arguments }))) (λ w. absurd (false≢true w))
-    (λ a rest w. (inr (held m.name, (tt, ((a, rest), (tt, tt)))), refl, refl, w)) m.arguments w
+cut Part.InvocationPart (ModifierPart m) fit w = (inr (held m.name, (tt, (m.arguments, (tt, tt)))), refl, refl, w)
 cut Part.PartsTail [] fit w = (inl tt, refl, refl, w)
 cut Part.PartsTail (p ∷ rest) fit w = (inr (p, (rest, tt)), refl, refl, w)
 cut Part.Arguments args fit w = argument_cut args.0.name args.0.value args.1 w

@@ -20,11 +20,12 @@ passes test (p ∷ parts) (suc n) f h = passes test parts n f (right_of (test p)
 
 abbrev pub parts : List Part
 parts =
-    Part.File ∷ Part.Imports ∷ Part.Import ∷ Part.ImportRest ∷ Part.DottedNames ∷ Part.Declarations ∷ Part.Declaration ∷ Part.BasesTail
-    ∷ Part.UnitTail ∷ Part.UnitMore ∷ Part.FactorTail ∷ Part.Base ∷ Part.OptionalDash ∷ Part.Signed ∷ Part.EnumItems ∷ Part.EnumItem ∷ Part.ItemNumber
-    ∷ Part.ItemsTail ∷ Part.QualifiedName ∷ Part.SecondName ∷ Part.OptionalHeir ∷ Part.HeirCondition ∷ Part.ConditionValue ∷ Part.EnumMember
-    ∷ Part.Body ∷ Part.Block ∷ Part.ExtensionRest ∷ Part.MembersTail ∷ Part.Member ∷ Part.NamesTail ∷ Part.FieldType ∷ Part.Initial ∷ Part.FieldEnd
-    ∷ Part.RulesTail ∷ Part.Rule ∷ Part.KeepKind ∷ Part.Path ∷ Part.SuffixesTail ∷ Part.Suffix ∷ Part.Phase ∷ Part.PhaseAfterName ∷ Part.LabelledPhase
+    Part.File ∷ Part.Imports ∷ Part.Import ∷ Part.ImportRest ∷ Part.DottedNames ∷ Part.Modifiers ∷ Part.ModifierDeclaration ∷ Part.ModifierPart
+    ∷ Part.NamedPart ∷ Part.ModifierPartsTail ∷ Part.Declarations ∷ Part.Declaration ∷ Part.BasesTail ∷ Part.UnitTail ∷ Part.UnitMore
+    ∷ Part.FactorTail ∷ Part.Base ∷ Part.OptionalDash ∷ Part.Signed ∷ Part.EnumItems ∷ Part.EnumItem ∷ Part.ItemNumber ∷ Part.ItemsTail
+    ∷ Part.QualifiedName ∷ Part.SecondName ∷ Part.OptionalHeir ∷ Part.HeirCondition ∷ Part.ConditionValue ∷ Part.EnumMember ∷ Part.Body ∷ Part.Block
+    ∷ Part.ExtensionRest ∷ Part.MembersTail ∷ Part.Member ∷ Part.NamesTail ∷ Part.FieldType ∷ Part.Initial ∷ Part.FieldEnd ∷ Part.RulesTail
+    ∷ Part.Rule ∷ Part.KeepKind ∷ Part.Path ∷ Part.SuffixesTail ∷ Part.Suffix ∷ Part.Phase ∷ Part.PhaseAfterName ∷ Part.LabelledPhase
     ∷ Part.Composition ∷ Part.CompositionArguments ∷ Part.PhasesTail ∷ Part.Wait ∷ Part.InvocationRest ∷ Part.InvocationArguments ∷ Part.InvocationEnd
     ∷ Part.InvocationPart ∷ Part.PartsTail ∷ Part.Arguments ∷ Part.ArgumentsTail ∷ Part.NamedTail ∷ Part.Expr ∷ Part.ImpliesTail ∷ Part.Or
     ∷ Part.OrTail ∷ Part.And ∷ Part.AndTail ∷ Part.Not ∷ Part.Relation ∷ Part.RelationTail ∷ Part.Sum ∷ Part.SumTail ∷ Part.Product ∷ Part.ProductTail

@@ -9,7 +9,7 @@ use Rattle.dsl_tree.specs.Codes.{code, has}
 use Rattle.dsl_tree.specs.Grammar.{Part, Symbol, rules, Seen, Bare, Of}
 use Rattle.dsl_tree.specs.Forest.{Forest, nil, seen, bare, sub, wrong, Spells, AnyRule, Follows, IsOf}
 use Rattle.dsl_tree.specs.FileTree.{FileTree}
-use Rattle.dsl_tree.specs.WrittenFile.{file, imports, declarations}
+use Rattle.dsl_tree.specs.WrittenFile.{file, imports, modifiers, declarations}
 use Rattle.dsl_tree.specs.Language.{is_end, Ended, Spelled, IsViable, fault_code, TreeOrFault, OneFirstFault}
 use Rattle.dsl_tree.proofs.Tests.{left_of, right_of}
 use Rattle.dsl_tree.proofs.EachPart.{each_part}
@@ -90,9 +90,10 @@ pub spelled_ended : (tree : FileTree) (tokens : List Token) → Spelled tree tok
 spelled_ended tree tokens s = go s.follows s.spells
   where
     go : IsOf Part.File (file tree) → Spells (file tree) tokens [] → Ended tokens
-    go (inl (is, (is', end))) (m, s, (m', s', last)) =
+    go (inl (is, (is', (is'', end)))) (m, s, (m', s', (m'', s'', last))) =
         ended_before (imports tree.imports) tokens m (part_endless Part.Imports (imports tree.imports) refl is) s
-        (ended_before (declarations tree.decls) m m' (part_endless Part.Declarations (declarations tree.decls) refl is') s' (end_token tree.end m' last))
+        (ended_before (modifiers tree.modifiers) m m' (part_endless Part.Modifiers (modifiers tree.modifiers) refl is') s'
+        (ended_before (declarations tree.decls) m' m'' (part_endless Part.Declarations (declarations tree.decls) refl is'') s'' (end_token tree.end m'' last)))
     go (inr none) _ = absurd none
 
 -- nothing stands after an ended list that is ended as well
@@ -112,9 +113,9 @@ nowhere = record { file = 0; line = 0; column = 0; token = 0 }
 
 nothing_viable : IsViable []
 nothing_viable = record {
-  tree = record { imports = []; decls = []; end = nowhere };
+  tree = record { imports = []; modifiers = []; decls = []; end = nowhere };
   back = record { place = nowhere; kind = TokenKind.End } ∷ [];
-  spelled = record { follows = inl (inl tt, (inl tt, (refl, tt))); spells = (_, refl, (_, refl, (refl, refl, refl))) };
+  spelled = record { follows = inl (inl tt, (inl tt, (inl tt, (refl, tt)))); spells = (_, refl, (_, refl, (_, refl, (refl, refl, refl)))) };
 }
 
 -- a viable list that is ended spells a tree

@@ -11,6 +11,7 @@ use Rattle.dsl_tree.specs.declared.rules.RuleDecl.{RuleDecl}
 use Rattle.dsl_tree.specs.declared.rules.PathHead.{PathHead}
 use Rattle.dsl_tree.specs.declared.rules.PathNode.{PathNode}
 use Rattle.dsl_tree.specs.declared.phases.Argument.{Argument}
+use Rattle.dsl_tree.specs.declared.phases.ModifierNode.{ModifierNode}
 use Rattle.dsl_tree.specs.declared.phases.InvokePart.{InvokePart}
 use Rattle.dsl_tree.specs.declared.phases.InvokeHead.{InvokeHead}
 use Rattle.dsl_tree.specs.declared.phases.CompNode.{CompNode}
@@ -24,18 +25,20 @@ use Rattle.dsl_tree.specs.declared.compounds.FieldDecl.{FieldDecl}
 use Rattle.dsl_tree.specs.declared.compounds.Member.{Member}
 use Rattle.dsl_tree.specs.declared.compounds.CompoundKind.{CompoundKind}
 use Rattle.dsl_tree.specs.declared.compounds.CompoundDecl.{CompoundDecl}
+use Rattle.dsl_tree.specs.declared.modifiers.ModifierPart.{ModifierPart}
+use Rattle.dsl_tree.specs.declared.modifiers.ModifierDecl.{ModifierDecl}
 use Rattle.dsl_tree.specs.declared.file.Declaration.{Declaration}
 use Rattle.dsl_tree.specs.declared.file.File.{File}
 use Rattle.dsl_tree.specs.ExprTree.{ExprTree}
-use Rattle.dsl_tree.specs.PhaseTree.{RuleTree, ArgumentTree, PartTree, PhaseTree, PhaseRow, row_of}
-use Rattle.dsl_tree.specs.FileTree.{FieldTree, MemberTree, CompoundTree, DeclarationTree, FileTree}
+use Rattle.dsl_tree.specs.PhaseTree.{RuleTree, ArgumentTree, ModifierTree, PartTree, PhaseTree, PhaseRow, row_of}
+use Rattle.dsl_tree.specs.FileTree.{FieldTree, MemberTree, CompoundTree, DeclarationTree, ModifierPartTree, ModifierDeclTree, FileTree}
 use Rattle.dsl_tree.specs.Forest.{Forest, nil, sub, wrong}
 use Rattle.dsl_tree.specs.Written as Written
 use Rattle.dsl_tree.specs.Written.{expr, path, path_front, next_name, next_index}
 use Rattle.dsl_tree.specs.WrittenPhases.{by_option, keep_kind, rule, rules_tail, named_argument, named_tail, arguments_tail, arguments, dotted_names, invocation_arguments, invocation_part, parts_tail, invocation_end, invocation_rest, composition_arguments, composition, wait, phase, block_phases, phases_tail}
-use Rattle.dsl_tree.specs.WrittenFile.{imports, initial, field_end, field_type, names_tail, field, member, members_tail, block, body, heading_rest, optional_heir, qualified_name, compound_heading, declaration, declarations, file}
+use Rattle.dsl_tree.specs.WrittenFile.{imports, initial, field_end, field_type, names_tail, field, member, members_tail, block, body, heading_rest, optional_heir, qualified_name, compound_heading, declaration, declarations, modifier_part, modifier_parts_tail, modifier_block, modifier_declaration, modifiers, file}
 use Rattle.dsl_tree.specs.Views as Views
-use Rattle.dsl_tree.specs.Views.{SuffixTree, Named, At, with_suffixes, expr_tree, suffix_tree, head_tree, path_tree, rule_tree, argument_tree, part_tree, phase_tree, comp_tree, field_tree, member_tree, compound_tree, declaration_tree, file_tree}
+use Rattle.dsl_tree.specs.Views.{SuffixTree, Named, At, with_suffixes, expr_tree, suffix_tree, head_tree, path_tree, rule_tree, argument_tree, modifier_tree, part_tree, phase_tree, comp_tree, field_tree, member_tree, compound_tree, declaration_tree, modifier_part_tree, modifier_decl_tree, file_tree}
 use Rattle.dsl_tree.proofs.Tests.{is_whole, left_of, right_of}
 use Rattle.dsl_tree.proofs.WholeForests.{path_head_whole, front_whole, head_whole, label_whole}
 use Rattle.dsl_tree.proofs.WrittenRows.{suffix_tail, front_of_row, path_of_row}
@@ -198,17 +201,26 @@ each_composed (a ∷ others) h = each_argument (a ∷ others) (left_of _ _ h)
 
 -- Phases
 
+abbrev pub modifier_value : ModifierTree → ModifierNode
+modifier_value m = record { name = m.name; arguments = map argument_value m.arguments }
+
+modifier_back : (m : ModifierNode) → Whole invocation_arguments (map argument_tree m.arguments) → modifier_value (modifier_tree m) ≡ m
+modifier_back m h = ap (λ (x : List Argument). record { name = m.name; arguments = x }) (values_back GoodArgument argument_tree argument_value argument_back m.arguments (each_invoked (map argument_tree m.arguments) h))
+
+modifier_tree_back : (m : ModifierTree) → Whole invocation_arguments m.arguments → modifier_tree (modifier_value m) ≡ m
+modifier_tree_back m h = ap (λ (x : List ArgumentTree). record { name = m.name; arguments = x }) (trees_back GoodArgument argument_tree argument_value argument_tree_back m.arguments (each_invoked m.arguments h))
+
 abbrev pub part_value : PartTree → InvokePart
 part_value (PartTree.RulePart r) = InvokePart.Rule (rule_value r)
-part_value (PartTree.ModifierPart m) = InvokePart.Modifier (record { name = m.name; arguments = map argument_value m.arguments })
+part_value (PartTree.ModifierPart m) = InvokePart.Modifier (modifier_value m)
 
 part_back : (p : InvokePart) → Whole invocation_part (part_tree p) → part_value (part_tree p) ≡ p
 part_back (InvokePart.Rule r) h = ap InvokePart.Rule (rule_back r (left_of _ _ h))
-part_back (InvokePart.Modifier m) h = ap (λ (x : List Argument). InvokePart.Modifier (record { name = m.name; arguments = x })) (values_back GoodArgument argument_tree argument_value argument_back m.arguments (each_argument (map argument_tree m.arguments) (left_of _ _ h)))
+part_back (InvokePart.Modifier m) h = ap InvokePart.Modifier (modifier_back m (left_of _ _ h))
 
 part_tree_back : (p : PartTree) → Whole invocation_part p → part_tree (part_value p) ≡ p
 part_tree_back (PartTree.RulePart r) h = ap PartTree.RulePart (rule_tree_back r (left_of _ _ h))
-part_tree_back (PartTree.ModifierPart m) h = ap (λ (x : List ArgumentTree). PartTree.ModifierPart (record { name = m.name; arguments = x })) (trees_back GoodArgument argument_tree argument_value argument_tree_back m.arguments (each_argument m.arguments (left_of _ _ h)))
+part_tree_back (PartTree.ModifierPart m) h = ap PartTree.ModifierPart (modifier_tree_back m (left_of _ _ h))
 
 each_part : (ps : List PartTree) → Whole invocation_end ps → Each (Whole invocation_part) ps
 each_part = each_row invocation_part invocation_end parts_tail (λ p ps. refl) (λ p ps. refl)
@@ -358,7 +370,7 @@ each_of_body : (ms : List MemberTree) → Whole body ms → Each (Whole member) 
 each_of_body [] h = tt
 each_of_body (m ∷ ms) h = each_member (m ∷ ms) (left_of _ _ h)
 
--- Declarations and files
+-- Declarations
 
 abbrev pub compound_value : CompoundTree → CompoundDecl
 compound_value c = record { place = c.place; kind = c.kind; name = c.name; heir = c.heir; members = map member_value c.members }
@@ -398,16 +410,62 @@ declaration_tree_back (DeclarationTree.MemberExtension e) h =
     (trees_back (Whole member) member_tree member_value member_tree_back e.members (extension_whole e.name e.members nil h))
 declaration_tree_back _ h = refl
 
+-- Modifiers
+
+abbrev pub modifier_part_value : ModifierPartTree → ModifierPart
+modifier_part_value (ModifierPartTree.Parameter name of) = ModifierPart.Parameter name of
+modifier_part_value (ModifierPartTree.ModifierRule r) = ModifierPart.Rule (rule_value r)
+modifier_part_value (ModifierPartTree.Application m) = ModifierPart.Apply (modifier_value m)
+
+modifier_part_back : (p : ModifierPart) → Whole modifier_part (modifier_part_tree p) → modifier_part_value (modifier_part_tree p) ≡ p
+modifier_part_back (ModifierPart.Parameter name of) h = refl
+modifier_part_back (ModifierPart.Rule r) h = ap ModifierPart.Rule (rule_back r (left_of _ _ h))
+modifier_part_back (ModifierPart.Apply m) h = ap ModifierPart.Apply (modifier_back m (left_of _ _ (left_of _ _ h)))
+
+modifier_part_tree_back : (p : ModifierPartTree) → Whole modifier_part p → modifier_part_tree (modifier_part_value p) ≡ p
+modifier_part_tree_back (ModifierPartTree.Parameter name of) h = refl
+modifier_part_tree_back (ModifierPartTree.ModifierRule r) h = ap ModifierPartTree.ModifierRule (rule_tree_back r (left_of _ _ h))
+modifier_part_tree_back (ModifierPartTree.Application m) h = ap ModifierPartTree.Application (modifier_tree_back m (left_of _ _ (left_of _ _ h)))
+
+each_modifier_part : (ps : List ModifierPartTree) → Whole modifier_block ps → Each (Whole modifier_part) ps
+each_modifier_part = each_row modifier_part modifier_block modifier_parts_tail (λ p ps. refl) (λ p ps. refl)
+
+abbrev pub modifier_decl_value : ModifierDeclTree → ModifierDecl
+modifier_decl_value d = record { place = d.place; name = d.name; parts = map modifier_part_value d.parts }
+
+modifier_decl_back : (d : ModifierDecl) → Whole modifier_declaration (modifier_decl_tree d) → modifier_decl_value (modifier_decl_tree d) ≡ d
+modifier_decl_back d h =
+    ap (λ (ps : List ModifierPart). record { place = d.place; name = d.name; parts = ps })
+    (values_back (Whole modifier_part) modifier_part_tree modifier_part_value modifier_part_back d.parts (each_modifier_part (map modifier_part_tree d.parts) h))
+
+modifier_decl_tree_back : (d : ModifierDeclTree) → Whole modifier_declaration d → modifier_decl_tree (modifier_decl_value d) ≡ d
+modifier_decl_tree_back d h =
+    ap (λ (ps : List ModifierPartTree). record { place = d.place; name = d.name; parts = ps })
+    (trees_back (Whole modifier_part) modifier_part_tree modifier_part_value modifier_part_tree_back d.parts (each_modifier_part d.parts h))
+
+-- Files
+
+each_modifier : (t : FileTree) → is_whole (file t) ≡ true → Each (Whole modifier_declaration) t.modifiers
+each_modifier t h = each_row modifier_declaration modifiers modifiers (λ d ds. refl) (λ d ds. refl) t.modifiers (left_of _ _ (right_of (is_whole (imports t.imports)) _ h))
+
 each_declaration : (t : FileTree) → is_whole (file t) ≡ true → Each (Whole declaration) t.decls
-each_declaration t h = each_row declaration declarations declarations (λ d ds. refl) (λ d ds. refl) t.decls (left_of _ _ (right_of (is_whole (imports t.imports)) _ h))
+each_declaration t h =
+    each_row declaration declarations declarations (λ d ds. refl) (λ d ds. refl) t.decls
+    (left_of _ _ (right_of (is_whole (modifiers t.modifiers)) _ (right_of (is_whole (imports t.imports)) _ h)))
 
 unfoldable pub file_value : FileTree → File
-file_value f = record { imports = f.imports; decls = map declaration_value f.decls; end = f.end }
+file_value f = record { imports = f.imports; modifiers = map modifier_decl_value f.modifiers; decls = map declaration_value f.decls; end = f.end }
 
 pub file_back_value : (f : File) → is_whole (file (file_tree f)) ≡ true → file_value (file_tree f) ≡ f
 unfolding file_value
-file_back_value f h = ap (λ (ds : List Declaration). record { imports = f.imports; decls = ds; end = f.end }) (values_back (Whole declaration) declaration_tree declaration_value declaration_back f.decls (each_declaration (file_tree f) h))
+file_back_value f h =
+    ap₂ (λ (ms : List ModifierDecl) (ds : List Declaration). record { imports = f.imports; modifiers = ms; decls = ds; end = f.end })
+    (values_back (Whole modifier_declaration) modifier_decl_tree modifier_decl_value modifier_decl_back f.modifiers (each_modifier (file_tree f) h))
+    (values_back (Whole declaration) declaration_tree declaration_value declaration_back f.decls (each_declaration (file_tree f) h))
 
 pub file_tree_back : (t : FileTree) → is_whole (file t) ≡ true → file_tree (file_value t) ≡ t
 unfolding file_value
-file_tree_back t h = ap (λ (ds : List DeclarationTree). record { imports = t.imports; decls = ds; end = t.end }) (trees_back (Whole declaration) declaration_tree declaration_value declaration_tree_back t.decls (each_declaration t h))
+file_tree_back t h =
+    ap₂ (λ (ms : List ModifierDeclTree) (ds : List DeclarationTree). record { imports = t.imports; modifiers = ms; decls = ds; end = t.end })
+    (trees_back (Whole modifier_declaration) modifier_decl_tree modifier_decl_value modifier_decl_tree_back t.modifiers (each_modifier t h))
+    (trees_back (Whole declaration) declaration_tree declaration_value declaration_tree_back t.decls (each_declaration t h))

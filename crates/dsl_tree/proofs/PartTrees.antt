@@ -20,16 +20,21 @@ use Rattle.dsl_tree.specs.declared.token.TokenKind.{TokenKind}
 use Rattle.dsl_tree.specs.Codes.{code, has, factor_text}
 use Rattle.dsl_tree.specs.ExprTree.{ExprTree, ExprRow}
 use Rattle.dsl_tree.specs.PhaseTree.{RuleTree, ArgumentTree, PartTree, PhaseTree, PhaseRow}
-use Rattle.dsl_tree.specs.FileTree.{MemberTree, DeclarationTree, FileTree}
+use Rattle.dsl_tree.specs.FileTree.{MemberTree, DeclarationTree, ModifierPartTree, ModifierDeclTree, FileTree}
 use Rattle.dsl_tree.specs.Views.{FurtherTree, SuffixTree}
 use Rattle.dsl_tree.specs.Grammar.{Part, Symbol, Seen, Bare, Of, rules}
 use Rattle.dsl_tree.specs.Forest.{Forest, nil, seen, bare, sub}
 use Rattle.dsl_tree.specs.Written.{mark, mark_at, ident, sign_kind, at, written, listed_tail, expr, path}
 use Rattle.dsl_tree.specs.WrittenPhases.{newline, by_option, keep_kind, rule, rules_tail, named_tail, arguments_tail, arguments, dotted_names, invocation_arguments, invocation_part, parts_tail, invocation_end, invocation_rest, labelled_invocation, composition_arguments, composition, wait, block_phases, phase, phases_tail}
-use Rattle.dsl_tree.specs.WrittenFile.{import_rest, import_of, imports, known_name, signed, base, bases_tail, offset_end, factor_tail, unit_end, unit_tail, item_number, enum_item, items_tail, enum_items, second_name, qualified_name, condition_value, heir_condition, optional_heir, names_tail, field_type, initial, field_end, member, members_tail, block, body, declaration, declarations, file}
+use Rattle.dsl_tree.specs.WrittenFile.{import_rest, import_of, imports, known_name, signed, base, bases_tail, offset_end, factor_tail, unit_end, unit_tail, item_number, enum_item, items_tail, enum_items, second_name, qualified_name, condition_value, heir_condition, optional_heir, names_tail, field_type, initial, field_end, member, members_tail, block, body, declaration, declarations, modifier_part, modifier_parts_tail, modifier_declaration, modifiers, file}
 use Rattle.dsl_tree.proofs.Tests.{any_rule, is_whole}
 use Rattle.dsl_tree.proofs.WrittenRows.{further_tail, suffix_tail}
 use Rattle.dsl_tree.proofs.Classes.{Class, Names, Numbers, Physicals, Texts, LeftOuts, Plain, AnyOf, kind_any, classes, seen_class, bare_class}
+
+-- a part of a modifier after its name
+pub data NamedTree : Type 0 where
+  OfType : (of : Ident) → NamedTree
+  With : (arguments : List ArgumentTree) → NamedTree
 
 -- a list with one item at least
 abbrev pub OneOrMore : Type 0 → Type 0
@@ -75,6 +80,10 @@ pub data Bracket : Type 0 where
   Items : (items : ExprRow) → Bracket
 
 -- Parts that aren't written by a definition of their own
+
+abbrev pub named_part : NamedTree → Forest
+named_part (OfType of) = mark MarkKind.Colon (ident of (newline nil))
+named_part (With arguments) = mark MarkKind.OpenRound (sub (invocation_arguments arguments) (newline nil))
 
 abbrev pub unit_parts : UnitParts → Forest
 unit_parts u = unit_tail u.0 (unit_end u.1 u.2)
@@ -133,6 +142,11 @@ spelling Part.Imports = (List Import, imports)
 spelling Part.Import = (Import, import_of)
 spelling Part.ImportRest = (Import, import_rest)
 spelling Part.DottedNames = (List Ident, dotted_names)
+spelling Part.Modifiers = (List ModifierDeclTree, modifiers)
+spelling Part.ModifierDeclaration = (ModifierDeclTree, modifier_declaration)
+spelling Part.ModifierPart = (ModifierPartTree, modifier_part)
+spelling Part.NamedPart = (NamedTree, named_part)
+spelling Part.ModifierPartsTail = (List ModifierPartTree, modifier_parts_tail)
 spelling Part.Declarations = (List DeclarationTree, declarations)
 spelling Part.Declaration = (DeclarationTree, declaration)
 spelling Part.BasesTail = (List BasePart, bases_tail)

@@ -11,7 +11,7 @@ use Rattle.dsl_tree.specs.Written.{expr}
 use Rattle.dsl_tree.specs.WrittenPhases.{phase}
 use Rattle.dsl_tree.specs.WrittenFile.{file, base, signed}
 use Rattle.dsl_tree.specs.Language.{Spelled, IsViable}
-use Rattle.dsl_tree.specs.Examples.{at, tokens_from, scenario_front, scenario_back, scenario_tree, levels_tokens, levels_tree, sum_tokens, sum_tree, units_tokens, units_tree, phase_tokens, phase_tree, empty_sum, sum_in_product, large_exponent, two_places}
+use Rattle.dsl_tree.specs.Examples.{at, tokens_from, scenario_front, scenario_back, scenario_tree, levels_tokens, levels_tree, sum_tokens, sum_tree, units_tokens, units_tree, modifier_tokens, modifier_file, phase_tokens, phase_tree, empty_sum, sum_in_product, large_exponent, two_places}
 use Rattle.dsl_tree.proofs.Tests.{Is-follows, Spells-tokens_of}
 use Rattle.dsl_tree.proofs.Seen.{seen_sum, seen_number, seen_further}
 
@@ -36,6 +36,9 @@ sum_spelled = Spells-tokens_of at (expr sum_tree) 0 [] refl
 
 units : Spelled units_tree (tokens_from 0 units_tokens)
 units = record { follows = Is-follows Part.File (file units_tree) refl; spells = Spells-tokens_of at (file units_tree) 0 [] refl }
+
+modifier : Spelled modifier_file (tokens_from 0 modifier_tokens)
+modifier = record { follows = Is-follows Part.File (file modifier_file) refl; spells = Spells-tokens_of at (file modifier_file) 0 [] refl }
 
 phase_is : IsOf Part.Phase (phase phase_tree)
 phase_is = Is-follows Part.Phase (phase phase_tree) refl

@@ -50,18 +50,20 @@ past_mark {codes = codes} {ss = ss} {ts = ts} {t = t} {rest = rest} {left = left
 
 -- When nothing stands before the declarations
 
-abbrev behind_imports : List Symbol
-behind_imports = Of Part.Declarations ∷ Seen (code TokenKind.End ∷ []) ∷ []
+abbrev behind_modifiers : List Symbol
+behind_modifiers = Of Part.Declarations ∷ Seen (code TokenKind.End ∷ []) ∷ []
 
-no_imports : (ts : List Token) (left : ℕ) → Stops (first Part.Imports) ts → RowFault behind_imports ts left → PartFault Part.File ts left
-no_imports ts left stop fault = only refl (past {a = nil} refl (record { whole = inl tt; stop = stop; spells = refl }) fault)
+nothing_before : (ts : List Token) (left : ℕ) → Stops (first Part.Imports) ts → Stops (first Part.Modifiers) ts → RowFault behind_modifiers ts left → PartFault Part.File ts left
+nothing_before ts left stop stop' fault =
+    only refl (past {a = nil} refl (record { whole = inl tt; stop = stop; spells = refl })
+    (past {a = nil} refl (record { whole = inl tt; stop = stop'; spells = refl }) fault))
 
 -- `cover`, a word that is left out
 
 left_out : (fault : Fault) → fault.place ≡ at 0 → fault.code ≡ FaultCode.LeftOut → FirstFault (tokens_from 0 left_out_tokens) fault
 left_out fault place number =
     first_fault_at (tokens_from 0 left_out_tokens) 2
-    (no_imports (tokens_from 0 left_out_tokens) 2 refl
+    (nothing_before (tokens_from 0 left_out_tokens) 2 refl refl
     (past {a = nil} refl (record { whole = inl tt; stop = refl; spells = refl }) (wrong_seen (code TokenKind.End ∷ []) [] (tokens_from 0 left_out_tokens) 2 refl (misfit refl))))
     fault (record { place = at 0; kind = TokenKind.LeftOut ExcludedWord.CoverWord }) (tokens_from 1 (TokenKind.End ∷ [])) refl place number
 
@@ -69,7 +71,7 @@ left_out fault place number =
 in_scenario : (ts : List Token) (left : ℕ) → RowFault (Of Part.QualifiedName ∷ Of Part.OptionalHeir ∷ Of Part.Body ∷ []) ts left
     → PartFault Part.File (record { place = at 0; kind = TokenKind.Word WordKind.ScenarioWord } ∷ ts) left
 in_scenario ts left fault =
-    no_imports (record { place = at 0; kind = TokenKind.Word WordKind.ScenarioWord } ∷ ts) left refl
+    nothing_before (record { place = at 0; kind = TokenKind.Word WordKind.ScenarioWord } ∷ ts) left refl refl
     (into refl (chosen (inr (inl refl)) refl refl (into refl (chosen (inr (inr (inr (inr (inl refl))))) refl refl (past_placed (taken refl) fault)))))
 
 -- a scenario without a name: the fault is at its colon

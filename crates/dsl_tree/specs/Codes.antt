@@ -109,6 +109,7 @@ word_code WordKind.OrWord = 78
 word_code WordKind.NotWord = 79
 word_code WordKind.TrueWord = 80
 word_code WordKind.FalseWord = 81
+word_code WordKind.ModifierWord = 82
 
 abbrev pub code : TokenKind → ℕ
 code TokenKind.Newline = 0

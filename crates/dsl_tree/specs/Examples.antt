@@ -17,7 +17,7 @@ use Rattle.dsl_tree.specs.declared.rules.KeepKind.{KeepKind}
 use Rattle.dsl_tree.specs.declared.compounds.CompoundKind.{CompoundKind}
 use Rattle.dsl_tree.specs.ExprTree.{ExprTree}
 use Rattle.dsl_tree.specs.PhaseTree.{RuleTree, PartTree, PhaseTree, PhaseRow}
-use Rattle.dsl_tree.specs.FileTree.{MemberTree, DeclarationTree, FileTree}
+use Rattle.dsl_tree.specs.FileTree.{MemberTree, DeclarationTree, ModifierPartTree, FileTree}
 
 -- some place with this number of tokens before it
 abbrev pub at : ℕ → Place
@@ -57,6 +57,7 @@ scenario_back =
 abbrev pub scenario_tree : FileTree
 scenario_tree = record {
   imports = [];
+  modifiers = [];
   decls = DeclarationTree.CompoundDeclaration (record {
     place = at 0;
     kind = CompoundKind.Scenario;
@@ -120,6 +121,7 @@ base_at n text exponent = record { name = ident_at n text; exponent = exponent }
 abbrev pub units_tree : FileTree
 units_tree = record {
   imports = [];
+  modifiers = [];
   decls =
       DeclarationTree.TypeDeclaration (record {
         place = at 0;
@@ -136,6 +138,36 @@ units_tree = record {
       })
       ∷ [];
   end = at 36;
+}
+
+-- modifier m:
+--     n: speed
+--     keep(n == 1)
+--     lane()
+abbrev pub modifier_tokens : List TokenKind
+modifier_tokens =
+    TokenKind.Word WordKind.ModifierWord ∷ named (codes "m") ∷ TokenKind.Mark MarkKind.Colon ∷ TokenKind.Newline ∷ TokenKind.Indent
+    ∷ named (codes "n") ∷ TokenKind.Mark MarkKind.Colon ∷ named (codes "speed") ∷ TokenKind.Newline
+    ∷ TokenKind.Word WordKind.KeepWord ∷ TokenKind.Mark MarkKind.OpenRound ∷ named (codes "n") ∷ TokenKind.Mark MarkKind.Equal ∷ whole 1
+    ∷ TokenKind.Mark MarkKind.CloseRound ∷ TokenKind.Newline
+    ∷ named (codes "lane") ∷ TokenKind.Mark MarkKind.OpenRound ∷ TokenKind.Mark MarkKind.CloseRound ∷ TokenKind.Newline
+    ∷ TokenKind.Dedent ∷ TokenKind.End ∷ []
+
+abbrev pub modifier_file : FileTree
+modifier_file = record {
+  imports = [];
+  modifiers = record {
+    place = at 0;
+    name = ident_at 1 (codes "m");
+    parts =
+        ModifierPartTree.Parameter (ident_at 5 (codes "n")) (ident_at 7 (codes "speed"))
+        ∷ ModifierPartTree.ModifierRule (RuleTree.Keep (at 9) KeepKind.Plain
+        (ExprTree.Relation (at 12) RelationSign.Equal (ExprTree.Name (ident_at 11 (codes "n"))) (number_at 13 1)))
+        ∷ ModifierPartTree.Application (record { name = ident_at 16 (codes "lane"); arguments = [] })
+        ∷ [];
+  } ∷ [];
+  decls = [];
+  end = at 21;
 }
 
 -- a: one_of(1, n: 2):

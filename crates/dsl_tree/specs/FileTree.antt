@@ -12,7 +12,7 @@ use Rattle.dsl_tree.specs.declared.enums.EnumExtension.{EnumExtension as Extensi
 use Rattle.dsl_tree.specs.declared.compounds.CompoundKind.{CompoundKind}
 use Rattle.dsl_tree.specs.declared.compounds.Heir.{Heir}
 use Rattle.dsl_tree.specs.ExprTree.{ExprTree}
-use Rattle.dsl_tree.specs.PhaseTree.{RuleTree, PhaseTree}
+use Rattle.dsl_tree.specs.PhaseTree.{RuleTree, ModifierTree, PhaseTree}
 
 pub record FieldTree : Type 0 where
   pub names : List Ident
@@ -47,7 +47,19 @@ pub data DeclarationTree : Type 0 where
   MemberExtension : (extension : MoreTree) → DeclarationTree
   EnumExtension : (extension : Extension) → DeclarationTree
 
+-- a part of a modifier: a parameter with its type, a rule, or another modifier that is applied
+pub data ModifierPartTree : Type 0 where
+  Parameter : (name of : Ident) → ModifierPartTree
+  ModifierRule : (rule : RuleTree) → ModifierPartTree
+  Application : (modifier : ModifierTree) → ModifierPartTree
+
+pub record ModifierDeclTree : Type 0 where
+  pub place : Place
+  pub name : Ident
+  pub parts : List ModifierPartTree
+
 pub record FileTree : Type 0 where
   pub imports : List Import
+  pub modifiers : List ModifierDeclTree
   pub decls : List DeclarationTree
   pub end : Place

@@ -13,7 +13,7 @@ use Rattle.dsl_tree.specs.declared.token.TokenKind.{TokenKind}
 use Rattle.dsl_tree.specs.declared.token.MarkKind.{MarkKind}
 use Rattle.dsl_tree.specs.declared.token.MarkKind.TheVariants.{OpenRound, CloseRound, OpenSquare, CloseSquare, Colon, Comma, Dot, TwoDots, Assign, Equal, Differ, Below, AtMost, Above, AtLeast, Arrow, Plus, Dash, Star, Slash, Bang}
 use Rattle.dsl_tree.specs.declared.token.WordKind.{WordKind}
-use Rattle.dsl_tree.specs.declared.token.WordKind.TheVariants.{ImportWord, TypeWord, UnitWord, IsWord, OfWord, EnumWord, StructWord, ActorWord, ActionWord, ScenarioWord, InheritsWord, ExtendWord, ListWord, KeepWord, HardWord, DefaultWord, RemoveDefaultWord, DoWord, SerialWord, ParallelWord, OneOfWord, WaitWord, ElapsedWord, WithWord, ItWord, InWord, RangeWord, AndWord, OrWord, NotWord, TrueWord, FalseWord}
+use Rattle.dsl_tree.specs.declared.token.WordKind.TheVariants.{ImportWord, TypeWord, UnitWord, IsWord, OfWord, EnumWord, StructWord, ActorWord, ActionWord, ScenarioWord, InheritsWord, ExtendWord, ListWord, KeepWord, HardWord, DefaultWord, RemoveDefaultWord, DoWord, SerialWord, ParallelWord, OneOfWord, WaitWord, ElapsedWord, WithWord, ItWord, InWord, RangeWord, AndWord, OrWord, NotWord, TrueWord, FalseWord, ModifierWord}
 use Rattle.dsl_tree.specs.Codes.{code, mark_code, word_code, si_name, factor_name, offset_name, other_name, small_number, large_number, point_number, physical_code, text_code}
 
 pub data Part : Type 0 where
@@ -22,6 +22,11 @@ pub data Part : Type 0 where
   Import : Part
   ImportRest : Part
   DottedNames : Part
+  Modifiers : Part
+  ModifierDeclaration : Part
+  ModifierPart : Part
+  NamedPart : Part
+  ModifierPartsTail : Part
   Declarations : Part
   Declaration : Part
   BasesTail : Part
@@ -171,9 +176,9 @@ abbrev pub relation_sign : Symbol
 relation_sign = Seen (word_code InWord ∷ map mark_code (Equal ∷ Differ ∷ Below ∷ AtMost ∷ Above ∷ AtLeast ∷ []))
 
 abbrev pub rules : Part → List (List Symbol)
--- file = {import} {declaration} END
+-- file = {import} {modifier_declaration} {declaration} END
 rules File =
-    (Of Imports ∷ Of Declarations ∷ Seen (code TokenKind.End ∷ []) ∷ [])
+    (Of Imports ∷ Of Modifiers ∷ Of Declarations ∷ Seen (code TokenKind.End ∷ []) ∷ [])
     ∷ []
 -- imports = {import}
 rules Imports =
@@ -195,6 +200,31 @@ rules ImportRest =
 rules DottedNames =
     []
     ∷ (mark Dot ∷ name ∷ Of DottedNames ∷ [])
+    ∷ []
+-- modifiers = {modifier_declaration}
+rules Modifiers =
+    []
+    ∷ (Of ModifierDeclaration ∷ Of Modifiers ∷ [])
+    ∷ []
+-- modifier_declaration = 'modifier' N ':' NL INDENT modifier_part {modifier_part} DEDENT
+rules ModifierDeclaration =
+    (placed_word ModifierWord ∷ name ∷ mark Colon ∷ newline ∷ indent ∷ Of ModifierPart ∷ Of ModifierPartsTail ∷ dedent ∷ [])
+    ∷ []
+-- modifier_part = N ':' N NL | rule | N '(' (')' | arguments) NL
+rules ModifierPart =
+    (name ∷ Of NamedPart ∷ [])
+    ∷ (Of Rule ∷ [])
+    ∷ []
+-- a part of a modifier after its name: the type of a parameter, or the arguments of a modifier that is applied
+-- named_part = ':' N NL | '(' (')' | arguments) NL
+rules NamedPart =
+    (mark Colon ∷ name ∷ newline ∷ [])
+    ∷ (mark OpenRound ∷ Of InvocationArguments ∷ newline ∷ [])
+    ∷ []
+-- modifier_parts_tail = {modifier_part}
+rules ModifierPartsTail =
+    []
+    ∷ (Of ModifierPart ∷ Of ModifierPartsTail ∷ [])
     ∷ []
 -- declarations = {declaration}
 rules Declarations =
@@ -430,7 +460,7 @@ rules Wait =
 rules InvocationRest =
     (Of DottedNames ∷ mark OpenRound ∷ Of InvocationArguments ∷ Of InvocationEnd ∷ [])
     ∷ []
--- the arguments of an invocation, if there are any, and the closing bracket
+-- the arguments of an invocation or a modifier, if there are any, and the closing bracket
 -- invocation_arguments = ')' | arguments
 rules InvocationArguments =
     (mark CloseRound ∷ [])
@@ -442,10 +472,10 @@ rules InvocationEnd =
     (newline ∷ [])
     ∷ (word WithWord ∷ mark Colon ∷ newline ∷ indent ∷ Of InvocationPart ∷ Of PartsTail ∷ dedent ∷ [])
     ∷ []
--- invocation_part = rule | N '(' arguments NL
+-- invocation_part = rule | N '(' (')' | arguments) NL
 rules InvocationPart =
     (Of Rule ∷ [])
-    ∷ (name ∷ mark OpenRound ∷ Of Arguments ∷ newline ∷ [])
+    ∷ (name ∷ mark OpenRound ∷ Of InvocationArguments ∷ newline ∷ [])
     ∷ []
 -- parts_tail = {invocation_part}
 rules PartsTail =

@@ -26,13 +26,15 @@ use Rattle.dsl_tree.specs.declared.compounds.FieldDecl.{FieldDecl}
 use Rattle.dsl_tree.specs.declared.compounds.Member.{Member}
 use Rattle.dsl_tree.specs.declared.compounds.CompoundDecl.{CompoundDecl}
 use Rattle.dsl_tree.specs.declared.compounds.MemberExtension.{MemberExtension}
+use Rattle.dsl_tree.specs.declared.modifiers.ModifierPart.{ModifierPart}
+use Rattle.dsl_tree.specs.declared.modifiers.ModifierDecl.{ModifierDecl}
 use Rattle.dsl_tree.specs.declared.file.Declaration.{Declaration}
 use Rattle.dsl_tree.specs.declared.file.File.{File}
 use Rattle.dsl_tree.specs.ExprTree as ExprTrees
 use Rattle.dsl_tree.specs.ExprTree.{ExprTree}
 use Rattle.dsl_tree.specs.PhaseTree as PhaseTrees
 use Rattle.dsl_tree.specs.PhaseTree.{RuleTree, ArgumentTree, ModifierTree, PartTree, PhaseTree}
-use Rattle.dsl_tree.specs.FileTree.{FieldTree, MemberTree, CompoundTree, MoreTree, DeclarationTree, FileTree}
+use Rattle.dsl_tree.specs.FileTree.{FieldTree, MemberTree, CompoundTree, MoreTree, DeclarationTree, ModifierPartTree, ModifierDeclTree, FileTree}
 
 -- Expressions
 
@@ -177,5 +179,13 @@ declaration_tree (Declaration.Compound d) = DeclarationTree.CompoundDeclaration 
 declaration_tree (Declaration.MemberExtension d) = DeclarationTree.MemberExtension (more_tree d)
 declaration_tree (Declaration.EnumExtension d) = DeclarationTree.EnumExtension d
 
+abbrev pub modifier_part_tree : ModifierPart → ModifierPartTree
+modifier_part_tree (ModifierPart.Parameter name of) = ModifierPartTree.Parameter name of
+modifier_part_tree (ModifierPart.Rule rule) = ModifierPartTree.ModifierRule (rule_tree rule)
+modifier_part_tree (ModifierPart.Apply modifier) = ModifierPartTree.Application (modifier_tree modifier)
+
+abbrev pub modifier_decl_tree : ModifierDecl → ModifierDeclTree
+modifier_decl_tree m = record { place = m.place; name = m.name; parts = map modifier_part_tree m.parts }
+
 abbrev pub file_tree : File → FileTree
-file_tree f = record { imports = f.imports; decls = map declaration_tree f.decls; end = f.end }
+file_tree f = record { imports = f.imports; modifiers = map modifier_decl_tree f.modifiers; decls = map declaration_tree f.decls; end = f.end }

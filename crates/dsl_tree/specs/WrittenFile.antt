@@ -21,10 +21,10 @@ use Rattle.dsl_tree.specs.declared.token.WordKind.{WordKind}
 use Rattle.dsl_tree.specs.Codes.{si_text, factor_text, offset_text}
 use Rattle.dsl_tree.specs.ExprTree.{ExprTree}
 use Rattle.dsl_tree.specs.PhaseTree.{RuleTree}
-use Rattle.dsl_tree.specs.FileTree.{FieldTree, MemberTree, Field, Rule, Do, CompoundTree, DeclarationTree, TypeDeclaration, UnitDeclaration, EnumDeclaration, CompoundDeclaration, MemberExtension, EnumExtension, FileTree}
+use Rattle.dsl_tree.specs.FileTree.{FieldTree, MemberTree, Field, Rule, Do, CompoundTree, DeclarationTree, TypeDeclaration, UnitDeclaration, EnumDeclaration, CompoundDeclaration, MemberExtension, EnumExtension, ModifierPartTree, Parameter, ModifierRule, Application, ModifierDeclTree, FileTree}
 use Rattle.dsl_tree.specs.Forest.{Forest, nil, seen, bare, sub, wrong}
 use Rattle.dsl_tree.specs.Written.{mark, word, mark_at, word_at, ident, digits, truth_word, expr}
-use Rattle.dsl_tree.specs.WrittenPhases.{newline, opened, block_end, with_block, by_option, dotted_names, rule, rules_tail, phase}
+use Rattle.dsl_tree.specs.WrittenPhases.{newline, opened, block_end, with_block, by_option, dotted_names, rule, rules_tail, invocation_arguments, phase}
 
 -- Imports
 
@@ -194,7 +194,7 @@ abbrev pub body : List MemberTree → Forest
 body [] = newline nil
 body (m ∷ ms) = mark MarkKind.Colon (sub (block (m ∷ ms)) nil)
 
--- Declarations and files
+-- Declarations
 
 abbrev pub heading_rest : CompoundTree → Forest
 heading_rest c = sub (optional_heir c.heir) (sub (body c.members) nil)
@@ -225,5 +225,28 @@ abbrev pub declarations : List DeclarationTree → Forest
 declarations [] = nil
 declarations (d ∷ ds) = sub (declaration d) (sub (declarations ds) nil)
 
+-- Modifiers and files
+
+abbrev pub modifier_part : ModifierPartTree → Forest
+modifier_part (Parameter name of) = ident name (sub (mark MarkKind.Colon (ident of (newline nil))) nil)
+modifier_part (ModifierRule r) = sub (rule r) nil
+modifier_part (Application m) = ident m.name (sub (mark MarkKind.OpenRound (sub (invocation_arguments m.arguments) (newline nil))) nil)
+
+abbrev pub modifier_parts_tail : List ModifierPartTree → Forest
+modifier_parts_tail [] = nil
+modifier_parts_tail (p ∷ ps) = sub (modifier_part p) (sub (modifier_parts_tail ps) nil)
+
+-- a block of parts, one at least
+abbrev pub modifier_block : List ModifierPartTree → Forest
+modifier_block [] = wrong
+modifier_block (p ∷ ps) = opened (sub (modifier_part p) (sub (modifier_parts_tail ps) block_end))
+
+abbrev pub modifier_declaration : ModifierDeclTree → Forest
+modifier_declaration d = word_at d.place WordKind.ModifierWord (ident d.name (mark MarkKind.Colon (modifier_block d.parts)))
+
+abbrev pub modifiers : List ModifierDeclTree → Forest
+modifiers [] = nil
+modifiers (d ∷ ds) = sub (modifier_declaration d) (sub (modifiers ds) nil)
+
 abbrev pub file : FileTree → Forest
-file f = sub (imports f.imports) (sub (declarations f.decls) (seen f.end TokenKind.End nil))
+file f = sub (imports f.imports) (sub (modifiers f.modifiers) (sub (declarations f.decls) (seen f.end TokenKind.End nil)))

@@ -81,7 +81,7 @@ invocation_arguments [] = mark MarkKind.CloseRound nil
 invocation_arguments (a ∷ others) = sub (arguments (a ∷ others)) nil
 
 abbrev pub modifier : ModifierTree → Forest
-modifier m = ident m.name (mark MarkKind.OpenRound (sub (arguments m.arguments) (newline nil)))
+modifier m = ident m.name (mark MarkKind.OpenRound (sub (invocation_arguments m.arguments) (newline nil)))
 
 abbrev pub invocation_part : PartTree → Forest
 invocation_part (RulePart r) = sub (rule r) nil

@@ -1,15 +1,18 @@
 use crate::{
-    CompoundDecl, EnumDecl, EnumExtension, Ident, MemberExtension, PhysicalDecl, UnitDecl,
+    CompoundDecl, EnumDecl, EnumExtension, Ident, MemberExtension, ModifierDecl, PhysicalDecl,
+    UnitDecl,
 };
 use osc_base::{Place, Row, Text};
 
-/// A source file: its imports, then its declarations. `end` is where the file ends.
+/// A source file: its imports, then its modifiers, then its declarations. `end` is where the file
+/// ends.
 ///
 /// The types of trees also hold values that no tokens spell, such as empty `items`. What their
 /// descriptions say of a tree is said of one that tokens spell.
 #[derive(Drop)]
 pub struct File {
     pub imports: Row<Import>,
+    pub modifiers: Row<ModifierDecl>,
     pub decls: Row<Declaration>,
     pub end: Place,
 }

@@ -6,6 +6,7 @@ mod enums;
 mod expr;
 mod file;
 mod laws;
+mod modifiers;
 mod parts;
 mod phases;
 mod rules;
@@ -23,6 +24,7 @@ pub use laws::{
     faults_spell_nothing, forests_are_trees, one_file, one_first_fault, one_spelling, one_tree,
     tree_or_fault, trees_are_files,
 };
+pub use modifiers::{ModifierDecl, ModifierPart};
 pub use parts::{Digits, Ident, QName, Signed};
 pub use phases::{
     Argument, CompKind, CompNode, InvokeHead, InvokeNode, InvokePart, ModifierNode, Phase, WaitNode,

@@ -45,7 +45,7 @@ pub enum InvokeHead {
     Actor(Place),
 }
 
-/// `NAME(ARGUMENTS)` below an invocation, with one argument or more.
+/// `NAME(ARGUMENTS)` below an invocation or in a modifier.
 #[derive(Drop)]
 pub struct ModifierNode {
     pub name: Ident,

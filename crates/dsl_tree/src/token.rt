@@ -95,6 +95,7 @@ pub enum WordKind {
     NotWord,
     TrueWord,
     FalseWord,
+    ModifierWord,
 }
 
 /// The words of the language that this profile leaves out: they are no names, and no rule takes one.

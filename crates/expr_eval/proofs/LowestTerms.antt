@@ -7,7 +7,7 @@ use Rattle.std.proofs.Math.Nat.{mul_comm, mul-div-mul_right, mul-dvd-mul_right, 
 use Rattle.std.proofs.lemmas.Int.{unsigned_abs-mul}
 use Rattle.std.proofs.lemmas.Nat.Gcd.{same_from_IsGcd}
 use Rattle.osc_base.specs.LowestTerms.{gcd, share, lowest}
-use Rattle.expr_value.proofs.Scales.{gcd_is}
+use Rattle.expr_nodes.proofs.of_osc_base.Divisors.{gcd_is}
 
 module _ (a b k : ℕ) (above : 0 < k) where
   -- the greatest common divisor of two numbers, both times k

@@ -2,16 +2,15 @@
 use Rattle.std.proofs.Common.{◌≡◌, ◌∙◌, refl, sym, ap, subst, ℕ, zero, suc, ◌+◌, ◌/◌, ◌%◌, ◌<◌, ◌≤◌, ◌^◌, Bool, true, false, ◌&&◌, not, cond, List, [], ◌∷◌, Option, Some, None, nat_eq, true≢false, arith}
 use Rattle.std.specs.Prelude.{ℤ, pos, negsuc, neg_ℤ, ◌||◌, int_le, unsigned_abs, option_map, option_and_then, unwrap_or, bytes_eq, codes}
 use Rattle.std.specs.Option.{option_map_or}
-use Rattle.std.specs.Int.{IsGcd}
 use Rattle.std.proofs.Math.Nat.{one-le-pow}
 use Rattle.std.proofs.lemmas.Int.{ints}
-use Rattle.std.proofs.lemmas.Nat.Gcd.{IsGcd-from_zero, IsGcd-from_mod, same_from_IsGcd}
+use Rattle.std.proofs.lemmas.Nat.Gcd.{same_from_IsGcd}
 use Rattle.osc_base.specs.declared.fault.Place.{Place}
 use Rattle.osc_base.specs.declared.path.Path.{Path}
 use Rattle.osc_base.specs.Number.{Number, whole}
 use Rattle.osc_base.specs.FaultRows.{FaultRow}
 use Rattle.osc_base.specs.Paths.{root, then_name, then_index}
-use Rattle.osc_base.specs.LowestTerms.{gcd_within, gcd, share, lowest, decimal_number}
+use Rattle.osc_base.specs.LowestTerms.{gcd, share, lowest, decimal_number}
 use Rattle.osc_base.proofs.Multiples.{lowest_terms}
 use Rattle.dsl_tree.specs.declared.compounds.CompoundKind.{CompoundKind}
 use Rattle.dsl_tree.specs.declared.parts.Digits.{Digits}
@@ -29,20 +28,11 @@ use Rattle.expr_nodes.specs.Operators.{constant_at, number_rows, number_typed, t
 use Rattle.expr_nodes.specs.Names.{elements_from, held_at, Meaning, typed_meaning, member_at, member_meant, meaning_by_duration, meaning_by_label, meaning_by_field, meaning, label_named, name_rows, name_typed, it_at, dot_typed, field_meant, after_point, member_of_object, member_made, member_of_whole, duration_if, is_duration}
 use Rattle.expr_nodes.specs.SeenNames.{single_in, list_in}
 use Rattle.expr_nodes.specs.Sound.{is_sound, are_sound, is_lowest}
-use Rattle.expr_nodes.proofs.Divisors.{gcd_above_second, share_above, gcd_step, gcd_end}
+use Rattle.expr_nodes.proofs.of_osc_base.Divisors.{gcd_is, gcd_above_second, share_above, gcd_step, gcd_end}
 use Rattle.expr_eval.proofs.Sizes.{both, nat_self, own_size}
 use Rattle.expr_eval.proofs.SoundNodes.{Good, is_asked, only}
 
 -- ---- lowest terms
-
-gcd_within_is : (n a b : ℕ) → b ≤ n → IsGcd a b (gcd_within (suc n) a b)
-gcd_within_is n a zero h = IsGcd-from_zero a zero refl
-gcd_within_is zero a (suc b) h = absurd (omega arith)
-gcd_within_is (suc n) a (suc b) h = IsGcd-from_mod a (suc b) (gcd_within (suc n) (suc b) (a % suc b)) (gcd_within_is n (suc b) (a % suc b) (omega arith))
-
-pub gcd_is : (a b : ℕ) → IsGcd a b (gcd a b)
-unfolding Rattle.osc_base.specs.LowestTerms.gcd
-gcd_is a b = gcd_within_is b a b (omega arith)
 
 pub gcd_one : (n : ℕ) → gcd n 1 ≡ 1
 gcd_one n = let rest : n % 1 ≡ 0 = omega arith in gcd_step n 1 (omega arith) ∙ ap (gcd 1) rest ∙ gcd_end 1

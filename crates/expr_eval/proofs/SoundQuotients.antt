@@ -16,11 +16,11 @@ use Rattle.expr_nodes.specs.Sizes.{Size, size, info_at, constant_size, multiplie
 use Rattle.expr_nodes.specs.Parts.{is_scalar, both_numbers}
 use Rattle.expr_nodes.specs.Operators.{quotient_rows, quotient_typed, has_quotient, is_constant, constant_value, is_zero, signed_like, reciprocal, reciprocal_exponents, reciprocal_of, product_of, product_exponents}
 use Rattle.expr_nodes.specs.Sound.{is_sound, is_lowest}
-use Rattle.expr_nodes.proofs.Divisors.{gcd_above}
+use Rattle.expr_nodes.proofs.of_osc_base.Divisors.{gcd_above, gcd_is}
 use Rattle.expr_eval.specs.Narrow.{is_narrow}
 use Rattle.expr_eval.proofs.Sizes.{left_of, right_of, both, own_size, nat_self}
 use Rattle.expr_eval.proofs.SoundNodes.{Good, is_asked, asked, only, two_made, sound_narrow}
-use Rattle.expr_eval.proofs.SoundLeaves.{gcd_is, share_abs, opposite_abs, constant_good}
+use Rattle.expr_eval.proofs.SoundLeaves.{share_abs, opposite_abs, constant_good}
 
 -- ---- one over a constant, in lowest terms
 

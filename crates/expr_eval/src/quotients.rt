@@ -20,7 +20,6 @@ ghost use Rattle.expr_eval.specs.DivisorValues.{reciprocal_by, seen_divisor, div
 
 use crate::divisor::Divisor;
 use dsl_tree::Operator;
-use expr_nodes::size::gcd;
 use expr_nodes::{Checked, Typed, ValueKind};
 use expr_operators::constants::is_constant;
 use expr_operators::products::{product, product_pair};
@@ -28,7 +27,7 @@ use expr_operators::quotients::{are_past_limits, is_varying, reciprocal_exponent
 use expr_operators::{are_no_numbers, are_whole, fault_if, least, with_parts};
 use expr_typing::literals::constant_at;
 use expr_value::constant;
-use osc_base::{Boxed, Fault, FaultCode, Fraction, Place};
+use osc_base::{Boxed, Fault, FaultCode, Fraction, Place, gcd};
 use std::alloc::{AllocError, Global};
 
 /// The denominator, which is above 0.

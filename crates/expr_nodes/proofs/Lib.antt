@@ -1,4 +1,5 @@
-pub mod Divisors
+mod Divisors
+mod Fitting
 pub mod LabelPlaces
 pub mod SeenNodes
 -- Crates below, for the crates above.

@@ -19,6 +19,6 @@ pub use scope::{It, Scope};
 pub use size::Size;
 pub use type_model::{
     Boxed, EnumHit, Exponents, Fault, FaultCode, FieldType, Fraction, Path, Place, Row, Text,
-    TextTable, TypeId, TypeKind, Types, Unit, literal,
+    TextTable, TypeId, TypeKind, Types, Unit, gcd, literal,
 };
 pub use ways::{Turn, leads_into};

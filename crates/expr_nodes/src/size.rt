@@ -3,10 +3,10 @@
 ghost use Rattle.std.specs.Prelude.{◌≡◌, ◌<◌, ◌≤◌, ◌+◌, ◌*◌, ◌/◌, ◌^◌, cond, pos, None, Some, max, unsigned_abs, option_map, nat_lt};
 ghost use Rattle.type_model.specs.osc_base.Comparisons.{greatest_part};
 ghost use Rattle.type_model.specs.osc_base.Fraction.{value};
-ghost use Rattle.type_model.specs.osc_base.LowestTerms.{gcd as divisor, lcm as multiple};
+ghost use Rattle.type_model.specs.osc_base.LowestTerms.{lcm as multiple};
 ghost use Rattle.expr_nodes.specs.Sizes.{unit_size, constant_size, field_size, duration_size, joined as joining, multiplied as product, divided as quotient, widened as wider, is_wide};
 
-use type_model::Fraction;
+use type_model::{Fraction, gcd};
 
 /// The greatest scale and reach, 2^120.
 const MOST: u128 = 0x100_0000_0000_0000_0000_0000_0000_0000;
@@ -120,20 +120,6 @@ impl Size {
     {
         self.reach.checked_mul(common / self.scale)
     }
-}
-
-/// The greatest common divisor.
-#[tactic(auto, using(crate::proofs::Divisors::gcd_step, crate::proofs::Divisors::gcd_end))]
-pub fn gcd(a: u128, b: u128) -> u128
-    ensures { result ≡ divisor a b }
-{
-    let (mut x, mut y) = (a, b);
-    while y != 0 {
-        let rest = x % y;
-        x = y;
-        y = rest;
-    }
-    x
 }
 
 /// The least common multiple. `None` when it doesn't fit.

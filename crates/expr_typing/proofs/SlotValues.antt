@@ -1,24 +1,23 @@
 -- The slot value of a literal, by the calls that work it out.
 use Rattle.std.proofs.Common.{◌≡◌, ◌∙◌, refl, sym, ap, ap₂, subst, ℕ, zero, suc, ◌/◌, ◌%◌, ◌^◌, ◌≤◌, ◌<◌, Bool, true, false, not, ◌&&◌, cond, Option, Some, None, true≢false, arith}
 use Rattle.std.specs.Prelude.{ℤ, pos, negsuc, ◌+ℤ◌, ◌*ℤ◌, ◌≤ℤ◌, ◌<ℤ◌, unsigned_abs, nat_lt, int_le, option_map, option_and_then}
-use Rattle.std.specs.Int.{IsGcd, int_div_euclid}
+use Rattle.std.specs.Int.{int_div_euclid}
 use Rattle.std.specs.Option.{SomeIff, MatchOption}
 use Rattle.std.proofs.lemmas.Bool.Decides.{nat_tests}
 use Rattle.std.proofs.lemmas.Int.{ints}
-use Rattle.std.proofs.lemmas.Nat.Gcd.{IsGcd-from_zero, IsGcd-from_mod, dvd_antisymm}
+use Rattle.std.proofs.lemmas.Nat.Gcd.{dvd_antisymm}
 use Rattle.dsl_tree.specs.osc_base.declared.fraction.Fraction.{Fraction}
 use Rattle.dsl_tree.specs.osc_base.Fraction.{OverCommon, AddsExactly, MultipliesExactly, RoundsExactly, value}
 use Rattle.dsl_tree.specs.osc_base.Number.{Number, IsFloor, IsWithin, IsLeastCommonMultiple}
 use Rattle.dsl_tree.specs.osc_base.Comparisons.{is_within}
-use Rattle.dsl_tree.specs.osc_base.LowestTerms.{gcd_within, gcd, lcm, floor_over}
+use Rattle.dsl_tree.specs.osc_base.LowestTerms.{lcm, floor_over}
 use Rattle.dsl_tree.proofs.of_osc_base.Integers.{le_cancel, lt_cancel}
 use Rattle.dsl_tree.proofs.of_osc_base.Numbers.{floor_is}
 use Rattle.dsl_tree.proofs.of_osc_base.Fractions.{widened_num, widened_same, den_above}
-use Rattle.dsl_tree.proofs.of_osc_base.Multiples.{is_least_common_multiple, lowest_same}
 use Rattle.expr_nodes.specs.units_si.declared.units.Unit.{Unit}
 use Rattle.expr_nodes.specs.units_si.Units.{IsSlotValue, LiteralExactly}
 use Rattle.expr_nodes.specs.units_si.Literals.{times, add, nearest_thousandth, slot_value, literal_count}
-use Rattle.expr_nodes.proofs.Divisors.{lcm_is}
+use Rattle.expr_nodes.proofs.of_osc_base.Divisors.{lcm_least}
 
 -- Tests of the limit
 
@@ -65,20 +64,6 @@ times_is f g (Some p) h =
 
 -- A sum
 
-gcd_within_is : (n a b : ℕ) → b ≤ n → IsGcd a b (gcd_within (suc n) a b)
-gcd_within_is n a zero h = IsGcd-from_zero a zero refl
-gcd_within_is zero a (suc b) h = absurd (omega arith)
-gcd_within_is (suc n) a (suc b) h = IsGcd-from_mod a (suc b) (gcd_within (suc n) (suc b) (a % suc b)) (gcd_within_is n (suc b) (a % suc b) (omega arith))
-
-gcd_is : (a b : ℕ) → IsGcd a b (gcd a b)
-unfolding Rattle.dsl_tree.specs.osc_base.LowestTerms.gcd
-gcd_is a b = gcd_within_is b a b (omega arith)
-
-lcm_common : (a b : ℕ) → 0 < a → IsLeastCommonMultiple a b (lcm a b)
-lcm_common a b above =
-    let is = gcd_is a b in
-    subst (IsLeastCommonMultiple a b) (lowest_same a b (gcd a b) is.0 is.1 ∙ sym (lcm_is a b)) (is_least_common_multiple a b (gcd a b) above is)
-
 one_multiple : (a b x y : ℕ) → IsLeastCommonMultiple a b x → IsLeastCommonMultiple a b y → x ≡ y
 one_multiple a b x y p q = dvd_antisymm (p.least y q.first q.second) (q.least x p.first p.second)
 
@@ -93,7 +78,7 @@ module _ (f g : Fraction) (over : OverCommon f g) where
   common = lcm (unsigned_abs f.den) (unsigned_abs g.den)
 
   common_is : over.common ≡ common
-  common_is = one_multiple (unsigned_abs f.den) (unsigned_abs g.den) over.common common over.is_common (lcm_common (unsigned_abs f.den) (unsigned_abs g.den) (den_above f))
+  common_is = one_multiple (unsigned_abs f.den) (unsigned_abs g.den) over.common common over.is_common (lcm_least (unsigned_abs f.den) (unsigned_abs g.den) (den_above f))
 
   left_is : over.left ≡ f.num *ℤ pos (common / unsigned_abs f.den)
   left_is = cancelled over.left (widened_num f over.common) f.den f.positive (over.left_same ∙ sym (widened_same f over.common over.is_common.first))

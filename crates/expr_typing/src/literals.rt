@@ -9,8 +9,7 @@ ghost use Rattle.expr_nodes.specs.Seen.{seen, seen_kind, seen_part};
 
 use dsl_tree::Digits;
 use dsl_tree::osc_base::FaultCode;
-use expr_nodes::size::gcd;
-use expr_nodes::{Boxed, Checked, Fraction, Info, Place, Size, Typed, Types, ValueKind};
+use expr_nodes::{Boxed, Checked, Fraction, Info, Place, Size, Typed, Types, ValueKind, gcd};
 use std::alloc::{AllocError, Global};
 use typed_parts::{NO_EXPONENTS, fault_if, truth_at};
 

@@ -13,8 +13,7 @@ ghost use Rattle.expr_nodes.specs.SeenNames.{count_of, physical_of};
 use crate::literals::{constant_at, decimal, is_long};
 use dsl_tree::Digits;
 use dsl_tree::osc_base::FaultCode;
-use expr_nodes::size::gcd;
-use expr_nodes::{Boxed, Checked, Fraction, Typed, Types, Unit, ValueKind, literal};
+use expr_nodes::{Boxed, Checked, Fraction, Typed, Types, Unit, ValueKind, gcd, literal};
 use std::alloc::{AllocError, Global};
 use typed_parts::fault_if;
 

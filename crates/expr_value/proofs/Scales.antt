@@ -1,20 +1,18 @@
 -- Numbers over a scale: how they are added, multiplied and compared.
 use Rattle.std.proofs.Common.{◌≡◌, ◌∙◌, refl, sym, ap, ap₂, subst, ℕ, zero, suc, ◌*◌, ◌/◌, ◌%◌, ◌<◌, ◌≤◌, Bool, true, false, ◌&&◌, not, arith}
 use Rattle.std.specs.Prelude.{ℤ, pos, neg_ℤ, ◌+ℤ◌, ◌*ℤ◌, ◌≤ℤ◌, ◌<ℤ◌, int_le, int_lt}
-use Rattle.std.specs.Int.{◌∣◌, IsGcd}
+use Rattle.std.specs.Int.{◌∣◌}
 use Rattle.std.proofs.Math.IntN.{pos-*ℤ-pos, zero-*ℤ, *ℤ_comm}
 use Rattle.std.proofs.Math.Nat.{mul-div_cancel'}
 use Rattle.std.proofs.lemmas.Int.{ints, by_lt_z}
-use Rattle.std.proofs.lemmas.Nat.Gcd.{IsGcd-from_zero, IsGcd-from_mod}
 use Rattle.expr_nodes.specs.osc_base.Number.{Number, plus, product, IsLeastCommonMultiple}
 use Rattle.expr_nodes.specs.osc_base.Comparisons.{is_at_most}
-use Rattle.expr_nodes.specs.osc_base.LowestTerms.{gcd, lcm}
+use Rattle.expr_nodes.specs.osc_base.LowestTerms.{lcm}
 use Rattle.expr_nodes.proofs.of_osc_base.Integers.{assoc, spread, swap_last, le_times, lt_times, le_cancel, lt_cancel, product_above}
-use Rattle.expr_nodes.proofs.of_osc_base.Multiples.{is_least_common_multiple, lowest_same}
 use Rattle.expr_nodes.proofs.of_osc_base.Numbers.{over_more, sum_same}
 use Rattle.expr_nodes.specs.declared.compare.Compare.{Compare}
 use Rattle.expr_nodes.specs.Value.{opposite, of_truth, is_one, compares}
-use Rattle.expr_nodes.proofs.Divisors.{gcd_step, gcd_end, lcm_is, lcm_above}
+use Rattle.expr_nodes.proofs.of_osc_base.Divisors.{lcm_above, lcm_least}
 use Rattle.expr_value.specs.Counted.{at_scale, truth_count, is_full, sum_count, compares_counts}
 
 -- a count at a scale stands for a number
@@ -22,23 +20,6 @@ pub record IsWorth (n : ℤ) (s : ℕ) (w : Number) : Type 0 where
   pub above : pos 1 ≤ℤ w.denominator
   pub scale_above : 0 < s
   pub same : n *ℤ w.denominator ≡ w.numerator *ℤ pos s
-
--- ---- common multiples
-
-gcd_up_to : (most a b : ℕ) → b ≤ most → IsGcd a b (gcd a b)
-gcd_up_to most a zero small = subst (λ g. IsGcd a 0 g) (sym (gcd_end a)) (IsGcd-from_zero a 0 refl)
-gcd_up_to zero a (suc b) small = absurd (omega arith)
-gcd_up_to (suc most) a (suc b) small =
-    subst (λ g. IsGcd a (suc b) g) (sym (gcd_step a (suc b) (omega arith)))
-    (IsGcd-from_mod a (suc b) (gcd (suc b) (a % suc b)) (gcd_up_to most (suc b) (a % suc b) (omega arith)))
-
-pub gcd_is : (a b : ℕ) → IsGcd a b (gcd a b)
-gcd_is a b = gcd_up_to b a b (omega arith)
-
-lcm_least : (a b : ℕ) → 0 < a → IsLeastCommonMultiple a b (lcm a b)
-lcm_least a b above =
-    let is = gcd_is a b in
-    subst (λ m. IsLeastCommonMultiple a b m) (lowest_same a b (gcd a b) is.0 is.1 ∙ sym (lcm_is a b)) (is_least_common_multiple a b (gcd a b) above is)
 
 -- ---- one number at a multiple of its scale
 

@@ -4,8 +4,7 @@ ghost use Rattle.std.specs.Prelude.{◌≡◌, ◌≤◌, ◌<◌, ◌*◌, ◌/
 ghost use Rattle.expr_nodes.specs.osc_base.LowestTerms.{lcm};
 ghost use Rattle.expr_value.specs.Counted.{orders};
 
-use expr_nodes::size::gcd;
-use expr_nodes::{Compare, Fraction, Join, Size};
+use expr_nodes::{Compare, Fraction, Join, Size, gcd};
 
 /// A value times its scale. It is at most the reach in magnitude.
 #[derive(Clone, Copy)]

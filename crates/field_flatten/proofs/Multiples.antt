@@ -1,20 +1,10 @@
 -- Common multiples of scales.
-use Rattle.std.proofs.Common.{◌≡◌, ℕ, zero, suc, ◌*◌, ◌/◌, ◌%◌, ◌<◌, refl, sym, ◌∙◌, subst, arith}
-use Rattle.std.specs.Int.{IsGcd, ◌∣◌}
+use Rattle.std.proofs.Common.{◌≡◌, ℕ, zero, suc, ◌*◌, ◌/◌, ◌<◌, refl, sym, ◌∙◌, subst, arith}
+use Rattle.std.specs.Int.{◌∣◌}
 use Rattle.std.proofs.Math.Nat.{mul_comm, mul-div_cancel', pos_of_dvd_of_pos, dvd-mul_left, dvd_antisymm}
-use Rattle.std.proofs.lemmas.Nat.Gcd.{IsGcd-from_zero, IsGcd-from_mod}
-use Rattle.osc_base.specs.LowestTerms.{gcd, gcd_within, lcm}
-use Rattle.osc_base.specs.Number.{IsLeastCommonMultiple}
-use Rattle.osc_base.proofs.Multiples.{lowest_same, is_least_common_multiple}
-
-gcd_is_within : (steps a b : ℕ) → b < steps → IsGcd a b (gcd_within steps a b)
-gcd_is_within zero a b few = absurd (omega arith)
-gcd_is_within (suc steps) a zero few = IsGcd-from_zero a zero refl
-gcd_is_within (suc steps) a (suc b) few = IsGcd-from_mod a (suc b) (gcd_within steps (suc b) (a % suc b)) (gcd_is_within steps (suc b) (a % suc b) (omega arith))
-
-pub gcd_is : (a b : ℕ) → IsGcd a b (gcd a b)
-unfolding gcd
-gcd_is a b = gcd_is_within (suc b) a b (omega arith)
+use Rattle.osc_base.specs.LowestTerms.{gcd, lcm}
+use Rattle.osc_base.proofs.Divisors.{gcd_is, lcm_least}
+use Rattle.osc_base.proofs.Multiples.{lowest_same}
 
 -- a scale, and a number that it is multiplied with
 pub record Common (a b : ℕ) : Type 0 where
@@ -46,13 +36,9 @@ common a b p q =
 pub share_of : (a k : ℕ) → 0 < a → (a * k) / a ≡ k
 share_of a k p = grind arith
 
-least : (x y : ℕ) → 0 < x → IsLeastCommonMultiple x y (lcm x y)
-unfolding lcm
-least x y above = let g = gcd_is x y in subst (IsLeastCommonMultiple x y) (lowest_same x y (gcd x y) g.0 g.1) (is_least_common_multiple x y (gcd x y) above g)
-
 -- the order of the two doesn't matter
 pub lcm_swap : (a b : ℕ) → 0 < a → 0 < b → lcm a b ≡ lcm b a
 lcm_swap a b p q =
-    let one = least a b p in
-    let two = least b a q in
+    let one = lcm_least a b p in
+    let two = lcm_least b a q in
     dvd_antisymm (one.least (lcm b a) two.second two.first) (two.least (lcm a b) one.second one.first)

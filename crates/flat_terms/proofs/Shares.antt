@@ -2,7 +2,7 @@
 use Rattle.std.proofs.Common.{◌≡◌, ℕ, ◌*◌, ◌/◌, ◌≤◌, ◌<◌}
 use Rattle.std.proofs.Math.Nat.{mul-le-mul_left}
 use Rattle.field_flatten.specs.osc_base.LowestTerms.{gcd, lcm}
-use Rattle.field_flatten.proofs.of_expr_nodes.Divisors.{gcd_above, lcm_is}
+use Rattle.field_flatten.proofs.of_osc_base.Divisors.{gcd_above, lcm_is}
 
 pub divisor_above : (a b : ℕ) → 0 < a → 0 < gcd a b
 divisor_above a b h = gcd_above a b h

@@ -3,7 +3,7 @@
 ghost use Rattle.std.specs.Prelude.{◌≡◌, ◌<◌, ◌≤◌, ◌^◌};
 ghost use Rattle.field_flatten.specs.osc_base.LowestTerms.{lcm as multiple};
 
-use field_flatten::gcd;
+use box_eval::osc_base::gcd;
 
 /// The least common multiple of two scales.
 #[tactic(auto, using(crate::proofs::Shares::divisor_above, crate::proofs::Shares::multiple_is))]

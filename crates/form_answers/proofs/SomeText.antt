@@ -8,7 +8,7 @@ use Rattle.outside_io.specs.Files.{file_named}
 use Rattle.box_eval.specs.declared.flat.Flat.{Flat}
 use Rattle.record_trees.specs.declared.record.Record.{Record}
 use Rattle.record_trees.specs.Record.{Tree, has_open, cuts_of, AllTrue, IsFirstFalse, marks, IsAcceptedAs}
-use Rattle.command_replies.specs.record_text.declared.line.TextLine.{TextLine}
+use Rattle.command_replies.specs.record_text.TextLines.{TextLine}
 use Rattle.command_replies.specs.record_text.Lines.{spelled, text_of}
 use Rattle.command_replies.specs.record_text.Source.{limit}
 use Rattle.command_replies.specs.record_text.Text.{IsTextOf, IsGoodFor}

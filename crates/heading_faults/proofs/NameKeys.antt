@@ -50,6 +50,13 @@ spaces NameKind.UnitName NameKind.BehaviourName = refl
 spaces NameKind.BehaviourName NameKind.TypeName = refl
 spaces NameKind.BehaviourName NameKind.UnitName = refl
 spaces NameKind.BehaviourName NameKind.BehaviourName = refl
+spaces NameKind.TypeName NameKind.ModifierName = refl
+spaces NameKind.UnitName NameKind.ModifierName = refl
+spaces NameKind.BehaviourName NameKind.ModifierName = refl
+spaces NameKind.ModifierName NameKind.TypeName = refl
+spaces NameKind.ModifierName NameKind.UnitName = refl
+spaces NameKind.ModifierName NameKind.BehaviourName = refl
+spaces NameKind.ModifierName NameKind.ModifierName = refl
 
 -- a name shares the name of a key
 pub key_shares : (other : DeclaredName) (d : NameDeclared) (k : NameKey) → k ≡ key_of d → shares_key other k ≡ shares_name other (seen_name d)

@@ -1,12 +1,10 @@
-//! Tests of what is read from outside: shelves and sinks, words, tokens, names, and the load of files.
+//! Tests of what is read from outside: shelves and sinks, texts, words, and tokens.
 #![tactic(auto)]
 
 #[cfg(test)]
 mod io;
 #[cfg(test)]
-mod loads;
-#[cfg(test)]
-mod names;
+mod texts;
 #[cfg(test)]
 mod tokens;
 #[cfg(test)]

@@ -12,6 +12,6 @@ mod two_slots;
 mod weighing;
 
 pub use pairs::facing_pair;
-pub use pick::{Facing, Pick};
+pub use pick::{Facing, MOST_PICKS, Pick};
 pub use summing::sum_false;
 pub use weighing::weight;

@@ -1,10 +1,10 @@
 //! How often two numbers are taken, at least, so that they cancel each other.
 ghost use Rattle.std.specs.Prelude.{◌≡◌, ◌<◌, ◌≤◌, ◌*◌, ◌^◌, ℕ, true, pos, unsigned_abs, ◌*ℤ◌, MatchOption, SomeIff};
-ghost use Rattle.std.specs.Int.{IsGcd};
-ghost use Rattle.osc_base.specs.Number.{IsLeastCommonMultiple};
 ghost use Rattle.linear_sums.specs.Multiple.{CancelOut, IsLeast, NoLeast};
 
-/// The greatest common multiple, 2^120.
+use osc_base::least_common_multiple;
+
+/// The greatest product, 2^120.
 const MOST: u128 = 0x100_0000_0000_0000_0000_0000_0000_0000;
 
 /// How often a rule may be taken.
@@ -65,34 +65,6 @@ fn product(times: u32, number: i128) -> Option<i128>
     let made = i128::from(times).checked_mul(number)?;
     if made.unsigned_abs() <= MOST {
         Some(made)
-    } else {
-        None
-    }
-}
-
-/// The greatest common divisor.
-fn gcd(a: u128, b: u128) -> u128
-    ensures { IsGcd a b result }
-{
-    let (mut x, mut y) = (a, b);
-    while y != 0 {
-        let rest = x % y;
-        x = y;
-        y = rest;
-    }
-    x
-}
-
-/// The least common multiple, if it is at most 2^120.
-fn least_common_multiple(a: u128, b: u128) -> Option<u128>
-    requires first { 0 < a }
-    requires second { 0 < b }
-    ensures { (multiple : ℕ) × IsLeastCommonMultiple a b multiple
-        × SomeIff result (multiple ≤ 2 ^ 120) multiple }
-{
-    let multiple = (a / gcd(a, b)).checked_mul(b)?;
-    if multiple <= MOST {
-        Some(multiple)
     } else {
         None
     }

@@ -16,7 +16,7 @@ use Rattle.name_scope.specs.dsl_tree.FileTree.{MemberTree, DeclarationTree, File
 use Rattle.name_scope.specs.dsl_tree.Grammar.{Part}
 use Rattle.name_scope.specs.dsl_tree.Language.{Spelled}
 use Rattle.name_scope.specs.dsl_tree.WrittenPhases.{composition_arguments, composition, phase, block_phases, phases_tail}
-use Rattle.name_scope.specs.dsl_tree.WrittenFile.{imports, qualified_name, optional_heir, enum_items, member, members_tail, block, body, declaration, declarations, file}
+use Rattle.name_scope.specs.dsl_tree.WrittenFile.{imports, qualified_name, optional_heir, enum_items, member, members_tail, block, body, declaration, declarations, modifiers, file}
 use Rattle.name_scope.proofs.of_dsl_tree.Tests.{is_whole, left_of, right_of}
 use Rattle.name_scope.proofs.of_dsl_tree.WholeForests.{label_whole}
 use Rattle.name_scope.proofs.of_dsl_tree.FileValues.{heading_whole}
@@ -275,7 +275,8 @@ trees_are_formed tree tokens s short free =
     let b = no_total long_numbers has_few_digits short_kind tokens short in
     let c = lighter tree tokens s words in
     let d = no_total words is_no_word free_kind tokens free in
-    spelled_all tree.decls (left_of _ _ (right_of (is_whole (imports tree.imports)) _ (whole tree tokens s))) (omega (arith, a, b)) (omega (arith, c, d))
+    spelled_all tree.decls (left_of _ _ (right_of (is_whole (modifiers tree.modifiers)) _ (right_of (is_whole (imports tree.imports)) _ (whole tree tokens s))))
+    (omega (arith, a, b)) (omega (arith, c, d))
 
 -- ---- texts
 

@@ -114,7 +114,7 @@ library_declarations n =
     ∷ []
 
 abbrev pub library_tree : ℕ → FileTree
-library_tree n = record { imports = []; decls = library_declarations n; end = place n 19 1 230 }
+library_tree n = record { imports = []; modifiers = []; decls = library_declarations n; end = place n 19 1 230 }
 
 -- the place of a token of the library
 abbrev place_of : ℕ → ℕ → Place

@@ -12,7 +12,7 @@ use Rattle.name_scope.specs.dsl_tree.FileTree.{FieldTree, MemberTree, CompoundTr
 use Rattle.name_scope.specs.dsl_tree.Forest.{Forest, nil, sub, wrong}
 use Rattle.name_scope.specs.dsl_tree.Written.{mark, ident, expr}
 use Rattle.name_scope.specs.dsl_tree.WrittenPhases.{keep_kind, rule, rules_tail, by_option, named_argument, named_tail, arguments_tail, arguments, dotted_names, invocation_arguments, invocation_part, parts_tail, invocation_end, invocation_rest, invocation, labelled_invocation, labelled, composition_arguments, composition, wait, phase, block_phases, phases_tail}
-use Rattle.name_scope.specs.dsl_tree.WrittenFile.{imports, qualified_name, optional_heir, names_tail, field_type, initial, field_end, field, member, members_tail, block, body, heading_rest, compound_heading, declaration, declarations, file}
+use Rattle.name_scope.specs.dsl_tree.WrittenFile.{imports, qualified_name, optional_heir, names_tail, field_type, initial, field_end, field, member, members_tail, block, body, heading_rest, compound_heading, declaration, declarations, modifiers, file}
 use Rattle.name_scope.proofs.of_dsl_tree.Tests.{is_whole, left_of, right_of}
 use Rattle.name_scope.proofs.of_dsl_tree.WholeForests.{label_whole, head_whole}
 use Rattle.name_scope.proofs.of_dsl_tree.FileValues.{named_parts, heading_whole}
@@ -111,7 +111,7 @@ module _ (m : Measure) where
 
   part_count : (p : PartTree) → is_whole (invocation_part p) ≡ true → all_leaves m (part_exprs p) ≤ count m (invocation_part p)
   part_count (PartTree.RulePart r) h = let e = rule_count r (left_of _ _ h) in omega (arith, e)
-  part_count (PartTree.ModifierPart x) h = let e = arguments_count x.arguments (left_of _ _ h) in omega (arith, e)
+  part_count (PartTree.ModifierPart x) h = let e = invoked_count x.arguments (left_of _ _ h) in omega (arith, e)
 
   parts_count : (ps : List PartTree) → is_whole (parts_tail ps) ≡ true → all_leaves m (flat_map part_exprs ps) ≤ count m (parts_tail ps)
   parts_count [] h = omega arith
@@ -267,4 +267,6 @@ module _ (m : Measure) where
       omega (arith, a, b)
 
   pub file_count : (t : FileTree) → is_whole (file t) ≡ true → file_weight m t.decls ≤ count m (file t)
-  file_count t h = let a = declarations_count t.decls (left_of _ _ (right_of (is_whole (imports t.imports)) _ h)) in omega (arith, a)
+  file_count t h =
+      let a = declarations_count t.decls (left_of _ _ (right_of (is_whole (modifiers t.modifiers)) _ (right_of (is_whole (imports t.imports)) _ h))) in
+      omega (arith, a)

@@ -5,7 +5,9 @@ use message_parts::{NotedShelf, NotedSink};
 use osc_base::Row;
 use outside_io::{MemoryShelf, MemorySink, Shelf};
 use scenario_tool::command;
-use std::alloc::{AllocError, Global};
+use std::alloc::{AllocError, AllocGlobal, Global};
+use std::process::Abort;
+use std::test::Fail;
 
 /// Files by their names.
 pub type Files<'a> = &'a [(&'a str, &'a [u8])];
@@ -63,6 +65,42 @@ pub fn message_for(alloc: Global, line: &str, files: Files<'_>) -> Result<String
     let words = owned(alloc, &["generate", "main.osc", "top"])?;
     let mut shelf = MemoryShelf::of(alloc, files, 4096, &[])?;
     refusal_message(alloc, words.as_slice(), 3, line.as_bytes(), &mut shelf)
+}
+
+/// Sees that a call has this status, and that its message begins and ends so.
+pub fn call_says(
+    rt: &(impl Abort + AllocGlobal),
+    words: &[&str],
+    files: Files<'_>,
+    status: u8,
+    front: &str,
+    back: &str,
+) -> Result<(), Fail> {
+    let called = call(rt.alloc(), words, files)?;
+    says(rt, &called, status, front, back);
+    Ok(())
+}
+
+/// Sees that a call has this status, and that its message begins and ends so.
+pub fn says(rt: &(impl Abort + AllocGlobal), called: &Called, status: u8, front: &str, back: &str) {
+    let got = called.message.as_str();
+    assert_eq!(rt; called.status, status, "{front}");
+    assert_eq!(rt; got.get(..front.len()).unwrap_or(got), front);
+    assert!(rt; got.ends_with(back), "{front}");
+}
+
+/// Sees that the message for a call that wrote this line has these parts.
+pub fn message_has(
+    rt: &(impl Abort + AllocGlobal),
+    line: &str,
+    files: Files<'_>,
+    part: &str,
+    other: &str,
+) -> Result<(), Fail> {
+    let message = message_for(rt.alloc(), line, files)?;
+    assert!(rt; message.as_str().contains(part), "{line}");
+    assert!(rt; message.as_str().contains(other), "{line}");
+    Ok(())
 }
 
 fn owned(alloc: Global, words: &[&str]) -> Result<Vec<String>, AllocError> {

@@ -1,7 +1,7 @@
 use crate::call::{Called, call, message_for};
 use fault_texts::{Topic, fault_text, status_text, topic_named};
 use osc_base::FaultCode;
-use std::alloc::{AllocError, Global};
+use std::alloc::{AllocError, AllocGlobal, Global};
 use std::process::Abort;
 use std::test::Fail;
 
@@ -48,41 +48,56 @@ fn source_of(alloc: Global, code: FaultCode) -> Result<Vec<u8>, AllocError> {
     }
 }
 
+/// Sees that the example of a code gives exactly its fault.
+fn example_is(rt: &(impl Abort + AllocGlobal), code: FaultCode) -> Result<(), Fail> {
+    let source = source_of(rt.alloc(), code)?;
+    let called = call(rt.alloc(), &GENERATE, &[("main.osc", source.as_slice())])?;
+    assert_eq!(rt; called.status, 3);
+    let want = format!(in rt.alloc(); "{}\n", fault_text(code).answer)?;
+    assert!(rt;
+        called.written.as_str() == want.as_str(),
+        "{}",
+        code.number()
+    );
+    Ok(())
+}
+
 #[test]
 fn each_example_gives_its_fault(rt: HostRuntime) -> Result<(), Fail> {
-    let alloc = rt.alloc();
-    let codes = codes(alloc)?;
+    let codes = codes(rt.alloc())?;
     assert_eq!(rt; codes.len(), CODES);
     for code in codes.as_slice() {
-        let source = source_of(alloc, *code)?;
-        let called = call(alloc, &GENERATE, &[("main.osc", source.as_slice())])?;
-        assert_eq!(rt; called.status, 3);
-        let want = format!(in alloc; "{}\n", fault_text(*code).answer)?;
-        assert!(rt;
-            called.written.as_str() == want.as_str(),
-            "{}",
-            code.number()
-        );
+        example_is(&rt, *code)?;
     }
+    Ok(())
+}
+
+/// Sees that a message has a part of each kind.
+fn has_kinds(rt: &impl Abort, message: &str) {
+    for part in [" --> main.osc:", " | ", "^", "  = help: "] {
+        assert!(rt; message.contains(part), "{message}: {part}");
+    }
+}
+
+/// Sees that the example of a code has its message.
+fn message_is(rt: &(impl Abort + AllocGlobal), code: FaultCode) -> Result<(), Fail> {
+    let source = source_of(rt.alloc(), code)?;
+    let said = fault_text(code);
+    let message = message_for(rt.alloc(), said.answer, &[("main.osc", source.as_slice())])?;
+    let number = code.number();
+    let title = said.title;
+    let head = format!(in rt.alloc(); "error[{number}]: {title}\n")?;
+    let explain = format!(in rt.alloc(); "= help: `osc explain {number}` tells more\n")?;
+    assert!(rt; message.as_str().starts_with(head.as_str()), "{number}");
+    assert!(rt; message.as_str().ends_with(explain.as_str()), "{number}");
+    has_kinds(rt, message.as_str());
     Ok(())
 }
 
 #[test]
 fn each_example_has_its_message(rt: HostRuntime) -> Result<(), Fail> {
-    let alloc = rt.alloc();
-    for code in codes(alloc)?.as_slice() {
-        let source = source_of(alloc, *code)?;
-        let said = fault_text(*code);
-        let message = message_for(alloc, said.answer, &[("main.osc", source.as_slice())])?;
-        let number = code.number();
-        let title = said.title;
-        let head = format!(in alloc; "error[{number}]: {title}\n")?;
-        let explain = format!(in alloc; "= help: `osc explain {number}` tells more\n")?;
-        assert!(rt; message.as_str().starts_with(head.as_str()), "{number}");
-        assert!(rt; message.as_str().ends_with(explain.as_str()), "{number}");
-        for part in [" --> main.osc:", " | ", "^", "  = help: "] {
-            assert!(rt; message.as_str().contains(part), "{number}: {part}");
-        }
+    for code in codes(rt.alloc())?.as_slice() {
+        message_is(&rt, *code)?;
     }
     Ok(())
 }
@@ -98,26 +113,31 @@ fn has_all(called: &Called, parts: &[&str]) -> bool {
     called.status == 0 && called.message.as_str().is_empty()
 }
 
+/// Sees that a topic is explained, and stands in the list of all.
+fn is_explained(rt: &(impl Abort + AllocGlobal), topic: &Topic, list: &Called) -> Result<(), Fail> {
+    let (number, said) = match topic {
+        Topic::Fault(code) => (code.number(), fault_text(*code)),
+        Topic::Status(status) => (u16::from(status.number()), status_text(*status)),
+    };
+    let word = format!(in rt.alloc(); "{number}")?;
+    let called = call(rt.alloc(), &["explain", word.as_str()], &[])?;
+    let parts = [
+        said.title,
+        said.meaning,
+        said.example,
+        said.answer,
+        said.mending,
+    ];
+    assert!(rt; has_all(&called, &parts), "{number}");
+    assert!(rt; has_all(list, &[word.as_str(), said.title]), "{number}");
+    Ok(())
+}
+
 #[test]
 fn each_topic_is_explained(rt: HostRuntime) -> Result<(), Fail> {
-    let alloc = rt.alloc();
-    let list = call(alloc, &["explain"], &[])?;
-    for topic in topics(alloc)?.as_slice() {
-        let (number, said) = match topic {
-            Topic::Fault(code) => (code.number(), fault_text(*code)),
-            Topic::Status(status) => (u16::from(status.number()), status_text(*status)),
-        };
-        let word = format!(in alloc; "{number}")?;
-        let called = call(alloc, &["explain", word.as_str()], &[])?;
-        let parts = [
-            said.title,
-            said.meaning,
-            said.example,
-            said.answer,
-            said.mending,
-        ];
-        assert!(rt; has_all(&called, &parts), "{number}");
-        assert!(rt; has_all(&list, &[word.as_str(), said.title]), "{number}");
+    let list = call(rt.alloc(), &["explain"], &[])?;
+    for topic in topics(rt.alloc())?.as_slice() {
+        is_explained(&rt, topic, &list)?;
     }
     Ok(())
 }

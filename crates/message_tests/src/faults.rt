@@ -1,8 +1,28 @@
-use crate::call::{call, message_for};
-use std::alloc::{AllocError, Global};
+use crate::call::{call, call_says, message_for, message_has};
+use std::alloc::{AllocError, AllocGlobal, Global};
+use std::process::Abort;
 use std::test::Fail;
 
 const GENERATE: [&str; 3] = ["generate", "main.osc", "top"];
+
+/// Sees that the message for each source begins so.
+fn messages_begin(rt: &(impl Abort + AllocGlobal), rows: &[(&str, &str)]) -> Result<(), Fail> {
+    for (source, front) in rows {
+        let main = [("main.osc", source.as_bytes())];
+        call_says(rt, &GENERATE, &main, 3, *front, "")?;
+    }
+    Ok(())
+}
+
+/// Sees that the message for each source is this one.
+fn messages_are(rt: &(impl Abort + AllocGlobal), rows: &[(&str, &str)]) -> Result<(), Fail> {
+    for (source, want) in rows {
+        let called = call(rt.alloc(), &GENERATE, &[("main.osc", source.as_bytes())])?;
+        assert_eq!(rt; called.status, 3);
+        assert_eq!(rt; called.message.as_str(), *want);
+    }
+    Ok(())
+}
 
 #[test]
 fn whole_messages(rt: HostRuntime) -> Result<(), Fail> {
@@ -54,12 +74,7 @@ fn whole_messages(rt: HostRuntime) -> Result<(), Fail> {
             ),
         ),
     ];
-    for (source, want) in rows {
-        let called = call(rt.alloc(), &GENERATE, &[("main.osc", source.as_bytes())])?;
-        assert_eq!(rt; called.status, 3);
-        assert_eq!(rt; called.message.as_str(), want);
-    }
-    Ok(())
+    messages_are(&rt, &rows)
 }
 
 /// Messages whose beginning is compared.
@@ -94,12 +109,7 @@ fn places_in_messages(rt: HostRuntime) -> Result<(), Fail> {
             ),
         ),
     ];
-    for (source, want) in rows {
-        let called = call(rt.alloc(), &GENERATE, &[("main.osc", source.as_bytes())])?;
-        let got = called.message.as_str();
-        assert_eq!(rt; got.get(..want.len()).unwrap_or(got), want);
-    }
-    Ok(())
+    messages_begin(&rt, &rows)
 }
 
 /// Messages of faults without an earlier or a later place, whose beginning is compared.
@@ -133,12 +143,7 @@ fn single_places_in_messages(rt: HostRuntime) -> Result<(), Fail> {
             ),
         ),
     ];
-    for (source, want) in rows {
-        let called = call(rt.alloc(), &GENERATE, &[("main.osc", source.as_bytes())])?;
-        let got = called.message.as_str();
-        assert_eq!(rt; got.get(..want.len()).unwrap_or(got), want);
-    }
-    Ok(())
+    messages_begin(&rt, &rows)
 }
 
 /// Messages that tell which declared name is near.
@@ -158,8 +163,7 @@ fn names_that_are_near(rt: HostRuntime) -> Result<(), Fail> {
         ),
     ];
     for (line, want) in rows {
-        let message = message_for(rt.alloc(), line, &files)?;
-        assert!(rt; message.as_str().contains(want), "{line}");
+        message_has(&rt, line, &files, want, "")?;
     }
     let none = message_for(rt.alloc(), "fault 312 main.osc:4:23\n", &files)?;
     assert!(rt; !none.as_str().contains("A name near"));
@@ -175,6 +179,12 @@ fn message_of_lengths(alloc: Global, asked: usize, declared: usize) -> Result<St
     Ok(call(alloc, &GENERATE, &[("main.osc", source.as_bytes())])?.message)
 }
 
+/// Sees that a message tells of a name that isn't there, and whether it tells of one that is near, in these words.
+fn is_told(rt: &impl Abort, message: &str, words: &str, is_near: bool) {
+    assert!(rt; message.starts_with("error[312]: "));
+    assert!(rt; message.contains(words) == is_near, "{message}");
+}
+
 /// Long names are near no other, so that their messages take no time.
 #[test]
 fn long_names(rt: HostRuntime) -> Result<(), Fail> {
@@ -187,34 +197,27 @@ fn long_names(rt: HostRuntime) -> Result<(), Fail> {
     ];
     for (asked, declared, is_near) in rows {
         let message = message_of_lengths(rt.alloc(), asked, declared)?;
-        assert!(rt; message.as_str().starts_with("error[312]: "), "{asked}");
-        assert!(rt;
-            message.as_str().contains("A name near") == is_near,
-            "{asked}"
-        );
+        is_told(&rt, message.as_str(), "A name near", is_near);
     }
     Ok(())
+}
+
+/// What the message for a call of `generate` is that finds no declaration of a name, where a name near it stands behind so many.
+fn message_behind(alloc: Global, count: u32) -> Result<String, AllocError> {
+    let mut source = String::from_str(alloc, "enum kind: [a")?;
+    for number in 1..count {
+        write!(source, ", a{number}")?;
+    }
+    source.push_str("]\nscenario top:\n    speed: int\n    keep(sped > 3)\n")?;
+    Ok(call(alloc, &GENERATE, &[("main.osc", source.as_bytes())])?.message)
 }
 
 /// Of many declared names only the first are looked at.
 #[test]
 fn many_names(rt: HostRuntime) -> Result<(), Fail> {
-    let alloc = rt.alloc();
     for (count, is_near) in [(9_990, true), (10_000, false)] {
-        let mut source = String::from_str(alloc, "enum kind: [a")?;
-        for number in 1..count {
-            write!(source, ", a{number}")?;
-        }
-        source.push_str("]\nscenario top:\n    speed: int\n    keep(sped > 3)\n")?;
-        let called = call(alloc, &GENERATE, &[("main.osc", source.as_bytes())])?;
-        assert!(rt;
-            called.message.as_str().starts_with("error[312]: "),
-            "{count}"
-        );
-        assert!(rt;
-            called.message.as_str().contains("is `speed`") == is_near,
-            "{count}"
-        );
+        let message = message_behind(rt.alloc(), count)?;
+        is_told(&rt, message.as_str(), "is `speed`", is_near);
     }
     Ok(())
 }
@@ -237,12 +240,7 @@ fn earlier_declarations(rt: HostRuntime) -> Result<(), Fail> {
         ("fault 311 main.osc:8:15\n", "  --> main.osc:1:13\n"),
     ];
     for (line, want) in rows {
-        let message = message_for(rt.alloc(), line, &files)?;
-        assert!(rt; message.as_str().contains(want), "{line}");
-        assert!(rt;
-            message.as_str().contains("^^^^ the earlier declaration\n"),
-            "{line}"
-        );
+        message_has(&rt, line, &files, want, "^^^^ the earlier declaration\n")?;
     }
     Ok(())
 }
@@ -261,33 +259,43 @@ fn files_that_are_gone(rt: HostRuntime) -> Result<(), Fail> {
     Ok(())
 }
 
+/// Puts a part behind a text so often.
+fn push_times(text: &mut String, part: &str, count: u32) -> Result<(), AllocError> {
+    for _ in 0..count {
+        text.push_str(part)?;
+    }
+    Ok(())
+}
+
+/// A source with a long line.
+fn long_source(alloc: Global) -> Result<String, AllocError> {
+    let mut source = String::from_str(alloc, "scenario top:\n    keep(x == ")?;
+    push_times(&mut source, "1 + ", 50)?;
+    source.push_str("$")?;
+    push_times(&mut source, " + 2", 50)?;
+    source.push_str(")\n")?;
+    Ok(source)
+}
+
+/// What of the line is told.
+fn short_line(alloc: Global) -> Result<String, AllocError> {
+    let mut want = String::from_str(alloc, " 2 | ...")?;
+    push_times(&mut want, "1 + ", 15)?;
+    want.push_str("$")?;
+    push_times(&mut want, " + 2", 15)?;
+    want.push_str("...\n   | ")?;
+    push_times(&mut want, " ", 63)?;
+    want.push_str("^\n")?;
+    Ok(want)
+}
+
 /// A line is cut on both sides.
 #[test]
 fn long_lines(rt: HostRuntime) -> Result<(), Fail> {
-    let alloc = rt.alloc();
-    let mut source = String::from_str(alloc, "scenario top:\n    keep(x == ")?;
-    for _part in 0..50 {
-        source.push_str("1 + ")?;
-    }
-    source.push_str("$")?;
-    for _part in 0..50 {
-        source.push_str(" + 2")?;
-    }
-    source.push_str(")\n")?;
-    let called = call(alloc, &GENERATE, &[("main.osc", source.as_bytes())])?;
-    let mut want = String::from_str(alloc, " 2 | ...")?;
-    for _part in 0..15 {
-        want.push_str("1 + ")?;
-    }
-    want.push_str("$")?;
-    for _part in 0..15 {
-        want.push_str(" + 2")?;
-    }
-    want.push_str("...\n   | ")?;
-    for _column in 0..63 {
-        want.push_str(" ")?;
-    }
-    want.push_str("^\n")?;
+    let source = long_source(rt.alloc())?;
+    let want = short_line(rt.alloc())?;
+    let main = [("main.osc", source.as_bytes())];
+    let called = call(rt.alloc(), &GENERATE, &main)?;
     assert!(rt; called.message.as_str().contains(want.as_str()));
     assert!(rt; called.message.as_str().contains(" --> main.osc:2:215\n"));
     Ok(())

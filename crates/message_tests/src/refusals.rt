@@ -1,14 +1,7 @@
-use crate::call::{Called, call, call_failing};
-use std::process::Abort;
+use crate::call::{call, call_failing, call_says, says};
 use std::test::Fail;
 
 const SOURCE: &str = "scenario top:\n    x: int\n    keep(x in [3..3])\n";
-
-fn begins(rt: &(impl Abort + AllocGlobal), called: &Called, status: u8, want: &str) {
-    let got = called.message.as_str();
-    assert_eq!(rt; called.status, status, "{want}");
-    assert_eq!(rt; got.get(..want.len()).unwrap_or(got), want);
-}
 
 #[test]
 fn words_after_a_command(rt: HostRuntime) -> Result<(), Fail> {
@@ -55,8 +48,7 @@ fn words_after_a_command(rt: HostRuntime) -> Result<(), Fail> {
     for (rest, want) in rows {
         let mut words = Vec::from_slice(rt.alloc(), &["generate"])?;
         words.extend_from_slice(rest)?;
-        let called = call(rt.alloc(), words.as_slice(), &[])?;
-        begins(&rt, &called, 4, want);
+        call_says(&rt, words.as_slice(), &[], 4, want, "")?;
     }
     Ok(())
 }
@@ -119,15 +111,9 @@ fn first_words(rt: HostRuntime) -> Result<(), Fail> {
         ),
         (&["-v"], "error: `-v` is no command\n"),
     ];
+    let back = "  = help: `osc explain 4` tells more\n";
     for (words, want) in rows {
-        let called = call(rt.alloc(), words, &[])?;
-        begins(&rt, &called, 4, want);
-        assert!(rt;
-            called
-                .message
-                .as_str()
-                .ends_with("  = help: `osc explain 4` tells more\n")
-        );
+        call_says(&rt, words, &[], 4, want, back)?;
     }
     Ok(())
 }
@@ -137,37 +123,28 @@ fn files_and_standard_output(rt: HostRuntime) -> Result<(), Fail> {
     let alloc = rt.alloc();
     let words = ["generate", "main.osc", "top"];
     let main = [("main.osc", SOURCE.as_bytes())];
-    let missing = call(alloc, &words, &[])?;
-    begins(
-        &rt,
-        &missing,
-        6,
-        "error: there is no file `main.osc`\n  = help: ",
-    );
+    let missing = "error: there is no file `main.osc`\n  = help: ";
+    call_says(&rt, &words, &[], 6, missing, "")?;
     let failed = call_failing(alloc, &words, &main, &[0], 8192)?;
-    begins(
-        &rt,
-        &failed,
-        6,
-        "error: the system can't read `main.osc`\n  = help: ",
-    );
+    let unread = "error: the system can't read `main.osc`\n  = help: ";
+    says(&rt, &failed, 6, unread, "");
     let full = call_failing(alloc, &words, &main, &[], 0)?;
-    begins(&rt, &full, 7, "error: standard output failed\n  = help: ");
-    let bytes = vec![in alloc; b'#'; 1_048_577]?;
-    let long = call(alloc, &words, &[("main.osc", bytes.as_slice())])?;
-    begins(
+    says(
         &rt,
-        &long,
-        6,
-        "error: a source has at most 1048576 bytes, a run 16777216 and a record 268435456, unlike `main.osc`\n",
+        &full,
+        7,
+        "error: standard output failed\n  = help: ",
+        "",
     );
-    Ok(())
+    let bytes = vec![in alloc; b'#'; 1_048_577]?;
+    let long =
+        "error: a source has at most 1048576 bytes, a run 16777216 and a record 268435456, unlike `main.osc`\n";
+    call_says(&rt, &words, &[("main.osc", bytes.as_slice())], 6, long, "")
 }
 
 /// Files of runs that hold none.
 #[test]
 fn texts_that_are_no_run(rt: HostRuntime) -> Result<(), Fail> {
-    let alloc = rt.alloc();
     let words = ["check", "main.osc", "top", "run.json"];
     let rows: [(&str, &str); 2] = [
         (
@@ -184,7 +161,7 @@ fn texts_that_are_no_run(rt: HostRuntime) -> Result<(), Fail> {
             ("main.osc", SOURCE.as_bytes()),
             ("run.json", run.as_bytes()),
         ];
-        begins(&rt, &call(alloc, &words, &files)?, 5, want);
+        call_says(&rt, &words, &files, 5, want, "")?;
     }
     Ok(())
 }
@@ -201,7 +178,7 @@ fn answers(rt: HostRuntime) -> Result<(), Fail> {
     ];
     for words in rows {
         let called = call(rt.alloc(), words, &main)?;
-        begins(&rt, &called, 0, "");
+        assert_eq!(rt; called.status, 0);
         assert!(rt; called.message.as_str().is_empty());
     }
     Ok(())

@@ -386,6 +386,9 @@ fn put_argument<'a>(
 ) -> Result<(), AllocError> {
     let written = text.get(start..end).unwrap_or("");
     let inner = written.trim_start();
+    if inner.is_empty() {
+        return Ok(());
+    }
     let shift = start.saturating_add(written.len().saturating_sub(inner.len()));
     let name = argument_name(inner);
     let value = match inner.split_once(':') {

@@ -78,6 +78,8 @@ owned_all old new owner name place types units behaviours more NameKind.UnitName
 owned_all old new owner name place types units behaviours more NameKind.UnitName (Some w) text = refl
 owned_all old new owner name place types units behaviours more NameKind.BehaviourName None text = ap (λ t. place_in t text) behaviours ∙ or_nothing (place_in old.behaviours text)
 owned_all old new owner name place types units behaviours more NameKind.BehaviourName (Some w) text = more w text
+owned_all old new owner name place types units behaviours more NameKind.ModifierName None text = refl
+owned_all old new owner name place types units behaviours more NameKind.ModifierName (Some w) text = refl
 
 pub place_next : {X : Type 0} (test : X → Bool) (xs : List X) (i n : ℕ) (x : X) → i < length xs → n ≡ i → x ≡ get_or xs i x →
     option_or (first_place test 0 (take i xs)) (cond (test x) (Some n) None) ≡ first_place test 0 (take (i + 1) xs)

@@ -35,7 +35,7 @@ abbrev compound : CompoundKind → QName → Option Heir → Declaration
 compound kind q heir = Declaration.Compound (record { place = q.first.place; kind = kind; name = q; heir = heir; members = [] })
 
 abbrev file_of : List ℕ → List Import → List Declaration → AddedFile
-file_of text imports decls = record { name = text; file = record { imports = imports; decls = decls; end = at 0 99 } }
+file_of text imports decls = record { name = text; file = record { imports = imports; modifiers = []; decls = decls; end = at 0 99 } }
 
 -- two files that import each other
 abbrev first : AddedFile
@@ -77,6 +77,34 @@ top_twice = refl
 
 top_found : found NameKind.BehaviourName None (codes "top") (first ∷ again ∷ []) ≡ Some (record { file = 0; index = 0 })
 top_found = refl
+
+-- A file with two modifiers of one name. The scenario of that name has a space of its own.
+abbrev modified : AddedFile
+modified = record {
+  name = codes "main.osc";
+  file = record {
+    imports = [];
+    modifiers =
+        record { place = at 0 0; name = name 0 1 (codes "slow"); parts = [] }
+        ∷ record { place = at 0 9; name = name 0 10 (codes "top"); parts = [] }
+        ∷ record { place = at 0 18; name = name 0 19 (codes "top"); parts = [] }
+        ∷ [];
+    decls = compound CompoundKind.Scenario (alone (name 0 28 (codes "top"))) None ∷ [];
+    end = at 0 99;
+  };
+}
+
+modifier_found : found NameKind.ModifierName None (codes "top") (first ∷ modified ∷ []) ≡ Some (record { file = 1; index = 1 })
+modifier_found = refl
+
+modifier_owned : found NameKind.ModifierName (Some (codes "slow")) (codes "top") (modified ∷ []) ≡ None
+modifier_owned = refl
+
+no_modifier : found NameKind.ModifierName None (codes "other") (first ∷ modified ∷ []) ≡ None
+no_modifier = refl
+
+behaviour_apart : found NameKind.BehaviourName None (codes "top") (modified ∷ []) ≡ Some (record { file = 0; index = 0 })
+behaviour_apart = refl
 
 -- a dotted import
 abbrev dotted : List ℕ → AddedFile

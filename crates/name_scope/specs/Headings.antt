@@ -42,6 +42,7 @@ is_taken earlier NameKind.TypeName owner name = is_declared earlier name
 is_taken earlier NameKind.UnitName owner name = list_any (declares NameKind.UnitName None name) earlier
 is_taken earlier NameKind.BehaviourName None name = is_declared earlier name
 is_taken earlier NameKind.BehaviourName (Some owner) name = is_owned earlier owner name
+is_taken earlier NameKind.ModifierName owner name = list_any (declares NameKind.ModifierName owner name) earlier
 
 -- `Twice` at a declared name
 abbrev pub twice_rows : List Declaration → Option DeclaredName → List FaultRow

@@ -19,3 +19,4 @@ place_of t NameKind.BehaviourName None name = place_in t.behaviours name
 place_of t NameKind.TypeName (Some owner) name = None
 place_of t NameKind.UnitName (Some owner) name = None
 place_of t NameKind.BehaviourName (Some owner) name = place_within (get_by_text t.owned owner) name
+place_of t NameKind.ModifierName owner name = None

@@ -16,7 +16,7 @@ pub fn find_in(
 {
     let mut number: u32 = 0;
     for source in sources {
-        if let Some(index) = source.find(kind, owner, name) {
+        if let Some(index) = source.place(kind, owner, name) {
             return Some(DeclId {
                 file: number,
                 index,

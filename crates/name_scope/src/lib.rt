@@ -17,6 +17,7 @@ pub use least::with_fault;
 pub use library::library_text;
 pub use names::{FileName, Wanted};
 pub use program::{AddStop, Program};
+pub use source::Source;
 
 // Crates below, for the crates above.
 pub use dsl_tree;

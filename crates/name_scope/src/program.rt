@@ -111,7 +111,8 @@ impl Program {
     }
 
     /// The first declaration of the name, in load order. Only behaviours have owners. `None` exactly when
-    /// nothing of that kind, owner and name is declared.
+    /// nothing of that kind, owner and name is declared. The place of a modifier is that among its file's
+    /// modifiers.
     pub fn find(&self, kind: NameKind, owner: Option<&str>, name: &str) -> Option<DeclId>
         ensures first { result ≡ found kind (option_copied owner.entry) name.now self.now }
         ensures there { IfSome result (IsDeclared kind (option_copied owner.entry) name.now self.now) }
@@ -142,6 +143,7 @@ impl Program {
         ensures file { option_copied result ≡ option_map (λ f. f.file) (slice_get self.now number) }
         ensures follows { IfSome result (λ f. FollowsGrammar (file_tree f.now)) }
         ensures few { IfSome result (λ f. length f.now.decls < 2 ^ 32) }
+        ensures few_modifiers { IfSome result (λ f. length f.now.modifiers < 2 ^ 32) }
     {
         let source = self.sources.get(number as usize)?;
         Some(source.file())
@@ -162,6 +164,14 @@ impl Program {
     {
         let source = self.sources.get(number as usize)?;
         Some(source.name())
+    }
+
+    /// The files of the program, in load order.
+    pub fn into_files(self) -> Vec<Source>
+        ensures { result.items ≡ self }
+    {
+        let Program { sources, .. } = self;
+        sources
     }
 }
 

@@ -1,14 +1,14 @@
 ghost use Rattle.std.specs.Prelude.{◌≡◌, ℕ, ◌+◌, ◌<◌, ◌^◌, List, Option, None, Some, cond, bytes_eq, length, option_map, option_copied, IfOk, OnOk};
 ghost use Rattle.std.specs.Option.{option_or};
 ghost use Rattle.name_scope.specs.declared.ids.NameKind.{NameKind};
-ghost use Rattle.name_scope.specs.Declaring.{declared_name, declares, first_place, is_name, same_names, compound_name};
+ghost use Rattle.name_scope.specs.Declaring.{declared_name, declares, first_place, is_called, is_name, same_names, compound_name};
 ghost use Rattle.name_scope.specs.Declaring.{behaviour_name};
 ghost use Rattle.name_scope.specs.Seen.{seen_name};
 ghost use Rattle.name_scope.specs.Tables.{place_in, place_within, place_of};
 ghost use Rattle.std.specs.HashMap.{get_by_text};
 
 use crate::NameKind;
-use dsl_tree::{CompoundKind, Declaration, Ident, QName};
+use dsl_tree::{CompoundKind, Declaration, Ident, ModifierDecl, QName};
 use indexmap::IndexMap;
 use std::alloc::{AllocError, Global};
 
@@ -70,7 +70,8 @@ impl NameTable {
         }
     }
 
-    fn get(&self, name: &str) -> Option<u32>
+    /// The place at which the name is declared first.
+    pub fn get(&self, name: &str) -> Option<u32>
         ensures { result ≡ place_in self.now name.now }
     {
         self.places.get(name).copied()
@@ -86,6 +87,32 @@ impl NameTable {
         let key = String::from_str(alloc, name)?;
         self.places.insert(key, place)?;
         Ok(())
+    }
+
+    /// Keeps the place of a modifier for its name, if the name has none yet.
+    fn note_modifier(
+        &mut self,
+        alloc: Global,
+        modifier: &ModifierDecl,
+        place: u32,
+    ) -> Result<(), AllocError>
+        ensures { OnOk result ((other : List ℕ) → place_in self.new other ≡ option_or (place_in self.old other) (cond (is_called other modifier.now) (Some place) None)) }
+    {
+        self.note(alloc, modifier.name.text.as_str(), place)
+    }
+
+    /// The table of the modifiers of a file. More of them than a `u32` counts are out of memory.
+    pub fn of(alloc: Global, modifiers: &[ModifierDecl]) -> Result<NameTable, AllocError>
+        ensures few { OnOk result (length modifiers.now < 2 ^ 32) }
+        ensures first { IfOk result (λ t. (name : List ℕ) → place_in t name ≡ first_place (is_called name) 0 modifiers.now) }
+    {
+        let mut table = NameTable::new(alloc);
+        let mut place: u32 = 0;
+        for modifier in modifiers {
+            table.note_modifier(alloc, modifier, place)?;
+            place = next_place(place)?;
+        }
+        Ok(table)
     }
 }
 
@@ -141,7 +168,8 @@ impl DeclTable {
             (NameKind::UnitName, None) => self.units.get(name),
             (NameKind::BehaviourName, None) => self.behaviours.get(name),
             (NameKind::BehaviourName, Some(owner)) => self.owned.get(owner)?.get(name),
-            (NameKind::TypeName | NameKind::UnitName, Some(_)) => None,
+            (NameKind::TypeName | NameKind::UnitName, Some(_)) | (NameKind::ModifierName, _) =>
+                None,
         }
     }
 

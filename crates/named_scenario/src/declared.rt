@@ -1,11 +1,12 @@
 //! The declaration of a scenario.
 
 ghost use Rattle.std.specs.Prelude.{◌≡◌, option_copied};
+ghost use Rattle.std.specs.List.{slice_get};
 ghost use Rattle.std.specs.Option.{option_map};
-ghost use Rattle.dsl_tree.specs.Views.{compound_tree, declaration_tree};
+ghost use Rattle.dsl_tree.specs.Views.{compound_tree, declaration_tree, file_tree};
 ghost use Rattle.named_scenario.specs.Declarations.{as_scenario, declaration_at, scenario_declared};
 
-use dsl_tree::{CompoundDecl, CompoundKind, Declaration};
+use dsl_tree::{CompoundDecl, CompoundKind, Declaration, File};
 use name_scope::{DeclId, NameKind, Program};
 
 /// The first action or scenario of that owner and name, if it is a scenario.
@@ -23,11 +24,14 @@ pub fn declared_scenario<'a>(
 fn declaration_at(program: &Program, id: DeclId) -> Option<&Declaration>
     ensures { option_map (λ d. declaration_tree d.now) result ≡ declaration_at program.now id }
 {
-    program
-        .file(id.file)?
-        .decls
-        .as_slice()
-        .get(id.index as usize)
+    declaration_in(program.file(id.file)?, id.index)
+}
+
+fn declaration_in(file: &File, index: u32) -> Option<&Declaration>
+    ensures { option_map (λ d. declaration_tree d.now) result
+        ≡ slice_get (file_tree file.now).decls index }
+{
+    file.decls.as_slice().get(index as usize)
 }
 
 fn as_scenario(declaration: &Declaration) -> Option<&CompoundDecl>

@@ -1,3 +1,4 @@
+pub mod Divisors
 pub mod FaultCodes
 pub mod FaultRows
 pub mod Fractions
@@ -7,3 +8,4 @@ pub mod Numbers
 pub mod Rows
 pub mod PathEquality
 pub mod PathReading
+pub mod RelationsToday

@@ -9,5 +9,6 @@ pub mod Comparisons
 pub mod Paths
 pub mod PathTexts
 pub mod Modifiers
+pub mod Relations
 pub mod SlotNames
 pub mod Stops

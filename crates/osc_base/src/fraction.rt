@@ -1,9 +1,10 @@
 ghost use Rattle.std.specs.Prelude.{◌≡◌, ℕ, ◌↔◌, ◌+◌, ◌/◌, ◌^◌, ◌<◌, ◌≤◌, pos, ◌+ℤ◌, ◌*ℤ◌, ◌≤ℤ◌, unsigned_abs, IsSome, IfSome};
 ghost use Rattle.std.specs.Option.{SomeIff};
 ghost use Rattle.std.specs.Int.{IsGcd, ◌∣◌};
-ghost use Rattle.osc_base.specs.Number.{IsFloor, IsLeastCommonMultiple, IsNearestThousandth, IsSame, IsWithin, order, plus};
+ghost use Rattle.osc_base.specs.Number.{IsFloor, IsNearestThousandth, IsSame, IsWithin, order, plus};
 ghost use Rattle.osc_base.specs.Number.{product as product_of};
 
+use crate::euclid::{gcd, least_common_multiple};
 use std::cmp::Ordering;
 
 /// An exact fraction. Its denominator is at least 1.
@@ -149,31 +150,4 @@ fn sum(a: i128, b: i128) -> Option<i128>
     ensures { SomeIff result (IsWithin (a +ℤ b)) (a +ℤ b) }
 {
     within(a.checked_add(b)?)
-}
-
-/// The greatest common divisor.
-fn gcd(a: u128, b: u128) -> u128
-    ensures { IsGcd a b result }
-{
-    let (mut x, mut y) = (a, b);
-    while y != 0 {
-        let rest = x % y;
-        x = y;
-        y = rest;
-    }
-    x
-}
-
-/// The least common multiple, if it is at most 2^120.
-fn least_common_multiple(a: u128, b: u128) -> Option<u128>
-    requires first { 0 < a }
-    requires second { 0 < b }
-    ensures { (multiple : ℕ) × IsLeastCommonMultiple a b multiple × SomeIff result (multiple ≤ 2 ^ 120) multiple }
-{
-    let multiple = (a / gcd(a, b)).checked_mul(b)?;
-    if multiple <= MOST {
-        Some(multiple)
-    } else {
-        None
-    }
 }

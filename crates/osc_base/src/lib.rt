@@ -6,6 +6,7 @@
 #![tactic(auto)]
 
 mod boxed;
+mod euclid;
 mod fault;
 mod fraction;
 mod listing;
@@ -13,18 +14,21 @@ mod mark;
 mod modifier;
 mod path;
 mod path_read;
+mod relation;
 mod row;
 mod sample;
 mod stop;
 mod text;
 
 pub use boxed::Boxed;
+pub use euclid::{gcd, least_common_multiple};
 pub use fault::{Fault, FaultCode, Place};
 pub use fraction::Fraction;
 pub use listing::{RuleName, SlotName};
 pub use mark::{Mark, Strength};
 pub use modifier::{Kind, Moment};
 pub use path::{Path, Step};
+pub use relation::{Quantity, Rate, Reading, Relation, Side};
 pub use row::Row;
 pub use sample::{Sample, SampleSlots};
 pub use stop::Stop;

@@ -1,8 +1,9 @@
-ghost use Rattle.std.specs.Prelude.{◌≡◌, [], ◌∷◌, ◌++◌, IfOk, OnOk, OnErr};
+ghost use Rattle.std.specs.Prelude.{◌≡◌, ◌<◌, [], ◌∷◌, ◌++◌, length, slice_set as set, slice_index_or as get_or, IfOk, OnOk, OnErr};
 
 use std::alloc::{AllocError, Global};
 use std::hash::{Hash, Hasher};
 use std::marker::Model;
+use std::mem;
 
 /// A `Vec` that contracts see as the list of its items.
 #[derive(Debug, Drop)]
@@ -63,6 +64,15 @@ impl<T: Drop> Row<T> {
     {
         self.items.push(item)?;
         Ok(())
+    }
+
+    /// Puts `item` at a place that the row has, and hands back what stood there.
+    pub fn replace(&mut self, place: usize, item: T) -> T
+        requires { place < length self.old }
+        ensures placed { self.new ≡ set self.old place item }
+        ensures taken { result ≡ get_or self.old place item }
+    {
+        mem::replace(&mut self.items[place], item)
     }
 }
 

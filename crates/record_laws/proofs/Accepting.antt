@@ -11,7 +11,7 @@ use Rattle.box_eval.specs.Box.{first_part, second_part}
 use Rattle.record_trees.specs.Guided.{EndsAt}
 use Rattle.record_trees.specs.Record.{Tree, branch, leaf, has_open, cuts_of, IsRecordOf, IsAcceptedAs, IsRefutation}
 use Rattle.record_trees.proofs.Lines.{length_lines}
-use Rattle.record_text.specs.declared.line.TextLine.TheVariants as T
+use Rattle.record_text.specs.TextLines as T
 use Rattle.box_eval.specs.Rules.{IsFlat}
 use Rattle.record_text.specs.Text.{text_line, taken, with_picks, record_lines, record_text, IsTextOf, IsFirstBadLine}
 use Rattle.record_text.proofs.Texts.{text_of_one}

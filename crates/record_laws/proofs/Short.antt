@@ -15,7 +15,7 @@ use Rattle.record_trees.specs.Record.{Tree, branch, Leaf, leaf, close, added, un
 use Rattle.box_eval.specs.Rules.{IsFlat}
 use Rattle.record_trees.proofs.Empty.{AllTrue-front, AllTrue-back, cut_facts, close_facts, sum_facts}
 use Rattle.box_eval.proofs.Parts.{inside_self, inside_trans, first_part_inside, second_part_inside}
-use Rattle.record_text.specs.declared.line.TextLine.TheVariants as T
+use Rattle.record_text.specs.TextLines as T
 use Rattle.record_text.specs.Lines.{IsFewDigits, HaveFewDigits, IsShort, AllShort}
 use Rattle.record_text.specs.Text.{text_line, with_picks, record_lines}
 use Rattle.record_text.proofs.FullLines.{told_lines}

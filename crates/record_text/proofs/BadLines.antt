@@ -3,7 +3,7 @@ use Rattle.std.specs.Prelude.{nat_lt}
 use Rattle.std.proofs.lemmas.Bool.{ltb-true}
 use Rattle.std.proofs.Common.{◌≡◌, refl, sym, ap, ◌∙◌, subst, ℕ, ◌<◌, ◌≤◌, Bool, true, false, List, [], ◌∷◌, ◌++◌, length, take, drop, arith, append_assoc}
 use Rattle.std.proofs.lemmas.List.{take-append-drop, length-take-le, length-append}
-use Rattle.record_text.specs.declared.line.TextLine.{TextLine}
+use Rattle.record_text.specs.TextLines.{TextLine}
 use Rattle.record_text.specs.Lines.{text_of}
 use Rattle.record_text.specs.Text.{MayBegin, IsGoodFor, IsFirstBadLine}
 use Rattle.record_text.proofs.Texts.{text_both}

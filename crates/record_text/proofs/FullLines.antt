@@ -10,8 +10,8 @@ use Rattle.record_trees.specs.declared.record.Line.{Line}
 use Rattle.record_trees.specs.declared.record.Line.TheVariants as L
 use Rattle.record_trees.specs.Record.{Tree, branch, leaf, Leaf, close, added, unknown, FullLine, full, line_at, cut_line, leaf_line, leaf_picks, lines_of, picks_of, full_lines, has_sum}
 use Rattle.record_trees.proofs.Lines.{bare_lines, bare_picks}
-use Rattle.record_text.specs.declared.line.TextLine.{TextLine}
-use Rattle.record_text.specs.declared.line.TextLine.TheVariants as T
+use Rattle.record_text.specs.TextLines.{TextLine}
+use Rattle.record_text.specs.TextLines as T
 use Rattle.record_text.specs.Text.{taken, taken_all, with_picks, line_with, text_line, is_sum_line, sum_among}
 use Rattle.record_text.specs.Rest.{node_line}
 

@@ -4,8 +4,8 @@ use Rattle.std.specs.Result.{IsErrAnd}
 use Rattle.std.proofs.lemmas.Bool.{false≢true}
 use Rattle.record_text.specs.declared.line.Form.{Form}
 use Rattle.record_text.specs.declared.line.Form.TheVariants.{One}
-use Rattle.record_text.specs.declared.line.TextLine.{TextLine}
-use Rattle.record_text.specs.declared.line.TextLine.TheVariants as T
+use Rattle.record_text.specs.TextLines.{TextLine}
+use Rattle.record_text.specs.TextLines as T
 use Rattle.record_text.specs.declared.found.Wanted.{Wanted}
 use Rattle.record_text.specs.declared.found.Wanted.TheVariants as W
 use Rattle.record_text.specs.declared.stop.VerifyStop.{VerifyStop}

@@ -1,4 +1,5 @@
 pub mod BadLines
+pub mod FirstBytes
 pub mod FullLines
 pub mod Grammar
 pub mod Headers

@@ -9,8 +9,8 @@ use Rattle.std.proofs.lemmas.Bool.Decides.{Decides-eqb}
 use Rattle.std.proofs.lemmas.Slice.Eq.{starts_is, bytes_eq-Decides}
 use Rattle.std.proofs.lemmas.Fmt.{digits_decimal}
 use Rattle.box_eval.specs.declared.cut.Side.{Side}
-use Rattle.record_text.specs.declared.line.TextLine.{TextLine}
-use Rattle.record_text.specs.declared.line.TextLine.TheVariants.{Head, Slots, Rules, Room, Cut, Close, Sum, Open, End}
+use Rattle.record_text.specs.TextLines.{TextLine}
+use Rattle.record_text.specs.TextLines.{Head, Slots, Rules, Room, Cut, Close, Sum, Open, End}
 use Rattle.record_text.specs.declared.line.Form.TheVariants.{One, Two}
 use Rattle.linear_sums.specs.declared.pick.Pick.{Pick}
 use Rattle.record_text.specs.Scan.{is_digit, natural_at, cut_at, sum_at, word_at, heading_at, line_at}

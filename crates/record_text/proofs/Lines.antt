@@ -6,14 +6,14 @@ use Rattle.std.proofs.lemmas.Bool.{leb-true}
 use Rattle.std.proofs.lemmas.List.{length-append, length-take, length-take-le, take-append-le}
 use Rattle.std.proofs.lemmas.Fmt.{length-decimal-le}
 use Rattle.box_eval.specs.declared.cut.Side.TheVariants as Side
-use Rattle.record_text.specs.declared.line.TextLine.{TextLine}
-use Rattle.record_text.specs.declared.line.TextLine.TheVariants.{Head, Slots, Rules, Room, Cut, Close, Sum, Open, End}
+use Rattle.record_text.specs.TextLines.{TextLine}
+use Rattle.record_text.specs.TextLines.{Head, Slots, Rules, Room, Cut, Close, Sum, Open, End}
 use Rattle.record_text.specs.declared.line.Form.TheVariants.{One, Two}
 use Rattle.record_text.specs.declared.page.Piece.{Piece}
 use Rattle.record_text.specs.declared.page.Piece.TheVariants as P
 use Rattle.record_text.specs.Pieces.{piece_bytes, IsShortPiece}
 use Rattle.linear_sums.specs.declared.pick.Pick.{Pick}
-use Rattle.record_text.specs.declared.found.Found.{Found}
+use Rattle.record_text.specs.FoundLines.{FoundLine}
 use Rattle.record_text.specs.Scan.{line_at}
 use Rattle.record_text.specs.Lines.{IsFewDigits, HaveFewDigits, IsShort, slot_and_value, spelled_pick, spelled_picks, spelled, is_no_feed, NoFeed}
 use Rattle.record_text.specs.Source.{Unread, Gives}
@@ -152,11 +152,11 @@ finds_line held x y z l m n h g = subst (λ (bs : List ℕ). Finds (found_at bs)
 }
 
 -- the same in the words of the loop
-pub found_held : (held shown : List ℕ) (b : ℕ) (found : Found) (x y z : Unread) (l m n : Option (List ℕ)) → IsHeld held x y l m → Gives (b ∷ []) y z m n → b ≡ 10
+pub found_held : (held shown : List ℕ) (b : ℕ) (found : FoundLine) (x y z : Unread) (l m n : Option (List ℕ)) → IsHeld held x y l m → Gives (b ∷ []) y z m n → b ≡ 10
     → shown ≡ held → found ≡ found_at shown → Finds found x z l n
 found_held held shown b found x y z l m n h g feed is found_is =
     let same : found_at held ≡ found = cc in
-    subst (λ (f : Found). Finds f x z l n) same (finds_line held x y z l m n h (subst (λ (c : ℕ). Gives (c ∷ []) y z m n) feed g))
+    subst (λ (f : FoundLine). Finds f x z l n) same (finds_line held x y z l m n h (subst (λ (c : ℕ). Gives (c ∷ []) y z m n) feed g))
 
 -- a piece has at most 44 bytes
 pub piece_short : (piece : Piece) → IsShortPiece piece → length (piece_bytes piece) ≤ 44

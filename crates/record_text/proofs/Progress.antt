@@ -2,7 +2,7 @@
 use Rattle.std.proofs.Common.{◌≡◌, refl, sym, ◌∙◌, subst, ℕ, ◌+◌, true, List, [], ◌∷◌, ◌++◌, length, Option, Some, None, Result, Ok, Err, IfErr, arith}
 use Rattle.std.specs.Result.{IsErrAnd}
 use Rattle.std.proofs.lemmas.List.{length-append}
-use Rattle.record_text.specs.declared.line.TextLine.{TextLine}
+use Rattle.record_text.specs.TextLines.{TextLine}
 use Rattle.record_text.specs.declared.found.Wanted.{Wanted}
 use Rattle.record_text.specs.declared.stop.VerifyStop.{VerifyStop}
 use Rattle.record_text.specs.declared.stop.VerifyStop.TheVariants as V

@@ -14,8 +14,8 @@ use Rattle.record_trees.specs.Trees.{full_lines_all, any_open, any_sum}
 use Rattle.record_trees.proofs.Lines.{same_full}
 use Rattle.record_text.specs.declared.line.Form.{Form}
 use Rattle.record_text.specs.declared.line.Form.TheVariants.{One, Two}
-use Rattle.record_text.specs.declared.line.TextLine.{TextLine}
-use Rattle.record_text.specs.declared.line.TextLine.TheVariants as T
+use Rattle.record_text.specs.TextLines.{TextLine}
+use Rattle.record_text.specs.TextLines as T
 use Rattle.record_text.specs.declared.found.Wanted.{Wanted}
 use Rattle.record_text.specs.declared.found.Wanted.TheVariants as W
 use Rattle.record_text.specs.declared.nodes.Nodes.{Nodes}

@@ -5,8 +5,8 @@ use Rattle.std.proofs.lemmas.List.{append-nil, length-append, map-append}
 use Rattle.std.proofs.lemmas.Bool.{false≢true}
 use Rattle.outside_io.specs.Files.{NothingLeft}
 use Rattle.record_trees.specs.Record.{Tree, FullLine, full_lines}
-use Rattle.record_text.specs.declared.line.TextLine.{TextLine}
-use Rattle.record_text.specs.declared.line.TextLine.TheVariants as T
+use Rattle.record_text.specs.TextLines.{TextLine}
+use Rattle.record_text.specs.TextLines as T
 use Rattle.record_text.specs.declared.found.Wanted.{Wanted}
 use Rattle.record_text.specs.declared.found.Wanted.TheVariants as W
 use Rattle.record_text.specs.declared.stop.VerifyStop.{VerifyStop}

@@ -6,7 +6,7 @@ use Rattle.record_trees.specs.declared.record.Line.{Line}
 use Rattle.record_trees.specs.declared.record.Line.TheVariants as L
 use Rattle.record_trees.specs.declared.record.Record.{Record}
 use Rattle.record_trees.specs.Record.{Tree, IsRecordOf}
-use Rattle.record_text.specs.declared.line.TextLine.{TextLine}
+use Rattle.record_text.specs.TextLines.{TextLine}
 use Rattle.record_text.specs.Lines.{IsShort, AllShort}
 use Rattle.record_text.specs.Text.{taken, taken_all, with_picks, line_with, text_line, record_lines}
 use Rattle.record_text.specs.Written.{HasShortValue, HaveShortValues, HasSum, HaveSums}

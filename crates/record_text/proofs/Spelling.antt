@@ -13,8 +13,8 @@ use Rattle.std.proofs.lemmas.Int.{ints}
 use Rattle.std.proofs.lemmas.Fmt.{digits_decimal, digits_value-decimal, decimal-digits_value, decimal_nonempty, decimal_digit, length-decimal-le, first_decimal}
 use Rattle.std.proofs.lemmas.Str.Parse.{digits_value_short}
 use Rattle.box_eval.specs.declared.cut.Side.{Side}
-use Rattle.record_text.specs.declared.line.TextLine.{TextLine}
-use Rattle.record_text.specs.declared.line.TextLine.TheVariants.{Cut}
+use Rattle.record_text.specs.TextLines.{TextLine}
+use Rattle.record_text.specs.TextLines.{Cut}
 use Rattle.record_text.specs.Scan.{is_no_space, cut_of, divided_at, cut_at, is_digit, is_short, has_no_leading_zero, is_numeral, natural_at, below_zero, integer_at}
 use Rattle.record_text.specs.Lines.{IsFewDigits, slot_and_value}
 use Rattle.record_text.proofs.Numerals.{own}

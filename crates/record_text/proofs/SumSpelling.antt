@@ -9,8 +9,8 @@ use Rattle.std.proofs.Math.Seq.{take-append_seam}
 use Rattle.std.proofs.lemmas.Fmt.{digits_decimal}
 use Rattle.linear_sums.specs.declared.pick.Pick.{Pick}
 use Rattle.record_trees.specs.Record.{are_in_order, may_stand}
-use Rattle.record_text.specs.declared.line.TextLine.{TextLine}
-use Rattle.record_text.specs.declared.line.TextLine.TheVariants.{Sum}
+use Rattle.record_text.specs.TextLines.{TextLine}
+use Rattle.record_text.specs.TextLines.{Sum}
 use Rattle.record_text.specs.Scan.{is_no_space, natural_at, number_after, after_number, pick_with, pick_at, after_pick, picks_then, picks_at, sum_of, sum_at}
 use Rattle.record_text.specs.Lines.{IsFewDigits, HaveFewDigits, spelled_pick, spelled_picks}
 use Rattle.record_text.proofs.Numerals.{own}

@@ -8,8 +8,8 @@ use Rattle.record_trees.specs.declared.record.Line.TheVariants as L
 use Rattle.record_trees.specs.declared.record.Record.{Record}
 use Rattle.record_trees.specs.Record.{Tree, IsRecordOf}
 use Rattle.record_text.specs.declared.line.Form.TheVariants.{One, Two}
-use Rattle.record_text.specs.declared.line.TextLine.{TextLine}
-use Rattle.record_text.specs.declared.line.TextLine.TheVariants as T
+use Rattle.record_text.specs.TextLines.{TextLine}
+use Rattle.record_text.specs.TextLines as T
 use Rattle.record_text.specs.Lines.{IsShort, AllShort, spelled, text_of}
 use Rattle.record_text.specs.Text.{taken, taken_all, with_picks, line_with, text_line, record_lines, record_text}
 use Rattle.record_text.proofs.SumSpelling.{few_stand}

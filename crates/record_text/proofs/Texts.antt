@@ -9,8 +9,8 @@ use Rattle.record_trees.specs.declared.record.Record.{Record}
 use Rattle.record_trees.specs.Record.{Tree, FullLine, lines_of, picks_of, IsRecordOf}
 use Rattle.record_trees.proofs.Lines.{bare_lines, bare_picks, one_tree}
 use Rattle.record_text.specs.declared.line.Form.{Form}
-use Rattle.record_text.specs.declared.line.TextLine.{TextLine}
-use Rattle.record_text.specs.declared.line.TextLine.TheVariants.{End}
+use Rattle.record_text.specs.TextLines.{TextLine}
+use Rattle.record_text.specs.TextLines.{End}
 use Rattle.record_text.specs.Lines.{spelled, text_of, AllShort}
 use Rattle.record_text.specs.Text.{taken_all, with_picks, text_line, lines_in, form_of, record_lines, record_text, IsWritable, HasOwnText, IsTextOf}
 use Rattle.record_text.proofs.FullLines.{AllFit, with_fits, text_line_unique, no_end_line, bare_again, picks_again, taken_told}

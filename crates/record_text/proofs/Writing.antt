@@ -12,8 +12,8 @@ use Rattle.record_trees.specs.declared.record.Line.{Line}
 use Rattle.record_trees.specs.declared.record.Line.TheVariants as L
 use Rattle.record_trees.specs.declared.record.Record.{Record}
 use Rattle.record_trees.specs.Record.{may_stand}
-use Rattle.record_text.specs.declared.line.TextLine.{TextLine}
-use Rattle.record_text.specs.declared.line.TextLine.TheVariants as T
+use Rattle.record_text.specs.TextLines.{TextLine}
+use Rattle.record_text.specs.TextLines as T
 use Rattle.record_text.specs.declared.page.Piece.{Piece}
 use Rattle.record_text.specs.Lines.{IsFewDigits, HaveFewDigits, IsShort, AllShort, spelled, spelled_pick, spelled_picks, text_of}
 use Rattle.record_text.specs.Pieces.{piece_bytes, IsShortPiece, piece_of}

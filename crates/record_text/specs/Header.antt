@@ -2,8 +2,8 @@
 use Rattle.std.specs.Prelude.{ℕ, Bool, false}
 use Rattle.record_text.specs.declared.line.Form.{Form}
 use Rattle.record_text.specs.declared.line.Form.TheVariants.{One}
-use Rattle.record_text.specs.declared.line.TextLine.{TextLine}
-use Rattle.record_text.specs.declared.line.TextLine.TheVariants as T
+use Rattle.record_text.specs.TextLines.{TextLine}
+use Rattle.record_text.specs.TextLines as T
 
 abbrev pub undecided_of : TextLine → Bool
 undecided_of (T.Head undecided form) = undecided

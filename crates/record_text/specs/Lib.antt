@@ -1,3 +1,4 @@
+pub mod FoundLines
 pub mod Header
 pub mod Lines
 pub mod Nodes
@@ -13,6 +14,8 @@ pub mod Source
 pub mod SourceFields
 pub mod Stops
 pub mod Text
+pub mod TextLines
+pub mod WholeLines
 pub mod Written
 -- Crates below, for the crates above.
 pub use Rattle.box_eval.specs as box_eval

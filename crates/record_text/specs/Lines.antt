@@ -8,8 +8,8 @@ use Rattle.linear_sums.specs.declared.pick.Pick.{Pick}
 use Rattle.record_trees.specs.Record.{may_stand}
 use Rattle.record_text.specs.declared.line.Form.{Form}
 use Rattle.record_text.specs.declared.line.Form.TheVariants.{One, Two}
-use Rattle.record_text.specs.declared.line.TextLine.{TextLine}
-use Rattle.record_text.specs.declared.line.TextLine.TheVariants.{Head, Slots, Rules, Room, Cut, Close, Sum, Open, End}
+use Rattle.record_text.specs.TextLines.{TextLine}
+use Rattle.record_text.specs.TextLines.{Head, Slots, Rules, Room, Cut, Close, Sum, Open, End}
 
 -- a cut's slot and value, with a space between them
 abbrev pub slot_and_value : ℕ → ℤ → List ℕ

@@ -1,7 +1,7 @@
 -- How far a text was read, and what is known of it when reading stops.
 use Rattle.std.specs.Prelude.{◌≡◌, ℕ, ◌+◌, ◌<◌, ◌≤◌, List, [], length, Option, Some, ⊤}
 use Rattle.outside_io.specs.Files.{NothingLeft}
-use Rattle.record_text.specs.declared.line.TextLine.{TextLine}
+use Rattle.record_text.specs.TextLines.{TextLine}
 use Rattle.record_text.specs.declared.stop.VerifyStop.{VerifyStop}
 use Rattle.record_text.specs.declared.stop.VerifyStop.TheVariants as V
 use Rattle.record_text.specs.Lines.{text_of, AllShort}
@@ -11,7 +11,7 @@ use Rattle.record_text.specs.Text.{IsFirstBadLine}
 
 -- a reader that has read nothing
 abbrev pub fresh : Reading
-fresh = record { unread = record { bytes = []; given = 0 }; lines = 0 }
+fresh = record { unread = record { bytes = []; given = 0 }; picks = []; lines = 0 }
 
 -- these lines were read
 pub record HasRead (lines : List TextLine) (start now : Reading) (left left_now : Option (List ℕ)) : Type 0 where

@@ -1,9 +1,10 @@
 -- What the reader of a record looks for, and what it answers.
 use Rattle.std.specs.Prelude.{◌≡◌, ℕ, ◌+◌, ◌≤◌, Bool, true, false, if◌then◌else◌, List, [], ◌∷◌, ◌++◌, length, Option, Some, None, ⊤}
-use Rattle.record_text.specs.declared.line.TextLine.{TextLine}
-use Rattle.record_text.specs.declared.line.TextLine.TheVariants as T
-use Rattle.record_text.specs.declared.found.Found.{Found}
-use Rattle.record_text.specs.declared.found.Found.TheVariants as F
+use Rattle.linear_sums.specs.declared.pick.Pick.{Pick}
+use Rattle.record_text.specs.TextLines.{TextLine}
+use Rattle.record_text.specs.TextLines as T
+use Rattle.record_text.specs.FoundLines.{FoundLine}
+use Rattle.record_text.specs.FoundLines as F
 use Rattle.record_text.specs.declared.found.Wanted.{Wanted}
 use Rattle.record_text.specs.declared.found.Wanted.TheVariants as W
 use Rattle.record_text.specs.declared.stop.VerifyStop.{VerifyStop}
@@ -26,45 +27,45 @@ wants (W.Node undecided form) T.Open = undecided
 wants W.End T.End = true
 wants wanted line = false
 
-abbrev pub found_line : Option TextLine → Found
+abbrev pub found_line : Option TextLine → FoundLine
 found_line (Some line) = F.Line line
 found_line None = F.Other
 
-abbrev pub found_at : List ℕ → Found
+abbrev pub found_at : List ℕ → FoundLine
 found_at text = found_line (line_at text)
 
 abbrev pub if_wanted : Wanted → TextLine → Option TextLine
 if_wanted wanted line = if wants wanted line then Some line else None
 
-abbrev pub wanted_line : Wanted → Found → Option TextLine
+abbrev pub wanted_line : Wanted → FoundLine → Option TextLine
 wanted_line wanted (F.Line line) = if_wanted wanted line
 wanted_line wanted F.Other = None
 wanted_line wanted F.Nothing = None
 
 -- what a text has next: a line that a record may have, another line, or no line feed any more
-abbrev pub IsFound : List ℕ → Found → Type 0
+abbrev pub IsFound : List ℕ → FoundLine → Type 0
 IsFound text (F.Line line) = IsShort line × (text ≡ spelled line)
 IsFound text F.Other = NoFeed text × ((line : TextLine) → IsShort line → text ≡ spelled line → ⊥)
 IsFound text F.Nothing = NoFeed text
 
 -- what was read: the line and its line feed, or what was left
-abbrev pub read_of : List ℕ → Found → List ℕ
+abbrev pub read_of : List ℕ → FoundLine → List ℕ
 read_of text (F.Line line) = text ++ 10 ∷ []
 read_of text F.Other = text ++ 10 ∷ []
 read_of text F.Nothing = text
 
-abbrev pub AtEndIfNothing : Found → Unread → Option (List ℕ) → Type 0
+abbrev pub AtEndIfNothing : FoundLine → Unread → Option (List ℕ) → Type 0
 AtEndIfNothing (F.Line line) unread left = ⊤
 AtEndIfNothing F.Other unread left = ⊤
 AtEndIfNothing F.Nothing unread left = IsAtEnd unread left
 
-abbrev pub is_nothing : Found → Bool
+abbrev pub is_nothing : FoundLine → Bool
 is_nothing (F.Line line) = false
 is_nothing F.Other = false
 is_nothing F.Nothing = true
 
 -- the next line was read and found to be this
-pub record Finds (found : Found) (before after : Unread) (left left_after : Option (List ℕ)) : Type 0 where
+pub record Finds (found : FoundLine) (before after : Unread) (left left_after : Option (List ℕ)) : Type 0 where
   pub text : List ℕ
   pub is : IsFound text found
   pub gives : Gives (read_of text found) before after left left_after
@@ -76,9 +77,10 @@ NoneWanted wanted rest = (line : TextLine) → (later : List ℕ) → IsShort li
 
 -- ---- the reader
 
--- what a reader has not read yet, and the number of lines that it read
+-- what a reader has not read yet, the rules of the sum that it read last, and the number of lines that it read
 pub record Reading : Type 0 where
   pub unread : Unread
+  pub picks : List Pick
   pub lines : ℕ
 
 -- a wanted line was read

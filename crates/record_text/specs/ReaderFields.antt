@@ -5,7 +5,7 @@ use Rattle.record_text.specs.Source.{limit}
 use Rattle.record_text.specs.Reader.{Reading}
 
 abbrev pub reading : Inside → Reading
-reading r = record { unread = r.source; lines = r.lines }
+reading r = record { unread = r.source; picks = r.picks; lines = r.lines }
 
 -- each line has a byte at least
 pub record IsReader (r : Inside) : Type 0 where

@@ -3,8 +3,8 @@ use Rattle.std.specs.Prelude.{◌≡◌, ℕ, ◌≤◌, true, List, [], ◌∷�
 use Rattle.outside_io.specs.Files.{NothingLeft}
 use Rattle.record_trees.specs.declared.record.Line.TheVariants as L
 use Rattle.record_trees.specs.Record.{FullLine, full, line_at}
-use Rattle.record_text.specs.declared.line.TextLine.{TextLine}
-use Rattle.record_text.specs.declared.line.TextLine.TheVariants as T
+use Rattle.record_text.specs.TextLines.{TextLine}
+use Rattle.record_text.specs.TextLines as T
 use Rattle.record_text.specs.declared.found.Wanted.TheVariants as W
 use Rattle.record_text.specs.declared.stop.VerifyStop.{VerifyStop}
 use Rattle.record_text.specs.declared.nodes.Nodes.{Nodes}

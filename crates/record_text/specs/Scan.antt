@@ -9,8 +9,8 @@ use Rattle.box_eval.specs.declared.cut.Side.{Side}
 use Rattle.linear_sums.specs.declared.pick.Pick.{Pick}
 use Rattle.record_trees.specs.Record.{may_stand}
 use Rattle.record_text.specs.declared.line.Form.TheVariants.{One, Two}
-use Rattle.record_text.specs.declared.line.TextLine.{TextLine}
-use Rattle.record_text.specs.declared.line.TextLine.TheVariants.{Head, Slots, Rules, Room, Cut, Close, Sum, Open, End}
+use Rattle.record_text.specs.TextLines.{TextLine}
+use Rattle.record_text.specs.TextLines.{Head, Slots, Rules, Room, Cut, Close, Sum, Open, End}
 
 abbrev pub is_digit : ℕ → Bool
 is_digit byte = nat_le 48 byte && nat_le byte 57
@@ -34,6 +34,16 @@ below_zero magnitude = if magnitude == 0 then None else Some (pos 0 -ℤ pos mag
 
 abbrev pub integer_at : List ℕ → Option ℤ
 integer_at text = if starts_with nat_eq text (codes "-") then option_and_then below_zero (natural_at (drop 1 text)) else option_map pos (natural_at text)
+
+-- whether a word has a first byte, and it isn't this one
+abbrev pub other_first : List ℕ → ℕ → Bool
+other_first [] byte = false
+other_first (first ∷ word) byte = not (first == byte)
+
+-- whether a text and a word have a first byte, and these differ
+abbrev pub differ_first : List ℕ → List ℕ → Bool
+differ_first [] word = false
+differ_first (byte ∷ text) word = other_first word byte
 
 abbrev pub is_no_space : ℕ → Bool
 is_no_space byte = not (byte == 32)

@@ -9,8 +9,8 @@ use Rattle.record_trees.specs.declared.record.Record.{Record}
 use Rattle.record_trees.specs.Record.{Tree, FullLine, full, lines_of, picks_of, has_open, has_sum, IsRecordOf}
 use Rattle.record_text.specs.declared.line.Form.{Form}
 use Rattle.record_text.specs.declared.line.Form.TheVariants.{One, Two}
-use Rattle.record_text.specs.declared.line.TextLine.{TextLine}
-use Rattle.record_text.specs.declared.line.TextLine.TheVariants.{Head, Slots, Rules, Room, Cut, Close, Sum, Open, End}
+use Rattle.record_text.specs.TextLines.{TextLine}
+use Rattle.record_text.specs.TextLines.{Head, Slots, Rules, Room, Cut, Close, Sum, Open, End}
 use Rattle.record_text.specs.Lines.{text_of, AllShort}
 
 -- how many rules a line takes

@@ -7,8 +7,8 @@ use Rattle.linear_sums.specs.declared.pick.Pick.{Pick}
 use Rattle.record_trees.specs.declared.record.Record.{Record}
 use Rattle.record_trees.specs.Record.{may_stand}
 use Rattle.record_text.specs.Lines.{IsFewDigits}
-use Rattle.record_text.specs.declared.line.TextLine.{TextLine}
-use Rattle.record_text.specs.declared.line.TextLine.TheVariants.{Head, Slots, Rules, Room}
+use Rattle.record_text.specs.TextLines.{TextLine}
+use Rattle.record_text.specs.TextLines.{Head, Slots, Rules, Room}
 use Rattle.record_text.specs.Text.{taken, form_of}
 
 -- a cut's value has at most 18 digits

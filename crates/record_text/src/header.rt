@@ -1,11 +1,13 @@
-ghost use Rattle.std.specs.Prelude.{◌≡◌, [], IfOk, IfErr};
+ghost use Rattle.std.specs.Prelude.{◌≡◌, List, [], IfOk, IfErr};
+ghost use Rattle.linear_sums.specs.declared.pick.Pick.{Pick};
 ghost use Rattle.record_text.specs.Header.{undecided_of, form_told, number_of};
 ghost use Rattle.record_text.specs.Nodes.{lines_so_far};
 ghost use Rattle.record_text.specs.Progress.{fresh, HasRead, Stopped};
 ghost use Rattle.record_text.specs.Source.{ReadsOn};
 ghost use Rattle.record_text.specs.Stops.{shelf_failed};
+ghost use Rattle.record_text.specs.WholeLines.{whole_line};
 
-use crate::{Form, Reader, TextLine, VerifyStop, Wanted};
+use crate::{Form, ReadLine, Reader, VerifyStop, Wanted};
 use outside_io::Shelf;
 
 /// What a record says before its first cut.
@@ -33,37 +35,37 @@ pub fn read_header<H: Shelf>(reader: &mut Reader, shelf: &mut H) -> Result<Heade
     let rules = reader.expect(shelf, Wanted::Rules)?;
     let room = reader.expect(shelf, Wanted::Room)?;
     Ok(Header {
-        undecided: undecided_of(&head),
-        form: form_told(&head),
-        slots: number_of(&slots),
-        rules: number_of(&rules),
-        room: number_of(&room),
+        undecided: undecided_of(head),
+        form: form_told(head),
+        slots: number_of(slots),
+        rules: number_of(rules),
+        room: number_of(room),
     })
 }
 
-fn undecided_of(line: &TextLine) -> bool
-    ensures { result ≡ undecided_of line.now }
+fn undecided_of(line: ReadLine) -> bool
+    ensures { (picks : List Pick) → result ≡ undecided_of (whole_line picks line) }
 {
     match line {
-        TextLine::Head { undecided, .. } => *undecided,
+        ReadLine::Head { undecided, .. } => undecided,
         _ => false,
     }
 }
 
-fn form_told(line: &TextLine) -> Form
-    ensures { result ≡ form_told line.now }
+fn form_told(line: ReadLine) -> Form
+    ensures { (picks : List Pick) → result ≡ form_told (whole_line picks line) }
 {
     match line {
-        TextLine::Head { form, .. } => *form,
+        ReadLine::Head { form, .. } => form,
         _ => Form::One,
     }
 }
 
-fn number_of(line: &TextLine) -> u64
-    ensures { result ≡ number_of line.now }
+fn number_of(line: ReadLine) -> u64
+    ensures { (picks : List Pick) → result ≡ number_of (whole_line picks line) }
 {
     match line {
-        TextLine::Slots(number) | TextLine::Rules(number) | TextLine::Room(number) => *number,
+        ReadLine::Slots(number) | ReadLine::Rules(number) | ReadLine::Room(number) => number,
         _ => 0,
     }
 }

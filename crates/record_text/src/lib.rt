@@ -1,6 +1,7 @@
 //! The text of refutation records: its lines, how they are read from a shelf, and how a record is written.
 #![tactic(auto)]
 
+mod begins;
 mod found;
 mod header;
 mod line;
@@ -19,7 +20,7 @@ mod write;
 
 pub use found::Wanted;
 pub use header::{Header, read_header};
-pub use line::{Form, TextLine};
+pub use line::{Form, ReadLine};
 pub use nodes::Nodes;
 pub use picks::{Picks, TextPick};
 pub use reader::Reader;

@@ -2,30 +2,37 @@ ghost use Rattle.std.specs.Prelude.{◌≡◌, ◌≤◌, [], ◌∷◌, ◌++�
 ghost use Rattle.record_text.specs.Source.{limit, IsFurther, IsAtEnd, IsWithin, IsTooLong, ReadsOn};
 ghost use Rattle.record_text.specs.Stops.{source_failed};
 ghost use Rattle.record_text.specs.Reader.{Finds};
+ghost use Rattle.record_text.specs.WholeLines.{whole_found};
 
 use crate::found::{Found, find_line};
+use crate::picks::Picks;
 use crate::source::Source;
 use crate::stop::SourceStop;
 use arrayvec::ArrayVec;
 use outside_io::Shelf;
 
 /// One byte more than the longest line of a record has.
-const LONGEST: usize = 1_732;
+pub(crate) const LONGEST: usize = 1_732;
 
-/// Reads the next line.
-pub(crate) fn next_line<H: Shelf>(source: &mut Source, shelf: &mut H) -> Result<Found, SourceStop>
+/// Reads the next line, whose bytes are then held. If it is a sum, its rules are in `picks` then.
+pub(crate) fn next_line<H: Shelf>(
+    source: &mut Source,
+    held: &mut ArrayVec<u8, LONGEST>,
+    picks: &mut Picks,
+    shelf: &mut H,
+) -> Result<Found, SourceStop>
     ensures further { IsFurther source.old source.new }
-    ensures finds { IfOk result (λ found. Finds found source.old source.new (H.left shelf.old) (H.left shelf.new)) }
+    ensures finds { IfOk result (λ found. Finds (whole_found picks.new found) source.old source.new (H.left shelf.old) (H.left shelf.new)) }
     ensures too_long { result ≡ Err SourceStop.TooLong → IsTooLong source.old (H.left shelf.old) }
     ensures shelf { ReadsOn (H.files shelf.old) (H.files shelf.new) (H.left shelf.old) (H.left shelf.new) (H.faults shelf.old) (H.faults shelf.new) (source_failed result) }
 {
-    let mut held: ArrayVec<u8, LONGEST> = ArrayVec::new();
+    held.clear();
     while let Some(byte) = source.next(shelf)? {
         if byte == b'\n' {
-            return Ok(find_line(held.as_slice()));
+            return Ok(find_line(held.as_slice(), picks));
         }
         // no record has a line that is longer
-        hold(&mut held, byte);
+        hold(held, byte);
     }
     Ok(Found::Nothing)
 }

@@ -1,8 +1,10 @@
-ghost use Rattle.std.specs.Prelude.{◌≡◌, ◌<◌};
+ghost use Rattle.std.specs.Prelude.{◌≡◌, ◌<◌, List};
+ghost use Rattle.linear_sums.specs.declared.pick.Pick.{Pick};
 ghost use Rattle.record_text.specs.Nodes.{no_nodes, lacks_leaf, wanted_after, counted};
+ghost use Rattle.record_text.specs.WholeLines.{whole_line};
 
 use crate::found::is_two;
-use crate::{Form, TextLine, Wanted};
+use crate::{Form, ReadLine, Wanted};
 
 /// How far the cuts and leaves of a record were read.
 #[derive(Clone, Copy)]
@@ -59,23 +61,23 @@ impl Nodes {
     }
 
     /// Counts a cut or a leaf.
-    pub fn count(&mut self, line: &TextLine)
+    pub fn count(&mut self, line: ReadLine)
         requires some { 0 < self.old.left }
         requires few { self.old.left < 1000000000 }
         requires few_cuts { self.old.cuts < 1000000000 }
-        ensures { self.new ≡ counted self.old line.now }
+        ensures { (picks : List Pick) → self.new ≡ counted self.old (whole_line picks line) }
     {
         match line {
-            TextLine::Cut { .. } => {
+            ReadLine::Cut { .. } => {
                 self.left += 1;
                 self.cuts += 1;
             }
-            TextLine::Close { .. } => self.left -= 1,
-            TextLine::Sum(_) => {
+            ReadLine::Close { .. } => self.left -= 1,
+            ReadLine::Sum => {
                 self.left -= 1;
                 self.some_sum = true;
             }
-            TextLine::Open => {
+            ReadLine::Open => {
                 self.left -= 1;
                 self.some_open = true;
             }

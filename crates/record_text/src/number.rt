@@ -3,6 +3,8 @@ ghost use Rattle.std.specs.List.{list_all};
 ghost use Rattle.std.specs.Str.Parse.{digits_value};
 ghost use Rattle.record_text.specs.Scan.{is_digit, is_short, has_no_leading_zero, is_numeral, natural_at, below_zero, integer_at};
 
+use crate::begins::begins;
+
 /// The most digits that a number has.
 const MOST_DIGITS: usize = 18;
 
@@ -22,7 +24,7 @@ pub(crate) fn natural(text: &[u8]) -> Option<u64>
 pub(crate) fn integer(text: &[u8]) -> Option<i64>
     ensures { result ≡ integer_at text.now }
 {
-    if text.starts_with(b"-") {
+    if begins(text, b"-") {
         match natural(&text[1..]) {
             Some(magnitude) => below_zero(magnitude),
             None => None,
@@ -83,7 +85,7 @@ fn is_short(text: &[u8]) -> bool
 fn has_no_leading_zero(text: &[u8]) -> bool
     ensures { result ≡ has_no_leading_zero text.now }
 {
-    !text.starts_with(b"0") || text.len() == 1
+    !begins(text, b"0") || text.len() == 1
 }
 
 /// The number that digits stand for.

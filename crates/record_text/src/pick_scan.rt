@@ -3,6 +3,7 @@ ghost use Rattle.std.specs.Option.{option_map};
 ghost use Rattle.std.specs.List.{prefix_len};
 ghost use Rattle.record_text.specs.Picked.{seen_pick};
 ghost use Rattle.record_text.specs.Scan.{is_no_space, number_after, after_number, pick_with, picks_at};
+ghost use Rattle.record_text.specs.WholeLines.{if_read};
 
 use crate::number::natural;
 use crate::picks::{MOST_TIMES, Picks, TextPick};
@@ -61,22 +62,22 @@ fn pick_with(times: Option<u64>, rule: Option<u64>) -> Option<TextPick>
     }
 }
 
-/// The picks of a text: a space and a number, twice for each.
-pub(crate) fn picks_of(text: &[u8]) -> Option<Picks>
-    ensures { result ≡ picks_at 64 text.now }
+/// Reads the picks of a text, a space and a number twice for each, and says whether they are that and no more than 64.
+pub(crate) fn read_picks(picks: &mut Picks, text: &[u8]) -> bool
+    ensures { if_read result picks.new ≡ picks_at 64 text.now }
 {
-    let mut picks = Picks::new();
+    picks.clear();
     let mut rest = text;
     while !rest.is_empty() {
         if picks.is_full() {
-            return None;
+            return false;
         }
         let rule_on = after_number(rest);
         match pick_with(number_after(rest), number_after(rule_on)) {
             Some(pick) => picks.push(pick),
-            None => return None,
+            None => return false,
         }
         rest = after_number(rule_on);
     }
-    Some(picks)
+    true
 }

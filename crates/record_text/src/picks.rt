@@ -3,10 +3,8 @@ ghost use Rattle.record_trees.specs.Record.{are_in_order, may_stand};
 ghost use Rattle.record_text.specs.Picked.{seen_pick};
 
 use arrayvec::ArrayVec;
+use linear_sums::MOST_PICKS;
 use std::marker::Model;
-
-/// The most rules that a line adds.
-pub(crate) const MOST_PICKS: usize = 64;
 
 /// The most often that a line takes a rule.
 pub(crate) const MOST_TIMES: u64 = 1_000_000;
@@ -45,6 +43,13 @@ impl Picks {
         Picks {
             picks: ArrayVec::new(),
         }
+    }
+
+    /// Drops all rules.
+    pub(crate) fn clear(&mut self)
+        ensures { self.new ≡ [] }
+    {
+        self.picks.clear();
     }
 
     /// Whether there is no room for another rule.

@@ -4,12 +4,15 @@ ghost use Rattle.outside_io.specs.Files.{NothingLeft};
 ghost use Rattle.record_text.specs.Source.{limit, rest_of, ReadsOn};
 ghost use Rattle.record_text.specs.Stops.{shelf_failed};
 ghost use Rattle.record_text.specs.Reader.{NoneWanted, GivesLine, Stops};
+ghost use Rattle.record_text.specs.WholeLines.{whole_line};
 
-use crate::TextLine;
+use crate::ReadLine;
 use crate::found::{Wanted, is_nothing, wanted_line};
-use crate::next_line::{next_line, read_on};
+use crate::next_line::{LONGEST, next_line, read_on};
+use crate::picks::Picks;
 use crate::source::Source;
 use crate::stop::VerifyStop;
+use arrayvec::ArrayVec;
 use outside_io::Shelf;
 use std::marker::Model;
 
@@ -17,6 +20,10 @@ use std::marker::Model;
 #[derive(Drop)]
 pub struct Reader {
     source: Source,
+    /// The bytes of the line that was read last, as far as they can be a record's.
+    held: ArrayVec<u8, LONGEST>,
+    /// The rules of the sum that was read last.
+    picks: Picks,
     /// The number of lines that were read.
     lines: u32,
 }
@@ -36,10 +43,12 @@ impl Model for Reader {
 impl Reader {
     /// Nothing was read yet.
     pub fn new() -> Reader
-        ensures { result ≡ record { unread = record { bytes = []; given = 0 }; lines = 0 } }
+        ensures { result ≡ record { unread = record { bytes = []; given = 0 }; picks = []; lines = 0 } }
     {
         Reader {
             source: Source::new(),
+            held: ArrayVec::new(),
+            picks: Picks::new(),
             lines: 0,
         }
     }
@@ -52,20 +61,27 @@ impl Reader {
         self.lines
     }
 
+    /// The rules of the sum that was read last.
+    pub fn picks(&self) -> &Picks
+        ensures { result.now ≡ self.now.picks }
+    {
+        &self.picks
+    }
+
     /// Reads the next line, which is to be one that is wanted; else the text is read to its end.
     pub fn expect<H: Shelf>(
         &mut self,
         shelf: &mut H,
         wanted: Wanted,
-    ) -> Result<TextLine, VerifyStop>
+    ) -> Result<ReadLine, VerifyStop>
         ensures few { self.new.lines ≤ limit }
         ensures within { self.new.unread.given ≤ limit }
-        ensures line { IfOk result (λ line. GivesLine line wanted self.old self.new (H.left shelf.old) (H.left shelf.new)) }
+        ensures line { IfOk result (λ line. GivesLine (whole_line self.new.picks line) wanted self.old self.new (H.left shelf.old) (H.left shelf.new)) }
         ensures stop { IfErr result (λ stop. Stops stop (NoneWanted wanted) self.old (H.left shelf.old) (H.left shelf.new)) }
         ensures shelf { ReadsOn (H.files shelf.old) (H.files shelf.new) (H.left shelf.old) (H.left shelf.new) (H.faults shelf.old) (H.faults shelf.new) (shelf_failed result) }
     {
-        let found = next_line(&mut self.source, shelf)?;
-        let ended = is_nothing(&found);
+        let found = next_line(&mut self.source, &mut self.held, &mut self.picks, shelf)?;
+        let ended = is_nothing(found);
         if let Some(line) = wanted_line(wanted, found) {
             self.lines += 1;
             return Ok(line);

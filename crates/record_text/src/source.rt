@@ -47,6 +47,7 @@ impl Source {
     }
 
     /// The next byte, or none at the end of the file.
+    #[inline(always)]
     pub(crate) fn next<H: Shelf>(&mut self, shelf: &mut H) -> Result<Option<u8>, SourceStop>
         ensures further { IsFurther self.old self.new }
         ensures byte { (b : ℕ) → result ≡ Ok (Some b) → Gives (b ∷ []) self.old self.new (H.left shelf.old) (H.left shelf.new) }
@@ -62,6 +63,7 @@ impl Source {
     }
 
     /// The next byte of the piece, if any is left.
+    #[inline(always)]
     fn take(&mut self) -> Option<u8>
         ensures byte { IfSome result (λ b. (self.old.bytes ≡ b ∷ self.new.bytes) × (self.new.given ≡ self.old.given + 1) × (self.new.given ≤ limit)) }
         ensures none { IfNone result ((self.new ≡ self.old) × (self.old.bytes ≡ []) × (self.new.given ≤ limit)) }

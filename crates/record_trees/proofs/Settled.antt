@@ -1,5 +1,5 @@
 -- Rules that are settled on a box: which stay so, and what a settled box says of its cuts.
-use Rattle.std.proofs.Common.{◌≡◌, ◌≢◌, refl, sym, ap, ◌∙◌, subst, ⊎_elim, ℕ, suc, zero, ◌<◌, ◌≤◌, Bool, true, false, cond, eqb, List, [], ◌∷◌, length, slice_get, slice_set, Option, Some, None, ℤ, ◌<ℤ◌, ◌≤ℤ◌, arith}
+use Rattle.std.proofs.Common.{◌≡◌, ◌≢◌, refl, sym, ap, ◌∙◌, subst, ⊎_elim, ℕ, suc, zero, ◌<◌, Bool, true, false, cond, eqb, List, [], ◌∷◌, slice_get, slice_set, Option, Some, None, ℤ, ◌<ℤ◌, arith}
 use Rattle.std.proofs.lemmas.Int.{ints, by_lt_z}
 use Rattle.std.proofs.lemmas.Bool.{false≢true, cases_eq}
 use Rattle.std.specs.Option.{option_map_or}
@@ -17,7 +17,7 @@ use Rattle.record_trees.specs.Record.{Leaf, close, added, unknown, Tree, branch,
 use Rattle.box_eval.specs.Reads.{reads}
 use Rattle.record_trees.specs.Guided.{NoneFalse, IsDeadEnd, IsSettledFor, IsSettled, closing_leaf, closing_rule, is_longest, narrows}
 use Rattle.box_eval.proofs.Smaller.{smaller_keeps}
-use Rattle.box_eval.proofs.Parts.{fixed_box, fixed_inside, fixed_in_first, first_part_box, low_set_same, high_set_same, low_set_other, high_set_other}
+use Rattle.box_eval.proofs.Parts.{fixed_box, fixed_inside, fixed_in_first, first_part_box, low_set_same, high_set_same, low_set_other, high_set_other, wide_there, end_between}
 use Rattle.record_trees.proofs.Empty.{IsClosing, close_facts}
 use Rattle.box_eval.proofs.Unread.{AgreeBut, unread}
 
@@ -39,25 +39,6 @@ settled_none_false (r ∷ rs) ends all = (all.0.not_false, settled_none_false rs
 pub none_false_from : (rules : List Rule) (ends : List Pair) → ((k : ℕ) (rule : Rule) → slice_get rules k ≡ Some rule → verdict_of ends rule ≢ False) → NoneFalse ends rules
 none_false_from [] ends h = tt
 none_false_from (r ∷ rs) ends h = (h zero r refl, none_false_from rs ends (λ k rule is. h (suc k) rule is))
-
--- ---- a slot with two values or more is one of the box
-
-pub low_past : (ends : List Pair) (slot : ℕ) → length ends ≤ slot → low_at ends slot ≡ high_at ends slot
-low_past [] slot h = refl
-low_past (p ∷ ps) zero h = absurd (omega arith)
-low_past (p ∷ ps) (suc slot) h = low_past ps slot (omega arith)
-
-pub wide_there : (ends : List Pair) (slot : ℕ) → low_at ends slot <ℤ high_at ends slot → slot < length ends
-wide_there ends slot wide = by_lt_or ends slot wide
-  where
-    by_lt_or : (es : List Pair) (s : ℕ) → low_at es s <ℤ high_at es s → s < length es
-    by_lt_or [] s w = absurd (omega (arith, ints, w))
-    by_lt_or (p ∷ ps) zero w = omega arith
-    by_lt_or (p ∷ ps) (suc s) w = omega (arith, by_lt_or ps s w)
-
-pub end_between : (side : Side) (ends : List Pair) (slot : ℕ) → low_at ends slot ≤ℤ high_at ends slot → (low_at ends slot ≤ℤ end_at side ends slot) × (end_at side ends slot ≤ℤ high_at ends slot)
-end_between Low ends slot box = (omega (arith, ints), box)
-end_between High ends slot box = (box, omega (arith, ints))
 
 -- ---- which rules are settled
 

@@ -8,8 +8,8 @@ use Rattle.record_trees.specs.declared.record.Record.{Record}
 use Rattle.record_trees.specs.Record.{FullLine, Tree, full_lines, has_open, has_sum, cuts_of, accepts, AllTrue, IsFirstFalse, marks, IsAcceptedAs}
 use Rattle.record_trees.proofs.Lines.{same_full}
 use Rattle.record_trees.proofs.Empty.{refutation_empty}
-use Rattle.record_text.specs.declared.line.TextLine.{TextLine}
-use Rattle.record_text.specs.declared.line.TextLine.TheVariants as T
+use Rattle.record_text.specs.TextLines.{TextLine}
+use Rattle.record_text.specs.TextLines as T
 use Rattle.record_text.specs.declared.stop.VerifyStop.{VerifyStop}
 use Rattle.record_text.specs.declared.nodes.Nodes.{Nodes}
 use Rattle.record_text.specs.declared.header.Header.{Header}

@@ -10,13 +10,16 @@ use Rattle.record_trees.specs.Record.{FullLine, AllTrue, IsFirstFalse}
 use Rattle.box_eval.proofs.Parts.{inside_self}
 use Rattle.bound_trail.specs.History.{History, mark_of, present}
 use Rattle.record_text.specs.declared.line.Form.{Form}
-use Rattle.record_text.specs.declared.line.TextLine.{TextLine}
-use Rattle.record_text.specs.declared.line.TextLine.TheVariants as T
+use Rattle.linear_sums.specs.declared.pick.Pick.{Pick}
+use Rattle.record_text.specs.declared.line.ReadLine.{ReadLine}
+use Rattle.record_text.specs.TextLines.{TextLine}
+use Rattle.record_text.specs.TextLines as T
 use Rattle.record_text.specs.declared.found.Wanted.TheVariants as W
 use Rattle.record_text.specs.declared.nodes.Nodes.{Nodes}
 use Rattle.record_text.specs.Reader.{wants, Reading}
 use Rattle.record_text.specs.Nodes.{no_nodes, counted}
 use Rattle.record_text.specs.Rest.{node_line, AreFew, GivesNode, HasNodes}
+use Rattle.record_text.specs.WholeLines.{whole_line}
 use Rattle.record_text.proofs.Rests.{no_nodes_read, nodes_more}
 use Rattle.refute_check.specs.Stack.{Stacked}
 use Rattle.refute_check.specs.Walk.{Place, place, mark, next, marks_at, places_after, untried, places_now, IsStanding, trail_after, stack_after}
@@ -72,6 +75,10 @@ left_cut p ps undecided form T.End h n e = absurd (false≢true h)
 all_true_both : (bs cs : List Bool) → AllTrue bs → AllTrue cs → AllTrue (bs ++ cs)
 all_true_both [] cs p q = q
 all_true_both (b ∷ bs) cs p q = (p.0, all_true_both bs cs p.1 q)
+
+-- a line that was read, with rules that are those of the reader
+pub node_with : (ps qs : List Pick) (line : ReadLine) (n m : Nodes) (x y : Reading) (a b : Option (List ℕ)) → ps ≡ qs → GivesNode (whole_line qs line) n m x y a b → GivesNode (whole_line ps line) n m x y a b
+node_with ps qs line n m x y a b same g = subst (λ (rs : List Pick). GivesNode (whole_line rs line) n m x y a b) (sym same) g
 
 -- a line that is accepted
 pub walk_more : (flat : Flat) (room : ℕ) (line : TextLine) (n m k : Nodes) (x y z : Reading) (a b c : Option (List ℕ)) (trail trail' : History) (stack stack' : Stacked)

@@ -5,6 +5,7 @@ ghost use Rattle.record_trees.specs.Record.{may_cut, may_close};
 ghost use Rattle.box_eval.specs.Rules.{IsFlat};
 ghost use Rattle.record_text.specs.Lines.{IsShort};
 ghost use Rattle.record_text.specs.Rest.{node_line};
+ghost use Rattle.record_text.specs.WholeLines.{whole_line};
 ghost use Rattle.refute_check.specs.Stack.{rest};
 ghost use Rattle.refute_check.specs.Walk.{place, mark, AllWait, AreSums, IsStanding, trail_cut, trail_leaf, trail_after, waiting, stack_after};
 
@@ -13,7 +14,7 @@ use crate::stack::{Pending, Stack};
 use crate::sums::accepts_sum;
 use bound_trail::Trail;
 use box_eval::{Cut, Ends, Flat, Side, Verdict, judge};
-use record_text::TextLine;
+use record_text::{Picks, ReadLine};
 
 /// The cut of the present box, if it is accepted.
 fn accepted_cut(trail: &Trail, side: Side, slot: u64, value: i64) -> Option<Cut>
@@ -75,40 +76,41 @@ fn leave(trail: &mut Trail, stack: &mut Stack)
     }
 }
 
-/// Reads a line at the present box, and says whether it is accepted. Where it isn't, nothing changes.
+/// Takes a line at the present box, with the rules of the sum if it is one, and says whether it is accepted. Where it isn't, nothing changes.
 pub(crate) fn step(
     flat: &Flat,
     trail: &mut Trail,
     stack: &mut Stack,
     sums: &mut [i128],
-    line: &TextLine,
+    line: ReadLine,
+    picks: &Picks,
 ) -> bool
     requires flat { IsFlat flat.now }
-    requires short { IsShort line.now }
+    requires short { IsShort (whole_line picks.now line) }
     requires sums { AreSums flat.now sums.old }
     requires standing { IsStanding flat.now.bounds.pairs trail.old stack.old.items }
     requires rooms { stack.old.room ≡ trail.old.room }
-    ensures accepts { result ≡ mark flat.now trail.old.room (place (present trail.old) (mark_of trail.old)) (node_line line.now) }
-    ensures trail { result ≡ true → trail.new ≡ trail_after trail.old stack.old.items (node_line line.now).line }
-    ensures stack { result ≡ true → stack.new ≡ record { items = stack_after trail.old stack.old.items (node_line line.now).line; room = stack.old.room } }
+    ensures accepts { result ≡ mark flat.now trail.old.room (place (present trail.old) (mark_of trail.old)) (node_line (whole_line picks.now line)) }
+    ensures trail { result ≡ true → trail.new ≡ trail_after trail.old stack.old.items (node_line (whole_line picks.now line)).line }
+    ensures stack { result ≡ true → stack.new ≡ record { items = stack_after trail.old stack.old.items (node_line (whole_line picks.now line)).line; room = stack.old.room } }
     ensures sums { AreSums flat.now sums.new }
 {
     match line {
-        TextLine::Cut { side, slot, value } => match accepted_cut(trail, *side, *slot, *value) {
+        ReadLine::Cut { side, slot, value } => match accepted_cut(trail, side, slot, value) {
             Some(cut) => {
                 enter(trail, stack, cut);
                 true
             }
             None => false,
         },
-        TextLine::Close { rule } => {
-            let accepted = accepts_close(flat, trail, *rule);
+        ReadLine::Close { rule } => {
+            let accepted = accepts_close(flat, trail, rule);
             if accepted {
                 leave(trail, stack);
             }
             accepted
         }
-        TextLine::Sum(picks) => {
+        ReadLine::Sum => {
             let accepted = accepts_sum(flat, trail, picks, sums);
             if accepted {
                 leave(trail, stack);

@@ -9,12 +9,9 @@ ghost use Rattle.refute_check.specs.Walk.{AreSums};
 use arrayvec::ArrayVec;
 use bound_trail::Trail;
 use box_eval::Flat;
-use linear_sums::{Pick, sum_false};
+use linear_sums::{MOST_PICKS, Pick, sum_false};
 use record_text::Picks;
 use std::alloc::{AllocError, Global};
-
-/// The most rules that a line adds.
-const MOST_PICKS: usize = 64;
 
 /// A 0 for each slot of a flat form: the room for the factors of a sum.
 pub(crate) fn no_sums(alloc: Global, flat: &Flat) -> Result<Vec<i128>, AllocError>

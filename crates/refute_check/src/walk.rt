@@ -36,7 +36,7 @@ pub(crate) fn walk<H: Shelf>(
 {
     while nodes.left > 0 {
         let line = next_node(reader, shelf, nodes)?;
-        if !step(flat, trail, stack, sums, &line) {
+        if !step(flat, trail, stack, sums, line, reader.picks()) {
             return Ok(Some(reader.lines()));
         }
     }

@@ -12,7 +12,7 @@ use Rattle.field_flatten.proofs.of_osc_base.Multiples.{lowest_terms}
 use Rattle.expansion_laws.specs.expr_nodes.Sizes.{Size, constant_size, is_wide}
 use Rattle.expansion_laws.specs.expr_nodes.Sound.{is_lowest}
 use Rattle.field_flatten.proofs.Tests.{both}
-use Rattle.field_flatten.proofs.Multiples.{gcd_is}
+use Rattle.field_flatten.proofs.of_osc_base.Divisors.{gcd_is}
 
 -- a number that isn't above the limit
 pub within : (most n : ℕ) → n ≤ most → nat_lt most n ≡ false

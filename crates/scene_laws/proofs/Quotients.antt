@@ -18,7 +18,8 @@ use Rattle.expansion_laws.specs.expr_nodes.Parts.{any_holds, is_scalar}
 use Rattle.expansion_laws.specs.expr_nodes.Operators.{constant_at, quotient_rows, product_of, constant_value, is_constant, is_zero, can_divide, signed_like, reciprocal, reciprocal_exponents, reciprocal_of}
 use Rattle.expansion_laws.specs.expr_nodes.Sound.{has_size, is_lowest, is_constant_of, is_per, is_truth_info, is_sound, are_sound}
 use Rattle.field_flatten.proofs.Tests.{left_of, right_of, both, two_ways, number_is}
-use Rattle.field_flatten.proofs.Multiples.{common, share_of, product_positive, gcd_is}
+use Rattle.field_flatten.proofs.Multiples.{common, share_of, product_positive}
+use Rattle.field_flatten.proofs.of_osc_base.Divisors.{gcd_is}
 use Rattle.field_flatten.proofs.ShapeLaw.{scale_is, per_law}
 use Rattle.field_flatten.proofs.ShapeReach.{reach_is}
 use Rattle.scene_laws.proofs.FaultRows.{no_left, no_right, holds_not, not_so}

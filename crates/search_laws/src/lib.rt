@@ -6,5 +6,5 @@ mod decision;
 pub use decision::Decision;
 
 // Items of crates below, for the crates above.
-pub use linear_sums::{Facing, Pick, facing_pair, sum_false};
+pub use linear_sums::{Facing, MOST_PICKS, Pick, facing_pair, sum_false};
 pub use record_trees::{Line, Record, refuted};

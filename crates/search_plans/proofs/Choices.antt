@@ -12,7 +12,8 @@ use Rattle.search_plans.specs.Drawn.{drawn}
 use Rattle.search_plans.specs.declared.wish.Entry.{Entry}
 use Rattle.search_plans.specs.Plans.{free, all_free, open_entry, next_entry, chosen}
 use Rattle.search_plans.specs.Wishes.{is_wide, wished}
-use Rattle.search_plans.proofs.Splits.{wide_there, wished_cuts}
+use Rattle.box_eval.proofs.Parts.{wide_there}
+use Rattle.search_plans.proofs.Splits.{wished_cuts}
 
 -- ---- two rows
 

@@ -1,5 +1,5 @@
 -- The cut that a wish gives stands between the ends of its slot.
-use Rattle.std.proofs.Common.{◌≡◌, refl, subst, ℕ, zero, suc, ◌+◌, ◌/◌, ◌%◌, ◌<◌, ◌≤◌, max, Bool, true, false, cond, eqb, not, ◌&&◌, ◌||◌, List, [], ◌∷◌, length, Option, arith, ℤ, pos, ◌+ℤ◌, ◌-ℤ◌, ◌*ℤ◌, ◌<ℤ◌, ◌≤ℤ◌}
+use Rattle.std.proofs.Common.{◌≡◌, refl, subst, ℕ, ◌+◌, ◌/◌, ◌%◌, ◌<◌, ◌≤◌, max, Bool, true, false, cond, eqb, not, ◌&&◌, ◌||◌, List, [], Option, arith, ℤ, pos, ◌+ℤ◌, ◌-ℤ◌, ◌*ℤ◌, ◌<ℤ◌, ◌≤ℤ◌}
 use Rattle.std.proofs.lemmas.Bool.{and_parts}
 use Rattle.std.proofs.lemmas.Int.{ints}
 use Rattle.std.specs.Prelude.{unsigned_abs, int_lt, int_le, nat_eq}
@@ -10,7 +10,8 @@ use Rattle.box_eval.specs.declared.bounds.Pair.{Pair}
 use Rattle.box_eval.specs.declared.cut.Cut.{Cut}
 use Rattle.box_eval.specs.declared.cut.Side.{Side}
 use Rattle.box_eval.specs.declared.cut.Side.TheVariants.{Low, High}
-use Rattle.box_eval.specs.Box.{low_at, high_at, end_at, IsCutOf, cut_at}
+use Rattle.box_eval.specs.Box.{low_at, high_at, IsCutOf, cut_at}
+use Rattle.box_eval.proofs.Parts.{wide_there}
 use Rattle.search_plans.specs.Drawn.{picked, drawn}
 use Rattle.search_plans.specs.declared.draw.Draw.{Draw}
 use Rattle.search_plans.specs.declared.wish.Mean.{Mean}
@@ -18,25 +19,6 @@ use Rattle.search_plans.specs.declared.wish.Wish.{Wish}
 use Rattle.search_plans.specs.declared.wish.Wish.TheVariants.{Free, Even, Around, Like}
 use Rattle.search_plans.specs.Steps.{multiple, steps_in, steps_to, greatest_to, least_from, middle, eighth}
 use Rattle.search_plans.specs.Wishes.{is_wide, sided, halved, beside, split, shared, even, within, around, lacks_mean, lacks_base, base_value, mean_of, inside, led, towards, like, wished_by, draw_at, wished}
-
--- ---- a slot with two values or more is one of the box
-
-low_past : (ends : List Pair) (slot : ℕ) → length ends ≤ slot → low_at ends slot ≡ high_at ends slot
-low_past [] slot h = refl
-low_past (p ∷ ps) zero h = absurd (omega arith)
-low_past (p ∷ ps) (suc slot) h = low_past ps slot (omega arith)
-
-pub wide_there : (ends : List Pair) (slot : ℕ) → low_at ends slot <ℤ high_at ends slot → slot < length ends
-wide_there ends slot wide = by_lt_or ends slot wide
-  where
-    by_lt_or : (es : List Pair) (s : ℕ) → low_at es s <ℤ high_at es s → s < length es
-    by_lt_or [] s w = absurd (omega (arith, ints, w))
-    by_lt_or (p ∷ ps) zero w = omega arith
-    by_lt_or (p ∷ ps) (suc s) w = omega (arith, by_lt_or ps s w)
-
-pub end_between : (side : Side) (ends : List Pair) (slot : ℕ) → low_at ends slot ≤ℤ high_at ends slot → (low_at ends slot ≤ℤ end_at side ends slot) × (end_at side ends slot ≤ℤ high_at ends slot)
-end_between Low ends slot box = (omega (arith, ints), box)
-end_between High ends slot box = (box, omega (arith, ints))
 
 -- ---- cuts between the ends
 

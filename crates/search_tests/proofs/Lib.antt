@@ -1,2 +1,1 @@
 pub mod Flats
-pub mod Rows

@@ -6,7 +6,7 @@ use crate::{forms, is_flat};
 use bound_trail::Trail;
 use box_eval::Flat;
 use seeded_search::{Desk, Entry, Outcome, Wish, search};
-use std::alloc::{AllocError, Global};
+use std::alloc::{AllocError, AllocGlobal, Global};
 use std::process::Abort;
 use std::test::Fail;
 use wake_ring::WakeRing;
@@ -64,78 +64,66 @@ fn told_by(
     Ok(text)
 }
 
+/// Sees that the answer without a plan, for the seed 0, is this text.
+fn is_told(
+    rt: &(impl Abort + AllocGlobal),
+    flat: Flat,
+    cuts: u32,
+    most: usize,
+    want: &str,
+) -> Result<(), Fail>
+    requires { cuts ≤ 1000000 }
+{
+    let text = told(rt, rt.alloc(), &flat, 0, cuts, most)?;
+    assert_eq!(rt; text.as_str(), want);
+    Ok(())
+}
+
 #[test]
 fn above_3_and_below_3(rt: HostRuntime) -> Result<(), Fail> {
-    let flat = forms::apart(rt.alloc())?;
-    let text = told(&rt, rt.alloc(), &flat, 0, 1000, 9)?;
-    assert_eq!(rt;
-        text.as_str(),
-        "refuted 1 3 3 7\nlow 0 -1\nclose 0\nhigh 0 5\nclose 0\nlow 0 3\nclose 1\nclose 2\n"
-    );
-    Ok(())
+    let want = "refuted 1 3 3 7\nlow 0 -1\nclose 0\nhigh 0 5\nclose 0\nlow 0 3\nclose 1\nclose 2\n";
+    is_told(&rt, forms::apart(rt.alloc())?, 1000, 9, want)
 }
 
 #[test]
 fn a_default_that_stands(rt: HostRuntime) -> Result<(), Fail> {
-    let flat = forms::overridden(rt.alloc(), true)?;
-    let text = told(&rt, rt.alloc(), &flat, 0, 1000, 9)?;
-    assert_eq!(rt;
-        text.as_str(),
-        "refuted 1 3 3 7\nlow 0 3\nclose 0\nhigh 0 9\nclose 0\nlow 0 8\nclose 1\nclose 2\n"
-    );
-    Ok(())
+    let want = "refuted 1 3 3 7\nlow 0 3\nclose 0\nhigh 0 9\nclose 0\nlow 0 8\nclose 1\nclose 2\n";
+    is_told(&rt, forms::overridden(rt.alloc(), true)?, 1000, 9, want)
 }
 
 #[test]
 fn a_default_that_is_overridden(rt: HostRuntime) -> Result<(), Fail> {
-    let flat = forms::overridden(rt.alloc(), false)?;
-    let text = told(&rt, rt.alloc(), &flat, 0, 1000, 9)?;
-    assert_eq!(rt; text.as_str(), "point\n5\n");
-    Ok(())
+    let want = "point\n5\n";
+    is_told(&rt, forms::overridden(rt.alloc(), false)?, 1000, 9, want)
 }
 
 #[test]
 fn each_below_the_other(rt: HostRuntime) -> Result<(), Fail> {
-    let flat = forms::both_below(rt.alloc())?;
-    let text = told(&rt, rt.alloc(), &flat, 0, 1000, 8)?;
-    assert_eq!(rt; text.as_str(), "refuted 2 2 0 1\nsum 2\n1 of 0\n1 of 1\n");
-    Ok(())
+    let want = "refuted 2 2 0 1\nsum 2\n1 of 0\n1 of 1\n";
+    is_told(&rt, forms::both_below(rt.alloc())?, 1000, 8, want)
 }
 
 /// No two of the three rules face each other. Their sum is found at the 16th narrowing of a slot.
 #[test]
 fn each_below_the_next(rt: HostRuntime) -> Result<(), Fail> {
-    let flat = forms::circle(rt.alloc(), 3)?;
-    let text = told(&rt, rt.alloc(), &flat, 0, 1000, 8)?;
-    assert_eq!(rt;
-        text.as_str(),
-        "refuted 3 3 46 93\nhigh 0 999999999\nclose 0\nlow 1 -1000000000\nclose 0\nhigh 1 999999999\nclose 1\nlow 2 -999999999\nclose 1\n1 of 0\n1 of 1\n1 of 2\n"
-    );
-    Ok(())
+    let want =
+        "refuted 3 3 46 93\nhigh 0 999999999\nclose 0\nlow 1 -1000000000\nclose 0\nhigh 1 999999999\nclose 1\nlow 2 -999999999\nclose 1\n1 of 0\n1 of 1\n1 of 2\n";
+    is_told(&rt, forms::circle(rt.alloc(), 3)?, 1000, 8, want)
 }
 
 /// Each cut takes one value away, so the search goes on to its last cut.
 #[test]
 fn each_one_less_than_the_next(rt: HostRuntime) -> Result<(), Fail> {
-    let flat = forms::creeping_circle(rt.alloc())?;
-    let text = told(&rt, rt.alloc(), &flat, 0, 1000, 8)?;
-    assert_eq!(rt;
-        text.as_str(),
-        "undecided 3 3 1000 2001\nhigh 0 999999999\nclose 0\nlow 1 -1000000000\nclose 0\nhigh 1 999999999\nclose 1\nlow 2 -999999999\nclose 1\n"
-    );
-    Ok(())
+    let want =
+        "undecided 3 3 1000 2001\nhigh 0 999999999\nclose 0\nlow 1 -1000000000\nclose 0\nhigh 1 999999999\nclose 1\nlow 2 -999999999\nclose 1\n";
+    is_told(&rt, forms::creeping_circle(rt.alloc())?, 1000, 8, want)
 }
 
 /// The sum has a rule over three slots and one over one.
 #[test]
 fn no_time_between(rt: HostRuntime) -> Result<(), Fail> {
-    let flat = forms::ends_as_it_starts(rt.alloc())?;
-    let text = told(&rt, rt.alloc(), &flat, 0, 1000, 0)?;
-    assert_eq!(rt;
-        text.as_str(),
-        "refuted 3 3 33 67\n1 of 0\n1 of 1\n1 of 2\n"
-    );
-    Ok(())
+    let want = "refuted 3 3 33 67\n1 of 0\n1 of 1\n1 of 2\n";
+    is_told(&rt, forms::ends_as_it_starts(rt.alloc())?, 1000, 0, want)
 }
 
 #[test]
@@ -152,29 +140,21 @@ fn twenty_in_a_circle(rt: HostRuntime) -> Result<(), Fail> {
 
 #[test]
 fn the_greatest_number(rt: HostRuntime) -> Result<(), Fail> {
-    let flat = forms::at_end(rt.alloc(), false)?;
-    let text = told(&rt, rt.alloc(), &flat, 0, 1000, 9)?;
-    assert_eq!(rt; text.as_str(), "point\n1000000000\n");
-    Ok(())
+    let want = "point\n1000000000\n";
+    is_told(&rt, forms::at_end(rt.alloc(), false)?, 1000, 9, want)
 }
 
 #[test]
 fn above_the_greatest_number(rt: HostRuntime) -> Result<(), Fail> {
-    let flat = forms::at_end(rt.alloc(), true)?;
-    let text = told(&rt, rt.alloc(), &flat, 0, 1000, 9)?;
-    assert_eq!(rt; text.as_str(), "refuted 1 1 0 1\nclose 0\n");
-    Ok(())
+    let want = "refuted 1 1 0 1\nclose 0\n";
+    is_told(&rt, forms::at_end(rt.alloc(), true)?, 1000, 9, want)
 }
 
 #[test]
 fn every_slot_of_a_turn_is_taken(rt: HostRuntime) -> Result<(), Fail> {
-    let flat = forms::no_root(rt.alloc())?;
-    let text = told(&rt, rt.alloc(), &flat, 0, 1000, 9)?;
-    assert_eq!(rt;
-        text.as_str(),
-        "refuted 2 1 3 7\nlow 0 -2\nclose 0\nhigh 0 1\nclose 0\nlow 1 999999999\nclose 0\nclose 0\n"
-    );
-    Ok(())
+    let want =
+        "refuted 2 1 3 7\nlow 0 -2\nclose 0\nhigh 0 1\nclose 0\nlow 1 999999999\nclose 0\nclose 0\n";
+    is_told(&rt, forms::no_root(rt.alloc())?, 1000, 9, want)
 }
 
 /// The first two numbers of the stream of ChaCha with 8 rounds, made of the words 0 and 1 and of the words 2 and 3, were worked out

@@ -1,4 +1,4 @@
-//! Tests of verdicts, and of the search, on flat forms that are made by hand.
+//! Tests of the search on flat forms that are made by hand.
 #![tactic(auto)]
 
 mod flatness;
@@ -10,5 +10,3 @@ pub use flatness::is_flat;
 mod answers;
 #[cfg(test)]
 mod records;
-#[cfg(test)]
-mod verdicts;

@@ -8,7 +8,8 @@ use Rattle.box_eval.specs.Box.{low_at, high_at, IsOnePoint}
 use Rattle.box_eval.specs.Verdict.{verdict_of}
 use Rattle.search_laws.specs.record_trees.Record.{is_false, may_close}
 use Rattle.search_laws.specs.record_trees.Guided.{NoneFalse}
-use Rattle.search_laws.proofs.of_record_trees.Settled.{low_past, none_false_from}
+use Rattle.box_eval.proofs.Parts.{low_past}
+use Rattle.search_laws.proofs.of_record_trees.Settled.{none_false_from}
 use Rattle.seeded_search.proofs.Working.{below_length}
 
 -- where no slot below the number of slots is wide, the box has one point

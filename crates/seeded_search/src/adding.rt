@@ -2,10 +2,8 @@
 
 use arrayvec::ArrayVec;
 use box_eval::{Flat, Rule, Term};
-use search_laws::Pick;
-
-/// The most rules of a sum.
-const MOST_PICKS: usize = 64;
+use osc_base::gcd;
+use search_laws::{MOST_PICKS, Pick};
 
 /// The most slots of a rule or a sum that is looked at.
 const MOST_PARTS: usize = 64;
@@ -215,19 +213,4 @@ fn few(times: u128) -> Option<u32> {
     } else {
         None
     }
-}
-
-/// The greatest common divisor.
-fn gcd(a: u128, b: u128) -> u128 {
-    let mut greater = a;
-    let mut smaller = b;
-    for _ in 0..192 {
-        if smaller == 0 {
-            return greater;
-        }
-        let rest = greater % smaller;
-        greater = smaller;
-        smaller = rest;
-    }
-    greater
 }

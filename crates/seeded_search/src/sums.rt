@@ -8,12 +8,9 @@ ghost use Rattle.search_laws.specs.record_trees.Record.{are_in_order, may_add, m
 
 use bound_trail::Trail;
 use box_eval::Flat;
-use search_laws::{Pick, sum_false};
+use search_laws::{MOST_PICKS, Pick, sum_false};
 use std::alloc::{AllocError, Global};
 use std::marker::Model;
-
-/// The most rules of a sum.
-const MOST_PICKS: usize = 64;
 
 /// The most often that a rule is taken.
 const MOST_TIMES: u32 = 1_000_000;

@@ -13,7 +13,7 @@ pub use program::texts;
 pub use sorted::ordered;
 
 // Items of the crates below, for the crates above.
-pub use dsl_tree::osc_base::{Boxed, FaultCode, Fraction, Path};
+pub use dsl_tree::osc_base::{Boxed, FaultCode, Fraction, Path, gcd};
 pub use type_heads::{
     Body, CompoundKind, ConditionEntry, DeclId, Declarations, EnumHit, Exponents, Fault, FieldType,
     Form, Heads, MemberRef, Place, Program, Row, Text, TypeId, TypeKind, Unit, bodies, literal,

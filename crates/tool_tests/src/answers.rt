@@ -1,4 +1,6 @@
-use answer_tests::{Outside, SOUND, answer, one_answer, some_answer};
+use crate::calls::{Files, call_has, call_is, line_is, lines_are, shelves_are, sources_are};
+use answer_tests::{Outside, SOUND, one_answer, some_answer};
+use std::alloc::AllocGlobal;
 use std::process::Abort;
 use std::test::Fail;
 
@@ -14,12 +16,7 @@ pub(crate) fn answers_are(
     rt: &(impl Abort + AllocGlobal),
     rows: &[(&str, &str)],
 ) -> Result<(), Fail> {
-    for (source, want) in rows {
-        let main = [("main.osc", source.as_bytes())];
-        let got = answer(rt.alloc(), &GENERATE, &main, SOUND)?;
-        assert_eq!(rt; got.as_str(), *want, "{source}");
-    }
-    Ok(())
+    sources_are(rt, "generate main.osc top", rows)
 }
 
 #[test]
@@ -129,10 +126,7 @@ fn words_that_are_refused(rt: HostRuntime) -> Result<(), Fail> {
         &["", "main.osc", "top"],
     ];
     for words in rows {
-        assert_eq!(rt;
-            answer(rt.alloc(), words, &main, SOUND)?.as_str(),
-            "4 words\n"
-        );
+        call_is(&rt, words, &main, SOUND, "4 words\n", "words")?;
     }
     Ok(())
 }
@@ -146,11 +140,7 @@ fn words_that_ask_for_help(rt: HostRuntime) -> Result<(), Fail> {
         (&["help", "migrate"], "0 osc migrate reads a run"),
     ];
     for (words, want) in rows {
-        assert!(rt;
-            answer(rt.alloc(), words, &[], SOUND)?
-                .as_str()
-                .starts_with(want)
-        );
+        call_has(&rt, words, &[], want, "", "")?;
     }
     one_answer();
     some_answer();
@@ -159,18 +149,15 @@ fn words_that_ask_for_help(rt: HostRuntime) -> Result<(), Fail> {
 
 #[test]
 fn words_of_a_file_and_a_scenario(rt: HostRuntime) -> Result<(), Fail> {
-    let main = [("main.osc", SOURCE.as_bytes())];
-    let rows: [(&[&str], &str); 2] = [
-        (&["generate", "none.osc", "top"], "6 missing none.osc\n"),
+    let rows: [(&str, &str, &str); 2] = [
+        ("generate none.osc top", "", "6 missing none.osc\n"),
         (
-            &["generate", "main.osc", "a.top", "--seed", "7"],
+            "generate main.osc a.top --seed 7",
+            "",
             "3 fault 324 main.osc:4:1\n",
         ),
     ];
-    for (words, want) in rows {
-        assert_eq!(rt; answer(rt.alloc(), words, &main, SOUND)?.as_str(), want);
-    }
-    Ok(())
+    lines_are(&rt, SOURCE, &rows)
 }
 
 #[test]
@@ -183,89 +170,99 @@ fn long_files_and_bytes(rt: HostRuntime) -> Result<(), Fail> {
         (b"#\xff".as_slice(), "3 fault 101 main.osc:1:2\n"),
     ];
     for (bytes, want) in rows {
-        let got = answer(alloc, &GENERATE, &[("main.osc", bytes)], SOUND)?;
-        assert_eq!(rt; got.as_str(), want);
+        call_is(&rt, &GENERATE, &[("main.osc", bytes)], SOUND, want, want)?;
+    }
+    Ok(())
+}
+
+/// A file that imports `b.osc`.
+const MAIN: &str = "import \"b.osc\"\nscenario top:\n    x: int\n    keep(x in [7..7])\n";
+
+const SEVEN: &str =
+    "0 {\"choices\":[],\"end\":0,\"form\":2,\"phases\":[],\"tick\":100,\"traces\":[],\"values\":[[\"x\",7]]}\n";
+
+/// The answers to `generate a.osc top`, where `a.osc` imports each of these sources.
+fn imports_are(rt: &(impl Abort + AllocGlobal), rows: &[(&str, &str)]) -> Result<(), Fail> {
+    for (second, want) in rows {
+        let files = [("a.osc", MAIN.as_bytes()), ("b.osc", second.as_bytes())];
+        line_is(rt, "generate a.osc top", &files, *want, *second)?;
     }
     Ok(())
 }
 
 #[test]
 fn imports(rt: HostRuntime) -> Result<(), Fail> {
-    let alloc = rt.alloc();
-    let words = ["generate", "a.osc", "top"];
-    let main = b"import \"b.osc\"\nscenario top:\n    x: int\n    keep(x in [7..7])\n".as_slice();
-    let seven =
-        "0 {\"choices\":[],\"end\":0,\"form\":2,\"phases\":[],\"tick\":100,\"traces\":[],\"values\":[[\"x\",7]]}\n";
     let rows: [(&str, &str); 6] = [
-        ("import \"a.osc\"\nscenario other\n", seven),
-        ("import osc.standard\n", seven),
+        ("import \"a.osc\"\nscenario other\n", SEVEN),
+        ("import osc.standard\n", SEVEN),
         (
             "import \"a.osc\"\nscenario top\n",
             "3 fault 311 b.osc:2:10\n",
         ),
         ("import \"c.osc\"\n", "3 fault 301 b.osc:1:8\n"),
         ("scenario $\n", "3 fault 104 b.osc:1:10\n"),
-        ("struct s\n", seven),
+        ("struct s\n", SEVEN),
     ];
-    for (second, want) in rows {
-        let files = [("a.osc", main), ("b.osc", second.as_bytes())];
-        let got = answer(alloc, &words, &files, SOUND)?;
-        assert_eq!(rt; got.as_str(), want, "{second}");
-    }
-    let alone = answer(alloc, &words, &[("a.osc", main)], SOUND)?;
-    assert_eq!(rt; alone.as_str(), "3 fault 301 a.osc:1:8\n");
+    imports_are(&rt, &rows)?;
+    let words = ["generate", "a.osc", "top"];
+    let alone = [("a.osc", MAIN.as_bytes())];
+    call_is(
+        &rt,
+        &words,
+        &alone,
+        SOUND,
+        "3 fault 301 a.osc:1:8\n",
+        "alone",
+    )?;
+    let files = [("a.osc", MAIN.as_bytes()), ("b.osc", b"".as_slice())];
     let fails = Outside {
         shelf_failing: &[4],
         ..SOUND
     };
-    let files = [("a.osc", main), ("b.osc", b"".as_slice())];
-    let failed = answer(alloc, &words, &files, fails)?;
-    assert_eq!(rt; failed.as_str(), "6 shelf b.osc\n");
-    Ok(())
+    call_is(&rt, &words, &files, fails, "6 shelf b.osc\n", "fails")
 }
 
-#[test]
-fn failing_outside(rt: HostRuntime) -> Result<(), Fail> {
-    let alloc = rt.alloc();
-    let main = [("main.osc", SOURCE.as_bytes())];
-    for call in 0..3 {
-        let got = answer(
-            alloc,
-            &GENERATE,
-            &main,
-            Outside {
-                shelf_failing: &[call],
-                ..SOUND
-            },
-        )?;
-        assert_eq!(rt;
-            got.as_str(),
-            "6 shelf main.osc\n",
-            "call {call} of the shelf"
-        );
-    }
+/// Sees what is written if the first call of a sink that takes a byte at a time fails, the second, and so on.
+fn sinks_are(rt: &(impl Abort + AllocGlobal), main: Files<'_>) -> Result<(), Fail> {
     for call in 0..86 {
         let outside = Outside {
             sink_failing: &[call as u64],
             most: 1,
             ..SOUND
         };
-        let got = answer(alloc, &GENERATE, &main, outside)?;
         let front = str::from_utf8(&RUN.as_bytes()[..call]).unwrap_or("no text");
-        let want = format!(in alloc; "7 {front}")?;
-        assert_eq!(rt; got.as_str(), want.as_str(), "call {call} of the sink");
+        let want = format!(in rt.alloc(); "7 {front}")?;
+        call_is(
+            rt,
+            &GENERATE,
+            main,
+            outside,
+            want.as_str(),
+            "a sink that fails",
+        )?;
     }
+    Ok(())
+}
+
+#[test]
+fn failing_outside(rt: HostRuntime) -> Result<(), Fail> {
+    let main = [("main.osc", SOURCE.as_bytes())];
+    shelves_are(&rt, &GENERATE, &main, &["6 shelf main.osc\n"; 3])?;
+    sinks_are(&rt, &main)?;
     let ten = Outside {
         sink_failing: &[1],
         most: 10,
         room: 100,
         ..SOUND
     };
-    assert_eq!(rt;
-        answer(alloc, &GENERATE, &main, ten)?.as_str(),
-        "7 {\"choices\""
-    );
+    call_is(
+        &rt,
+        &GENERATE,
+        &main,
+        ten,
+        "7 {\"choices\"",
+        "ten bytes a call",
+    )?;
     let full = Outside { room: 0, ..SOUND };
-    assert_eq!(rt; answer(alloc, &GENERATE, &[], full)?.as_str(), "7 ");
-    Ok(())
+    call_is(&rt, &GENERATE, &[], full, "7 ", "no room")
 }

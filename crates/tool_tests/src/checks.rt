@@ -1,11 +1,10 @@
 //! What `command` says of runs.
 use crate::answers::{RUN, SOURCE};
-use answer_tests::{Outside, SOUND, answer};
-use std::alloc::{AllocError, AllocGlobal, Global};
-use std::process::Abort;
+use crate::calls::{line_is, shelves_are, texts_are};
+use std::alloc::{AllocError, Global};
 use std::test::Fail;
 
-const CHECK: [&str; 4] = ["check", "main.osc", "top", "run.json"];
+const CHECK: &str = "check main.osc top run.json";
 
 /// A vehicle that drives at 10 metres a second at each tick but the last.
 const DRIVE: &str =
@@ -22,25 +21,6 @@ const WAITS: &str =
 /// A member of a `one_of` overrides a default of the library.
 const OVERRIDES: &str =
     "import osc.standard\nscenario top:\n    ego: vehicle\n    do one_of:\n        ego.drive(duration: 5s) with:\n            keep(ego.max_speed == 30mps)\n        wait elapsed(0.1s)\n";
-
-/// The answers to `check main.osc top run.json --ticks N` over this source and these runs.
-fn checks_are(
-    rt: &(impl Abort + AllocGlobal),
-    source: &str,
-    ticks: &str,
-    rows: &[(&str, &str)],
-) -> Result<(), Fail> {
-    let words = ["check", "main.osc", "top", "run.json", "--ticks", ticks];
-    for (run, want) in rows {
-        let files = [
-            ("main.osc", source.as_bytes()),
-            ("run.json", run.as_bytes()),
-        ];
-        let got = answer(rt.alloc(), &words, &files, SOUND)?;
-        assert_eq!(rt; got.as_str(), *want, "{run}");
-    }
-    Ok(())
-}
 
 #[test]
 fn runs_of_a_field(rt: HostRuntime) -> Result<(), Fail> {
@@ -67,7 +47,8 @@ fn runs_of_a_field(rt: HostRuntime) -> Result<(), Fail> {
             "0 yes\n",
         ),
     ];
-    checks_are(&rt, SOURCE, "1", &rows)
+    let line = "check main.osc top run.json --ticks 1";
+    texts_are(&rt, line, SOURCE, "run.json", &rows)
 }
 
 #[test]
@@ -86,7 +67,8 @@ fn runs_of_a_conditional_member(rt: HostRuntime) -> Result<(), Fail> {
             "1 no hard . main.osc:9:5\n",
         ),
     ];
-    checks_are(&rt, CARGO, "1", &rows)
+    let line = "check main.osc top run.json --ticks 1";
+    texts_are(&rt, line, CARGO, "run.json", &rows)
 }
 
 /// The rows of `docs/FORMATS.md` are among them.
@@ -131,7 +113,8 @@ fn runs_of_a_vehicle(rt: HostRuntime) -> Result<(), Fail> {
             "5 text /tick\n",
         ),
     ];
-    checks_are(&rt, DRIVE, "1", &rows)
+    let line = "check main.osc top run.json --ticks 1";
+    texts_are(&rt, line, DRIVE, "run.json", &rows)
 }
 
 #[test]
@@ -162,7 +145,8 @@ fn runs_of_phases(rt: HostRuntime) -> Result<(), Fail> {
             "1 no bounds do[1]\n",
         ),
     ];
-    checks_are(&rt, WAITS, "3", &rows)
+    let line = "check main.osc top run.json --ticks 3";
+    texts_are(&rt, line, WAITS, "run.json", &rows)
 }
 
 #[test]
@@ -181,7 +165,8 @@ fn defaults_that_one_member_overrides(rt: HostRuntime) -> Result<(), Fail> {
             "1 no hard do[0] main.osc:5:29\n",
         ),
     ];
-    checks_are(&rt, OVERRIDES, "10", &rows)
+    let line = "check main.osc top run.json --ticks 10";
+    texts_are(&rt, line, OVERRIDES, "run.json", &rows)
 }
 
 #[test]
@@ -211,7 +196,8 @@ fn texts_that_are_no_run(rt: HostRuntime) -> Result<(), Fail> {
             "5 text /form\n",
         ),
     ];
-    checks_are(&rt, SOURCE, "1", &rows)
+    let line = "check main.osc top run.json --ticks 1";
+    texts_are(&rt, line, SOURCE, "run.json", &rows)
 }
 
 /// A scenario of this many vehicles, one of which there is always.
@@ -228,16 +214,14 @@ fn vehicles(alloc: Global, count: u32) -> Result<String, AllocError> {
 /// looked for.
 #[test]
 fn scenarios_that_are_too_large(rt: HostRuntime) -> Result<(), Fail> {
-    let alloc = rt.alloc();
-    let words = ["check", "main.osc", "top", "run.json", "--ticks", "600"];
+    let line = "check main.osc top run.json --ticks 600";
     for (count, want) in [
         (36, "6 missing run.json\n"),
         (37, "3 fault 323 main.osc:2:10\n"),
     ] {
-        let source = vehicles(alloc, count)?;
+        let source = vehicles(rt.alloc(), count)?;
         let files = [("main.osc", source.as_str().as_bytes())];
-        let got = answer(alloc, &words, &files, SOUND)?;
-        assert_eq!(rt; got.as_str(), want, "{count} vehicles");
+        line_is(&rt, line, &files, want, want)?;
     }
     Ok(())
 }
@@ -245,33 +229,30 @@ fn scenarios_that_are_too_large(rt: HostRuntime) -> Result<(), Fail> {
 /// The source is refused before the file of the run is looked for.
 #[test]
 fn refusals_before_the_run(rt: HostRuntime) -> Result<(), Fail> {
-    let alloc = rt.alloc();
-    let rows: [(&[&str], &str, &str); 5] = [
-        (&CHECK, SOURCE, "6 missing run.json\n"),
-        (&CHECK, "scenario other\n", "3 fault 324 main.osc:2:1\n"),
+    let rows: [(&str, &str, &str); 5] = [
+        (CHECK, SOURCE, "6 missing run.json\n"),
+        (CHECK, "scenario other\n", "3 fault 324 main.osc:2:1\n"),
         (
-            &CHECK,
+            CHECK,
             "scenario top:\n    x int\n",
             "3 fault 201 main.osc:2:7\n",
         ),
-        (&["check", "main.osc", "top"], SOURCE, "4 words\n"),
+        ("check main.osc top", SOURCE, "4 words\n"),
         (
-            &["check", "none.osc", "top", "run.json"],
+            "check none.osc top run.json",
             SOURCE,
             "6 missing none.osc\n",
         ),
     ];
-    for (words, source, want) in rows {
-        let got = answer(alloc, words, &[("main.osc", source.as_bytes())], SOUND)?;
-        assert_eq!(rt; got.as_str(), want);
+    for (line, source, want) in rows {
+        line_is(&rt, line, &[("main.osc", source.as_bytes())], want, source)?;
     }
     Ok(())
 }
 
 #[test]
 fn files_of_runs(rt: HostRuntime) -> Result<(), Fail> {
-    let alloc = rt.alloc();
-    let long = vec![in alloc; b' '; 16_777_217]?;
+    let long = vec![in rt.alloc(); b' '; 16_777_217]?;
     let rows: [(&[u8], &str); 3] = [
         (long.as_slice(), "6 long run.json\n"),
         (&long[1..], "5 text json\n"),
@@ -279,31 +260,25 @@ fn files_of_runs(rt: HostRuntime) -> Result<(), Fail> {
     ];
     for (bytes, want) in rows {
         let files = [("main.osc", SOURCE.as_bytes()), ("run.json", bytes)];
-        let got = answer(alloc, &CHECK, &files, SOUND)?;
-        assert_eq!(rt; got.as_str(), want);
+        line_is(&rt, CHECK, &files, want, want)?;
     }
     Ok(())
 }
 
 #[test]
 fn shelf_that_fails_at_the_run(rt: HostRuntime) -> Result<(), Fail> {
-    let alloc = rt.alloc();
+    let words = ["check", "main.osc", "top", "run.json"];
     let files = [
         ("main.osc", SOURCE.as_bytes()),
         ("run.json", RUN.as_bytes()),
     ];
-    for call in 0..6 {
-        let fails = Outside {
-            shelf_failing: &[call],
-            ..SOUND
-        };
-        let got = answer(alloc, &CHECK, &files, fails)?;
-        let want = if call < 3 {
-            "6 shelf main.osc\n"
-        } else {
-            "6 shelf run.json\n"
-        };
-        assert_eq!(rt; got.as_str(), want, "call {call} of the shelf");
-    }
-    Ok(())
+    let wants = [
+        "6 shelf main.osc\n",
+        "6 shelf main.osc\n",
+        "6 shelf main.osc\n",
+        "6 shelf run.json\n",
+        "6 shelf run.json\n",
+        "6 shelf run.json\n",
+    ];
+    shelves_are(&rt, &words, &files, &wants)
 }

@@ -1,5 +1,6 @@
 //! The examples are decided, and what is written of them is accepted.
 
+use crate::calls::call_is;
 use crate::scenarios::EXAMPLES;
 use answer_tests::{SOUND, answer};
 use std::process::Abort;
@@ -52,8 +53,7 @@ fn examples_are_decided(rt: HostRuntime) -> Result<(), Fail> {
             ("written", written.unwrap_or("").as_bytes()),
         ];
         let words = [example.outcome.checker(), "main.osc", "top", "written"];
-        let said = answer(alloc, &words, &files, SOUND)?;
-        assert_eq!(rt; said.as_str(), "0 yes\n", "{}", example.name);
+        call_is(&rt, &words, &files, SOUND, "0 yes\n", example.name)?;
     }
     Ok(())
 }

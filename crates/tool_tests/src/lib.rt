@@ -4,6 +4,8 @@
 #[cfg(test)]
 mod answers;
 #[cfg(test)]
+mod calls;
+#[cfg(test)]
 mod checks;
 #[cfg(test)]
 mod examples;
@@ -18,8 +20,4 @@ mod runs;
 #[cfg(test)]
 mod scenarios;
 #[cfg(test)]
-mod texts;
-#[cfg(test)]
 mod ticks;
-#[cfg(test)]
-mod trees;

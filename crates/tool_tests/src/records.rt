@@ -1,6 +1,7 @@
 //! What `command` says of records, of listings and of programs that are made.
 use crate::answers::answers_are;
-use answer_tests::{Outside, SOUND, answer};
+use crate::calls::{call_has, shelves_are, sources_are, texts_are};
+use std::alloc::AllocGlobal;
 use std::process::Abort;
 use std::test::Fail;
 
@@ -11,20 +12,6 @@ const APART: &str =
 /// The record that shows it has no instance.
 const REFUTATION: &str =
     "osc-refutation 1\nslots 1\nrules 3\nroom 3\nlow 0 -1\nclose 0\nhigh 0 5\nclose 0\nlow 0 3\nclose 1\nclose 2\nend\n";
-
-/// The answers to `verify main.osc top record` over `APART` and these records.
-fn verdicts_are(rt: &(impl Abort + AllocGlobal), rows: &[(&str, &str)]) -> Result<(), Fail> {
-    let words = ["verify", "main.osc", "top", "record"];
-    for (record, want) in rows {
-        let files = [
-            ("main.osc", APART.as_bytes()),
-            ("record", record.as_bytes()),
-        ];
-        let got = answer(rt.alloc(), &words, &files, SOUND)?;
-        assert_eq!(rt; got.as_str(), *want, "{record}");
-    }
-    Ok(())
-}
 
 /// Each cut is one that the order of the search makes by itself, so the seed has no part in these records.
 #[test]
@@ -64,16 +51,13 @@ fn records_that_are_read(rt: HostRuntime) -> Result<(), Fail> {
         ),
         ("", "5 text 1\n"),
     ];
-    verdicts_are(&rt, &rows)
+    texts_are(&rt, "verify main.osc top record", APART, "record", &rows)
 }
 
 #[test]
 fn records_that_are_not_there(rt: HostRuntime) -> Result<(), Fail> {
-    let words = ["verify", "main.osc", "top", "record"];
-    let main = [("main.osc", APART.as_bytes())];
-    let got = answer(rt.alloc(), &words, &main, SOUND)?;
-    assert_eq!(rt; got.as_str(), "6 missing record\n");
-    Ok(())
+    let rows: [(&str, &str); 1] = [(APART, "6 missing record\n")];
+    sources_are(&rt, "verify main.osc top record", &rows)
 }
 
 #[test]
@@ -83,26 +67,20 @@ fn shelf_that_fails_at_the_record(rt: HostRuntime) -> Result<(), Fail> {
         ("main.osc", APART.as_bytes()),
         ("record", REFUTATION.as_bytes()),
     ];
-    for call in 0..6 {
-        let fails = Outside {
-            shelf_failing: &[call],
-            ..SOUND
-        };
-        let got = answer(rt.alloc(), &words, &files, fails)?;
-        let want = if call < 3 {
-            "6 shelf main.osc\n"
-        } else {
-            "6 shelf record\n"
-        };
-        assert_eq!(rt; got.as_str(), want, "call {call} of the shelf");
-    }
-    Ok(())
+    let wants = [
+        "6 shelf main.osc\n",
+        "6 shelf main.osc\n",
+        "6 shelf main.osc\n",
+        "6 shelf record\n",
+        "6 shelf record\n",
+        "6 shelf record\n",
+    ];
+    shelves_are(&rt, &words, &files, &wants)
 }
 
 /// Numbers that no member of the enum has lie between its ends, so its field has a rule of its own.
 #[test]
 fn listings(rt: HostRuntime) -> Result<(), Fail> {
-    let words = ["flat", "main.osc", "top", "--ticks", "1"];
     let rows: [(&str, &str); 3] = [
         (
             APART,
@@ -117,21 +95,13 @@ fn listings(rt: HostRuntime) -> Result<(), Fail> {
             "0 slots 9\nchoice do 0 1\nstart do 0 1\nend do 0 1\nstart do[0] 0 1\nend do[0] 0 1\nstart do[1] 0 1\nend do[1] 0 1\nstart do[1][0] 0 1\nend do[1][0] 0 1\nrules 6\nhard main.osc:4:22\nhard main.osc:6:26\narranged do\narranged do[0]\narranged do[1]\narranged do[1][0]\n",
         ),
     ];
-    for (source, want) in rows {
-        let main = [("main.osc", source.as_bytes())];
-        let got = answer(rt.alloc(), &words, &main, SOUND)?;
-        assert_eq!(rt; got.as_str(), want, "{source}");
-    }
-    Ok(())
+    sources_are(&rt, "flat main.osc top --ticks 1", &rows)
 }
 
 /// The answers to `make` of these counts: a run, and behind it this line.
 fn made_runs_are(rt: &(impl Abort + AllocGlobal), rows: &[(&str, &str)]) -> Result<(), Fail> {
     for (count, last) in rows {
-        let got = answer(rt.alloc(), &["make", *count], &[], SOUND)?;
-        let got = got.as_str();
-        assert!(rt; got.starts_with("0 {\"choices\":[]"), "{count}");
-        assert!(rt; got.ends_with(*last), "{count}");
+        call_has(rt, &["make", *count], &[], "0 {\"choices\":[]", "", *last)?;
     }
     Ok(())
 }

@@ -1,8 +1,7 @@
 //! Ticks of a length of their own, and runs of both forms.
 use crate::answers::{RUN, SOURCE};
-use answer_tests::{Outside, SOUND, answer};
-use std::alloc::{AllocError, AllocGlobal, Global};
-use std::process::Abort;
+use crate::calls::{call_has, call_is, lines_are, shelves_are};
+use answer_tests::SOUND;
 use std::test::Fail;
 
 /// The run of `SOURCE` as text of form 1.
@@ -23,32 +22,6 @@ const ONE_TICK: &str =
 /// A vehicle that drives at 10 metres a second at each tick but the last.
 const DRIVE: &str =
     "import osc.standard\nscenario top:\n    ego: vehicle\n    do ego.drive() with:\n        speed(10mps)\n";
-
-/// The answer to a line of words over `main.osc` and `run.json`.
-fn answer_to(alloc: Global, line: &str, source: &str, run: &str) -> Result<String, AllocError> {
-    let mut words = Vec::new(alloc);
-    for word in line.split_whitespace() {
-        words.push(word)?;
-    }
-    let files = [
-        ("main.osc", source.as_bytes()),
-        ("run.json", run.as_bytes()),
-    ];
-    answer(alloc, words.as_slice(), &files, SOUND)
-}
-
-/// Sees that each line of words over this source and a run has its answer.
-fn answers_are(
-    rt: &(impl Abort + AllocGlobal),
-    source: &str,
-    rows: &[(&str, &str, &str)],
-) -> Result<(), Fail> {
-    for (line, run, want) in rows {
-        let got = answer_to(rt.alloc(), line, source, run)?;
-        assert_eq!(rt; got.as_str(), *want, "{line} {run}");
-    }
-    Ok(())
-}
 
 #[test]
 fn durations(rt: HostRuntime) -> Result<(), Fail> {
@@ -86,14 +59,10 @@ fn durations(rt: HostRuntime) -> Result<(), Fail> {
             "1 osc-refutation 1\nslots 2\nrules 2\nroom 0\nclose 0\nend\n",
         ),
     ];
-    answers_are(&rt, WAIT, &rows)?;
-    let none = answer_to(alloc, "generate main.osc top --tick 30", WAIT, "")?;
-    assert!(rt;
-        none.as_str().starts_with("1 osc-refutation 1\n"),
-        "{}",
-        none.as_str()
-    );
-    Ok(())
+    lines_are(&rt, WAIT, &rows)?;
+    let words = ["generate", "main.osc", "top", "--tick", "30"];
+    let main = [("main.osc", WAIT.as_bytes())];
+    call_has(&rt, &words, &main, "1 osc-refutation 1\n", "", "")
 }
 
 /// In a tick of 50 milliseconds a vehicle goes half as far, and its speed changes half as much.
@@ -117,7 +86,7 @@ fn motion(rt: HostRuntime) -> Result<(), Fail> {
             "1 no motion ego\n",
         ),
     ];
-    answers_are(&rt, DRIVE, &rows)
+    lines_are(&rt, DRIVE, &rows)
 }
 
 #[test]
@@ -167,7 +136,7 @@ fn texts_of_both_forms(rt: HostRuntime) -> Result<(), Fail> {
             "5 text /form\n",
         ),
     ];
-    answers_are(&rt, SOURCE, &rows)
+    lines_are(&rt, SOURCE, &rows)
 }
 
 #[test]
@@ -198,7 +167,7 @@ fn migrations(rt: HostRuntime) -> Result<(), Fail> {
         ("migrate", RUN, "4 words\n"),
         ("migrate run.json --tick 50", RUN, "4 words\n"),
     ];
-    answers_are(&rt, "no source", &rows)
+    lines_are(&rt, "no source", &rows)
 }
 
 /// Only the file of the run is read: it takes three calls of the shelf.
@@ -212,22 +181,14 @@ fn files_of_migrations(rt: HostRuntime) -> Result<(), Fail> {
         (&long[1..], "5 text json\n"),
     ];
     for (bytes, want) in rows {
-        let got = answer(alloc, &words, &[("run.json", bytes)], SOUND)?;
-        assert_eq!(rt; got.as_str(), want);
+        call_is(&rt, &words, &[("run.json", bytes)], SOUND, want, want)?;
     }
-    let want = format!(in alloc; "0 {RUN}")?;
-    for call in 0..4 {
-        let fails = Outside {
-            shelf_failing: &[call],
-            ..SOUND
-        };
-        let got = answer(alloc, &words, &[("run.json", FIRST.as_bytes())], fails)?;
-        let want = if call < 3 {
-            "6 shelf run.json\n"
-        } else {
-            want.as_str()
-        };
-        assert_eq!(rt; got.as_str(), want, "call {call} of the shelf");
-    }
-    Ok(())
+    let whole = format!(in alloc; "0 {RUN}")?;
+    let wants = [
+        "6 shelf run.json\n",
+        "6 shelf run.json\n",
+        "6 shelf run.json\n",
+        whole.as_str(),
+    ];
+    shelves_are(&rt, &words, &[("run.json", FIRST.as_bytes())], &wants)
 }

@@ -1,3 +1,4 @@
+mod Divisors
 pub mod Hits
 pub mod EnumTables
 pub mod PlacedFiles
@@ -6,7 +7,6 @@ pub mod Groups
 pub mod Gathering
 pub mod Bases
 pub mod HeadLists
-pub mod Divisors
 pub mod BodyLists
 pub mod FileLists
 pub mod LineSteps

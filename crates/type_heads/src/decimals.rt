@@ -2,28 +2,13 @@
 
 ghost use Rattle.std.specs.Prelude.{◌≡◌, ◌≤◌, pos};
 ghost use Rattle.std.specs.Option.{option_map_or};
-ghost use Rattle.units_si.specs.osc_base.LowestTerms.{gcd as divisor};
 ghost use Rattle.units_si.specs.osc_base.Number.{whole};
 ghost use Rattle.units_si.specs.osc_base.Fraction.{value};
 ghost use Rattle.type_heads.specs.Exponents.{signed_decimal};
 ghost use Rattle.type_heads.specs.Units.{signed, signed_number};
 
 use name_scope::dsl_tree::Signed;
-use units_si::osc_base::Fraction;
-
-/// The greatest common divisor.
-#[tactic(auto, using(crate::proofs::Divisors::gcd_step, crate::proofs::Divisors::gcd_end))]
-fn gcd(a: u128, b: u128) -> u128
-    ensures { result ≡ divisor a b }
-{
-    let (mut x, mut y) = (a, b);
-    while y != 0 {
-        let rest = x % y;
-        x = y;
-        y = rest;
-    }
-    x
-}
+use units_si::osc_base::{Fraction, gcd};
 
 /// A numerator with its sign.
 fn with_sign(minus: bool, top: u64) -> i128

@@ -10,7 +10,7 @@ pub use lists::member_lists;
 pub use parts::{Bodies, MemberTables, ProgramTables};
 pub use string_texts::{
     Boxed, EnumHit, Exponents, Fault, FaultCode, FieldType, Fraction, MemberRef, Path, Place, Row,
-    Text, TypeId, TypeKind, Unit, literal,
+    Text, TypeId, TypeKind, Unit, gcd, literal,
 };
 pub use type_tables::{ListedMember, MemberLists, TextTable};
 pub use types::Types;

@@ -1,46 +1,22 @@
+pub use member_tests::PARTS;
+use member_tests::loaded;
 use name_scope::Program;
-use outside_io::MemoryShelf;
-use program_load::load;
 use std::alloc::{AllocError, Global};
 use type_build::build_types;
 use type_model::Types;
 
-/// A program with each kind of type, an extended enum, a conditional subtype and an extended struct.
-pub const PARTS: &str = "type pace is SI(m: 1, s: -1)
-unit kph of pace is SI(m: 1, s: -1, factor: 0.5, offset: 2)
-enum paint: [red, green = 5]
-extend paint: [blue]
-struct part:
-    colour: paint
-    fast: bool
-struct wing inherits part(colour == blue):
-    span: int
-struct body inherits part:
-    names: list of string = [\"b\", \"a\"]
-extend part:
-    size: pace
-actor car
-action car.honk
-scenario top
-";
-
-/// The program of one file, if it can be loaded.
-pub fn loaded(alloc: Global, source: &str) -> Result<Option<Program>, AllocError> {
-    let files: [(&str, &[u8]); 1] = [("main.osc", source.as_bytes())];
-    let mut shelf = MemoryShelf::of(alloc, &files, 4096, &[])?;
-    match load(alloc, &mut shelf, "main.osc") {
-        Ok(program) => Ok(Some(program)),
+/// The types of a program, if it has no fault.
+fn types_of(alloc: Global, program: &Program) -> Result<Option<Types>, AllocError> {
+    match build_types(alloc, program) {
+        Ok(types) => Ok(Some(types)),
         Err(_) => Ok(None),
     }
 }
 
 /// The types of the program of one file, if it has no fault.
 pub fn built(alloc: Global, source: &str) -> Result<Option<Types>, AllocError> {
-    let Some(program) = loaded(alloc, source)? else {
-        return Ok(None);
-    };
-    match build_types(alloc, &program) {
-        Ok(types) => Ok(Some(types)),
-        Err(_) => Ok(None),
+    match loaded(alloc, source)? {
+        Some(program) => types_of(alloc, &program),
+        None => Ok(None),
     }
 }

@@ -1,6 +1,5 @@
 use crate::built::{PARTS, built};
 use cond_inherit::{Condition, Subtypes, holds};
-use std::process::Abort;
 use std::test::Fail;
 use type_model::TypeId;
 
@@ -10,12 +9,15 @@ const WING: TypeId = TypeId(8);
 
 const BODY: TypeId = TypeId(9);
 
-/// `wing` inherits from `part` if its colour is blue, which has the number 6.
-fn is_of_wing(rt: &impl Abort, condition: &Condition) {
-    assert!(rt; condition.subtype == WING);
-    assert!(rt; condition.field.as_str() == "colour");
-    assert!(rt; holds(condition, 6));
-    assert!(rt; !holds(condition, 5));
+/// Whether a condition is that of `wing`, which inherits from `part` if its colour is blue.
+fn is_of_wing(condition: &Condition) -> bool {
+    condition.subtype == WING && condition.field.as_str() == "colour"
+}
+
+/// Whether a condition asks for blue, which has the number 6, and not for green, which has the number 5.
+fn is_of_blue(condition: &Condition) -> bool {
+    let (of_blue, of_green) = (holds(condition, 6), holds(condition, 5));
+    of_blue && !of_green
 }
 
 #[test]
@@ -27,7 +29,8 @@ fn conditions_of_subtypes(rt: HostRuntime) -> Result<(), Fail> {
     let subtypes = Subtypes::build(alloc, &types)?;
     assert!(rt; subtypes.of(PART).len() == 1);
     for condition in subtypes.of(PART) {
-        is_of_wing(&rt, condition);
+        assert!(rt; is_of_wing(condition));
+        assert!(rt; is_of_blue(condition));
     }
     assert!(rt; subtypes.of(BODY).is_empty());
     Ok(())

@@ -6,12 +6,6 @@ mod built;
 #[cfg(test)]
 mod conditional;
 #[cfg(test)]
-mod enums;
-#[cfg(test)]
-mod heirs;
-#[cfg(test)]
 mod members;
-#[cfg(test)]
-mod nested;
 #[cfg(test)]
 mod queries;

@@ -1,17 +1,16 @@
 -- Sizes at a common scale.
 use Rattle.std.proofs.Common.{◌≡◌, ◌∙◌, refl, sym, ap, ap₂, subst, true≢false, ◌&&◌, ℕ, zero, suc, ◌+◌, ◌*◌, ◌/◌, ◌%◌, ◌<◌, ◌≤◌, ◌||◌, Bool, true, false, not, [], ◌∷◌, Option, Some, None, cond, is_none, nat_lt, option_map, arith, map}
 use Rattle.std.specs.Prelude.{◌^◌}
-use Rattle.std.specs.Int.{IsGcd, ◌∣◌}
 use Rattle.std.specs.List.{list_any}
-use Rattle.std.proofs.Math.Nat.{mul_comm, mul-div_cancel', pos_of_dvd_of_pos, dvd-mul_left}
-use Rattle.std.proofs.lemmas.Nat.Gcd.{IsGcd-from_zero, IsGcd-from_mod}
+use Rattle.std.proofs.Math.Nat.{mul_comm}
 use Rattle.std.proofs.lemmas.Bool.{ltb-false, ltb-true, lt-ltb}
 use Rattle.osc_base.specs.Comparisons.{greatest_part}
-use Rattle.osc_base.specs.LowestTerms.{gcd, gcd_within, lcm}
+use Rattle.osc_base.specs.LowestTerms.{gcd, lcm}
 use Rattle.osc_base.specs.declared.fault.Place.{Place}
 use Rattle.osc_base.specs.declared.fault.Fault.{Fault}
 use Rattle.osc_base.specs.declared.fault.FaultCode.{FaultCode}
 use Rattle.osc_base.specs.FaultRows.{row, row_fault, first_of, first_from}
+use Rattle.osc_base.proofs.Divisors.{gcd_is, lcm_is, lcm_above}
 use Rattle.osc_base.proofs.Multiples.{lowest_same}
 use Rattle.expr_nodes.specs.Fits.{differs, end_sizes, fit_rows, is_kind}
 use Rattle.expr_nodes.specs.Kinds.{ValueKind, are_alike}
@@ -23,37 +22,7 @@ use Rattle.expr_nodes.specs.Typed.{Typed, kind}
 use Rattle.value_fits.specs.SpanEnds.{any_end, ends_in, range_in}
 use Rattle.value_fits.proofs.FitEnds.{any_is, range_is}
 
--- the multiple of two scales
-gcd_is_within : (steps a b : ℕ) → b < steps → IsGcd a b (gcd_within steps a b)
-gcd_is_within zero a b few = absurd (omega arith)
-gcd_is_within (suc steps) a zero few = IsGcd-from_zero a zero refl
-gcd_is_within (suc steps) a (suc b) few = IsGcd-from_mod a (suc b) (gcd_within steps (suc b) (a % suc b)) (gcd_is_within steps (suc b) (a % suc b) (omega arith))
-
-gcd_is : (a b : ℕ) → IsGcd a b (gcd a b)
-unfolding gcd
-gcd_is a b = gcd_is_within (suc b) a b (omega arith)
-
-pub gcd_above : (a b : ℕ) → 0 < a → 0 < gcd a b
-gcd_above a b above = pos_of_dvd_of_pos (gcd_is a b).0 above
-
-pub lcm_is : (a b : ℕ) → lcm a b ≡ a * (b / gcd a b)
-unfolding lcm
-lcm_is a b = refl
-
-times_above : (a b : ℕ) → 0 < a → 0 < b → 0 < a * b
-times_above zero b p q = absurd (omega arith)
-times_above (suc a) zero p q = absurd (omega arith)
-times_above (suc a) (suc b) p q = grind arith
-
-share_above : (a b : ℕ) → 0 < b → 0 < b / gcd a b
-share_above a b q =
-    let g = gcd_is a b in
-    pos_of_dvd_of_pos (subst (λ n. b / gcd a b ∣ n) (mul-div_cancel' (gcd a b) g.1) (dvd-mul_left (b / gcd a b) (gcd a b))) q
-
-pub lcm_above : (a b : ℕ) → 0 < a → 0 < b → 0 < lcm a b
-lcm_above a b p q = rw (lcm_is a b) (times_above a (b / gcd a b) p (share_above a b q))
-
--- it is a multiple of the second
+-- the multiple of two scales is one of the second
 second_share : (a b : ℕ) → lcm a b ≡ b * (a / gcd a b)
 second_share a b = let g = gcd_is a b in lcm_is a b ∙ sym (lowest_same a b (gcd a b) g.0 g.1) ∙ mul_comm (a / gcd a b) b
 

@@ -11,10 +11,9 @@ ghost use Rattle.expr_nodes.specs.Sizes.{is_wide, joined, widened};
 
 use crate::ends::ends_of;
 use crate::fits::{Target, has_end_apart, is_kind, is_wide_beside};
-use expr_nodes::size::gcd;
 use expr_nodes::{Size, Typed, ValueKind};
 use name_scope::with_fault;
-use osc_base::{Boxed, Fault, FaultCode, Place};
+use osc_base::{Boxed, Fault, FaultCode, Place, gcd};
 
 /// The greatest scale and reach, 2^120.
 const MOST: u128 = 0x100_0000_0000_0000_0000_0000_0000_0000;
@@ -30,7 +29,7 @@ fn sample_size() -> Size
 }
 
 /// The least common multiple. `None` when it doesn't fit.
-#[tactic(auto, using(crate::proofs::Widened::gcd_above, crate::proofs::Widened::lcm_is))]
+#[tactic(auto, using(osc_base::proofs::Divisors::gcd_above, osc_base::proofs::Divisors::lcm_is))]
 fn least_common_multiple(a: u128, b: u128) -> Option<u128>
     requires first { 0 < a }
     requires second { 0 < b }

@@ -1,5 +1,5 @@
 use Rattle.std.proofs.Common.{◌<◌, ◌/◌, sym, subst, arith}
-use Rattle.expr_nodes.proofs.Divisors.{gcd_above_second, share_above}
+use Rattle.expr_nodes.proofs.of_osc_base.Divisors.{gcd_above_second, share_above}
 use Rattle.expr_eval.proofs.DivisorLaws.{share_stored}
 use Rattle.expr_eval.proofs.quotients.lowest.Goals as goal
 

@@ -1,6 +1,6 @@
 use Rattle.std.proofs.Common.{◌<◌, ◌∙◌, sym, ap, subst, ◌/◌}
 use Rattle.std.specs.Prelude.{◌^◌}
-use Rattle.expr_nodes.proofs.Divisors.{gcd_above_second, share_above, power_above, share_stored}
+use Rattle.expr_nodes.proofs.of_osc_base.Divisors.{gcd_above_second, share_above, power_above, share_stored}
 use Rattle.expr_typing.proofs.literals.decimal.Goals as goal
 
 pub nonzero_div-result : goal.nonzero_div-result

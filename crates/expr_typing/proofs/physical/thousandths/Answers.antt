@@ -1,5 +1,5 @@
 use Rattle.std.proofs.Common.{◌<◌, ◌/◌, refl, sym, subst, arith}
-use Rattle.expr_nodes.proofs.Divisors.{gcd_above_second, share_above, share_stored}
+use Rattle.expr_nodes.proofs.of_osc_base.Divisors.{gcd_above_second, share_above, share_stored}
 use Rattle.expr_typing.proofs.physical.thousandths.Goals as goal
 
 pub nonzero_div-shared : goal.nonzero_div-shared

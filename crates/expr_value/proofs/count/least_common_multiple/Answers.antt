@@ -1,6 +1,6 @@
 use Rattle.std.proofs.Common.{◌∙◌, sym, ap, subst, ◌*◌, ◌/◌, ◌<◌, Fits, arith}
 use Rattle.std.specs.Int.{w128}
-use Rattle.expr_nodes.proofs.Divisors.{gcd_above, lcm_is}
+use Rattle.expr_nodes.proofs.of_osc_base.Divisors.{gcd_above, lcm_is}
 use Rattle.expr_value.proofs.count.least_common_multiple.Goals as goal
 
 pub nonzero_div-result : goal.nonzero_div-result

@@ -1,4 +1,4 @@
-use Rattle.search_tests.proofs.Rows.{row_above}
+use Rattle.verdict_tests.proofs.Rows.{row_above}
 use Rattle.record_tests.proofs.rows.above.Goals as goal
 
 pub returns : goal.returns

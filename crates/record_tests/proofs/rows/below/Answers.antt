@@ -1,4 +1,4 @@
-use Rattle.search_tests.proofs.Rows.{row_below}
+use Rattle.verdict_tests.proofs.Rows.{row_below}
 use Rattle.record_tests.proofs.rows.below.Goals as goal
 
 pub returns : goal.returns

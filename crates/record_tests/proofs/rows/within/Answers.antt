@@ -1,4 +1,4 @@
-use Rattle.search_tests.proofs.Rows.{row_within}
+use Rattle.verdict_tests.proofs.Rows.{row_within}
 use Rattle.record_tests.proofs.rows.within.Goals as goal
 
 pub returns : goal.returns

@@ -7,13 +7,13 @@ returns-in_err-head-clause-stop g c = stop_head c.from_residual.result c.in_err-
 
 pub returns-in_err-slots-clause-stop : goal.returns-in_err-slots-clause-stop
 returns-in_err-slots-clause-stop g c = stop_slots c.from_residual-in_err-slots.result c.in_err-slots.field-0.0 _ _ _ _ _ c.requires c.from_residual-in_err-slots.ensures.1 _ _
-    (read_head c.in_ok-head.head _ _ _ _ c.in_ok-head.ensures.line) c.in_err-slots.ensures.stop
+    (read_head _ _ _ _ _ c.in_ok-head.ensures.line) c.in_err-slots.ensures.stop
 
 pub returns-in_err-rules-clause-stop : goal.returns-in_err-rules-clause-stop
 returns-in_err-rules-clause-stop g c = stop_rules c.from_residual-in_err-rules.result c.in_err-rules.field-0.0 _ _ _ _ _ c.requires c.from_residual-in_err-rules.ensures.1 _ _ _
-    (read_slots _ _ _ _ _ _ _ _ c.in_ok-slots.slots (read_head c.in_ok-head.head _ _ _ _ c.in_ok-head.ensures.line) c.in_ok-slots.ensures.line) c.in_err-rules.ensures.stop
+    (read_slots _ _ _ _ _ _ _ _ _ (read_head _ _ _ _ _ c.in_ok-head.ensures.line) c.in_ok-slots.ensures.line) c.in_err-rules.ensures.stop
 
 pub returns-in_err-room-clause-stop : goal.returns-in_err-room-clause-stop
 returns-in_err-room-clause-stop g c = stop_room c.from_residual-in_err-room.result c.in_err-room.field-0.0 _ _ _ _ _ c.requires c.from_residual-in_err-room.ensures.1 _ _ _ _
-    (read_rules _ _ _ _ _ _ _ _ _ c.in_ok-rules.rules
-    (read_slots _ _ _ _ _ _ _ _ c.in_ok-slots.slots (read_head c.in_ok-head.head _ _ _ _ c.in_ok-head.ensures.line) c.in_ok-slots.ensures.line) c.in_ok-rules.ensures.line) c.in_err-room.ensures.stop
+    (read_rules _ _ _ _ _ _ _ _ _ _
+    (read_slots _ _ _ _ _ _ _ _ _ (read_head _ _ _ _ _ c.in_ok-head.ensures.line) c.in_ok-slots.ensures.line) c.in_ok-rules.ensures.line) c.in_err-room.ensures.stop

@@ -1,6 +1,6 @@
 use Rattle.std.proofs.Common.{◌<◌, ◌∙◌, sym, ap, subst, ◌/◌}
 use Rattle.std.specs.Prelude.{◌^◌}
-use Rattle.type_heads.proofs.Divisors.{gcd_above_second, share_above, power_above, share_stored}
+use Rattle.units_si.proofs.of_osc_base.Divisors.{gcd_above_second, share_above, power_above, share_stored}
 use Rattle.type_heads.proofs.decimals.decimal.Goals as goal
 
 pub nonzero_div-digits : goal.nonzero_div-digits

@@ -1,4 +1,5 @@
-use Rattle.expr_nodes.proofs.Divisors.{lcm_above, above_if_there}
+use Rattle.type_model.proofs.of_osc_base.Divisors.{lcm_above}
+use Rattle.expr_nodes.proofs.Fitting.{above_if_there}
 use Rattle.expr_nodes.proofs.size.Size.joined.Goals as goal
 
 pub within-requires : goal.within-requires

@@ -1,0 +1,10 @@
+pub mod Put
+pub mod Environment
+pub mod Application
+pub mod Unfolded
+pub mod WrittenTexts
+pub mod WrittenScene
+pub mod UnfoldedTypes
+pub mod ModifierFaults
+pub mod UnfoldedLength
+pub mod ModifierLaws

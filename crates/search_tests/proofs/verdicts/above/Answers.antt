@@ -1,5 +1,0 @@
-use Rattle.search_tests.proofs.Rows.{row_above}
-use Rattle.search_tests.proofs.verdicts.above.Goals as goal
-
-pub returns : goal.returns
-returns c = row_above

@@ -1,5 +1,0 @@
-use Rattle.search_tests.proofs.Rows.{row_within}
-use Rattle.search_tests.proofs.verdicts.within.Goals as goal
-
-pub returns : goal.returns
-returns c = rw (c.in_ok-new.ensures, c.in_ok-new-2.ensures) row_within
