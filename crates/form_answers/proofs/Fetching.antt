@@ -10,19 +10,19 @@ use Rattle.outside_io.specs.Counts.{Rises}
 use Rattle.outside_io.specs.Files.{file_named, Finds, SomeFiles}
 use Rattle.outside_io.proofs.SomeFiles.{of_all, onward}
 use Rattle.box_eval.specs.declared.flat.Flat.{Flat}
-use Rattle.flat_forms.specs.composition.Scenes.{Scene}
-use Rattle.flat_forms.specs.field_flatten.Exactness.{IsFlatOf}
-use Rattle.command_replies.specs.record_text.declared.stop.VerifyStop.{VerifyStop}
-use Rattle.command_replies.specs.record_text.declared.stop.VerifyStop.TheVariants as stop
-use Rattle.command_replies.specs.record_text.Progress.{SomeBadText}
-use Rattle.command_replies.specs.record_text.Source.{limit}
-use Rattle.command_replies.specs.record_text.Text.{IsFirstBadLine}
-use Rattle.refute_check.specs.declared.check.Verified.{Verified}
-use Rattle.refute_check.specs.declared.check.Verified.TheVariants as verified
-use Rattle.refute_check.specs.Answers.{IsRefutationText, IsOpenText, IsRefusedAt, SomeVerified}
-use Rattle.command_replies.specs.Reply.{Answer}
-use Rattle.command_replies.specs.Replies.{failed_shelf, long_file, missing_file}
-use Rattle.command_replies.specs.Shelves.{AnswersOrFails}
+use Rattle.run_answers.specs.composition.Scenes.{Scene}
+use Rattle.run_answers.specs.field_flatten.Exactness.{IsFlatOf}
+use Rattle.run_answers.specs.record_text.declared.stop.VerifyStop.{VerifyStop}
+use Rattle.run_answers.specs.record_text.declared.stop.VerifyStop.TheVariants as stop
+use Rattle.run_answers.specs.record_text.Progress.{SomeBadText}
+use Rattle.run_answers.specs.record_text.Source.{limit}
+use Rattle.run_answers.specs.record_text.Text.{IsFirstBadLine}
+use Rattle.scene_search.specs.refute_check.declared.check.Verified.{Verified}
+use Rattle.scene_search.specs.refute_check.declared.check.Verified.TheVariants as verified
+use Rattle.scene_search.specs.refute_check.Answers.{IsRefutationText, IsOpenText, IsRefusedAt, SomeVerified}
+use Rattle.run_answers.specs.command_replies.Reply.{Answer}
+use Rattle.run_answers.specs.command_replies.Replies.{failed_shelf, long_file, missing_file}
+use Rattle.run_answers.specs.command_replies.Shelves.{AnswersOrFails}
 use Rattle.form_answers.specs.RecordAnswers.{OnRecordText, bad_line, refused, refuted, undecided, OnRecordFile, no_file, too_long, in_file, Verifies}
 use Rattle.form_answers.specs.Fetched.{reply_to_verified, IsReplyToStop, OnBytes, too_many, few, OnLeft}
 

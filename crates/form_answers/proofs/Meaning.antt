@@ -4,12 +4,12 @@ use Rattle.std.specs.Fmt.{decimal}
 use Rattle.outside_io.specs.declared.shelf.NamedBytes.{NamedBytes}
 use Rattle.box_eval.specs.declared.flat.Flat.{Flat}
 use Rattle.box_eval.specs.Rules.{IsEmpty}
-use Rattle.record_trees.proofs.Empty.{refutation_empty}
-use Rattle.flat_forms.proofs.of_field_flatten.Exact.{exact_flat}
-use Rattle.refute_check.specs.Answers.{IsRefutationText}
-use Rattle.command_replies.specs.declared.status.Status.{Status}
-use Rattle.command_replies.specs.Reply.{Answer}
-use Rattle.command_replies.specs.Replies.{done, long_file, missing_file, no_line, open_cuts, text_refused}
+use Rattle.scene_search.proofs.of_record_trees.Empty.{refutation_empty}
+use Rattle.run_answers.proofs.of_field_flatten.Exact.{exact_flat}
+use Rattle.scene_search.specs.refute_check.Answers.{IsRefutationText}
+use Rattle.run_answers.specs.command_replies.declared.status.Status.{Status}
+use Rattle.run_answers.specs.command_replies.Reply.{Answer}
+use Rattle.run_answers.specs.command_replies.Replies.{done, long_file, missing_file, no_line, open_cuts, text_refused}
 use Rattle.form_answers.specs.RecordAnswers.{OnRecordText, bad_line, refused, refuted, undecided, OnRecordFile, no_file, too_long, in_file}
 use Rattle.form_answers.specs.Laws.{RefutedMeansNone, YesMeansNone}
 

@@ -6,18 +6,18 @@ use Rattle.std.proofs.lemmas.Bool.{ltb-true}
 use Rattle.outside_io.specs.declared.shelf.NamedBytes.{NamedBytes}
 use Rattle.outside_io.specs.Files.{file_named}
 use Rattle.box_eval.specs.declared.flat.Flat.{Flat}
-use Rattle.record_trees.specs.declared.record.Record.{Record}
-use Rattle.record_trees.specs.Record.{Tree, IsFirstFalse, marks}
-use Rattle.command_replies.specs.record_text.Source.{limit}
-use Rattle.command_replies.proofs.of_record_text.BadLines.{one_bad_line}
-use Rattle.command_replies.proofs.of_record_text.Texts.{text_of_one}
-use Rattle.refute_check.specs.Answers.{IsRefusedAt}
-use Rattle.refute_check.proofs.Laws.{not_both, one_count, refused_not_accepted}
-use Rattle.command_replies.specs.Reply.{Answer}
-use Rattle.command_replies.specs.Replies.{no_line, open_cuts, text_refused}
+use Rattle.scene_search.specs.record_trees.declared.record.Record.{Record}
+use Rattle.scene_search.specs.record_trees.Record.{Tree, IsFirstFalse, marks}
+use Rattle.run_answers.specs.record_text.Source.{limit}
+use Rattle.run_answers.proofs.of_record_text.BadLines.{one_bad_line}
+use Rattle.run_answers.proofs.of_record_text.Texts.{text_of_one}
+use Rattle.scene_search.specs.refute_check.Answers.{IsRefusedAt}
+use Rattle.scene_search.proofs.of_refute_check.Laws.{not_both, one_count, refused_not_accepted}
+use Rattle.run_answers.specs.command_replies.Reply.{Answer}
+use Rattle.run_answers.specs.command_replies.Replies.{no_line, open_cuts, text_refused}
 use Rattle.form_answers.specs.RecordAnswers.{OnRecordText, bad_line, refused, refuted, undecided, OnRecordFile, no_file, too_long, in_file}
 use Rattle.form_answers.specs.Laws.{OneVerdict}
-use Rattle.flat_forms.proofs.of_field_flatten.RuleTrees.{one_form}
+use Rattle.run_answers.proofs.of_field_flatten.RuleTrees.{one_form}
 
 -- ---- the first line that isn't accepted
 

@@ -6,18 +6,18 @@ use Rattle.std.proofs.lemmas.List.{length-append}
 use Rattle.outside_io.specs.declared.shelf.NamedBytes.{NamedBytes}
 use Rattle.outside_io.specs.Files.{file_named}
 use Rattle.box_eval.specs.declared.flat.Flat.{Flat}
-use Rattle.record_trees.specs.declared.record.Record.{Record}
-use Rattle.record_trees.specs.Record.{Tree, has_open, cuts_of, AllTrue, IsFirstFalse, marks, IsAcceptedAs}
-use Rattle.command_replies.specs.record_text.TextLines.{TextLine}
-use Rattle.command_replies.specs.record_text.Lines.{spelled, text_of}
-use Rattle.command_replies.specs.record_text.Source.{limit}
-use Rattle.command_replies.specs.record_text.Text.{IsTextOf, IsGoodFor}
-use Rattle.command_replies.proofs.of_record_text.Headers.{nothing_begins}
-use Rattle.command_replies.specs.Reply.{Answer}
-use Rattle.command_replies.specs.Replies.{done, long_file, missing_file, no_line, open_cuts, text_refused}
+use Rattle.scene_search.specs.record_trees.declared.record.Record.{Record}
+use Rattle.scene_search.specs.record_trees.Record.{Tree, has_open, cuts_of, AllTrue, IsFirstFalse, marks, IsAcceptedAs}
+use Rattle.run_answers.specs.record_text.TextLines.{TextLine}
+use Rattle.run_answers.specs.record_text.Lines.{spelled, text_of}
+use Rattle.run_answers.specs.record_text.Source.{limit}
+use Rattle.run_answers.specs.record_text.Text.{IsTextOf, IsGoodFor}
+use Rattle.run_answers.proofs.of_record_text.Headers.{nothing_begins}
+use Rattle.run_answers.specs.command_replies.Reply.{Answer}
+use Rattle.run_answers.specs.command_replies.Replies.{done, long_file, missing_file, no_line, open_cuts, text_refused}
 use Rattle.form_answers.specs.RecordAnswers.{OnRecordText, bad_line, refused, refuted, undecided, OnRecordFile, no_file, too_long, in_file}
 use Rattle.form_answers.specs.Laws.{SomeVerdict}
-use Rattle.flat_forms.proofs.of_field_flatten.RuleTrees.{form_of, form_is}
+use Rattle.run_answers.proofs.of_field_flatten.RuleTrees.{form_of, form_is}
 
 -- ---- marks
 

@@ -2,13 +2,13 @@
 use Rattle.std.specs.Prelude.{◌≡◌, ◌≤◌, ◌<◌, ℕ, List, Option, IfSome, codes, length}
 use Rattle.std.specs.Fmt.{decimal}
 use Rattle.box_eval.specs.declared.flat.Flat.{Flat}
-use Rattle.command_replies.specs.record_text.declared.stop.VerifyStop.{VerifyStop}
-use Rattle.command_replies.specs.record_text.declared.stop.VerifyStop.TheVariants as stop
-use Rattle.command_replies.specs.record_text.Source.{limit}
-use Rattle.refute_check.specs.declared.check.Verified.{Verified}
-use Rattle.refute_check.specs.declared.check.Verified.TheVariants as verified
-use Rattle.command_replies.specs.Reply.{Answer}
-use Rattle.command_replies.specs.Replies.{done, failed_shelf, long_file, no_line, open_cuts, text_refused}
+use Rattle.run_answers.specs.record_text.declared.stop.VerifyStop.{VerifyStop}
+use Rattle.run_answers.specs.record_text.declared.stop.VerifyStop.TheVariants as stop
+use Rattle.run_answers.specs.record_text.Source.{limit}
+use Rattle.scene_search.specs.refute_check.declared.check.Verified.{Verified}
+use Rattle.scene_search.specs.refute_check.declared.check.Verified.TheVariants as verified
+use Rattle.run_answers.specs.command_replies.Reply.{Answer}
+use Rattle.run_answers.specs.command_replies.Replies.{done, failed_shelf, long_file, no_line, open_cuts, text_refused}
 use Rattle.form_answers.specs.RecordAnswers.{OnRecordText}
 
 -- the reply to what a record is

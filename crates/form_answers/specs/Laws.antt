@@ -2,13 +2,13 @@
 use Rattle.std.specs.Prelude.{◌≡◌, ℕ, List, codes}
 use Rattle.outside_io.specs.declared.shelf.NamedBytes.{NamedBytes}
 use Rattle.box_eval.specs.declared.flat.Flat.{Flat}
-use Rattle.flat_forms.specs.composition.Scenes.{Scene}
-use Rattle.flat_forms.specs.composition.declared.run.Run.{Run}
-use Rattle.flat_forms.specs.composition.Claims.{IsInstance}
-use Rattle.flat_forms.specs.field_flatten.Exactness.{IsExpanded, IsFlatOf}
-use Rattle.refute_check.specs.Answers.{IsRefutationText}
-use Rattle.command_replies.specs.Reply.{Answer}
-use Rattle.command_replies.specs.Replies.{done}
+use Rattle.run_answers.specs.composition.Scenes.{Scene}
+use Rattle.run_answers.specs.composition.declared.run.Run.{Run}
+use Rattle.run_answers.specs.composition.Claims.{IsInstance}
+use Rattle.run_answers.specs.field_flatten.Exactness.{IsExpanded, IsFlatOf}
+use Rattle.scene_search.specs.refute_check.Answers.{IsRefutationText}
+use Rattle.run_answers.specs.command_replies.Reply.{Answer}
+use Rattle.run_answers.specs.command_replies.Replies.{done}
 use Rattle.form_answers.specs.RecordAnswers.{Verifies}
 
 -- a scene and the texts of a shelf have one reply at most

@@ -4,14 +4,14 @@ use Rattle.std.specs.Fmt.{decimal}
 use Rattle.outside_io.specs.declared.shelf.NamedBytes.{NamedBytes}
 use Rattle.outside_io.specs.Files.{file_named}
 use Rattle.box_eval.specs.declared.flat.Flat.{Flat}
-use Rattle.flat_forms.specs.composition.Scenes.{Scene}
-use Rattle.flat_forms.specs.field_flatten.Exactness.{IsFlatOf}
-use Rattle.command_replies.specs.record_text.Source.{limit}
-use Rattle.command_replies.specs.record_text.Text.{IsFirstBadLine}
-use Rattle.refute_check.specs.Answers.{IsRefutationText, IsOpenText, IsRefusedAt}
-use Rattle.text_load.specs.Texts.{IsLong}
-use Rattle.command_replies.specs.Reply.{Answer}
-use Rattle.command_replies.specs.Replies.{done, long_file, missing_file, no_line, open_cuts, text_refused}
+use Rattle.run_answers.specs.composition.Scenes.{Scene}
+use Rattle.run_answers.specs.field_flatten.Exactness.{IsFlatOf}
+use Rattle.run_answers.specs.record_text.Source.{limit}
+use Rattle.run_answers.specs.record_text.Text.{IsFirstBadLine}
+use Rattle.scene_search.specs.refute_check.Answers.{IsRefutationText, IsOpenText, IsRefusedAt}
+use Rattle.run_answers.specs.text_load.Texts.{IsLong}
+use Rattle.run_answers.specs.command_replies.Reply.{Answer}
+use Rattle.run_answers.specs.command_replies.Replies.{done, long_file, missing_file, no_line, open_cuts, text_refused}
 
 -- What is replied to the text of a record: the first line that no record's text has there; the first line that isn't accepted against the flat
 -- form; `yes` if all lines are accepted and no leaf is open; else the number of cuts of a record that leaves something open.

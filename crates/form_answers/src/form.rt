@@ -1,12 +1,12 @@
 ghost use Rattle.std.specs.Prelude.{IfOk};
-ghost use Rattle.flat_forms.specs.composition.SeenScenes.{seen_scene};
-ghost use Rattle.flat_forms.specs.field_flatten.Exactness.{IsExpanded};
+ghost use Rattle.run_answers.specs.composition.SeenScenes.{seen_scene};
+ghost use Rattle.run_answers.specs.field_flatten.Exactness.{IsExpanded};
 ghost use Rattle.form_answers.specs.Lists.{Lists};
 
-use command_replies::{Reply, done};
-use flat_forms::{Scene, bounds, rule_names, slot_names};
 use flat_listing::listing;
 use name_scope::Program;
+use run_answers::{Reply, Scene, done};
+use scene_search::{bounds, rule_names, slot_names};
 use std::alloc::{AllocError, Global};
 
 /// Lists the flat form of a scene of a program: each slot with its ends, and each rule by its name. No rule is made. Out of

@@ -8,4 +8,9 @@ mod verdicts;
 
 pub use form::flat;
 pub use laws::{one_verdict, refuted_means_none, some_verdict, yes_means_none};
+pub use run_answers::{
+    Form, Reply, Road, Run, Scene, Setting, Status, Style, check, done, export, migrate,
+    refused_source, refutation, undecided, words_refused, write_run,
+};
+pub use scene_search::{Finding, find_run};
 pub use verdicts::verify;

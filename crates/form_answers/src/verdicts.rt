@@ -3,22 +3,21 @@
 ghost use Rattle.std.specs.Prelude.{◌≡◌, IfOk};
 ghost use Rattle.std.specs.Fmt.{decimal};
 ghost use Rattle.box_eval.specs.Rules.{IsFlat};
-ghost use Rattle.flat_forms.specs.composition.SeenScenes.{seen_scene};
+ghost use Rattle.run_answers.specs.composition.SeenScenes.{seen_scene};
 ghost use Rattle.outside_io.specs.Files.{SomeFiles};
-ghost use Rattle.flat_forms.specs.field_flatten.Exactness.{IsExpanded, IsLimited};
-ghost use Rattle.command_replies.specs.Replies.{text_refused};
-ghost use Rattle.command_replies.specs.Shelves.{AnswersOrFails, CountsOnce};
+ghost use Rattle.run_answers.specs.field_flatten.Exactness.{IsExpanded, IsLimited};
+ghost use Rattle.run_answers.specs.command_replies.Replies.{text_refused};
+ghost use Rattle.run_answers.specs.command_replies.Shelves.{AnswersOrFails, CountsOnce};
 ghost use Rattle.form_answers.specs.RecordAnswers.{OnRecordFile, Verifies};
 ghost use Rattle.form_answers.specs.Fetched.{reply_to_verified, IsReplyToStop, OnLeft};
 
 use box_eval::Flat;
-use command_replies::{
-    Reply, done, failed_shelf, long_file, missing_file, no_line, open_cuts, text_refused,
-};
-use flat_forms::{Scene, flatten};
 use osc_base::Text;
 use outside_io::Shelf;
-use refute_check::{Verified, VerifyStop};
+use run_answers::{
+    Reply, Scene, done, failed_shelf, long_file, missing_file, no_line, open_cuts, text_refused,
+};
+use scene_search::{Verified, VerifyStop, flatten};
 use std::alloc::{AllocError, Global};
 
 /// Replies whether the file of this name is a refutation of the scene: a record every line of which is accepted, with no
@@ -73,7 +72,7 @@ fn verify_fetched<H: Shelf>(
     ensures counted { CountsOnce (H.faults shelf.old) (H.faults shelf.new) }
     ensures files_kept { H.files shelf.new ≡ H.files shelf.old }
 {
-    match refute_check::verify(alloc, flat, shelf) {
+    match scene_search::verify(alloc, flat, shelf) {
         Ok(verified) => reply_to_verified(alloc, verified),
         Err(stop) => reply_to_stop(alloc, file, stop),
     }

@@ -4,13 +4,13 @@ use Rattle.std.proofs.lemmas.List.{length-map}
 use Rattle.box_eval.specs.declared.bounds.Pair.{Pair}
 use Rattle.box_eval.specs.declared.cut.Cut.{Cut}
 use Rattle.box_eval.specs.declared.flat.Flat.{Flat}
-use Rattle.linear_sums.specs.declared.pick.Pick.{Pick}
-use Rattle.record_trees.specs.declared.record.Line.{Line}
-use Rattle.record_trees.specs.declared.record.Record.{Record}
+use Rattle.search_laws.specs.linear_sums.declared.pick.Pick.{Pick}
+use Rattle.search_laws.specs.record_trees.declared.record.Line.{Line}
+use Rattle.search_laws.specs.record_trees.declared.record.Record.{Record}
 use Rattle.box_eval.specs.Box.{first_part, second_part}
-use Rattle.record_trees.specs.Guided.{EndsAt}
-use Rattle.record_trees.specs.Record.{Tree, branch, leaf, has_open, cuts_of, IsRecordOf, IsAcceptedAs, IsRefutation}
-use Rattle.record_trees.proofs.Lines.{length_lines}
+use Rattle.search_laws.specs.record_trees.Guided.{EndsAt}
+use Rattle.search_laws.specs.record_trees.Record.{Tree, branch, leaf, has_open, cuts_of, IsRecordOf, IsAcceptedAs, IsRefutation}
+use Rattle.search_laws.proofs.of_record_trees.Lines.{length_lines}
 use Rattle.record_text.specs.TextLines as T
 use Rattle.box_eval.specs.Rules.{IsFlat}
 use Rattle.record_text.specs.Text.{text_line, taken, with_picks, record_lines, record_text, IsTextOf, IsFirstBadLine}

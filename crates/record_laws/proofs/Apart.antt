@@ -7,7 +7,7 @@ use Rattle.box_eval.specs.declared.cut.Cut.{Cut}
 use Rattle.box_eval.specs.declared.cut.Side.{Side}
 use Rattle.box_eval.specs.declared.cut.Side.TheVariants.{Low, High}
 use Rattle.box_eval.specs.Box.{pair, low_at, high_at, IsBox, IsInside, up_to, from, first_at, second_at, first_part, second_part, IsCutOf}
-use Rattle.record_trees.specs.Record.{Tree, branch, leaf}
+use Rattle.search_laws.specs.record_trees.Record.{Tree, branch, leaf}
 use Rattle.box_eval.proofs.Parts.{high_set_same, low_set_same, inside_self, inside_trans, point_around, first_part_box, second_part_box, first_part_inside, second_part_inside}
 use Rattle.record_laws.specs.Points.{leaf_boxes, AllCut, AreApart, IsApart, AllApart, AllBoxes}
 

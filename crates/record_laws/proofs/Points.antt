@@ -7,10 +7,10 @@ use Rattle.box_eval.specs.declared.cut.Side.{Side}
 use Rattle.box_eval.specs.declared.cut.Side.TheVariants.{Low, High}
 use Rattle.box_eval.specs.Box.{pair, low_at, high_at, up_to, from, first_at, second_at, first_part, second_part, IsCutOf}
 use Rattle.box_eval.specs.declared.flat.Flat.{Flat}
-use Rattle.record_trees.specs.declared.record.Record.{Record}
-use Rattle.record_trees.specs.Guided.{IsSpent}
-use Rattle.record_trees.specs.Record.{Tree, branch, leaf, cuts_of, accepts, Accepted}
-use Rattle.record_trees.proofs.Empty.{AllTrue-front, AllTrue-back, cut_facts}
+use Rattle.search_laws.specs.record_trees.declared.record.Record.{Record}
+use Rattle.search_laws.specs.record_trees.Guided.{IsSpent}
+use Rattle.search_laws.specs.record_trees.Record.{Tree, branch, leaf, cuts_of, accepts, Accepted}
+use Rattle.search_laws.proofs.of_record_trees.Empty.{AllTrue-front, AllTrue-back, cut_facts}
 use Rattle.record_laws.specs.Points.{values_of, points_of, points_all, leaf_boxes, AllCut}
 
 -- ---- one cut

@@ -7,13 +7,13 @@ use Rattle.box_eval.specs.declared.bounds.Pair.{Pair}
 use Rattle.box_eval.specs.declared.cut.Side.{Side}
 use Rattle.box_eval.specs.declared.cut.Side.TheVariants.{Low, High}
 use Rattle.box_eval.specs.declared.flat.Flat.{Flat}
-use Rattle.linear_sums.specs.declared.pick.Pick.{Pick}
-use Rattle.linear_sums.specs.Sums.{AllThere}
-use Rattle.record_trees.specs.declared.record.Record.{Record}
+use Rattle.search_laws.specs.linear_sums.declared.pick.Pick.{Pick}
+use Rattle.search_laws.specs.linear_sums.Sums.{AllThere}
+use Rattle.search_laws.specs.record_trees.declared.record.Record.{Record}
 use Rattle.box_eval.specs.Box.{low_at, high_at, IsInside, first_part, second_part}
-use Rattle.record_trees.specs.Record.{Tree, branch, Leaf, leaf, close, added, unknown, line_at, FullLine, full, full_lines, accepts, Accepted, IsAcceptedAs}
+use Rattle.search_laws.specs.record_trees.Record.{Tree, branch, Leaf, leaf, close, added, unknown, line_at, FullLine, full, full_lines, accepts, Accepted, IsAcceptedAs}
 use Rattle.box_eval.specs.Rules.{IsFlat}
-use Rattle.record_trees.proofs.Empty.{AllTrue-front, AllTrue-back, cut_facts, close_facts, sum_facts}
+use Rattle.search_laws.proofs.of_record_trees.Empty.{AllTrue-front, AllTrue-back, cut_facts, close_facts, sum_facts}
 use Rattle.box_eval.proofs.Parts.{inside_self, inside_trans, first_part_inside, second_part_inside}
 use Rattle.record_text.specs.TextLines as T
 use Rattle.record_text.specs.Lines.{IsFewDigits, HaveFewDigits, IsShort, AllShort}

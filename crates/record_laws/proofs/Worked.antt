@@ -10,13 +10,13 @@ use Rattle.box_eval.specs.declared.cut.Cut.{Cut}
 use Rattle.box_eval.specs.declared.cut.Side.{Side}
 use Rattle.box_eval.specs.declared.cut.Side.TheVariants.{Low, High}
 use Rattle.box_eval.specs.declared.flat.Flat.{Flat}
-use Rattle.record_trees.specs.declared.record.Record.{Record}
+use Rattle.search_laws.specs.record_trees.declared.record.Record.{Record}
 use Rattle.box_eval.specs.declared.verdict.Verdict.TheVariants.{True, False, Open}
 use Rattle.box_eval.specs.Box.{pair, box_of, cut_at, fixed}
 use Rattle.box_eval.specs.Verdict.{verdict_of}
-use Rattle.linear_sums.specs.FacingPairs.{NoneFacing}
-use Rattle.record_trees.specs.Record.{Tree, branch, leaf, close, unknown, lines_of, IsAcceptedAs}
-use Rattle.record_trees.specs.Guided.{IsDeadEnd, IsSettled, IsChosen, Guided, EndsAt, way_down, IsSpent, IsReached}
+use Rattle.search_laws.specs.linear_sums.FacingPairs.{NoneFacing}
+use Rattle.search_laws.specs.record_trees.Record.{Tree, branch, leaf, close, unknown, lines_of, IsAcceptedAs}
+use Rattle.search_laws.specs.record_trees.Guided.{IsDeadEnd, IsSettled, IsChosen, Guided, EndsAt, way_down, IsSpent, IsReached}
 use Rattle.box_eval.proofs.Equations.{folds}
 use Rattle.record_laws.specs.Points.{points_of, points_all, leaf_boxes}
 

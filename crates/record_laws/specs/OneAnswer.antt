@@ -1,8 +1,8 @@
 -- Texts of which one answer of the checker is right.
 use Rattle.std.specs.Prelude.{◌≡◌, ℕ, List}
 use Rattle.box_eval.specs.declared.flat.Flat.{Flat}
-use Rattle.record_trees.specs.declared.record.Record.{Record}
-use Rattle.record_trees.specs.Record.{IsRefutation}
+use Rattle.search_laws.specs.record_trees.declared.record.Record.{Record}
+use Rattle.search_laws.specs.record_trees.Record.{IsRefutation}
 use Rattle.box_eval.specs.Rules.{IsFlat}
 use Rattle.record_text.specs.Text.{record_text, IsFirstBadLine}
 use Rattle.refute_check.specs.Answers.{IsAnswerTo}

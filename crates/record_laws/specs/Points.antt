@@ -2,7 +2,7 @@
 use Rattle.std.specs.Prelude.{ℕ, ◌+◌, ◌*◌, List, [], ◌∷◌, ◌++◌, unsigned_abs, ◌-ℤ◌, ℤ, ⊤}
 use Rattle.box_eval.specs.declared.bounds.Pair.{Pair}
 use Rattle.box_eval.specs.Box.{IsPointOf, IsBox, first_part, second_part, IsCutOf}
-use Rattle.record_trees.specs.Record.{Tree, branch, leaf}
+use Rattle.search_laws.specs.record_trees.Record.{Tree, branch, leaf}
 
 -- the number of values from the low end of a slot to its high end, which isn't below it
 abbrev pub values_of : Pair → ℕ

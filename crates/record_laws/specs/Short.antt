@@ -2,9 +2,9 @@
 use Rattle.std.specs.Prelude.{◌≡◌, ℕ, true, List, unsigned_abs}
 use Rattle.box_eval.specs.declared.bounds.Pair.{Pair}
 use Rattle.box_eval.specs.declared.flat.Flat.{Flat}
-use Rattle.record_trees.specs.declared.record.Record.{Record}
+use Rattle.search_laws.specs.record_trees.declared.record.Record.{Record}
 use Rattle.box_eval.specs.Box.{low_at, high_at}
-use Rattle.record_trees.specs.Record.{Tree, has_open, cuts_of, IsAcceptedAs}
+use Rattle.search_laws.specs.record_trees.Record.{Tree, has_open, cuts_of, IsAcceptedAs}
 use Rattle.record_text.specs.Lines.{IsFewDigits}
 
 -- each end has at most 18 digits

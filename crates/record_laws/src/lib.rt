@@ -4,3 +4,4 @@
 mod one_answer;
 
 pub use one_answer::laws;
+pub use refute_check::{Verified, VerifyStop, verify};

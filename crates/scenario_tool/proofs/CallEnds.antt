@@ -8,16 +8,16 @@ use Rattle.outside_io.specs.Files.{SomeFiles}
 use Rattle.outside_io.proofs.SomeFiles.{of_all, onward}
 use Rattle.name_scope.specs.FileNumbers.{AddedFile}
 use Rattle.made_programs.specs.program_load.Loading.{IsTurn}
-use Rattle.run_answers.specs.composition.declared.setting.Setting.{Setting}
-use Rattle.run_answers.specs.composition.declared.scene.Scene.{Scene as HeldScene}
-use Rattle.run_answers.specs.composition.Scenes.{Scene}
-use Rattle.run_answers.specs.composition.SeenScenes.{seen_scene}
+use Rattle.readable_runs.specs.run_answers.composition.declared.setting.Setting.{Setting}
+use Rattle.readable_runs.specs.run_answers.composition.declared.scene.Scene.{Scene as HeldScene}
+use Rattle.readable_runs.specs.run_answers.composition.Scenes.{Scene}
+use Rattle.readable_runs.specs.run_answers.composition.SeenScenes.{seen_scene}
 use Rattle.command_words.specs.Shared.{Source}
 use Rattle.command_words.specs.Words.{Wanted}
-use Rattle.run_answers.specs.command_replies.declared.status.Status.{Status}
-use Rattle.run_answers.specs.command_replies.Reply.{Answer}
-use Rattle.run_answers.specs.command_replies.Replies.{done, status_number, words_refused}
-use Rattle.run_answers.specs.command_replies.Shelves.{AnswersOrFails, CountsOnce}
+use Rattle.readable_runs.specs.run_answers.command_replies.declared.status.Status.{Status}
+use Rattle.readable_runs.specs.run_answers.command_replies.Reply.{Answer}
+use Rattle.readable_runs.specs.run_answers.command_replies.Replies.{done, status_number, words_refused}
+use Rattle.readable_runs.specs.run_answers.command_replies.Shelves.{AnswersOrFails, CountsOnce}
 use Rattle.readable_runs.specs.source_scenes.Sources.{IsTextTurn, OnSource, faulty, sound, loaded, not_loaded}
 use Rattle.scenario_tool.specs.Answers.{AnswersOrShelfFails, answers, shelf_fails, AnswersTo, Call, CallEnds, written, sink_fails, no_memory, HasTurn, Inputs, IsReplyIn, SomeInputs}
 use Rattle.scenario_tool.specs.declared.sources.FoundSource.{FoundSource}

@@ -5,33 +5,33 @@ use Rattle.serde_json.specs.Read.{read}
 use Rattle.outside_io.specs.declared.shelf.NamedBytes.{NamedBytes}
 use Rattle.outside_io.specs.Files.{file_named}
 use Rattle.name_scope.specs.FileNumbers.{AddedFile}
-use Rattle.form_answers.specs.box_eval.declared.flat.Flat.{Flat}
-use Rattle.run_answers.specs.record_text.Source.{limit}
+use Rattle.readable_runs.specs.form_answers.box_eval.declared.flat.Flat.{Flat}
+use Rattle.readable_runs.specs.run_answers.record_text.Source.{limit}
 use Rattle.readable_runs.specs.record_laws.Points.{points_of}
-use Rattle.run_answers.specs.composition.declared.run.Run.{Run}
-use Rattle.run_answers.specs.composition.Expanded.{scene}
-use Rattle.run_answers.specs.composition.Scenes.{Scene}
-use Rattle.run_answers.specs.field_flatten.Ends.{bounds}
+use Rattle.readable_runs.specs.run_answers.composition.declared.run.Run.{Run}
+use Rattle.readable_runs.specs.run_answers.composition.Expanded.{scene}
+use Rattle.readable_runs.specs.run_answers.composition.Scenes.{Scene}
+use Rattle.readable_runs.specs.run_answers.field_flatten.Ends.{bounds}
 use Rattle.readable_runs.specs.run_check.declared.wrong.Wrong.{Wrong}
 use Rattle.readable_runs.specs.run_check.Answers.{first_wrong}
 use Rattle.readable_runs.specs.run_check.RunText.{run_text}
-use Rattle.run_answers.specs.run_texts.RunShape.{Fits, Differs, run_from}
+use Rattle.readable_runs.specs.run_answers.run_texts.RunShape.{Fits, Differs, run_from}
 use Rattle.command_words.specs.Words.{Wanted}
-use Rattle.run_answers.specs.command_replies.declared.status.Status.TheVariants.{Done, Refuted}
-use Rattle.run_answers.specs.command_replies.Reply.{Answer}
-use Rattle.run_answers.specs.command_replies.Replies.{done}
+use Rattle.readable_runs.specs.run_answers.command_replies.declared.status.Status.TheVariants.{Done, Refuted}
+use Rattle.readable_runs.specs.run_answers.command_replies.Reply.{Answer}
+use Rattle.readable_runs.specs.run_answers.command_replies.Replies.{done}
 use Rattle.readable_runs.specs.named_scenario.Naming.{types_in}
 use Rattle.readable_runs.specs.search_answers.SearchAnswers.{Generates, GeneratesWithin, runs, refuted, undecided, seed_after}
 use Rattle.readable_runs.proofs.of_search_answers.Accepted.{spent_more}
-use Rattle.run_answers.specs.Checks.{Checks, verdict}
-use Rattle.run_answers.specs.RunFiles.{IsNoRun, no_json, no_run, OnRunFile, run_limit}
-use Rattle.run_answers.specs.TextFiles.{no_file, too_long, bad_text, in_file}
-use Rattle.run_answers.specs.Exports.{Exports, export_verdict}
-use Rattle.run_answers.specs.Migrations.{Migrates}
-use Rattle.run_answers.specs.run_exports.declared.forms.Form.{Form}
-use Rattle.run_answers.specs.run_exports.declared.road.Road.{Road}
-use Rattle.form_answers.specs.RecordAnswers.{OnRecordFile, OnRecordText}
-use Rattle.form_answers.specs.RecordAnswers as record_reply
+use Rattle.readable_runs.specs.run_answers.Checks.{Checks, verdict}
+use Rattle.readable_runs.specs.run_answers.RunFiles.{IsNoRun, no_json, no_run, OnRunFile, run_limit}
+use Rattle.readable_runs.specs.run_answers.TextFiles.{no_file, too_long, bad_text, in_file}
+use Rattle.readable_runs.specs.run_answers.Exports.{Exports, export_verdict}
+use Rattle.readable_runs.specs.run_answers.Migrations.{Migrates}
+use Rattle.readable_runs.specs.run_answers.run_exports.declared.forms.Form.{Form}
+use Rattle.readable_runs.specs.run_answers.run_exports.declared.road.Road.{Road}
+use Rattle.readable_runs.specs.form_answers.RecordAnswers.{OnRecordFile, OnRecordText}
+use Rattle.readable_runs.specs.form_answers.RecordAnswers as record_reply
 use Rattle.scenario_tool.specs.Completeness.{DecidedByPoints, HasRecord, HasRun, SoundInputsHaveOutcomes}
 use Rattle.scenario_tool.specs.Laws.{IsOutcome}
 use Rattle.scenario_tool.specs.Settings.{road_of, run_form, scene_setting}

@@ -9,10 +9,10 @@ use Rattle.made_programs.specs.program_load.declared.stop.LoadStop.{LoadStop}
 use Rattle.made_programs.specs.program_load.declared.stop.Refusal.{Refusal}
 use Rattle.made_programs.specs.program_load.Loading.{IsLoaded, IsStopped, IsTurn}
 use Rattle.made_programs.specs.program_load.Outcome.{Allows, Counts}
-use Rattle.run_answers.specs.composition.declared.scene.Scene.{Scene}
-use Rattle.run_answers.specs.composition.declared.setting.Setting.{Setting}
-use Rattle.run_answers.specs.command_replies.Reply.{Answer}
-use Rattle.run_answers.specs.command_replies.Replies.{refused_source}
+use Rattle.readable_runs.specs.run_answers.composition.declared.scene.Scene.{Scene}
+use Rattle.readable_runs.specs.run_answers.composition.declared.setting.Setting.{Setting}
+use Rattle.readable_runs.specs.run_answers.command_replies.Reply.{Answer}
+use Rattle.readable_runs.specs.run_answers.command_replies.Replies.{refused_source}
 use Rattle.readable_runs.specs.source_scenes.declared.found.FoundScene.{FoundScene}
 use Rattle.readable_runs.specs.source_scenes.FoundScenes.{IsFoundScene, IsRefused, IsReplyToStop}
 use Rattle.readable_runs.specs.source_scenes.Programs.{first_refusal}

@@ -3,13 +3,13 @@ use Rattle.std.proofs.Common.{◌≡◌, subst, ℕ, List, Result, Ok, Err, IfOk
 use Rattle.name_scope.specs.FileNumbers.{AddedFile}
 use Rattle.made_programs.specs.program_load.declared.stop.Refusal.{Refusal}
 use Rattle.made_programs.specs.program_load.Loading.{IsLoaded, IsStopped}
-use Rattle.run_answers.specs.composition.declared.run.Run.{Run}
-use Rattle.run_answers.specs.composition.declared.scene.Scene.{Scene}
-use Rattle.run_answers.specs.composition.declared.setting.Setting.{Setting}
-use Rattle.run_answers.specs.composition.Scenes as Scenes
-use Rattle.run_answers.specs.composition.SeenScenes.{seen_scene}
-use Rattle.run_answers.specs.command_replies.Reply.{Answer}
-use Rattle.run_answers.specs.command_replies.Replies.{done, refused_source}
+use Rattle.readable_runs.specs.run_answers.composition.declared.run.Run.{Run}
+use Rattle.readable_runs.specs.run_answers.composition.declared.scene.Scene.{Scene}
+use Rattle.readable_runs.specs.run_answers.composition.declared.setting.Setting.{Setting}
+use Rattle.readable_runs.specs.run_answers.composition.Scenes as Scenes
+use Rattle.readable_runs.specs.run_answers.composition.SeenScenes.{seen_scene}
+use Rattle.readable_runs.specs.run_answers.command_replies.Reply.{Answer}
+use Rattle.readable_runs.specs.run_answers.command_replies.Replies.{done, refused_source}
 use Rattle.command_words.specs.Words.{Wanted}
 use Rattle.made_programs.specs.MadeLoads.{main_name, made_files}
 use Rattle.made_programs.specs.MadeText.{made_line}

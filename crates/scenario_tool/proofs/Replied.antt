@@ -3,18 +3,18 @@ use Rattle.std.proofs.Common.{◌≡◌, ℕ, List, Option, Result, Ok, Err, IfO
 use Rattle.outside_io.specs.declared.shelf.NamedBytes.{NamedBytes}
 use Rattle.outside_io.specs.Files.{SomeFiles}
 use Rattle.name_scope.specs.FileNumbers.{AddedFile}
-use Rattle.run_answers.specs.composition.declared.scene.Scene.{Scene}
-use Rattle.run_answers.specs.composition.declared.setting.Setting.{Setting}
-use Rattle.run_answers.specs.composition.SeenScenes.{seen_scene}
-use Rattle.run_answers.specs.command_replies.Reply.{Answer}
-use Rattle.run_answers.specs.command_replies.Shelves.{AnswersOrFails, CountsOnce}
+use Rattle.readable_runs.specs.run_answers.composition.declared.scene.Scene.{Scene}
+use Rattle.readable_runs.specs.run_answers.composition.declared.setting.Setting.{Setting}
+use Rattle.readable_runs.specs.run_answers.composition.SeenScenes.{seen_scene}
+use Rattle.readable_runs.specs.run_answers.command_replies.Reply.{Answer}
+use Rattle.readable_runs.specs.run_answers.command_replies.Shelves.{AnswersOrFails, CountsOnce}
 use Rattle.command_words.specs.Words.{CheckAsked, ExportAsked, FlatAsked, GenerateAsked, MigrateAsked, VerifyAsked, Wanted}
 use Rattle.readable_runs.specs.search_answers.SearchAnswers.{GeneratesWithin}
-use Rattle.run_answers.specs.Checks.{Checks}
-use Rattle.run_answers.specs.Exports.{Exports}
-use Rattle.run_answers.specs.Migrations.{Migrates}
-use Rattle.form_answers.specs.RecordAnswers.{Verifies}
-use Rattle.form_answers.specs.Lists.{Lists}
+use Rattle.readable_runs.specs.run_answers.Checks.{Checks}
+use Rattle.readable_runs.specs.run_answers.Exports.{Exports}
+use Rattle.readable_runs.specs.run_answers.Migrations.{Migrates}
+use Rattle.readable_runs.specs.form_answers.RecordAnswers.{Verifies}
+use Rattle.readable_runs.specs.form_answers.Lists.{Lists}
 use Rattle.scenario_tool.specs.declared.sources.FoundSource.{FoundSource}
 use Rattle.scenario_tool.specs.Answers.{Inputs}
 use Rattle.scenario_tool.specs.FoundSources.{IsFoundSource, IsRefusal}

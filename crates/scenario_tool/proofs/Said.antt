@@ -7,12 +7,12 @@ use Rattle.made_programs.specs.program_load.declared.stop.Refusal.{Refusal}
 use Rattle.made_programs.specs.program_load.Loading.{IsLoaded}
 use Rattle.made_programs.proofs.of_program_load.Sole.{one_load}
 use Rattle.readable_runs.specs.named_scenario.Naming.{types_in}
-use Rattle.run_answers.specs.composition.declared.setting.Setting.{Setting}
-use Rattle.run_answers.specs.composition.Expanded.{scene}
-use Rattle.run_answers.specs.composition.Scenes.{Scene}
-use Rattle.run_answers.specs.command_replies.declared.status.Status.{Status}
-use Rattle.run_answers.specs.command_replies.Reply.{Answer}
-use Rattle.run_answers.specs.command_replies.Replies.{refused_source}
+use Rattle.readable_runs.specs.run_answers.composition.declared.setting.Setting.{Setting}
+use Rattle.readable_runs.specs.run_answers.composition.Expanded.{scene}
+use Rattle.readable_runs.specs.run_answers.composition.Scenes.{Scene}
+use Rattle.readable_runs.specs.run_answers.command_replies.declared.status.Status.{Status}
+use Rattle.readable_runs.specs.run_answers.command_replies.Reply.{Answer}
+use Rattle.readable_runs.specs.run_answers.command_replies.Replies.{refused_source}
 use Rattle.readable_runs.specs.source_scenes.Programs.{first_refusal, scenario_named}
 use Rattle.readable_runs.specs.source_scenes.Sources.{faulty, sound, OnSource, not_loaded, loaded, IsTextTurn}
 

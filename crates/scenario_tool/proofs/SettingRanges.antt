@@ -3,8 +3,8 @@ use Rattle.std.proofs.Common.{◌≡◌, ◌∙◌, refl, ap, ℕ, ◌*◌, ◌�
 use Rattle.std.proofs.lemmas.Bool.{le-leb}
 use Rattle.command_words.specs.declared.requests.Setting.{Setting as SettingWords}
 use Rattle.command_words.specs.Shared.{IsSettingInRanges}
-use Rattle.run_answers.specs.composition.declared.setting.Setting.{Setting}
-use Rattle.run_answers.specs.composition.Invariants.{is_setting}
+use Rattle.readable_runs.specs.run_answers.composition.declared.setting.Setting.{Setting}
+use Rattle.readable_runs.specs.run_answers.composition.Invariants.{is_setting}
 use Rattle.scenario_tool.specs.Settings.{made_setting, scene_setting}
 
 in_range : (words : SettingWords) → IsSettingInRanges words → is_setting (scene_setting words) ≡ true

@@ -2,17 +2,17 @@
 use Rattle.std.proofs.Common.{◌∙◌, inl, inr, sym, subst, ℕ, List}
 use Rattle.outside_io.specs.declared.shelf.NamedBytes.{NamedBytes}
 use Rattle.readable_runs.specs.named_scenario.Naming.{types_in}
-use Rattle.run_answers.specs.composition.declared.run.Run.{Run}
-use Rattle.run_answers.specs.composition.declared.setting.Setting.{Setting}
-use Rattle.run_answers.specs.composition.Expanded.{scene}
-use Rattle.run_answers.specs.composition.Scenes.{Scene}
+use Rattle.readable_runs.specs.run_answers.composition.declared.run.Run.{Run}
+use Rattle.readable_runs.specs.run_answers.composition.declared.setting.Setting.{Setting}
+use Rattle.readable_runs.specs.run_answers.composition.Expanded.{scene}
+use Rattle.readable_runs.specs.run_answers.composition.Scenes.{Scene}
 use Rattle.command_words.specs.Words.{Wanted, request}
-use Rattle.run_answers.specs.command_replies.Reply.{Answer}
+use Rattle.readable_runs.specs.run_answers.command_replies.Reply.{Answer}
 use Rattle.readable_runs.proofs.of_source_scenes.Sole.{One, on_source}
 use Rattle.readable_runs.specs.run_check.RunText.{run_text}
 use Rattle.readable_runs.specs.search_answers.SearchAnswers.{Generates, GeneratesWithin, IsSearchReply, runs, refuted, undecided, seed_after}
-use Rattle.run_answers.proofs.OneRun.{one_check, one_export, one_migration}
-use Rattle.form_answers.proofs.OneText.{one_verdict}
+use Rattle.readable_runs.proofs.of_run_answers.OneRun.{one_check, one_export, one_migration}
+use Rattle.readable_runs.proofs.of_form_answers.OneText.{one_verdict}
 use Rattle.scenario_tool.specs.Answers.{AnswersTo, Inputs}
 use Rattle.scenario_tool.specs.Laws.{IsLeftOpen, IsOutcome, NeverBoth, OneAnswer}
 use Rattle.scenario_tool.specs.Settings.{scene_setting}

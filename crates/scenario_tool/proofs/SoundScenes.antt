@@ -5,13 +5,13 @@ use Rattle.std.specs.Option.{option_or}
 use Rattle.osc_base.specs.declared.fault.Fault.{Fault}
 use Rattle.outside_io.specs.declared.shelf.NamedBytes.{NamedBytes}
 use Rattle.name_scope.specs.FileNumbers.{AddedFile}
-use Rattle.run_answers.specs.composition.declared.setting.Setting.{Setting}
-use Rattle.run_answers.specs.composition.Expanded.{scene}
-use Rattle.run_answers.specs.composition.Invariants.{is_setting}
-use Rattle.run_answers.specs.composition.Scenes.{Scene}
-use Rattle.run_answers.specs.composition.SceneFaults.{is_too_large}
+use Rattle.readable_runs.specs.run_answers.composition.declared.setting.Setting.{Setting}
+use Rattle.readable_runs.specs.run_answers.composition.Expanded.{scene}
+use Rattle.readable_runs.specs.run_answers.composition.Invariants.{is_setting}
+use Rattle.readable_runs.specs.run_answers.composition.Scenes.{Scene}
+use Rattle.readable_runs.specs.run_answers.composition.SceneFaults.{is_too_large}
 use Rattle.readable_runs.specs.named_scenario.Naming.{fault_in, types_in}
-use Rattle.run_answers.specs.command_replies.Reply.{Answer}
+use Rattle.readable_runs.specs.run_answers.command_replies.Reply.{Answer}
 use Rattle.readable_runs.specs.source_scenes.Programs.{faulty_at, name_in, owner_in, scenario_named, scenario_refusal, too_large}
 use Rattle.readable_runs.specs.source_scenes.FoundScenes.{IsKnown}
 use Rattle.readable_runs.specs.source_scenes.SoundScenes.{IsSoundScene}

@@ -1,11 +1,11 @@
 -- Words and files have some right answer, apart from a search.
 use Rattle.std.proofs.Common.{refl}
 use Rattle.command_words.specs.Words.{Wanted, request}
-use Rattle.run_answers.specs.command_replies.Reply.{Answer}
-use Rattle.run_answers.specs.command_replies.Replies.{done, words_refused}
+use Rattle.readable_runs.specs.run_answers.command_replies.Reply.{Answer}
+use Rattle.readable_runs.specs.run_answers.command_replies.Replies.{done, words_refused}
 use Rattle.readable_runs.proofs.of_source_scenes.Total.{some_on_source}
-use Rattle.run_answers.proofs.OneRun.{some_check, some_export, some_migration}
-use Rattle.form_answers.proofs.SomeText.{some_verdict}
+use Rattle.readable_runs.proofs.of_run_answers.OneRun.{some_check, some_export, some_migration}
+use Rattle.readable_runs.proofs.of_form_answers.SomeText.{some_verdict}
 use Rattle.scenario_tool.specs.Answers.{AnswersTo, Inputs}
 use Rattle.scenario_tool.specs.Laws.{IsSearch, SomeAnswer}
 

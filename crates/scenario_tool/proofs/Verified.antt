@@ -1,13 +1,13 @@
 -- A source about which `verify` says `yes` has no instance, and so no run of it is found.
 use Rattle.std.proofs.Common.{refl, sym, ℕ, codes}
-use Rattle.run_answers.specs.composition.declared.run.Run.{Run}
-use Rattle.run_answers.specs.composition.Claims.{IsInstance}
-use Rattle.run_answers.specs.composition.Scenes.{Scene}
-use Rattle.run_answers.specs.command_replies.Reply.{Answer}
-use Rattle.run_answers.specs.command_replies.Replies.{done}
+use Rattle.readable_runs.specs.run_answers.composition.declared.run.Run.{Run}
+use Rattle.readable_runs.specs.run_answers.composition.Claims.{IsInstance}
+use Rattle.readable_runs.specs.run_answers.composition.Scenes.{Scene}
+use Rattle.readable_runs.specs.run_answers.command_replies.Reply.{Answer}
+use Rattle.readable_runs.specs.run_answers.command_replies.Replies.{done}
 use Rattle.readable_runs.specs.search_answers.SearchAnswers.{Generates, GeneratesWithin, runs, refuted, undecided, seed_after}
-use Rattle.form_answers.specs.RecordAnswers.{Verifies}
-use Rattle.form_answers.proofs.Meaning.{yes_means_none}
+use Rattle.readable_runs.specs.form_answers.RecordAnswers.{Verifies}
+use Rattle.readable_runs.proofs.of_form_answers.Meaning.{yes_means_none}
 use Rattle.scenario_tool.specs.Settings.{scene_setting}
 use Rattle.scenario_tool.specs.Verified.{NeverFoundAndVerified, VerifiedMeansNone}
 use Rattle.scenario_tool.specs.Written.{with_texts}

@@ -3,24 +3,24 @@ use Rattle.std.proofs.Common.{◌≡◌, refl, sym, ap, subst, ℕ, ◌≤◌, L
 use Rattle.outside_io.specs.declared.shelf.NamedBytes.{NamedBytes}
 use Rattle.outside_io.specs.Files.{file_named}
 use Rattle.name_scope.specs.FileNumbers.{AddedFile}
-use Rattle.run_answers.specs.record_text.Text.{record_text}
-use Rattle.run_answers.specs.composition.declared.run.Run.{Run}
-use Rattle.run_answers.specs.composition.Scenes.{Scene}
+use Rattle.readable_runs.specs.run_answers.record_text.Text.{record_text}
+use Rattle.readable_runs.specs.run_answers.composition.declared.run.Run.{Run}
+use Rattle.readable_runs.specs.run_answers.composition.Scenes.{Scene}
 use Rattle.readable_runs.specs.run_check.RunText.{run_text}
 use Rattle.readable_runs.proofs.of_run_tests.RoundTrips.{text_back}
-use Rattle.run_answers.specs.command_replies.Reply.{Answer}
-use Rattle.run_answers.specs.command_replies.Replies.{done, open_cuts}
+use Rattle.readable_runs.specs.run_answers.command_replies.Reply.{Answer}
+use Rattle.readable_runs.specs.run_answers.command_replies.Replies.{done, open_cuts}
 use Rattle.readable_runs.specs.scene_search.Findings.{IsReachedRun}
 use Rattle.readable_runs.specs.source_scenes.SoundScenes.{IsSoundScene}
 use Rattle.readable_runs.specs.ReadableRuns.{CanBeRead}
 use Rattle.readable_runs.proofs.ReadableScenes.{reached_runs_can_be_read}
 use Rattle.readable_runs.specs.search_answers.SearchAnswers.{Generates, GeneratesWithin, runs, refuted, undecided, seed_after}
 use Rattle.readable_runs.proofs.of_search_answers.Accepted.{reached_right, refutation_accepted, refutation_within, spent_open, spent_within}
-use Rattle.run_answers.specs.Checks.{Checks, verdict}
-use Rattle.run_answers.specs.RunFiles.{run_limit}
-use Rattle.run_answers.specs.TextFiles.{in_file}
-use Rattle.form_answers.specs.RecordAnswers.{Verifies}
-use Rattle.form_answers.specs.RecordAnswers as record_reply
+use Rattle.readable_runs.specs.run_answers.Checks.{Checks, verdict}
+use Rattle.readable_runs.specs.run_answers.RunFiles.{run_limit}
+use Rattle.readable_runs.specs.run_answers.TextFiles.{in_file}
+use Rattle.readable_runs.specs.form_answers.RecordAnswers.{Verifies}
+use Rattle.readable_runs.specs.form_answers.RecordAnswers as record_reply
 use Rattle.scenario_tool.specs.Settings.{scene_setting}
 use Rattle.scenario_tool.specs.Written.{WrittenRecordsAreOpen, WrittenRefutationsAreAccepted, WrittenRunsAreAccepted}
 use Rattle.scenario_tool.proofs.Said.{IsDone, IsRefusal, IsRefuted, IsUndecided, no_status, other_status, said_on_source, say}

@@ -10,20 +10,20 @@ use Rattle.outside_io.specs.Bytes.{AppendsPart}
 use Rattle.outside_io.specs.Counts.{Rises}
 use Rattle.outside_io.specs.Files.{SomeFiles}
 use Rattle.made_programs.specs.program_load.Loading.{IsTurn}
-use Rattle.run_answers.specs.composition.declared.setting.Setting.{Setting}
+use Rattle.readable_runs.specs.run_answers.composition.declared.setting.Setting.{Setting}
 use Rattle.command_words.specs.Shared.{Source}
 use Rattle.command_words.specs.Words.{Wanted, request}
-use Rattle.run_answers.specs.command_replies.declared.status.Status.{Status}
-use Rattle.run_answers.specs.command_replies.Reply.{Answer}
-use Rattle.run_answers.specs.command_replies.Replies.{done, failed_shelf, status_number, words_refused}
-use Rattle.run_answers.specs.command_replies.Shelves.{CountsOnce}
+use Rattle.readable_runs.specs.run_answers.command_replies.declared.status.Status.{Status}
+use Rattle.readable_runs.specs.run_answers.command_replies.Reply.{Answer}
+use Rattle.readable_runs.specs.run_answers.command_replies.Replies.{done, failed_shelf, status_number, words_refused}
+use Rattle.readable_runs.specs.run_answers.command_replies.Shelves.{CountsOnce}
 use Rattle.readable_runs.specs.source_scenes.Sources.{IsTextTurn, OnSource}
 use Rattle.readable_runs.specs.search_answers.SearchAnswers.{GeneratesWithin, Makes}
-use Rattle.run_answers.specs.Checks.{Checks}
-use Rattle.run_answers.specs.Exports.{Exports}
-use Rattle.run_answers.specs.Migrations.{Migrates}
-use Rattle.form_answers.specs.RecordAnswers.{Verifies}
-use Rattle.form_answers.specs.Lists.{Lists}
+use Rattle.readable_runs.specs.run_answers.Checks.{Checks}
+use Rattle.readable_runs.specs.run_answers.Exports.{Exports}
+use Rattle.readable_runs.specs.run_answers.Migrations.{Migrates}
+use Rattle.readable_runs.specs.form_answers.RecordAnswers.{Verifies}
+use Rattle.readable_runs.specs.form_answers.Lists.{Lists}
 use Rattle.made_programs.specs.MadeLoads.{main_name, made_files}
 use Rattle.made_programs.specs.MadeText.{made_line}
 use Rattle.scenario_tool.specs.Settings.{made_cuts, made_scenario, made_seed, made_setting, road_of, run_form, scene_setting}

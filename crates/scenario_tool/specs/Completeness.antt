@@ -5,25 +5,25 @@ use Rattle.outside_io.specs.Files.{file_named}
 use Rattle.name_scope.specs.FileNumbers.{AddedFile}
 use Rattle.made_programs.specs.program_load.Loading.{IsLoaded}
 use Rattle.readable_runs.specs.named_scenario.Naming.{types_in}
-use Rattle.form_answers.specs.record_trees.Record.{Tree}
-use Rattle.form_answers.specs.record_trees.declared.record.Record.{Record}
-use Rattle.run_answers.specs.record_text.Source.{limit}
-use Rattle.run_answers.specs.record_text.Text.{IsTextOf}
+use Rattle.readable_runs.specs.form_answers.record_trees.Record.{Tree}
+use Rattle.readable_runs.specs.form_answers.record_trees.declared.record.Record.{Record}
+use Rattle.readable_runs.specs.run_answers.record_text.Source.{limit}
+use Rattle.readable_runs.specs.run_answers.record_text.Text.{IsTextOf}
 use Rattle.readable_runs.specs.record_laws.Points.{points_of}
-use Rattle.run_answers.specs.composition.declared.run.Run.{Run}
-use Rattle.run_answers.specs.composition.Expanded.{scene}
-use Rattle.run_answers.specs.field_flatten.Ends.{bounds}
-use Rattle.run_answers.specs.run_texts.RunReading.{IsReading}
+use Rattle.readable_runs.specs.run_answers.composition.declared.run.Run.{Run}
+use Rattle.readable_runs.specs.run_answers.composition.Expanded.{scene}
+use Rattle.readable_runs.specs.run_answers.field_flatten.Ends.{bounds}
+use Rattle.readable_runs.specs.run_answers.run_texts.RunReading.{IsReading}
 use Rattle.command_words.specs.declared.requests.Setting.{Setting}
 use Rattle.command_words.specs.Shared.{Source}
 use Rattle.command_words.specs.Words.{GenerateAsked, Wanted}
-use Rattle.run_answers.specs.command_replies.declared.status.Status.{Status}
-use Rattle.run_answers.specs.command_replies.declared.status.Status.TheVariants.{Done, Refuted, Undecided}
-use Rattle.run_answers.specs.command_replies.Reply.{Answer}
+use Rattle.readable_runs.specs.run_answers.command_replies.declared.status.Status.{Status}
+use Rattle.readable_runs.specs.run_answers.command_replies.declared.status.Status.TheVariants.{Done, Refuted, Undecided}
+use Rattle.readable_runs.specs.run_answers.command_replies.Reply.{Answer}
 use Rattle.readable_runs.specs.source_scenes.Programs.{scenario_named}
 use Rattle.readable_runs.specs.source_scenes.Sources.{IsTextTurn}
 use Rattle.made_programs.specs.MadeLoads.{main_name, made_files}
-use Rattle.run_answers.specs.RunFiles.{run_limit}
+use Rattle.readable_runs.specs.run_answers.RunFiles.{run_limit}
 use Rattle.scenario_tool.specs.Answers.{AnswersTo, Inputs}
 use Rattle.scenario_tool.specs.Laws.{IsOutcome}
 use Rattle.scenario_tool.specs.Settings.{made_scenario, made_setting, scene_setting}

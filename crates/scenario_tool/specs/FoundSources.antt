@@ -2,9 +2,9 @@
 use Rattle.std.specs.Prelude.{◌≡◌, ◌⊎◌, ℕ, List, Some}
 use Rattle.outside_io.specs.declared.shelf.NamedBytes.{NamedBytes}
 use Rattle.outside_io.specs.Counts.{Rises}
-use Rattle.run_answers.specs.command_replies.Reply.{Answer}
-use Rattle.run_answers.specs.command_replies.Replies.{failed_shelf, refused_source}
-use Rattle.run_answers.specs.composition.declared.setting.Setting.{Setting}
+use Rattle.readable_runs.specs.run_answers.command_replies.Reply.{Answer}
+use Rattle.readable_runs.specs.run_answers.command_replies.Replies.{failed_shelf, refused_source}
+use Rattle.readable_runs.specs.run_answers.composition.declared.setting.Setting.{Setting}
 use Rattle.name_scope.specs.FileNumbers.{AddedFile}
 use Rattle.made_programs.specs.program_load.declared.stop.Refusal.{Refusal}
 use Rattle.made_programs.specs.program_load.Loading.{IsLoaded, IsStopped, IsTurn}

@@ -1,9 +1,9 @@
 -- The laws of the answers.
 use Rattle.std.specs.Prelude.{◌≡◌, ℕ, List, ◌⊎◌, ⊤}
 use Rattle.command_words.specs.Words.{GenerateAsked, Wanted, request}
-use Rattle.run_answers.specs.command_replies.declared.status.Status.{Status}
-use Rattle.run_answers.specs.command_replies.declared.status.Status.TheVariants.{Done, Refuted, Undecided}
-use Rattle.run_answers.specs.command_replies.Reply.{Answer}
+use Rattle.readable_runs.specs.run_answers.command_replies.declared.status.Status.{Status}
+use Rattle.readable_runs.specs.run_answers.command_replies.declared.status.Status.TheVariants.{Done, Refuted, Undecided}
+use Rattle.readable_runs.specs.run_answers.command_replies.Reply.{Answer}
 use Rattle.scenario_tool.specs.Answers.{AnswersTo, Inputs}
 
 -- an outcome of a search: a run, a refutation or an open record

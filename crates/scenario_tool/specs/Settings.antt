@@ -2,9 +2,9 @@
 use Rattle.std.specs.Prelude.{ℕ, ◌*◌, List, codes}
 use Rattle.command_words.specs.declared.requests.ExportForm.{ExportForm}
 use Rattle.command_words.specs.declared.requests.Setting.{Setting as SettingWords}
-use Rattle.run_answers.specs.composition.declared.setting.Setting.{Setting}
-use Rattle.run_answers.specs.run_exports.declared.forms.Form.{Form}
-use Rattle.run_answers.specs.run_exports.declared.road.Road.{Road}
+use Rattle.readable_runs.specs.run_answers.composition.declared.setting.Setting.{Setting}
+use Rattle.readable_runs.specs.run_answers.run_exports.declared.forms.Form.{Form}
+use Rattle.readable_runs.specs.run_answers.run_exports.declared.road.Road.{Road}
 
 -- the setting that words give
 abbrev pub scene_setting : SettingWords → Setting

@@ -4,15 +4,15 @@ use Rattle.outside_io.specs.declared.shelf.NamedBytes.{NamedBytes}
 use Rattle.name_scope.specs.FileNumbers.{AddedFile}
 use Rattle.made_programs.specs.program_load.Loading.{IsLoaded}
 use Rattle.readable_runs.specs.named_scenario.Naming.{types_in}
-use Rattle.run_answers.specs.composition.Claims.{IsInstance}
-use Rattle.run_answers.specs.composition.Expanded.{scene}
-use Rattle.run_answers.specs.composition.declared.run.Run.{Run}
+use Rattle.readable_runs.specs.run_answers.composition.Claims.{IsInstance}
+use Rattle.readable_runs.specs.run_answers.composition.Expanded.{scene}
+use Rattle.readable_runs.specs.run_answers.composition.declared.run.Run.{Run}
 use Rattle.command_words.specs.declared.requests.Setting.{Setting}
 use Rattle.command_words.specs.Shared.{IsSettingInRanges, Source}
 use Rattle.command_words.specs.Words.{GenerateAsked, VerifyAsked, Wanted}
-use Rattle.run_answers.specs.command_replies.declared.status.Status.TheVariants.{Done}
-use Rattle.run_answers.specs.command_replies.Reply.{Answer}
-use Rattle.run_answers.specs.command_replies.Replies.{done}
+use Rattle.readable_runs.specs.run_answers.command_replies.declared.status.Status.TheVariants.{Done}
+use Rattle.readable_runs.specs.run_answers.command_replies.Reply.{Answer}
+use Rattle.readable_runs.specs.run_answers.command_replies.Replies.{done}
 use Rattle.readable_runs.specs.source_scenes.Programs.{scenario_named}
 use Rattle.scenario_tool.specs.Answers.{AnswersTo, Inputs}
 use Rattle.scenario_tool.specs.Settings.{scene_setting}

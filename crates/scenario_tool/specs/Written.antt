@@ -3,10 +3,10 @@ use Rattle.std.specs.Prelude.{◌≡◌, ◌≤◌, ℕ, List, Some, codes, leng
 use Rattle.outside_io.specs.declared.shelf.NamedBytes.{NamedBytes}
 use Rattle.outside_io.specs.Files.{file_named}
 use Rattle.command_words.specs.Words.{GenerateAsked, Wanted, IsGenerateInRanges}
-use Rattle.run_answers.specs.command_replies.declared.status.Status.TheVariants.{Done, Refuted, Undecided}
-use Rattle.run_answers.specs.command_replies.Reply.{Answer}
-use Rattle.run_answers.specs.command_replies.Replies.{done, open_cuts}
-use Rattle.run_answers.specs.RunFiles.{run_limit}
+use Rattle.readable_runs.specs.run_answers.command_replies.declared.status.Status.TheVariants.{Done, Refuted, Undecided}
+use Rattle.readable_runs.specs.run_answers.command_replies.Reply.{Answer}
+use Rattle.readable_runs.specs.run_answers.command_replies.Replies.{done, open_cuts}
+use Rattle.readable_runs.specs.run_answers.RunFiles.{run_limit}
 use Rattle.scenario_tool.specs.Answers.{AnswersTo, Inputs}
 
 -- the same sources with other texts

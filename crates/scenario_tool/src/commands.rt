@@ -1,7 +1,7 @@
 //! What each command replies.
 
 ghost use Rattle.std.specs.Prelude.{◌≡◌, ◌≤◌, IfOk};
-ghost use Rattle.run_answers.specs.command_replies.Shelves.{CountsOnce};
+ghost use Rattle.readable_runs.specs.run_answers.command_replies.Shelves.{CountsOnce};
 ghost use Rattle.command_words.specs.Seen.{asked_by, checked_by, exported_by, flattened_by, migrated_by, verified_by};
 ghost use Rattle.command_words.specs.Shared.{IsSettingInRanges};
 ghost use Rattle.command_words.specs.Words.{Wanted};
@@ -10,10 +10,8 @@ ghost use Rattle.scenario_tool.specs.Answers.{AnswersOrShelfFails, SomeInputs};
 use crate::settings::export_style;
 use crate::sources::{FoundSource, source_scene};
 use command_words::{CheckWords, ExportWords, FlatWords, GenerateWords, MigrateWords, VerifyWords};
-use form_answers::{flat, verify};
 use outside_io::Shelf;
-use readable_runs::generate;
-use run_answers::{Reply, check, export, migrate};
+use readable_runs::{Reply, check, export, flat, generate, migrate, verify};
 use std::alloc::{AllocError, Global};
 
 /// The reply to what `generate` is asked for.

@@ -13,5 +13,5 @@ pub use laws::{
     sound_inputs_have_outcomes, verified_means_none, written_records_are_open,
     written_refutations_are_accepted, written_runs_are_accepted,
 };
-pub use run_answers::Status;
+pub use readable_runs::Status;
 pub use top::command;

@@ -1,10 +1,10 @@
 //! What `make` replies.
 
 ghost use Rattle.std.specs.Prelude.{◌≡◌, ◌≢◌, ◌≤◌, [], None, IfOk};
-ghost use Rattle.run_answers.specs.command_replies.Replies.{done};
+ghost use Rattle.readable_runs.specs.run_answers.command_replies.Replies.{done};
 ghost use Rattle.command_words.specs.Words.{IsMakeInRange, Wanted};
-ghost use Rattle.run_answers.specs.composition.SeenScenes.{seen_scene};
-ghost use Rattle.run_answers.specs.field_flatten.Exactness.{IsExpanded, IsLimited};
+ghost use Rattle.readable_runs.specs.run_answers.composition.SeenScenes.{seen_scene};
+ghost use Rattle.readable_runs.specs.run_answers.field_flatten.Exactness.{IsExpanded, IsLimited};
 ghost use Rattle.made_programs.specs.MadeLoads.{main_name};
 ghost use Rattle.made_programs.specs.MadeText.{made_line};
 ghost use Rattle.name_scope.specs.FileNumbers.{wanted_name};
@@ -18,8 +18,10 @@ use crate::settings::made_setting;
 use made_programs::{MadeLoad, made_line, made_program};
 use name_scope::Program;
 use osc_base::Text;
-use readable_runs::{FoundScene, RunOrReply, run_or_reply, scene_in};
-use run_answers::{Reply, Run, Scene, done, refused_source, write_run};
+use readable_runs::{
+    FoundScene, Reply, Run, RunOrReply, Scene, done, refused_source, run_or_reply, scene_in,
+    write_run,
+};
 use std::alloc::{AllocError, Global};
 
 /// The name of the main file that is made.

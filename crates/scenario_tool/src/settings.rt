@@ -4,7 +4,7 @@ ghost use Rattle.std.specs.Prelude.{◌≡◌, ◌≤◌};
 ghost use Rattle.scenario_tool.specs.Settings.{made_setting, road_of, run_form, scene_setting};
 
 use command_words::{ExportForm, ExportWords, Setting as SettingWords};
-use run_answers::{Form, Road, Setting, Style};
+use readable_runs::{Form, Road, Setting, Style};
 
 /// The length of a tick of the source that is made, in milliseconds.
 const MADE_TICK: u32 = 100;

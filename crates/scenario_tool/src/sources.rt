@@ -1,7 +1,7 @@
 //! The scene of a source that words name.
 
 ghost use Rattle.std.specs.Prelude.{◌≡◌, IfOk};
-ghost use Rattle.run_answers.specs.command_replies.Shelves.{CountsOnce};
+ghost use Rattle.readable_runs.specs.run_answers.command_replies.Shelves.{CountsOnce};
 ghost use Rattle.command_words.specs.Shared.{IsSettingInRanges};
 ghost use Rattle.outside_io.specs.Files.{SomeFiles};
 ghost use Rattle.scenario_tool.specs.Settings.{scene_setting};
@@ -12,8 +12,7 @@ use command_words::{Setting as SettingWords, Source};
 use made_programs::load;
 use name_scope::Program;
 use outside_io::Shelf;
-use readable_runs::{FoundScene, reply_to_stop, scene_in};
-use run_answers::{Reply, Scene};
+use readable_runs::{FoundScene, Reply, Scene, reply_to_stop, scene_in};
 use std::alloc::{AllocError, Global};
 
 /// What is found for a source.

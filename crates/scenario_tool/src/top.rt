@@ -1,5 +1,5 @@
 ghost use Rattle.std.specs.Prelude.{◌≡◌, IfOk, map, string_bytes};
-ghost use Rattle.run_answers.specs.command_replies.Shelves.{CountsOnce};
+ghost use Rattle.readable_runs.specs.run_answers.command_replies.Shelves.{CountsOnce};
 ghost use Rattle.command_words.specs.Words.{request};
 ghost use Rattle.scenario_tool.specs.Answers.{AnswersOrShelfFails, IsAnswered, SomeInputs};
 
@@ -12,7 +12,7 @@ use command_words::{Request, read_words};
 use fault_texts::{explanation, topic_list};
 use osc_base::Text;
 use outside_io::{Shelf, Sink};
-use run_answers::{Reply, Status, done, words_refused};
+use readable_runs::{Reply, Status, done, words_refused};
 use std::alloc::{AllocError, Global};
 
 /// Answers the words after the program's name: it reads the files that they name from `shelf`, writes its

@@ -14,13 +14,14 @@ use Rattle.scene_runs.specs.field_flatten.Ends.{bounds}
 use Rattle.scene_runs.specs.field_flatten.Exactness.{IsExpanded, IsFlatOf}
 use Rattle.scene_runs.specs.field_flatten.Points.{run_of}
 use Rattle.scene_runs.proofs.of_field_flatten.Exact.{exact_flat}
-use Rattle.record_laws.proofs.Accepting.{lines_count}
+use Rattle.form_records.proofs.of_record_laws.Accepting.{lines_count}
 use Rattle.seeded_search.specs.search_plans.declared.wish.Entry.{Entry}
 use Rattle.seeded_search.specs.declared.outcome.Outcome.{Outcome}
 use Rattle.seeded_search.specs.Draws.{chosen_by}
 use Rattle.seeded_search.specs.search_laws.State.{most_picks}
 use Rattle.scene_search.specs.Choices.{plan_of, choice_of}
-use Rattle.scene_search.specs.Findings.{IsReachedRun, IsSizedBy, IsSceneRefutation, IsSpentRecord}
+use Rattle.form_records.specs.AskedFindings.{IsSizedBy}
+use Rattle.scene_search.specs.Findings.{IsReachedRun, IsSceneRefutation, IsSpentRecord}
 use Rattle.scene_search.specs.Outcomes.{IsReachedOutcome, IsGuidedOutcome, IsSpentOutcome, IsOutcome}
 
 -- a point of the flat form is one of the scene's box
@@ -42,7 +43,7 @@ reached_run scene flat seed cuts values run expanded same point gives = record {
 }
 
 -- the sizes of a record whose room is the depth of its tree
-sized_by : (claim : Record) (tree : Tree) → IsRecordOf claim tree → claim.room ≡ depth_of tree → length claim.picks ≤ most_picks → IsSizedBy claim tree
+pub sized_by : (claim : Record) (tree : Tree) → IsRecordOf claim tree → claim.room ≡ depth_of tree → length claim.picks ≤ most_picks → IsSizedBy claim tree
 sized_by claim tree is room picks = record { room = room; lines = lines_count claim tree is; picks = picks }
 
 -- a scene whose flat form is refuted has no instance

@@ -1,16 +1,16 @@
 -- What a search for a run of a scene finds.
-use Rattle.std.specs.Prelude.{◌≡◌, ℕ, ◌+◌, ◌*◌, ◌≤◌, List, length, ℤ}
+use Rattle.std.specs.Prelude.{◌≡◌, ℕ, ◌≤◌, List, ℤ}
 use Rattle.box_eval.specs.declared.bounds.Pair.{Pair}
 use Rattle.box_eval.specs.declared.flat.Flat.{Flat}
 use Rattle.seeded_search.specs.record_trees.declared.record.Record.{Record}
-use Rattle.seeded_search.specs.record_trees.Record.{Tree, cuts_of, depth_of}
+use Rattle.seeded_search.specs.record_trees.Record.{Tree, cuts_of}
 use Rattle.seeded_search.specs.record_trees.Guided.{IsGuidedRefutation, IsReached, IsSpent}
 use Rattle.flat_forms.specs.composition.declared.run.Run.{Run}
 use Rattle.flat_forms.specs.composition.Claims.{IsInstance}
 use Rattle.flat_forms.specs.composition.Scenes.{Scene}
 use Rattle.scene_runs.specs.field_flatten.Exactness.{IsFlatOf}
 use Rattle.scene_runs.specs.field_flatten.Points.{run_of}
-use Rattle.record_laws.specs.record_text.Text.{record_lines}
+use Rattle.form_records.specs.AskedFindings.{IsSizedBy}
 use Rattle.scene_search.specs.Choices.{choice_of}
 use Rattle.scene_search.specs.declared.finding.Finding.{Finding}
 
@@ -24,13 +24,6 @@ pub record IsReachedRun (scene : Scene) (seed cuts : ℕ) (run : Run) : Type 0 w
   pub reached : IsReached (choice_of scene seed) cuts flat values claim tree
   pub gives : run ≡ run_of scene values
   pub instance : IsInstance scene run
-
--- The room of a record is the greatest number of cuts above a leaf of its tree. Its text has two lines for each cut, and six more.
--- Its sums have at most 262,144 rules together: 4,096 full ones.
-pub record IsSizedBy (claim : Record) (tree : Tree) : Type 0 where
-  pub room : claim.room ≡ depth_of tree
-  pub lines : length (record_lines claim) ≡ 2 * cuts_of tree + 6
-  pub picks : length claim.picks ≤ 262144
 
 -- The scene has no instance: a refutation of its flat form that is guided by the plan and the seed, of at most so many cuts.
 pub record IsSceneRefutation (scene : Scene) (seed cuts : ℕ) (claim : Record) : Type 0 where

@@ -37,8 +37,8 @@ pub fn find_run(alloc: Global, scene: &Scene, seed: u64, cuts: u32) -> Result<Fi
     }
 }
 
-/// Searches the flat form of a scene by the scene's plan.
-fn search_by_plan(
+/// Searches a flat form with the slots of a scene by the scene's plan.
+pub fn search_by_plan(
     alloc: Global,
     scene: &Scene,
     flat: &Flat,

@@ -1,31 +1,31 @@
 -- What is written of a search is accepted.
 use Rattle.std.proofs.Common.{◌≡◌, sym, subst, ℕ, ◌≤◌, ◌<◌, None, length, arith}
-use Rattle.scene_search.specs.box_eval.declared.flat.Flat.{Flat}
-use Rattle.scene_search.specs.record_trees.declared.record.Record.{Record}
-use Rattle.scene_search.specs.record_trees.Record.{Tree, IsAcceptedAs}
-use Rattle.scene_search.proofs.of_record_trees.Ways.{ends_open}
-use Rattle.command_replies.specs.record_text.Lines.{AllShort}
-use Rattle.command_replies.specs.record_text.Source.{limit}
-use Rattle.command_replies.specs.record_text.Text.{record_lines, record_text}
-use Rattle.command_replies.specs.record_text.Written.{HaveShortValues, HaveSums}
-use Rattle.command_replies.proofs.of_record_text.ShortSums.{values_of, sums_of}
-use Rattle.scene_search.specs.refute_check.Answers.{IsRefutationText, IsOpenText}
-use Rattle.scene_search.proofs.of_refute_check.Laws.{refutation_text, open_text}
-use Rattle.scene_search.specs.record_laws.Points.{points_of}
-use Rattle.scene_search.specs.record_laws.Short.{HasShortEnds}
-use Rattle.scene_search.proofs.of_record_laws.Points.{spent_points}
-use Rattle.scene_search.proofs.of_record_laws.Short.{accepted_short}
-use Rattle.instance_check.specs.composition.declared.run.Run.{Run}
-use Rattle.instance_check.specs.composition.Claims.{claims}
-use Rattle.instance_check.specs.composition.Scenes.{Scene}
-use Rattle.instance_check.specs.field_flatten.Ends.{bounds}
-use Rattle.instance_check.specs.field_flatten.Exactness.{IsExpanded, IsLimited, IsFlatOf}
-use Rattle.instance_check.proofs.of_field_flatten.FlatForms.{flat_form}
-use Rattle.instance_check.proofs.of_field_flatten.RuleTrees.{one_form}
-use Rattle.instance_check.specs.run_check.Answers.{first_wrong}
-use Rattle.instance_check.proofs.FirstClaims.{none_fails}
-use Rattle.scene_search.specs.Findings.{IsReachedRun, IsSceneRefutation, IsSpentRecord}
-use Rattle.scene_search.specs.Choices.{choice_of}
+use Rattle.form_answers.specs.scene_search.box_eval.declared.flat.Flat.{Flat}
+use Rattle.form_answers.specs.scene_search.record_trees.declared.record.Record.{Record}
+use Rattle.form_answers.specs.scene_search.record_trees.Record.{Tree, IsAcceptedAs}
+use Rattle.form_answers.proofs.of_scene_search.of_record_trees.Ways.{ends_open}
+use Rattle.form_answers.specs.record_text.Lines.{AllShort}
+use Rattle.form_answers.specs.record_text.Source.{limit}
+use Rattle.form_answers.specs.record_text.Text.{record_lines, record_text}
+use Rattle.form_answers.specs.record_text.Written.{HaveShortValues, HaveSums}
+use Rattle.form_answers.proofs.of_record_text.ShortSums.{values_of, sums_of}
+use Rattle.form_answers.specs.scene_search.refute_check.Answers.{IsRefutationText, IsOpenText}
+use Rattle.form_answers.proofs.of_scene_search.of_refute_check.Laws.{refutation_text, open_text}
+use Rattle.form_answers.specs.scene_search.record_laws.Points.{points_of}
+use Rattle.form_answers.specs.scene_search.record_laws.Short.{HasShortEnds}
+use Rattle.form_answers.proofs.of_scene_search.of_record_laws.Points.{spent_points}
+use Rattle.form_answers.proofs.of_scene_search.of_record_laws.Short.{accepted_short}
+use Rattle.form_answers.specs.composition.declared.run.Run.{Run}
+use Rattle.form_answers.specs.composition.Claims.{claims}
+use Rattle.form_answers.specs.composition.Scenes.{Scene}
+use Rattle.form_answers.specs.field_flatten.Ends.{bounds}
+use Rattle.form_answers.specs.field_flatten.Exactness.{IsExpanded, IsLimited, IsFlatOf}
+use Rattle.form_answers.proofs.of_field_flatten.FlatForms.{flat_form}
+use Rattle.form_answers.proofs.of_field_flatten.RuleTrees.{one_form}
+use Rattle.form_answers.specs.run_check.Answers.{first_wrong}
+use Rattle.form_answers.proofs.of_instance_check.FirstClaims.{none_fails}
+use Rattle.form_answers.specs.scene_search.Findings.{IsReachedRun, IsSceneRefutation, IsSpentRecord}
+use Rattle.form_answers.specs.scene_search.Choices.{choice_of}
 use Rattle.search_answers.proofs.ShortEnds.{short_ends}
 use Rattle.search_answers.proofs.TextLengths.{within_limit}
 

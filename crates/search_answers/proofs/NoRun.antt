@@ -1,8 +1,8 @@
 -- A reply without a run is right whatever the text of runs is.
 use Rattle.std.proofs.Common.{ℕ, List, inl, inr}
-use Rattle.instance_check.specs.composition.declared.run.Run.{Run}
-use Rattle.instance_check.specs.composition.Scenes.{Scene}
-use Rattle.command_replies.specs.Reply.{Answer}
+use Rattle.form_answers.specs.composition.declared.run.Run.{Run}
+use Rattle.form_answers.specs.composition.Scenes.{Scene}
+use Rattle.form_answers.specs.command_replies.Reply.{Answer}
 use Rattle.search_answers.specs.SearchAnswers.{IsSearchReply, refuted, undecided}
 use Rattle.search_answers.specs.Searches.{IsNoRun}
 

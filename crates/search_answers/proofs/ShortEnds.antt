@@ -7,25 +7,25 @@ use Rattle.std.proofs.lemmas.Option.{slice_get-map}
 use Rattle.osc_base.specs.declared.path.Path.{Path}
 use Rattle.osc_base.specs.declared.listing.SlotName.{SlotName}
 use Rattle.osc_base.specs.Paths.{same_path}
-use Rattle.scene_search.specs.box_eval.declared.bounds.Pair.{Pair}
-use Rattle.scene_search.specs.box_eval.Box.{pair}
-use Rattle.command_replies.specs.record_text.Lines.{IsFewDigits}
-use Rattle.scene_search.specs.record_laws.Short.{HasShortEnds}
-use Rattle.instance_check.specs.expr_nodes.Sizes.{field_reach}
-use Rattle.instance_check.specs.composition.declared.spot.ChoiceSpot.{ChoiceSpot}
-use Rattle.instance_check.specs.composition.declared.spot.PhaseSpot.{PhaseSpot}
-use Rattle.instance_check.specs.composition.declared.spot.ValueSpot.{ValueSpot}
-use Rattle.instance_check.specs.composition.Scenes.{Scene, Spot, Content, Object, Value, Phase, is_one_of, choice_spot, phase_spot, choices, phases, values}
-use Rattle.instance_check.specs.composition.Slots.{slot_names}
-use Rattle.instance_check.specs.composition.Invariants.{value_at}
-use Rattle.instance_check.specs.field_flatten.Ends.{ends_of, range_ends, no_ends, bounds}
-use Rattle.instance_check.specs.field_flatten.Exactness.{IsExpanded, IsLimited}
-use Rattle.instance_check.proofs.of_field_flatten.Tests.{two_ways, path_is, In, all_at, found_in}
-use Rattle.instance_check.proofs.of_field_flatten.SlotLaw.{value_is_named}
-use Rattle.instance_check.proofs.of_field_flatten.NumberLaw.{made_from, making}
-use Rattle.instance_check.proofs.of_field_flatten.FlatReach.{size}
-use Rattle.instance_check.proofs.of_field_flatten.of_composition.Settings.{setting_is}
-use Rattle.instance_check.proofs.of_field_flatten.ItemReach.{le_number, ends_at, value_fits}
+use Rattle.form_answers.specs.scene_search.box_eval.declared.bounds.Pair.{Pair}
+use Rattle.form_answers.specs.scene_search.box_eval.Box.{pair}
+use Rattle.form_answers.specs.record_text.Lines.{IsFewDigits}
+use Rattle.form_answers.specs.scene_search.record_laws.Short.{HasShortEnds}
+use Rattle.form_answers.specs.expr_nodes.Sizes.{field_reach}
+use Rattle.form_answers.specs.composition.declared.spot.ChoiceSpot.{ChoiceSpot}
+use Rattle.form_answers.specs.composition.declared.spot.PhaseSpot.{PhaseSpot}
+use Rattle.form_answers.specs.composition.declared.spot.ValueSpot.{ValueSpot}
+use Rattle.form_answers.specs.composition.Scenes.{Scene, Spot, Content, Object, Value, Phase, is_one_of, choice_spot, phase_spot, choices, phases, values}
+use Rattle.form_answers.specs.composition.Slots.{slot_names}
+use Rattle.form_answers.specs.composition.Invariants.{value_at}
+use Rattle.form_answers.specs.field_flatten.Ends.{ends_of, range_ends, no_ends, bounds}
+use Rattle.form_answers.specs.field_flatten.Exactness.{IsExpanded, IsLimited}
+use Rattle.form_answers.proofs.of_field_flatten.Tests.{two_ways, path_is, In, all_at, found_in}
+use Rattle.form_answers.proofs.of_field_flatten.SlotLaw.{value_is_named}
+use Rattle.form_answers.proofs.of_field_flatten.NumberLaw.{made_from, making}
+use Rattle.form_answers.proofs.of_field_flatten.FlatReach.{size}
+use Rattle.form_answers.proofs.of_field_flatten.of_composition.Settings.{setting_is}
+use Rattle.form_answers.proofs.of_field_flatten.ItemReach.{le_number, ends_at, value_fits}
 
 -- both ends have at most 18 digits
 abbrev pub AreShort : Pair → Type 0

@@ -1,10 +1,10 @@
 -- Searches with further seeds.
 use Rattle.std.proofs.Common.{◌≡◌, ◌∙◌, ◌⊎◌, inl, inr, refl, sym, ap, subst, ℕ, ◌+◌, ◌<◌, ◌≤◌, true, false, Result, Ok, Err, IfOk, arith}
 use Rattle.std.proofs.lemmas.Bool.{false≢true, cases_lt}
-use Rattle.instance_check.specs.composition.Scenes.{Scene}
-use Rattle.command_replies.specs.declared.status.Status.{Status}
-use Rattle.command_replies.specs.declared.status.Status.TheVariants.{Undecided}
-use Rattle.command_replies.specs.Reply.{Answer}
+use Rattle.form_answers.specs.composition.Scenes.{Scene}
+use Rattle.form_answers.specs.command_replies.declared.status.Status.{Status}
+use Rattle.form_answers.specs.command_replies.declared.status.Status.TheVariants.{Undecided}
+use Rattle.form_answers.specs.command_replies.Reply.{Answer}
 use Rattle.search_answers.specs.SearchAnswers.{Generates, GeneratesWithin, IsLeftUndecided, runs, refuted, undecided, seed_after}
 use Rattle.search_answers.specs.Searches.{is_decided}
 use Rattle.search_answers.specs.Tries.{MoreTriesKeepWhatIsDecided, OneTryIsOneSearch}

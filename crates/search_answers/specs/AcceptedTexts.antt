@@ -1,15 +1,15 @@
 -- What is written of a search is what the checks of records and of runs accept.
 use Rattle.std.specs.Prelude.{◌≡◌, ℕ, ◌≤◌, None, length}
-use Rattle.scene_search.specs.box_eval.declared.flat.Flat.{Flat}
-use Rattle.scene_search.specs.record_trees.declared.record.Record.{Record}
-use Rattle.instance_check.specs.composition.declared.run.Run.{Run}
-use Rattle.instance_check.specs.composition.Scenes.{Scene}
-use Rattle.instance_check.specs.field_flatten.Exactness.{IsExpanded, IsLimited, IsFlatOf}
-use Rattle.command_replies.specs.record_text.Source.{limit}
-use Rattle.command_replies.specs.record_text.Text.{record_text}
-use Rattle.scene_search.specs.refute_check.Answers.{IsRefutationText, IsOpenText}
-use Rattle.instance_check.specs.run_check.Answers.{first_wrong}
-use Rattle.scene_search.specs.Findings.{IsReachedRun, IsSceneRefutation, IsSpentRecord}
+use Rattle.form_answers.specs.scene_search.box_eval.declared.flat.Flat.{Flat}
+use Rattle.form_answers.specs.scene_search.record_trees.declared.record.Record.{Record}
+use Rattle.form_answers.specs.composition.declared.run.Run.{Run}
+use Rattle.form_answers.specs.composition.Scenes.{Scene}
+use Rattle.form_answers.specs.field_flatten.Exactness.{IsExpanded, IsLimited, IsFlatOf}
+use Rattle.form_answers.specs.record_text.Source.{limit}
+use Rattle.form_answers.specs.record_text.Text.{record_text}
+use Rattle.form_answers.specs.scene_search.refute_check.Answers.{IsRefutationText, IsOpenText}
+use Rattle.form_answers.specs.run_check.Answers.{first_wrong}
+use Rattle.form_answers.specs.scene_search.Findings.{IsReachedRun, IsSceneRefutation, IsSpentRecord}
 
 -- the text of a refutation of a scene is one of the scene's flat form
 abbrev pub WrittenRefutationsAreAccepted : Type 0

@@ -1,13 +1,13 @@
 -- What is replied of a search for a run of a scene.
 use Rattle.std.specs.Prelude.{◌≡◌, ℕ, ◌+◌, ◌%◌, ◌<◌, List, ◌++◌, length}
-use Rattle.scene_search.specs.record_trees.declared.record.Record.{Record}
-use Rattle.instance_check.specs.composition.declared.run.Run.{Run}
-use Rattle.instance_check.specs.composition.Scenes.{Scene}
-use Rattle.instance_check.specs.run_check.RunText.{run_text}
-use Rattle.command_replies.specs.declared.status.Status.TheVariants.{Undecided}
-use Rattle.command_replies.specs.Reply.{Answer}
-use Rattle.command_replies.specs.Replies as replies
-use Rattle.scene_search.specs.Findings.{IsReachedRun, IsSceneRefutation, IsSpentRecord}
+use Rattle.form_answers.specs.scene_search.record_trees.declared.record.Record.{Record}
+use Rattle.form_answers.specs.composition.declared.run.Run.{Run}
+use Rattle.form_answers.specs.composition.Scenes.{Scene}
+use Rattle.form_answers.specs.run_check.RunText.{run_text}
+use Rattle.form_answers.specs.command_replies.declared.status.Status.TheVariants.{Undecided}
+use Rattle.form_answers.specs.command_replies.Reply.{Answer}
+use Rattle.form_answers.specs.command_replies.Replies as replies
+use Rattle.form_answers.specs.scene_search.Findings.{IsReachedRun, IsSceneRefutation, IsSpentRecord}
 
 -- What is replied of a search with a seed and at most so many cuts: this text of a run that is reached, a refutation, or a record that is
 -- spent.

@@ -1,11 +1,11 @@
 -- What a search for a run of a scene ends with.
 use Rattle.std.specs.Prelude.{◌≡◌, ◌⊎◌, ℕ, Bool, true, false}
-use Rattle.scene_search.specs.record_trees.declared.record.Record.{Record}
-use Rattle.instance_check.specs.composition.Scenes.{Scene}
-use Rattle.command_replies.specs.declared.status.Status.{Status}
-use Rattle.command_replies.specs.Reply.{Answer}
-use Rattle.command_replies.specs.Replies.{refutation, undecided}
-use Rattle.scene_search.specs.Findings.{IsReachedRun, IsSceneRefutation, IsSpentRecord}
+use Rattle.form_answers.specs.scene_search.record_trees.declared.record.Record.{Record}
+use Rattle.form_answers.specs.composition.Scenes.{Scene}
+use Rattle.form_answers.specs.command_replies.declared.status.Status.{Status}
+use Rattle.form_answers.specs.command_replies.Reply.{Answer}
+use Rattle.form_answers.specs.command_replies.Replies.{refutation, undecided}
+use Rattle.form_answers.specs.scene_search.Findings.{IsReachedRun, IsSceneRefutation, IsSpentRecord}
 use Rattle.search_answers.specs.declared.found.RunOrReply.{RunOrReply}
 
 -- what is replied without a run: a refutation, or a record that is spent

@@ -1,8 +1,8 @@
 -- One try and more tries.
 use Rattle.std.specs.Prelude.{◌≡◌, ◌≤◌, ◌<◌, ◌↔◌, ℕ}
-use Rattle.command_replies.specs.declared.status.Status.TheVariants.{Undecided}
-use Rattle.instance_check.specs.composition.Scenes.{Scene}
-use Rattle.command_replies.specs.Reply.{Answer}
+use Rattle.form_answers.specs.command_replies.declared.status.Status.TheVariants.{Undecided}
+use Rattle.form_answers.specs.composition.Scenes.{Scene}
+use Rattle.form_answers.specs.command_replies.Reply.{Answer}
 use Rattle.search_answers.specs.SearchAnswers.{Generates, GeneratesWithin}
 
 -- with one try, what is replied is what a search with the given seed replies

@@ -1,5 +1,4 @@
-use command_replies::Reply;
-use instance_check::Run;
+use form_answers::{Reply, Run};
 
 /// What a search for a run of a scene ends with.
 #[derive(Drop)]

@@ -5,6 +5,10 @@ mod found;
 mod laws;
 mod search;
 
+pub use form_answers::{
+    Form, Reply, Road, Run, Scene, Setting, Status, Style, check, done, export, flat, migrate,
+    refused_source, verify, words_refused, write_run,
+};
 pub use found::RunOrReply;
 pub use laws::{
     more_tries_keep_what_is_decided, one_try_is_one_search, spent_boxes_have_more_points,

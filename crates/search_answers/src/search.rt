@@ -1,15 +1,15 @@
 //! From a scene to what is replied of it.
 
 ghost use Rattle.std.specs.Prelude.{◌≡◌, ◌≤◌, IfOk};
-ghost use Rattle.instance_check.specs.composition.SeenScenes.{seen_scene};
-ghost use Rattle.instance_check.specs.field_flatten.Exactness.{IsExpanded, IsLimited};
+ghost use Rattle.form_answers.specs.composition.SeenScenes.{seen_scene};
+ghost use Rattle.form_answers.specs.field_flatten.Exactness.{IsExpanded, IsLimited};
 ghost use Rattle.search_answers.specs.SearchAnswers.{Generates, GeneratesWithin, seed_after};
 ghost use Rattle.search_answers.specs.Searches.{IsSearched, is_decided};
 
 use crate::found::RunOrReply;
-use command_replies::{Reply, Status, done, refutation, undecided};
-use instance_check::{Scene, write_run};
-use scene_search::{Finding, find_run};
+use form_answers::{
+    Finding, Reply, Scene, Status, done, find_run, refutation, undecided, write_run,
+};
 use std::alloc::{AllocError, Global};
 
 /// Searches for a run of a scene, with at most `cuts` cuts, at most 1,000,000. The seed draws its decisions. If no run is

@@ -1,5 +1,5 @@
-use Rattle.flat_forms.specs.composition.SeenScenes.{seen_scene}
-use Rattle.flat_forms.proofs.SceneParts.{few_ticks}
+use Rattle.run_answers.specs.composition.SeenScenes.{seen_scene}
+use Rattle.scene_search.proofs.of_flat_forms.SceneParts.{few_ticks}
 use Rattle.form_answers.proofs.form.flat.Goals as goal
 
 pub slot_names-requires : goal.slot_names-requires

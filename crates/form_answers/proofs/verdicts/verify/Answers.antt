@@ -1,4 +1,4 @@
-use Rattle.flat_forms.specs.composition.SeenScenes.{seen_scene}
+use Rattle.run_answers.specs.composition.SeenScenes.{seen_scene}
 use Rattle.form_answers.proofs.Fetching.{scene_replied}
 use Rattle.form_answers.proofs.verdicts.verify.Goals as goal
 

@@ -1,5 +1,5 @@
 use Rattle.std.proofs.Common.{◌∙◌, refl, ap}
-use Rattle.run_answers.specs.command_replies.Replies.{status_number}
+use Rattle.readable_runs.specs.run_answers.command_replies.Replies.{status_number}
 use Rattle.scenario_tool.proofs.CallEnds.{end_no_memory, end_sink_fails, end_written}
 use Rattle.scenario_tool.proofs.top.command.Goals as goal
 

@@ -1,6 +1,6 @@
 use Rattle.std.proofs.Common.{◌∙◌, sym, ap}
 use Rattle.fault_texts.specs.Explained.{explanation, topic_list}
-use Rattle.run_answers.specs.command_replies.Replies.{done}
+use Rattle.readable_runs.specs.run_answers.command_replies.Replies.{done}
 use Rattle.command_words.specs.Seen.{asked_by, checked_by, exported_by, flattened_by, made_by, migrated_by, seen, verified_by}
 use Rattle.command_words.specs.Words.{IsExportInRanges, IsGenerateInRanges, IsMakeInRange, Wanted}
 use Rattle.scenario_tool.proofs.CallEnds.{help_reply, made_reply, same_reply, words_reply}

@@ -1,5 +1,5 @@
 use Rattle.std.proofs.Common.{◌≡◌, ◌∙◌, ◌-◌, sym, ap, arith}
-use Rattle.instance_check.specs.composition.SeenScenes.{seen_scene}
+use Rattle.form_answers.specs.composition.SeenScenes.{seen_scene}
 use Rattle.search_answers.specs.SearchAnswers.{seed_after}
 use Rattle.search_answers.proofs.Tries.{decided_within, last_within, next_left, none_before}
 use Rattle.search_answers.proofs.search.generate.Goals as goal

@@ -1,4 +1,4 @@
-use Rattle.instance_check.specs.composition.SeenScenes.{seen_scene}
+use Rattle.form_answers.specs.composition.SeenScenes.{seen_scene}
 use Rattle.search_answers.proofs.Tries.{AreLeft}
 use Rattle.search_answers.proofs.search.generate.Given as goal
 

@@ -1,6 +1,6 @@
 use Rattle.std.proofs.Common.{subst}
-use Rattle.instance_check.specs.composition.SeenScenes.{seen_scene}
-use Rattle.scene_search.specs.Findings.{IsFinding}
+use Rattle.form_answers.specs.composition.SeenScenes.{seen_scene}
+use Rattle.form_answers.specs.scene_search.Findings.{IsFinding}
 use Rattle.search_answers.proofs.Accepted.{refutation_short, refutation_sums, spent_short, spent_sums}
 use Rattle.search_answers.proofs.search.run_or_reply.Goals as goal
 

@@ -1,7 +1,7 @@
 use Rattle.std.proofs.Common.{subst, ap, ◌∙◌}
-use Rattle.command_replies.specs.Replies.{done}
-use Rattle.instance_check.specs.composition.SeenScenes.{seen_scene}
-use Rattle.instance_check.specs.run_check.RunText.{run_text}
+use Rattle.form_answers.specs.command_replies.Replies.{done}
+use Rattle.form_answers.specs.composition.SeenScenes.{seen_scene}
+use Rattle.form_answers.specs.run_check.RunText.{run_text}
 use Rattle.search_answers.specs.SearchAnswers.{runs}
 use Rattle.search_answers.specs.Searches.{IsSearched}
 use Rattle.search_answers.proofs.NoRun.{no_run}
