@@ -4,29 +4,39 @@ use Rattle.std.specs.Prelude.{filter, filter_map, find, flat_map, is_some, bytes
 use Rattle.std.specs.Option.{option_map_or}
 use Rattle.std.specs.List.{list_all}
 use Rattle.osc_base.specs.declared.modifier.Moment.{Moment}
+use Rattle.osc_base.specs.Relations.{looks_at_other, is_step, is_ranged}
 use Rattle.expr_eval.specs.dsl_tree.declared.parts.Ident.{Ident}
 use Rattle.expr_eval.specs.dsl_tree.ExprTree.{ExprTree}
 use Rattle.expr_eval.specs.dsl_tree.PhaseTree.{ArgumentTree, ModifierTree}
 use Rattle.run_values.specs.composition.ModifierLines.{ModifierLine, NamedValue, named_value, unnamed_value, is_at, moment_of, ModifierForm, same_name, is_line, modifier_lines, form_on_line, form_of_arguments, modifier_form}
 use Rattle.run_values.specs.composition.Uses as Uses
 use Rattle.run_values.specs.composition.Uses.{compared_exprs}
-use Rattle.run_values.specs.composition.Invariants.{has_range, has_other}
-use Rattle.run_values.proofs.of_field_flatten.Tests.{left_of, right_of, In, in_flat_map, in_filter, all_at, found_in}
+use Rattle.run_values.specs.composition.Invariants.{is_plain, is_all, is_timed}
+use Rattle.run_values.proofs.of_field_flatten.Tests.{left_of, right_of, both, In, in_flat_map, in_filter, all_at, found_in}
 use Rattle.scene_laws.proofs.FaultRows.{not_from}
 use Rattle.scene_laws.proofs.Picked.{filter_map_in}
 use Rattle.checkable_scenes.proofs.ShortTexts.{of_arguments}
 
--- a form has what its kind says
+-- a form has what its relation says
 pub record HasParts (f : ModifierForm) : Type 0 where
-  pub range : has_range f.kind ≡ true → is_some f.range ≡ true
-  pub other : has_other f.kind ≡ true → is_some f.other ≡ true
+  pub range : is_ranged f.relation ≡ true → is_some f.range ≡ true
+  pub other : looks_at_other f.relation ≡ true → is_some f.other ≡ true
+  pub asks : is_plain f.relation && is_timed f.relation f.moment ≡ true
 
-lines_right : list_all (λ (l : ModifierLine). (not (has_range l.kind) || l.has_range) && (not (has_other l.kind) || is_some l.other)) modifier_lines ≡ true
+-- a line has the parts that its relation has, and is asked for at any moment
+abbrev is_right : ModifierLine → Bool
+is_right l = (not (is_ranged l.relation) || l.has_range) && ((not (looks_at_other l.relation) || is_some l.other) && (is_plain l.relation && not (is_step l.relation)))
+
+lines_right : list_all is_right modifier_lines ≡ true
 lines_right = refl
 
 given : (a b : Bool) → not a || b ≡ true → a ≡ true → b ≡ true
 given true b h e = h
 given false b h e = absurd (true≢false (sym e))
+
+either : (a b : Bool) → a ≡ true → a || b ≡ true
+either true b h = refl
+either false b h = absurd (true≢false (sym h))
 
 line_parts : (name : List ℕ) (has : Bool) (range : Option ExprTree) (other : Option NamedValue) (moment : Moment) → (has ≡ true → is_some range ≡ true) → (f : ModifierForm) → form_on_line name has range other moment ≡ Some f → HasParts f
 line_parts name has range other moment r f h = by (find (is_line name has (option_map (λ (v : NamedValue). v.name) other)) modifier_lines) refl h
@@ -42,16 +52,19 @@ line_parts name has range other moment r f h = by (find (is_line name has (optio
     same_some (Some a) (Some v) p q = refl
 
     by : (o : Option ModifierLine) → find (is_line name has (option_map (λ (v : NamedValue). v.name) other)) modifier_lines ≡ o
-        → option_map (λ (l : ModifierLine). record { kind = l.kind; moment = moment; range = range; other = option_map (λ (v : NamedValue). v.value) other }) o ≡ Some f → HasParts f
+        → option_map (λ (l : ModifierLine). record { relation = l.relation; moment = moment; range = range; other = option_map (λ (v : NamedValue). v.value) other }) o ≡ Some f → HasParts f
     by None is e = cc
     by (Some l) is e =
-        let same : record { kind = l.kind; moment = moment; range = range; other = option_map (λ (v : NamedValue). v.value) other } ≡ f = cc in
+        let same : record { relation = l.relation; moment = moment; range = range; other = option_map (λ (v : NamedValue). v.value) other } ≡ f = cc in
         let g = found_in (is_line name has (option_map (λ (v : NamedValue). v.name) other)) modifier_lines l is in
-        let right = all_at (λ (l : ModifierLine). (not (has_range l.kind) || l.has_range) && (not (has_other l.kind) || is_some l.other)) modifier_lines lines_right l g.0 in
+        let right = all_at is_right modifier_lines lines_right l g.0 in
+        let rest = right_of (not (is_ranged l.relation) || l.has_range) _ right in
+        let asks = right_of (not (looks_at_other l.relation) || is_some l.other) _ rest in
         let fits = right_of (bytes_eq l.name name) _ g.1 in
         subst HasParts same (record {
-          range = λ k. r (asked has l.has_range (left_of (has && l.has_range || not has && not l.has_range) _ fits) (given (has_range l.kind) l.has_range (left_of (not (has_range l.kind) || l.has_range) _ right) k));
-          other = λ k. same_some l.other other (right_of (has && l.has_range || not has && not l.has_range) _ fits) (given (has_other l.kind) (is_some l.other) (right_of (not (has_range l.kind) || l.has_range) _ right) k);
+          range = λ k. r (asked has l.has_range (left_of (has && l.has_range || not has && not l.has_range) _ fits) (given (is_ranged l.relation) l.has_range (left_of (not (is_ranged l.relation) || l.has_range) _ right) k));
+          other = λ k. same_some l.other other (right_of (has && l.has_range || not has && not l.has_range) _ fits) (given (looks_at_other l.relation) (is_some l.other) (left_of (not (looks_at_other l.relation) || is_some l.other) _ rest) k);
+          asks = both (is_plain l.relation) (is_timed l.relation moment) (left_of (is_plain l.relation) _ asks) (either (not (is_step l.relation)) (is_all moment) (right_of (is_plain l.relation) _ asks));
         })
 
 arguments_parts : (name : List ℕ) (us : List ExprTree) (ns : List NamedValue) (moment : Moment) (f : ModifierForm) → form_of_arguments name us ns moment ≡ Some f → HasParts f

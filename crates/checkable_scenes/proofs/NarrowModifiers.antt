@@ -154,19 +154,19 @@ module _ (ts : Types) (k : IsInherited ts) (uses : any_holds (use_rows ts) ≡ f
       subst (λ (z : GivenModifier). is_narrow_range (modifier_of bindings z.modifier) ≡ true) (sym g.is) (by_range g.shape.range refl (no_other (form_judged ts k uses short call of m g)))
     where
       no_other : any_holds (form_rows ts (scope_at ts call.holder (Some (It.Of of None)) call.way) g.shape) ≡ false
-          → any_holds (option_map_or (λ e. modifier_fit_rows (compared_kind g.shape.kind) (first e) (typed ts.table (scope_at ts call.holder (Some (It.Of of None)) call.way) e)) g.shape.range []) ≡ false
-      no_other h = rows_left (option_map_or (λ e. modifier_fit_rows (compared_kind g.shape.kind) (first e) (typed ts.table (scope_at ts call.holder (Some (It.Of of None)) call.way) e)) g.shape.range []) _ h
+          → any_holds (option_map_or (λ e. modifier_fit_rows (compared_kind g.shape.relation) (first e) (typed ts.table (scope_at ts call.holder (Some (It.Of of None)) call.way) e)) g.shape.range []) ≡ false
+      no_other h = rows_left (option_map_or (λ e. modifier_fit_rows (compared_kind g.shape.relation) (first e) (typed ts.table (scope_at ts call.holder (Some (It.Of of None)) call.way) e)) g.shape.range []) _ h
 
-      of_typed : (e : ExprTree) → are_short e ≡ true → (o : Option Typed) → typed ts.table (scope_at ts call.holder (Some (It.Of of None)) call.way) e ≡ o → any_holds (modifier_fit_rows (compared_kind g.shape.kind) (first e) o) ≡ false
+      of_typed : (e : ExprTree) → are_short e ≡ true → (o : Option Typed) → typed ts.table (scope_at ts call.holder (Some (It.Of of None)) call.way) e ≡ o → any_holds (modifier_fit_rows (compared_kind g.shape.relation) (first e) o) ≡ false
           → narrow_ends bindings (option_map (moved (from_root (here_in ts call (Some (It.Of of None))))) o) ≡ true
       of_typed e s None is h = none_narrow
       of_typed e s (Some x) is h =
           let good = typed_good ts.table small (scope_at ts call.holder (Some (It.Of of None)) call.way) e s x is in
-          let clash = no_left (not (is_kind true (compared_kind g.shape.kind) x)) _ h in
-          let wide = no_left (list_any (λ (z : Size). is_wide (joined sample_size z)) (end_sizes x)) false (no_right (list_any (differs (compared_kind g.shape.kind)) (ends_of x)) _ (no_right (not (is_kind true (compared_kind g.shape.kind) x)) _ h)) in
+          let clash = no_left (not (is_kind true (compared_kind g.shape.relation) x)) _ h in
+          let wide = no_left (list_any (λ (z : Size). is_wide (joined sample_size z)) (end_sizes x)) false (no_right (list_any (differs (compared_kind g.shape.relation)) (ends_of x)) _ (no_right (not (is_kind true (compared_kind g.shape.relation) x)) _ h)) in
           let to = from_root (here_in ts call (Some (It.Of of None))) in
           let ends = moved_kind to x in
-          let sizes = typed_narrow (λ p. p) (compared_kind g.shape.kind) x good.sound (holds_not (is_kind true (compared_kind g.shape.kind) x) clash) wide in
+          let sizes = typed_narrow (λ p. p) (compared_kind g.shape.relation) x good.sound (holds_not (is_kind true (compared_kind g.shape.relation) x) clash) wide in
           twice to (low_end (moved to x)) (high_end (moved to x)) (low_end x) (high_end x) ends.0 ends.1 sizes
         where
           twice : (to : Path → Path) (a b l h : Typed) → a ≡ moved to l → b ≡ moved to h → is_narrow_for (scale (moved (λ p. p) l)) (scale (moved (λ p. p) h)) (reach (moved (λ p. p) l)) (reach (moved (λ p. p) h)) ≡ true
@@ -177,13 +177,13 @@ module _ (ts : Types) (k : IsInherited ts) (uses : any_holds (use_rows ts) ≡ f
               subst (λ (z : Size). is_narrow_for z.scale (scale (moved (home bindings) b)) z.reach (reach (moved (home bindings) b)) ≡ true) (sym first)
               (subst (λ (z : Size). is_narrow_for (scale (moved (λ p. p) l)) z.scale (reach (moved (λ p. p) l)) z.reach ≡ true) (sym second) e)
 
-      by_range : (o : Option ExprTree) → g.shape.range ≡ o → any_holds (option_map_or (λ e. modifier_fit_rows (compared_kind g.shape.kind) (first e) (typed ts.table (scope_at ts call.holder (Some (It.Of of None)) call.way) e)) g.shape.range []) ≡ false
+      by_range : (o : Option ExprTree) → g.shape.range ≡ o → any_holds (option_map_or (λ e. modifier_fit_rows (compared_kind g.shape.relation) (first e) (typed ts.table (scope_at ts call.holder (Some (It.Of of None)) call.way) e)) g.shape.range []) ≡ false
           → narrow_ends bindings (option_and_then (typed_here ts (here_in ts call (Some (It.Of of None)))) g.shape.range) ≡ true
       by_range None e h = subst (λ o. narrow_ends bindings (option_and_then (typed_here ts (here_in ts call (Some (It.Of of None)))) o) ≡ true) (sym e) none_narrow
       by_range (Some x) e h =
           subst (λ o. narrow_ends bindings (option_and_then (typed_here ts (here_in ts call (Some (It.Of of None)))) o) ≡ true) (sym e)
           (of_typed x (g.short x ((form_values g.tree g.shape g.formed).0 x e)) (typed ts.table (scope_at ts call.holder (Some (It.Of of None)) call.way) x) refl
-          (subst (λ o. any_holds (option_map_or (λ e. modifier_fit_rows (compared_kind g.shape.kind) (first e) (typed ts.table (scope_at ts call.holder (Some (It.Of of None)) call.way) e)) o []) ≡ false) e h))
+          (subst (λ o. any_holds (option_map_or (λ e. modifier_fit_rows (compared_kind g.shape.relation) (first e) (typed ts.table (scope_at ts call.holder (Some (It.Of of None)) call.way) e)) o []) ≡ false) e h))
 
   pub all_narrow : (whole : ℕ) (setting : Setting) → list_all is_narrow_range (scene ts whole setting).modifiers ≡ true
   all_narrow whole setting = all_from is_narrow_range (scene ts whole setting).modifiers (λ x i.

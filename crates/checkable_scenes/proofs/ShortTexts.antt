@@ -91,10 +91,10 @@ line_of us ns name has range other moment p q f h = by (find (is_line name has (
     of_other None g e is = cc
     of_other (Some v) g e is = let same : v.value ≡ e = cc in (v, g v refl, sym same)
 
-    by : (o : Option ModifierLine) → option_map (λ (l : ModifierLine). record { kind = l.kind; moment = moment; range = range; other = option_map (λ (v : NamedValue). v.value) other }) o ≡ Some f → FormOf us ns f
+    by : (o : Option ModifierLine) → option_map (λ (l : ModifierLine). record { relation = l.relation; moment = moment; range = range; other = option_map (λ (v : NamedValue). v.value) other }) o ≡ Some f → FormOf us ns f
     by None e = cc
     by (Some l) e =
-        let same : record { kind = l.kind; moment = moment; range = range; other = option_map (λ (v : NamedValue). v.value) other } ≡ f = cc in
+        let same : record { relation = l.relation; moment = moment; range = range; other = option_map (λ (v : NamedValue). v.value) other } ≡ f = cc in
         subst (FormOf us ns) same (record { range = p; other = of_other other q })
 
 pub of_arguments : (name : List ℕ) (us : List ExprTree) (ns : List NamedValue) (moment : Moment) (f : ModifierForm) → form_of_arguments name us ns moment ≡ Some f → FormOf us ns f

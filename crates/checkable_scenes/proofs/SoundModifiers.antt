@@ -4,10 +4,11 @@ use Rattle.std.specs.Prelude.{flat_map, option_to_list, option_map, option_and_t
 use Rattle.std.specs.Option.{option_map_or}
 use Rattle.std.specs.List.{list_any, list_all}
 use Rattle.osc_base.specs.declared.path.Path.{Path}
-use Rattle.osc_base.specs.declared.modifier.Kind.{Kind}
+use Rattle.osc_base.specs.declared.relation.Relation.{Relation}
 use Rattle.osc_base.specs.declared.fault.FaultCode.{FaultCode}
 use Rattle.osc_base.specs.FaultRows.{row}
 use Rattle.osc_base.specs.Paths.{root, same_path, then_name}
+use Rattle.osc_base.specs.Relations.{looks_at_other, is_ranged}
 use Rattle.expr_eval.specs.dsl_tree.declared.parts.Ident.{Ident}
 use Rattle.expr_eval.specs.dsl_tree.declared.phases.InvokeHead.{InvokeHead}
 use Rattle.expr_eval.specs.dsl_tree.ExprTree.{ExprTree}
@@ -38,7 +39,7 @@ use Rattle.run_values.specs.composition.There.{read_by}
 use Rattle.run_values.specs.composition.Givens.{from_root, typed_here}
 use Rattle.run_values.specs.composition.Expansion.{GivenModifier, Calling, calling, here_in, object_at, low_end, high_end, invocation, phase_part, expand_within, expansion}
 use Rattle.run_values.specs.composition.Expanded.{is_vehicle, spot, spots_of, modifiers_of, modifier_of, bindings_of, is_driven, is_readable, can_apply, scene_from, scene}
-use Rattle.run_values.specs.composition.Invariants.{is_read, has_range, has_other, is_end, is_modifier}
+use Rattle.run_values.specs.composition.Invariants.{is_read, is_end, is_plain, is_timed, is_modifier}
 use Rattle.run_values.specs.field_flatten.Exactness.{expressions}
 use Rattle.run_values.specs.field_flatten.Seen.{has_values}
 use Rattle.run_values.proofs.of_field_flatten.Tests.{left_of, right_of, both, two_ways, In, in_left, in_right, in_either, in_map, map_in, in_flat_map, flat_map_in, in_filter, all_at, all_from, any_from, path_self}
@@ -85,18 +86,8 @@ alike_number ValueKind.Chars v p q = absurd (true≢false (sym p))
 alike_number (ValueKind.Object x) v p q = absurd (true≢false (sym p))
 alike_number (ValueKind.Phase x) v p q = absurd (true≢false (sym p))
 
-compared_number : (k : Kind) → is_number (compared_kind k) ≡ true
-compared_number Kind.Speed = refl
-compared_number Kind.FasterThan = refl
-compared_number Kind.SlowerThan = refl
-compared_number Kind.Position = refl
-compared_number Kind.AheadOf = refl
-compared_number Kind.Behind = refl
-compared_number Kind.SameSpeed = refl
-compared_number Kind.Lane = refl
-compared_number Kind.SameLane = refl
-compared_number Kind.LeftOf = refl
-compared_number Kind.RightOf = refl
+compared_number : (relation : Relation) → is_number (compared_kind relation) ≡ true
+compared_number relation = refl
 
 or_false : (a : Bool) → a || false ≡ true → a ≡ true
 or_false true h = refl
@@ -135,8 +126,9 @@ ends_number k n (Nodes.Within i l r) g h = let e = single_end k n (Nodes.Within 
 
 -- what is known of a modifier from its text
 pub record IsMade (m : ModifierSpot) : Type 0 where
-  pub other : has_other m.kind ≡ true → is_some m.other ≡ true
-  pub ends : has_range m.kind ≡ true → (l : Typed) × (h : Typed) × (m.low ≡ Some l) × (m.high ≡ Some h) × IsNumberEnd l × IsNumberEnd h
+  pub other : looks_at_other m.relation ≡ true → is_some m.other ≡ true
+  pub ends : is_ranged m.relation ≡ true → (l : Typed) × (h : Typed) × (m.low ≡ Some l) × (m.high ≡ Some h) × IsNumberEnd l × IsNumberEnd h
+  pub asks : is_plain m.relation && is_timed m.relation m.moment ≡ true
   pub low_valued : (x : Typed) → m.low ≡ Some x → has_values x ≡ true
   pub high_valued : (x : Typed) → m.high ≡ Some x → has_values x ≡ true
 
@@ -148,6 +140,7 @@ module _ (ts : Types) (k : AllKnown ts) (resolves : Resolves ts) (short : AreSho
       (record {
         other = λ o. by_other g.shape.other refl (parts.other o);
         ends = λ r. by_range g.shape.range refl (parts.range r);
+        asks = parts.asks;
         low_valued = λ x e. low_by g.shape.range refl x e;
         high_valued = λ x e. high_by g.shape.range refl x e;
       })
@@ -171,7 +164,7 @@ module _ (ts : Types) (k : AllKnown ts) (resolves : Resolves ts) (short : AreSho
       by_other (Some c) e h =
           let inside = (form_compared g.tree g.shape g.formed).1 c e in
           let x = typed_or_refused ts.table (scope_at ts call.holder (Some (It.Of of None)) call.way) resolved c (rows_among (expr_rows ts.table (scope_at ts call.holder (Some (It.Of of None)) call.way)) (flat_map compared_exprs g.tree.arguments) compared c inside) in
-          let judged = no_left (isnt_path_to ts.table (scope_at ts call.holder (Some (It.Of of None)) call.way) (is_vehicle_object ts) c) false (subst (λ o. any_holds (option_map_or (λ c. row (first c) FaultCode.WrongKind (isnt_path_to ts.table (scope_at ts call.holder (Some (It.Of of None)) call.way) (is_vehicle_object ts) c) ∷ []) o []) ≡ false) e (rows_right (option_map_or (λ e. modifier_fit_rows (compared_kind g.shape.kind) (first e) (typed ts.table (scope_at ts call.holder (Some (It.Of of None)) call.way) e)) g.shape.range []) _ rows)) in
+          let judged = no_left (isnt_path_to ts.table (scope_at ts call.holder (Some (It.Of of None)) call.way) (is_vehicle_object ts) c) false (subst (λ o. any_holds (option_map_or (λ c. row (first c) FaultCode.WrongKind (isnt_path_to ts.table (scope_at ts call.holder (Some (It.Of of None)) call.way) (is_vehicle_object ts) c) ∷ []) o []) ≡ false) e (rows_right (option_map_or (λ e. modifier_fit_rows (compared_kind g.shape.relation) (first e) (typed ts.table (scope_at ts call.holder (Some (It.Of of None)) call.way) e)) g.shape.range []) _ rows)) in
           let path = holds_not (is_path c) (no_left (not (is_path c)) _ judged) in
           let vehicle = holds_not (is_vehicle_object ts x.0) (subst (λ o. of_one o (λ t. not (is_vehicle_object ts t)) ≡ false) x.1 (no_right (not (is_path c)) (of_one (typed ts.table (scope_at ts call.holder (Some (It.Of of None)) call.way) c) (λ t. not (is_vehicle_object ts t))) judged)) in
           let u = object_of (kind x.0) (is_vehicle ts) vehicle in
@@ -188,10 +181,10 @@ module _ (ts : Types) (k : AllKnown ts) (resolves : Resolves ts) (short : AreSho
       range_ends c e =
           let inside = (form_compared g.tree g.shape g.formed).0 c e in
           let x = typed_or_refused ts.table (scope_at ts call.holder (Some (It.Of of None)) call.way) resolved c (rows_among (expr_rows ts.table (scope_at ts call.holder (Some (It.Of of None)) call.way)) (flat_map compared_exprs g.tree.arguments) compared c inside) in
-          let fits = subst (λ o. any_holds (option_map_or (λ e. modifier_fit_rows (compared_kind g.shape.kind) (first e) (typed ts.table (scope_at ts call.holder (Some (It.Of of None)) call.way) e)) o []) ≡ false) e (rows_left (option_map_or (λ e. modifier_fit_rows (compared_kind g.shape.kind) (first e) (typed ts.table (scope_at ts call.holder (Some (It.Of of None)) call.way) e)) g.shape.range []) _ rows) in
-          let judged = subst (λ o. any_holds (modifier_fit_rows (compared_kind g.shape.kind) (first c) o) ≡ false) x.1 fits in
+          let fits = subst (λ o. any_holds (option_map_or (λ e. modifier_fit_rows (compared_kind g.shape.relation) (first e) (typed ts.table (scope_at ts call.holder (Some (It.Of of None)) call.way) e)) o []) ≡ false) e (rows_left (option_map_or (λ e. modifier_fit_rows (compared_kind g.shape.relation) (first e) (typed ts.table (scope_at ts call.holder (Some (It.Of of None)) call.way) e)) g.shape.range []) _ rows) in
+          let judged = subst (λ o. any_holds (modifier_fit_rows (compared_kind g.shape.relation) (first c) o) ≡ false) x.1 fits in
           let good = typed_good ts.table small (scope_at ts call.holder (Some (It.Of of None)) call.way) c (g.short c ((form_values g.tree g.shape g.formed).0 c e)) x.0 x.1 in
-          let ends = ends_number (compared_kind g.shape.kind) (compared_number g.shape.kind) x.0 good (holds_not (is_kind true (compared_kind g.shape.kind) x.0) (no_left (not (is_kind true (compared_kind g.shape.kind) x.0)) _ judged)) in
+          let ends = ends_number (compared_kind g.shape.relation) (compared_number g.shape.relation) x.0 good (holds_not (is_kind true (compared_kind g.shape.relation) x.0) (no_left (not (is_kind true (compared_kind g.shape.relation) x.0)) _ judged)) in
           let to = from_root (here_in ts call (Some (It.Of of None))) in
           let same = moved_kind to x.0 in (
             moved to (low_end x.0),
@@ -280,31 +273,32 @@ module _ (ts : Types) (k : AllKnown ts) (resolves : Resolves ts) (short : AreSho
         let driven = left_of (list_all (is_driven here) ((modifier_of bound g).own ∷ option_to_list (modifier_of bound g).other)) (list_all (is_readable here) (read_by (modifier_of bound g).low ++ read_by (modifier_of bound g).high)) applied in
         both (has_phase here g.phase && list_any (same_path (home bound g.own)) (vehicles here)) _
         (both (has_phase here g.phase) (list_any (same_path (home bound g.own)) (vehicles here)) phase (left_of (is_driven here (home bound g.own)) _ driven))
-        (both (not (has_other g.kind) || option_map_or (λ (v : Path). list_any (same_path v) (vehicles here)) (option_map (home bound) g.other) false) _
+        (both (not (looks_at_other g.relation) || option_map_or (λ (v : Path). list_any (same_path v) (vehicles here)) (option_map (home bound) g.other) false) _
         (by_other g.other refl (right_of (is_driven here (home bound g.own)) (list_all (is_driven here) (option_to_list (option_map (home bound) g.other))) driven))
-        (two_ways (has_range g.kind) (λ e. ranged e (made.ends e)) (λ e. unranged e)))
+        (both (not (is_ranged g.relation) || (option_map_or (is_end here) (option_map (moved (home bound)) g.low) false && option_map_or (is_end here) (option_map (moved (home bound)) g.high) false)) _
+        (two_ways (is_ranged g.relation) (λ e. ranged e (made.ends e)) (λ e. unranged e)) made.asks))
       where
         by_other : (o : Option Path) → g.other ≡ o → list_all (is_driven here) (option_to_list (option_map (home bound) g.other)) ≡ true
-            → not (has_other g.kind) || option_map_or (λ (v : Path). list_any (same_path v) (vehicles here)) (option_map (home bound) g.other) false ≡ true
-        by_other None e h = two_ways (has_other g.kind) (λ q. absurd (true≢false (sym (made.other q) ∙ ap is_some e))) (λ q. rw q refl)
+            → not (looks_at_other g.relation) || option_map_or (λ (v : Path). list_any (same_path v) (vehicles here)) (option_map (home bound) g.other) false ≡ true
+        by_other None e h = two_ways (looks_at_other g.relation) (λ q. absurd (true≢false (sym (made.other q) ∙ ap is_some e))) (λ q. rw q refl)
         by_other (Some v) e h =
-            or_right (not (has_other g.kind)) _ (subst (λ o. option_map_or (λ (v : Path). list_any (same_path v) (vehicles here)) (option_map (home bound) o) false ≡ true) (sym e)
+            or_right (not (looks_at_other g.relation)) _ (subst (λ o. option_map_or (λ (v : Path). list_any (same_path v) (vehicles here)) (option_map (home bound) o) false ≡ true) (sym e)
             (left_of (is_driven here (home bound v)) true (subst (λ o. list_all (is_driven here) (option_to_list (option_map (home bound) o)) ≡ true) e h)))
 
-        unranged : has_range g.kind ≡ false
-            → not (has_range g.kind) || (option_map_or (is_end here) (option_map (moved (home bound)) g.low) false && option_map_or (is_end here) (option_map (moved (home bound)) g.high) false) ≡ true
+        unranged : is_ranged g.relation ≡ false
+            → not (is_ranged g.relation) || (option_map_or (is_end here) (option_map (moved (home bound)) g.low) false && option_map_or (is_end here) (option_map (moved (home bound)) g.high) false) ≡ true
         unranged e = rw e refl
 
         listed : (t : Typed) → In t (option_to_list (option_map (moved (home bound)) g.low) ++ option_to_list (option_map (moved (home bound)) g.high)) → In t (expressions here)
         listed t i = in_right t (flat_map (λ (o : Occurrence). option_to_list o.typed) here.occurrences) (flat_map (λ (m : ModifierSpot). option_to_list m.low ++ option_to_list m.high) here.modifiers)
             (in_flat_map (λ (m : ModifierSpot). option_to_list m.low ++ option_to_list m.high) here.modifiers (modifier_of bound g) t inside i)
 
-        ranged : has_range g.kind ≡ true → (l : Typed) × (h : Typed) × (g.low ≡ Some l) × (g.high ≡ Some h) × IsNumberEnd l × IsNumberEnd h
-            → not (has_range g.kind) || (option_map_or (is_end here) (option_map (moved (home bound)) g.low) false && option_map_or (is_end here) (option_map (moved (home bound)) g.high) false) ≡ true
+        ranged : is_ranged g.relation ≡ true → (l : Typed) × (h : Typed) × (g.low ≡ Some l) × (g.high ≡ Some h) × IsNumberEnd l × IsNumberEnd h
+            → not (is_ranged g.relation) || (option_map_or (is_end here) (option_map (moved (home bound)) g.low) false && option_map_or (is_end here) (option_map (moved (home bound)) g.high) false) ≡ true
         ranged e r =
             let low : option_map (moved (home bound)) g.low ≡ Some (moved (home bound) r.0) = ap (λ o. option_map (moved (home bound)) o) r.2 in
             let high : option_map (moved (home bound)) g.high ≡ Some (moved (home bound) r.1) = ap (λ o. option_map (moved (home bound)) o) r.3 in
-            or_right (not (has_range g.kind)) _ (both (option_map_or (is_end here) (option_map (moved (home bound)) g.low) false) _
+            or_right (not (is_ranged g.relation)) _ (both (option_map_or (is_end here) (option_map (moved (home bound)) g.low) false) _
             (subst (λ o. option_map_or (is_end here) o false ≡ true) (sym low) (end_right r.0 r.4 (listed (moved (home bound) r.0)
             (in_left (moved (home bound) r.0) (option_to_list (option_map (moved (home bound)) g.low)) (option_to_list (option_map (moved (home bound)) g.high)) (option_in (option_map (moved (home bound)) g.low) (moved (home bound) r.0) low)))))
             (subst (λ o. option_map_or (is_end here) o false ≡ true) (sym high) (end_right r.1 r.5 (listed (moved (home bound) r.1)

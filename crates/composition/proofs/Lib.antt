@@ -4,7 +4,6 @@ pub mod HomeSteps
 pub mod TextPlaces
 pub mod Settings
 pub mod RowsToday
-pub mod SpotsToday
 -- Crates below, for the crates above.
 pub use Rattle.expr_nodes.proofs as of_expr_nodes
 pub use Rattle.cond_inherit.proofs.of_type_heads as of_type_heads

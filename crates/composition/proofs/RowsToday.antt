@@ -1,7 +1,6 @@
 -- Each line of the table of modifiers of single ticks is a row of the table of all modifiers, and asks the same.
 use Rattle.std.proofs.Common.{◌≡◌, refl, Bool, true, false, not, ◌&&◌, cond, ℕ, List}
 use Rattle.std.specs.Prelude.{bytes_eq, codes, filter, is_some, map}
-use Rattle.expr_nodes.specs.osc_base.Relations.{relation_of}
 use Rattle.composition.specs.ModifierLines.{ModifierLine, modifier_lines}
 use Rattle.composition.specs.ModifierRows.{ValuePlace, Nowhere, FirstOr, Named, ModifierRow, at_moments, modifier_table}
 
@@ -10,7 +9,7 @@ abbrev standard : List ℕ → List ℕ
 standard name = cond (bytes_eq name (codes "position")) (codes "distance") name
 
 abbrev row_of : ModifierLine → ModifierRow
-row_of l = at_moments l.name (cond l.has_range (FirstOr (standard l.name)) Nowhere) l.other (relation_of l.kind)
+row_of l = at_moments l.name (cond l.has_range (FirstOr (standard l.name)) Nowhere) l.other l.relation
 
 abbrev is_time : ValuePlace → Bool
 is_time (Named name) = true

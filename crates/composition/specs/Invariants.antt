@@ -4,8 +4,12 @@ use Rattle.std.specs.Option.{option_map_or}
 use Rattle.std.specs.List.{list_any, list_all}
 use Rattle.expr_nodes.specs.osc_base.declared.path.Path.{Path}
 use Rattle.expr_nodes.specs.osc_base.declared.mark.Strength.{Strength}
-use Rattle.expr_nodes.specs.osc_base.declared.modifier.Kind.{Kind}
+use Rattle.expr_nodes.specs.osc_base.declared.modifier.Moment.{Moment}
+use Rattle.expr_nodes.specs.osc_base.declared.relation.Quantity.{Quantity}
+use Rattle.expr_nodes.specs.osc_base.declared.relation.Rate.{Rate}
+use Rattle.expr_nodes.specs.osc_base.declared.relation.Relation.{Relation}
 use Rattle.expr_nodes.specs.osc_base.Paths.{same_path}
+use Rattle.expr_nodes.specs.osc_base.Relations.{quantity, is_step, is_ranged, looks_at_other}
 use Rattle.expr_nodes.specs.Kinds.{is_number, is_truth}
 use Rattle.expr_nodes.specs.Typed.{Typed, Info, kind}
 use Rattle.expr_nodes.specs.Parts.{is_scalar}
@@ -152,31 +156,46 @@ abbrev pub is_occurrence : Scene → Occurrence → Strength → Bool
 is_occurrence scene o Strength.Remove = is_none o.typed && option_map_or (λ (p : Path). is_target scene p (source scene p)) o.mark.target false
 is_occurrence scene o strength = option_map_or (λ (t : Typed). is_truth (kind t) && is_expression scene t) o.typed false
 
--- the modifier has a value or a range
-abbrev pub has_range : Kind → Bool
-has_range Kind.SameSpeed = false
-has_range Kind.SameLane = false
-has_range Kind.LeftOf = false
-has_range Kind.RightOf = false
-has_range kind = true
+-- a range counts whole lanes, metres, or metres a second
+abbrev pub is_whole : Rate → Bool
+is_whole Rate.Whole = true
+is_whole _ = false
 
--- the modifier has another vehicle
-abbrev pub has_other : Kind → Bool
-has_other Kind.Speed = false
-has_other Kind.Lane = false
-has_other Kind.Position = false
-has_other kind = true
+-- one quantity
+abbrev pub same_quantity : Quantity → Quantity → Bool
+same_quantity Quantity.Lane Quantity.Lane = true
+same_quantity Quantity.Position Quantity.Position = true
+same_quantity Quantity.Speed Quantity.Speed = true
+same_quantity _ _ = false
+
+-- A relation of the samples at a tick, or at a tick and the next. Its range counts whole lanes, metres, or metres a second, and what it takes away
+-- from a quantity is of that quantity.
+abbrev pub is_plain : Relation → Bool
+is_plain (Relation.Within a rate) = is_whole rate
+is_plain (Relation.Apart a b rate) = is_whole rate && same_quantity (quantity a) (quantity b)
+is_plain (Relation.Beside a b more) = is_small more
+is_plain (Relation.Change side) = false
+
+-- each tick from the start on and before the end
+abbrev pub is_all : Moment → Bool
+is_all Moment.All = true
+is_all _ = false
+
+-- a relation that looks at a tick and the next is asked for all along
+abbrev pub is_timed : Relation → Moment → Bool
+is_timed relation moment = not (is_step relation) || is_all moment
 
 -- an end of a range is a number
 abbrev pub is_end : Scene → Typed → Bool
 is_end scene t = is_number (kind t) && is_expression scene t
 
--- a modifier has a phase, its vehicles and its ends
+-- a modifier has a phase, its vehicles and its ends, and moments that its relation may have
 abbrev pub is_modifier : Scene → ModifierSpot → Bool
 is_modifier scene m =
     (has_phase scene m.phase && list_any (same_path m.own) (vehicles scene))
-    && ((not (has_other m.kind) || option_map_or (λ (v : Path). list_any (same_path v) (vehicles scene)) m.other false)
-    && (not (has_range m.kind) || (option_map_or (is_end scene) m.low false && option_map_or (is_end scene) m.high false)))
+    && ((not (looks_at_other m.relation) || option_map_or (λ (v : Path). list_any (same_path v) (vehicles scene)) m.other false)
+    && ((not (is_ranged m.relation) || (option_map_or (is_end scene) m.low false && option_map_or (is_end scene) m.high false))
+    && (is_plain m.relation && is_timed m.relation m.moment)))
 
 -- ---- scenes
 

@@ -1,6 +1,6 @@
 -- What a scene asks of a run, item by item: each hard constraint, each default, each enum value, each phase, and each modifier and vehicle at each
 -- tick. An item is asked for only under its conditions.
-use Rattle.std.specs.Prelude.{ℕ, ◌+◌, ◌&&◌, ◌||◌, Bool, true, false, cond, not, List, [], ◌∷◌, ◌++◌, Option, map, flat_map, unwrap_or, slice_get, option_and_then, ℤ, pos}
+use Rattle.std.specs.Prelude.{ℕ, ◌+◌, ◌||◌, Bool, true, false, cond, not, List, [], ◌∷◌, ◌++◌, Option, map, flat_map, unwrap_or, slice_get, option_and_then, ℤ, pos}
 use Rattle.std.specs.Option.{option_map_or}
 use Rattle.std.specs.List.{list_any}
 use Rattle.expr_nodes.specs.osc_base.declared.path.Path.{Path}
@@ -9,7 +9,7 @@ use Rattle.expr_nodes.specs.osc_base.declared.mark.Strength.{Strength}
 use Rattle.expr_nodes.specs.osc_base.declared.listing.RuleName.{RuleName}
 use Rattle.expr_nodes.specs.osc_base.Number.{Number, whole}
 use Rattle.expr_nodes.specs.osc_base.Paths.{same_path}
-use Rattle.expr_nodes.specs.osc_base.Modifiers.{holds_of, is_moment}
+use Rattle.expr_nodes.specs.osc_base.Relations.{Sight, asks}
 use Rattle.keep_rules.specs.Overriding.{overriders}
 use Rattle.expr_nodes.specs.Typed.{Typed}
 use Rattle.expr_nodes.specs.Value.{value}
@@ -85,12 +85,22 @@ end_value scene run typed = unwrap_or (option_and_then (value (number_at scene r
 abbrev pub other_of : ModifierSpot → Path
 other_of m = unwrap_or m.other m.own
 
--- a modifier that is there holds at a tick that is one of its moments
+-- what a modifier looks at in a run
+abbrev pub sight_of : Scene → Run → ModifierSpot → Sight
+sight_of scene run m = record {
+  length = run.tick;
+  ticks = scene.setting.ticks;
+  start = (times_of run).start m.phase;
+  end = (times_of run).end m.phase;
+  own = sample_of run m.own;
+  other = sample_of run (other_of m);
+}
+
+-- a modifier that is there has what it asks at a tick
 abbrev pub modifier_holds : Scene → Run → ModifierSpot → ℕ → Bool
 modifier_holds scene run m tick =
-    let times = times_of run in
-    not (are_met run (modifier_presence scene m) && is_moment m.moment (times.start m.phase) (times.end m.phase) (pos tick))
-    || holds_of m.kind (end_value scene run m.low) (end_value scene run m.high) (sample_of run m.own tick) (sample_of run (other_of m) tick)
+    not (are_met run (modifier_presence scene m))
+    || asks m.relation m.moment (end_value scene run m.low) (end_value scene run m.high) (sight_of scene run m) tick
 
 -- ---- motion
 

@@ -18,7 +18,6 @@ pub mod Homes
 pub mod Tokens
 pub mod ModifierLines
 pub mod ModifierRows
-pub mod RowSpots
 pub mod Givens
 pub mod Expansion
 pub mod Expanded

@@ -1,39 +1,58 @@
 -- The forms of modifiers.
-use Rattle.std.specs.Prelude.{ℕ, ◌&&◌, ◌||◌, Bool, true, false, cond, not, List, [], ◌∷◌, Option, Some, None, bytes_eq, codes, find, filter, filter_map, option_map, option_and_then}
+use Rattle.std.specs.Prelude.{ℕ, ◌&&◌, ◌||◌, Bool, true, false, cond, not, List, [], ◌∷◌, Option, Some, None, bytes_eq, codes, find, filter, filter_map, option_map, option_and_then, ℤ, pos, negsuc}
 use Rattle.std.specs.Option.{option_map_or}
 use Rattle.std.specs.List.{list_any}
-use Rattle.expr_nodes.specs.osc_base.declared.modifier.Kind.{Kind}
 use Rattle.expr_nodes.specs.osc_base.declared.modifier.Moment.{Moment}
+use Rattle.expr_nodes.specs.osc_base.declared.relation.Quantity.{Quantity}
+use Rattle.expr_nodes.specs.osc_base.declared.relation.Reading.{Reading}
+use Rattle.expr_nodes.specs.osc_base.declared.relation.Rate.{Rate}
+use Rattle.expr_nodes.specs.osc_base.declared.relation.Relation.{Relation}
 use Rattle.cond_inherit.specs.dsl_tree.declared.parts.Ident.{Ident}
 use Rattle.cond_inherit.specs.dsl_tree.ExprTree.{ExprTree}
 use Rattle.cond_inherit.specs.dsl_tree.PhaseTree.{ArgumentTree, ModifierTree}
 
 -- A line of the table of modifiers: the modifier's name, whether it has a value or range, the name of the argument for the other vehicle if it has
--- one, and what it says.
+-- one, and what it asks.
 pub record ModifierLine : Type 0 where
   pub name : List ℕ
   pub has_range : Bool
   pub other : Option (List ℕ)
-  pub kind : Kind
+  pub relation : Relation
 
 -- a line of the table
-abbrev pub line : List ℕ → Bool → Option (List ℕ) → Kind → ModifierLine
-line name has_range other kind = record { name = name; has_range = has_range; other = other; kind = kind }
+abbrev pub line : List ℕ → Bool → Option (List ℕ) → Relation → ModifierLine
+line name has_range other relation = record { name = name; has_range = has_range; other = other; relation = relation }
+
+-- a quantity in a range
+abbrev pub own_in : Quantity → Relation
+own_in q = Relation.Within (Reading.Own q) Rate.Whole
+
+-- how much more a quantity is than the other vehicle's
+abbrev pub own_less : Quantity → Relation
+own_less q = Relation.Apart (Reading.Own q) (Reading.Other q) Rate.Whole
+
+-- how much less a quantity is than the other vehicle's
+abbrev pub other_less : Quantity → Relation
+other_less q = Relation.Apart (Reading.Other q) (Reading.Own q) Rate.Whole
+
+-- a quantity is the other vehicle's and so much more
+abbrev pub own_beside : Quantity → ℤ → Relation
+own_beside q more = Relation.Beside (Reading.Own q) (Reading.Other q) more
 
 -- the table
 abbrev pub modifier_lines : List ModifierLine
 modifier_lines =
-    line (codes "speed") true None Kind.Speed
-    ∷ line (codes "speed") true (Some (codes "faster_than")) Kind.FasterThan
-    ∷ line (codes "speed") true (Some (codes "slower_than")) Kind.SlowerThan
-    ∷ line (codes "speed") false (Some (codes "same_as")) Kind.SameSpeed
-    ∷ line (codes "lane") true None Kind.Lane
-    ∷ line (codes "lane") false (Some (codes "same_as")) Kind.SameLane
-    ∷ line (codes "lane") false (Some (codes "left_of")) Kind.LeftOf
-    ∷ line (codes "lane") false (Some (codes "right_of")) Kind.RightOf
-    ∷ line (codes "position") true None Kind.Position
-    ∷ line (codes "position") true (Some (codes "ahead_of")) Kind.AheadOf
-    ∷ line (codes "position") true (Some (codes "behind")) Kind.Behind
+    line (codes "speed") true None (own_in Quantity.Speed)
+    ∷ line (codes "speed") true (Some (codes "faster_than")) (own_less Quantity.Speed)
+    ∷ line (codes "speed") true (Some (codes "slower_than")) (other_less Quantity.Speed)
+    ∷ line (codes "speed") false (Some (codes "same_as")) (own_beside Quantity.Speed (pos 0))
+    ∷ line (codes "lane") true None (own_in Quantity.Lane)
+    ∷ line (codes "lane") false (Some (codes "same_as")) (own_beside Quantity.Lane (pos 0))
+    ∷ line (codes "lane") false (Some (codes "left_of")) (own_beside Quantity.Lane (pos 1))
+    ∷ line (codes "lane") false (Some (codes "right_of")) (own_beside Quantity.Lane (negsuc 0))
+    ∷ line (codes "position") true None (own_in Quantity.Position)
+    ∷ line (codes "position") true (Some (codes "ahead_of")) (own_less Quantity.Position)
+    ∷ line (codes "position") true (Some (codes "behind")) (other_less Quantity.Position)
     ∷ []
 
 -- a modifier of that name is there
@@ -75,9 +94,9 @@ moment_of (v ∷ next ∷ later) = None
 
 -- ---- forms
 
--- a modifier as written: what it says, its moments, its value or range, and the path to its other vehicle
+-- a modifier as written: what it asks, its moments, its value or range, and the path to its other vehicle
 pub record ModifierForm : Type 0 where
-  pub kind : Kind
+  pub relation : Relation
   pub moment : Moment
   pub range : Option ExprTree
   pub other : Option ExprTree
@@ -95,7 +114,7 @@ is_line name has_range other l = bytes_eq l.name name && ((has_range && l.has_ra
 -- the form by the line that has these arguments
 abbrev pub form_on_line : List ℕ → Bool → Option ExprTree → Option NamedValue → Moment → Option ModifierForm
 form_on_line name has_range range other moment =
-    option_map (λ l. record { kind = l.kind; moment = moment; range = range; other = option_map (λ v. v.value) other })
+    option_map (λ l. record { relation = l.relation; moment = moment; range = range; other = option_map (λ v. v.value) other })
     (find (is_line name has_range (option_map (λ v. v.name) other)) modifier_lines)
 
 -- at most one value or range, and at most one argument for another vehicle

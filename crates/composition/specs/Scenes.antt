@@ -5,8 +5,8 @@ use Rattle.std.specs.List.{list_any}
 use Rattle.expr_nodes.specs.osc_base.declared.fault.Place.{Place}
 use Rattle.expr_nodes.specs.osc_base.declared.path.Path.{Path}
 use Rattle.expr_nodes.specs.osc_base.declared.mark.Mark.{Mark}
-use Rattle.expr_nodes.specs.osc_base.declared.modifier.Kind.{Kind}
 use Rattle.expr_nodes.specs.osc_base.declared.modifier.Moment.{Moment}
+use Rattle.expr_nodes.specs.osc_base.declared.relation.Relation.{Relation}
 use Rattle.expr_nodes.specs.osc_base.Paths.{path_of, root, same_path, then_name, then_do, timed_part}
 use Rattle.expr_nodes.specs.Typed.{Typed}
 use Rattle.composition.specs.declared.guard.Guard.{Guard}
@@ -43,13 +43,13 @@ pub record Occurrence : Type 0 where
   pub mark : Mark
   pub typed : Option Typed
 
--- A modifier: where it is written, its phase, its own and its other vehicle, its relation, its moments, and the ends of its range.
+-- A modifier: where it is written, its phase, its own and its other vehicle, what it asks, its moments, and the ends of its range.
 pub record ModifierSpot : Type 0 where
   pub place : Place
   pub phase : Path
   pub own : Path
   pub other : Option Path
-  pub kind : Kind
+  pub relation : Relation
   pub moment : Moment
   pub low : Option Typed
   pub high : Option Typed

@@ -1,11 +1,12 @@
 -- The faults of uses: of rules, initial values, arguments, phases and modifiers, wherever they are written.
-use Rattle.std.specs.Prelude.{ℕ, ◌+◌, pos, negsuc, ◌&&◌, ◌||◌, Bool, true, false, not, cond, List, [], ◌∷◌, ◌++◌, Option, Some, None, length, is_none, is_some, bytes_eq, codes, flat_map, map, option_map, option_to_list}
+use Rattle.std.specs.Prelude.{ℕ, ◌+◌, ◌&&◌, ◌||◌, Bool, true, false, not, cond, List, [], ◌∷◌, ◌++◌, Option, Some, None, length, is_none, is_some, bytes_eq, codes, flat_map, map, option_map, option_to_list}
 use Rattle.std.specs.Option.{option_map_or}
 use Rattle.std.specs.List.{list_any}
 use Rattle.expr_nodes.specs.osc_base.declared.fault.Place.{Place}
 use Rattle.expr_nodes.specs.osc_base.declared.fault.FaultCode.{FaultCode}
-use Rattle.expr_nodes.specs.osc_base.declared.modifier.Kind.{Kind}
+use Rattle.expr_nodes.specs.osc_base.declared.relation.Relation.{Relation}
 use Rattle.expr_nodes.specs.osc_base.FaultRows.{FaultRow, row}
+use Rattle.expr_nodes.specs.osc_base.Relations.{dimension}
 use Rattle.cond_inherit.specs.dsl_tree.declared.parts.Ident.{Ident}
 use Rattle.cond_inherit.specs.dsl_tree.declared.rules.KeepKind.{KeepKind}
 use Rattle.cond_inherit.specs.dsl_tree.declared.phases.CompKind.{CompKind}
@@ -16,7 +17,7 @@ use Rattle.cond_inherit.specs.type_heads.Table.{Table, TypeHead, form, named, is
 use Rattle.cond_inherit.specs.type_heads.Types.{Written, Do, Types}
 use Rattle.cond_inherit.specs.type_heads.Members.{body, list_length, declared_type, field_type, the_do}
 use Rattle.cond_inherit.specs.type_heads.Cycles.{returns}
-use Rattle.expr_nodes.specs.Kinds.{ValueKind, plain, no_exponents, kind_of, object_type, is_truth}
+use Rattle.expr_nodes.specs.Kinds.{ValueKind, no_exponents, kind_of, object_type, is_truth}
 use Rattle.expr_nodes.specs.Typed.{Typed, kind}
 use Rattle.expr_nodes.specs.Scope.{It, Scope}
 use Rattle.expr_nodes.specs.Sizes.{Size, field_size}
@@ -169,15 +170,9 @@ composition_rows table sc comp earlier (a ∷ others) =
 abbrev pub is_drive : Types → ℕ → Bool
 is_drive ts t = is_some ts.library && option_map_or (λ d. is_kind_of ts.table.heads d t) (named ts.table.heads (Some (codes "vehicle")) (codes "drive")) false
 
--- a speed, a lane or a position
-abbrev pub compared_kind : Kind → ValueKind
-compared_kind Kind.Speed = ValueKind.Number (record no_exponents { m = pos 1; s = negsuc 0 })
-compared_kind Kind.FasterThan = ValueKind.Number (record no_exponents { m = pos 1; s = negsuc 0 })
-compared_kind Kind.SlowerThan = ValueKind.Number (record no_exponents { m = pos 1; s = negsuc 0 })
-compared_kind Kind.Position = ValueKind.Number (record no_exponents { m = pos 1 })
-compared_kind Kind.AheadOf = ValueKind.Number (record no_exponents { m = pos 1 })
-compared_kind Kind.Behind = ValueKind.Number (record no_exponents { m = pos 1 })
-compared_kind _ = plain
+-- what a modifier compares with has the unit of what its range counts
+abbrev pub compared_kind : Relation → ValueKind
+compared_kind relation = let d = dimension relation in ValueKind.Number (record no_exponents { m = d.metres; s = d.seconds })
 
 -- a whole object that is a vehicle
 abbrev pub is_vehicle_object : Types → Typed → Bool
@@ -186,7 +181,7 @@ is_vehicle_object ts x = option_map_or (is_vehicle ts) (object_type (kind x)) fa
 -- what a modifier compares with, and its other vehicle
 abbrev pub form_rows : Types → Scope → ModifierForm → List FaultRow
 form_rows ts sc f =
-    option_map_or (λ e. modifier_fit_rows (compared_kind f.kind) (first e) (typed ts.table sc e)) f.range []
+    option_map_or (λ e. modifier_fit_rows (compared_kind f.relation) (first e) (typed ts.table sc e)) f.range []
     ++ option_map_or (λ c. row (first c) FaultCode.WrongKind (isnt_path_to ts.table sc (is_vehicle_object ts) c) ∷ []) f.other []
 
 -- the word after `at:` is no expression

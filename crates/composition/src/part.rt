@@ -2,7 +2,7 @@
 
 use crate::{Guard, PhaseKind, ValueRange};
 use expr_nodes::{Path, Place, Row, Typed};
-use keep_rules::path_index::osc_base::{Kind, Mark, Moment};
+use keep_rules::path_index::osc_base::{Mark, Moment, Relation};
 
 /// What stands at a path.
 #[derive(Drop)]
@@ -41,7 +41,7 @@ pub struct Occurrence {
     pub typed: Option<Typed>,
 }
 
-/// A modifier: where it is written, its phase, its own and its other vehicle, its relation, its moments, and the ends
+/// A modifier: where it is written, its phase, its own and its other vehicle, what it asks, its moments, and the ends
 /// of its range.
 #[derive(Drop)]
 pub struct ModifierSpot {
@@ -49,7 +49,7 @@ pub struct ModifierSpot {
     pub phase: Path,
     pub own: Path,
     pub other: Option<Path>,
-    pub kind: Kind,
+    pub relation: Relation,
     pub moment: Moment,
     pub low: Option<Typed>,
     pub high: Option<Typed>,

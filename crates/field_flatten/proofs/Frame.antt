@@ -38,7 +38,7 @@ use Rattle.field_flatten.specs.Exactness.{is_ascending, is_ordered_range, IsExpa
 use Rattle.field_flatten.proofs.Tests.{left_of, right_of, both, two_ways, path_self, number_is, number_self, In, all_at, all_from, all_append, all_map, any_from, filter_same, in_filter, found_in, finds}
 use Rattle.field_flatten.proofs.NamedRun.{span_there, held_there, value_named, trace_named}
 use Rattle.field_flatten.proofs.SlotLaw.{Inside, Between, choice_named, value_is_named, sample_is_named, start_between, end_between}
-use Rattle.field_flatten.proofs.NumberLaw.{at, text_in}
+use Rattle.field_flatten.proofs.NumberLaw.{at, text_in, end_small}
 use Rattle.field_flatten.proofs.ConstraintLaw.{run, there_stands}
 use Rattle.field_flatten.proofs.PhaseLaw.{phase_known}
 use Rattle.field_flatten.proofs.Nesting.{AllArranged, in_order}
@@ -190,12 +190,6 @@ module _ (scene : Scene) (point : List ℤ) (slot : SlotName → ℕ) (expanded 
 
   -- ---- the end
 
-  pub end_small : end_named scene named ≤ scene.setting.ticks
-  end_small = let b = end_between scene named inside root_do in two_ways (has_root_do scene) (λ e. rw e (small (named (SlotName.End root_do)) b.0 b.1)) (λ e. rw e (omega arith))
-    where
-      small : (z : ℤ) → pos 0 ≤ℤ z → z ≤ℤ pos scene.setting.ticks → unsigned_abs z ≤ scene.setting.ticks
-      small z p q = omega (arith, ints)
-
   root_stands : has_root_do scene ≡ true → stands scene named root_do ≡ true
   root_stands = root_there scene (is_held named) expanded.is_scene.whole
 
@@ -204,7 +198,7 @@ module _ (scene : Scene) (point : List ℤ) (slot : SlotName → ℕ) (expanded 
 
   pub end_holds : (end_claim scene runs).holds ≡ true
   end_holds = both (nat_eq scene.setting.tick scene.setting.tick) (nat_le (end_named scene named) scene.setting.ticks && ends_with_root_do scene runs) (number_self scene.setting.tick)
-      (both (nat_le (end_named scene named) scene.setting.ticks) (ends_with_root_do scene runs) (le_test (end_named scene named) scene.setting.ticks end_small)
+      (both (nat_le (end_named scene named) scene.setting.ticks) (ends_with_root_do scene runs) (le_test (end_named scene named) scene.setting.ticks (end_small scene point slot inside))
       (two_ways (has_root_do scene) (λ e. cond-true (has_root_do scene) ending (nat_eq (end_named scene named) 0) e ∙ with_root e) (λ e. cond-false (has_root_do scene) ending (nat_eq (end_named scene named) 0) e ∙ without e)))
     where
       with_root : has_root_do scene ≡ true → option_map_or (λ (s : Span). nat_eq (end_named scene named) s.end) (span_in runs root_do) false ≡ true
@@ -302,7 +296,7 @@ module _ (scene : Scene) (point : List ℤ) (slot : SlotName → ℕ) (expanded 
         (λ v i. let known = (in_filter (stands scene named) (vehicles scene) v i).0 in
         all_map (sample_in_range scene.setting) (sample_named named v) (range_with_len 0 (end_named scene named + 1))
         ∙ all_from (λ t. sample_in_range scene.setting (sample_named named v t)) (range_with_len 0 (end_named scene named + 1))
-        (λ t j. let few = counted_in 0 (end_named scene named + 1) t j in let small = end_small in sample_holds v t known (omega arith))))
+        (λ t j. let few = counted_in 0 (end_named scene named + 1) t j in let small = end_small scene point slot inside in sample_holds v t known (omega arith))))
       where
         four : list_all holds_in (map (λ (c : Choice). claim Clause.Bounds c.path (choice_in_range scene c)) runs.choices) ≡ true
             → list_all holds_in (map (λ (v : Value). claim Clause.Bounds v.path (value_in_range scene v)) runs.values) ≡ true

@@ -31,7 +31,7 @@ use Rattle.field_flatten.proofs.ConstraintLaw.{run, there_stands, hard_law, defa
 use Rattle.field_flatten.proofs.PhaseLaw.{arranged_law, arranged_same}
 use Rattle.field_flatten.proofs.ModifierLaw.{modifier_law}
 use Rattle.field_flatten.proofs.MotionLaw.{motion_law}
-use Rattle.field_flatten.proofs.Nesting.{AllArranged, moment_within}
+use Rattle.field_flatten.proofs.Nesting.{AllArranged, moment_within, next_within}
 
 -- ---- the overriders of a default
 
@@ -188,7 +188,10 @@ module _ (scene : Scene) (point : List ℤ) (slot : SlotName → ℕ) (expanded 
       (subst (λ p. value_at scene p ≡ Some is.0) is.2 (distinct_found (λ (v : ValueSpot). v.path) (values scene) expanded.is_scene.values_distinct is.0 is.1)) is.3
   item_law all (OfPhase p) is = arranged_law scene point slot expanded inside p is
   item_law all (OfModifier m tick) is = modifier_law scene point slot expanded inside m tick is.0
-      (λ there h. moment_within scene named expanded all m.moment m.phase tick (phase_of m is.0) there h)
+      (λ there h. (
+        moment_within scene named expanded all m.moment m.phase tick (phase_of m is.0) there h,
+        next_within scene named expanded all m.moment m.phase tick (phase_of m is.0) there h,
+      ))
     where
       phase_of : (n : ModifierSpot) → In n scene.modifiers → has_phase scene n.phase ≡ true
       phase_of n i = left_of (has_phase scene n.phase) (list_any (same_path n.own) (vehicles scene))

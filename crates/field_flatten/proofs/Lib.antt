@@ -13,6 +13,7 @@ pub mod ItemLaw
 pub mod ItemReach
 pub mod JoinedRows
 pub mod ListedRun
+pub mod KnownModifiers
 pub mod ModifierLaw
 pub mod ModifierReach
 pub mod MotionLaw

@@ -72,12 +72,6 @@ module _ (scene : Scene) (expanded : IsExpanded scene) (limited : IsLimited scen
         subst (λ o. option_map_or (λ (e : Pair). e.low) o (pos 0) ≤ℤ option_map_or (λ (e : Pair). e.high) o (pos 0)) (sym here) (omega (arith, ints)),
       )
 
-  pub position_gap : (v w : Path) (t : ℕ) → In v (vehicles scene) → In w (vehicles scene) → t ≤ scene.setting.ticks → Fits box most (Less (Slot (number (SlotName.Position v t))) (Slot (number (SlotName.Position w t)))) farthest
-  position_gap v w t i j small =
-      let a = from_zero (SlotName.Position v t) (scene.setting.road * 1000000) (sample_is_named scene v t (SlotName.Position v t) i small (inr (inl refl))) refl in
-      let b = from_zero (SlotName.Position w t) (scene.setting.road * 1000000) (sample_is_named scene w t (SlotName.Position w t) j small (inr (inl refl))) refl in
-      gap_fits box most (Slot (number (SlotName.Position v t))) (Slot (number (SlotName.Position w t))) farthest (position_fits v t i small) (position_fits w t j small) a.0 a.1 b.0 b.1 (omega arith)
-
   pub speed_gap : (v w : Path) (t u : ℕ) → In v (vehicles scene) → In w (vehicles scene) → t ≤ scene.setting.ticks → u ≤ scene.setting.ticks → Fits box most (Less (Slot (number (SlotName.Speed v t))) (Slot (number (SlotName.Speed w u)))) field_reach
   speed_gap v w t u i j small less =
       let a = from_zero (SlotName.Speed v t) 1000000000 (sample_is_named scene v t (SlotName.Speed v t) i small (inr (inr (inl refl)))) refl in

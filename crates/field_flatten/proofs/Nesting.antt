@@ -202,17 +202,31 @@ module _ (scene : Scene) (named : SlotName → ℤ) (expanded : IsExpanded scene
         none [] h g = true≢false (sym g)
         none (p ∷ ps) h g = let e : suc (length ps) ≡ 0 = number_is (suc (length ps)) 0 h in absurd (omega arith)
 
-    -- the moments of a modifier lie within the run
-    pub moment_within : (moment : Moment) (path : Path) (tick : ℕ) → has_phase scene path ≡ true → stands scene named path ≡ true
-        → is_moment moment (times.start path) (times.end path) (pos tick) ≡ true → tick ≤ end_named scene named
-    moment_within moment path tick known there h =
-        let up : pos tick ≤ℤ times.end path = by moment h (in_order path known there) in
+    -- a tick that isn't past the end of a phase isn't past the end of the run
+    tick_within : (path : Path) (tick : ℕ) → has_phase scene path ≡ true → stands scene named path ≡ true → pos tick ≤ℤ times.end path → tick ≤ end_named scene named
+    tick_within path tick known there up =
         let to : pos tick ≤ℤ times.end root_do = le_more (pos tick) (times.end path) (times.end root_do) up (phase_within path known there) in
         rw (root_known path known) (at_end (times.end root_do) to)
       where
         at_end : (z : ℤ) → pos tick ≤ℤ z → tick ≤ unsigned_abs z
         at_end z g = omega (arith, ints)
 
+    -- each tick from the start of a phase on and before its end has a next one within the run
+    pub next_within : (moment : Moment) (path : Path) (tick : ℕ) → has_phase scene path ≡ true → stands scene named path ≡ true
+        → is_moment moment (times.start path) (times.end path) (pos tick) ≡ true → moment ≡ Moment.All → tick + 1 ≤ end_named scene named
+    next_within moment path tick known there h all = tick_within path (tick + 1) known there (up (subst (λ m. is_moment m (times.start path) (times.end path) (pos tick) ≡ true) all h))
+      where
+        next : (end : ℤ) → not (int_le end (pos tick)) ≡ true → pos (tick + 1) ≤ℤ end
+        next end g = grind (arith, ints, g)
+
+        up : is_moment Moment.All (times.start path) (times.end path) (pos tick) ≡ true → pos (tick + 1) ≤ℤ times.end path
+        up g = next (times.end path) (right_of (int_le (times.start path) (pos tick)) (not (int_le (times.end path) (pos tick))) g)
+
+    -- the moments of a modifier lie within the run
+    pub moment_within : (moment : Moment) (path : Path) (tick : ℕ) → has_phase scene path ≡ true → stands scene named path ≡ true
+        → is_moment moment (times.start path) (times.end path) (pos tick) ≡ true → tick ≤ end_named scene named
+    moment_within moment path tick known there h = tick_within path tick known there (by moment h (in_order path known there))
+      where
         by : (moment : Moment) → is_moment moment (times.start path) (times.end path) (pos tick) ≡ true → times.start path ≤ℤ times.end path → pos tick ≤ℤ times.end path
         by Moment.Start g o = le_more (pos tick) (times.start path) (times.end path) (le_same (pos tick) (times.start path) (sym (same_number_is (times.start path) (pos tick) g))) o
         by Moment.End g o = le_same (pos tick) (times.end path) (sym (same_number_is (times.end path) (pos tick) g))

@@ -1,5 +1,5 @@
 -- What the run of a point holds at a path that is read is what the point gives it.
-use Rattle.std.proofs.Common.{◌≡◌, ℕ, zero, suc, ◌+◌, ◌-◌, ◌<◌, refl, sym, ap, ap₂, ◌∙◌, subst, inl, inr, List, [], ◌∷◌, true, false, ◌&&◌, not, cond, Option, Some, None, length, arith, true≢false}
+use Rattle.std.proofs.Common.{◌≡◌, ℕ, zero, suc, ◌+◌, ◌-◌, ◌<◌, ◌≤◌, refl, sym, ap, ap₂, ◌∙◌, subst, inl, inr, List, [], ◌∷◌, true, false, ◌&&◌, not, cond, Option, Some, None, length, arith, true≢false}
 use Rattle.std.specs.Prelude.{ℤ, pos, ◌≤ℤ◌, nat_lt, option_map, option_and_then, filter_map, slice_get, unwrap_or, is_some, unsigned_abs, bytes_eq}
 use Rattle.std.specs.Option.{option_map_or, option_or}
 use Rattle.std.specs.List.{list_any, list_all, position_or_len, cons_option}
@@ -153,6 +153,12 @@ module _ (scene : Scene) (point : List ℤ) (slot : SlotName → ℕ) where
 
     pub end_back : pos (end_named scene at) ≡ worth_at point (end_term scene slot)
     end_back = two_ways (has_root_do scene) (λ e. rw e (back (at (SlotName.End root_do)) (end_between scene at inside root_do).0)) (λ e. rw e refl)
+
+    pub end_small : end_named scene at ≤ scene.setting.ticks
+    end_small = let b = end_between scene at inside root_do in two_ways (has_root_do scene) (λ e. rw e (small (at (SlotName.End root_do)) b.0 b.1)) (λ e. rw e (omega arith))
+      where
+        small : (z : ℤ) → pos 0 ≤ℤ z → z ≤ℤ pos scene.setting.ticks → unsigned_abs z ≤ scene.setting.ticks
+        small z p q = omega (arith, ints)
 
     held_number : (path : Path) → (are_texts scene.texts && nat_lt 0 (length scene.texts)) ≡ true → (v : ValueSpot) → value_at scene path ≡ Some v
         → number_of scene.texts (held_of scene.texts v.range (at (SlotName.Value path))) ≡ Some (at (SlotName.Value path))

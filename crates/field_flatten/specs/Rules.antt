@@ -8,7 +8,8 @@ use Rattle.osc_base.specs.LowestTerms.{lcm}
 use Rattle.osc_base.specs.Paths.{same_path}
 use Rattle.box_eval.specs.declared.bounds.Pair.{Pair}
 use Rattle.box_eval.specs.FlatRules.{FlatTerm, FlatRule, Whole, Slot, Sum, Less, Below, AtMost, Equal, Both, all_of, any_of, under, times}
-use Rattle.modifier_rules.specs.Relations.{position_scale, relation_at, moment_at}
+use Rattle.modifier_rules.specs.Relations.{position_scale}
+use Rattle.modifier_rules.specs.RelationRules.{SlotSight, asks_rule}
 use Rattle.composition.specs.expr_nodes.Typed.{Typed, scale}
 use Rattle.composition.specs.declared.guard.Guard.{Guard}
 use Rattle.composition.specs.declared.spot.PhaseSpot.{PhaseSpot}
@@ -155,12 +156,22 @@ scale_of typed = option_map_or scale typed 1
 abbrev pub end_of : Layout → Option Typed → ℕ → FlatTerm
 end_of at typed e = option_map_or (λ t. (shape at t).term e) typed (Whole (pos 0))
 
--- a modifier holds at a tick, under its presence and its moment; both ends of its range are taken at the scale at which they are compared
+-- the slots that a modifier looks at
+abbrev pub slot_sight : Scene → Layout → ModifierSpot → SlotSight
+slot_sight scene at m = record {
+  length = at.tick;
+  ticks = scene.setting.ticks;
+  start = phase_start at m.phase;
+  end = phase_end at m.phase;
+  own = sample_slots at m.own;
+  other = sample_slots at (other_of m);
+}
+
+-- what a modifier asks at a tick, under its presence; both ends of its range are taken at the scale at which they are compared
 abbrev pub modifier_rule : Scene → Layout → ModifierSpot → ℕ → FlatRule
 modifier_rule scene at m tick =
     let e = lcm position_scale (lcm (scale_of m.low) (scale_of m.high)) in
-    under (presence_rules at (modifier_presence scene m) ++ moment_at m.moment (phase_start at m.phase) (phase_end at m.phase) tick)
-    (relation_at m.kind (sample_slots at m.own tick) (sample_slots at (other_of m) tick) (end_of at m.low e) (end_of at m.high e) e)
+    asks_rule (presence_rules at (modifier_presence scene m)) m.relation m.moment (slot_sight scene at m) (end_of at m.low e) (end_of at m.high e) e tick
 
 -- ---- motion
 

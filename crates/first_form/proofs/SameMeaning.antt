@@ -8,7 +8,7 @@ use Rattle.serde_json.specs.Data.{Data}
 use Rattle.serde_json.specs.Read.{read}
 use Rattle.run_texts.specs.composition.osc_base.declared.path.Path.{Path}
 use Rattle.run_texts.specs.composition.osc_base.declared.sample.Sample.{Sample}
-use Rattle.run_texts.specs.composition.osc_base.Modifiers.{holds_of, is_moment}
+use Rattle.run_texts.specs.composition.osc_base.Relations.{asks}
 use Rattle.run_texts.specs.composition.osc_base.Number.{whole}
 use Rattle.run_texts.specs.composition.osc_base.Paths.{root}
 use Rattle.run_texts.specs.composition.expr_nodes.Typed.{Typed}
@@ -20,7 +20,7 @@ use Rattle.run_texts.specs.composition.Scenes.{Scene, Source, OfRun, OfPhase, Of
 use Rattle.run_texts.specs.composition.There.{are_met, is_there, is_asked, modifier_presence}
 use Rattle.run_texts.specs.composition.Numbers.{thousandths, number_from, number_at}
 use Rattle.run_texts.specs.composition.Movement.{moves_on, keeps_lane, is_step, moves}
-use Rattle.run_texts.specs.composition.Items.{Item, OfHard, OfDefault, OfTyped, OfPhase as OfArranged, OfModifier, OfMotion, items, item_holds, is_hard, is_overridden, times_of, sample_of, other_of}
+use Rattle.run_texts.specs.composition.Items.{Item, OfHard, OfDefault, OfTyped, OfPhase as OfArranged, OfModifier, OfMotion, items, item_holds, is_hard, is_overridden, sample_of, sight_of}
 use Rattle.run_texts.specs.composition.Claims.{Claim, claim, listed_claims, end_claim, ends_with_root_do, bounds_claims, item_claim, item_claims, claims, is_instance}
 use Rattle.run_texts.specs.RunShape.{Shaped, Fits, Differs, form_of, run_from}
 use Rattle.first_form.specs.FirstTexts.{FirstRun, seen}
@@ -95,10 +95,11 @@ module _ (scene : Scene) (run : Run) (hundred : run.tick ≡ 100) where
   item_same (OfTyped path these) = refl
   item_same (OfArranged phase) = refl
   item_same (OfModifier m tick) =
-      ap (λ at.
-      not (are_met run (modifier_presence scene m) && is_moment m.moment ((times_of run).start m.phase) ((times_of run).end m.phase) (pos tick))
-      || holds_of m.kind (unwrap_or (option_and_then (value at) m.low) (whole (pos 0))) (unwrap_or (option_and_then (value at) m.high) (whole (pos 0))) (sample_of run m.own tick) (sample_of run (other_of m) tick))
-      numbers
+      ap₂ (λ at length.
+      not (are_met run (modifier_presence scene m))
+      || asks m.relation m.moment (unwrap_or (option_and_then (value at) m.low) (whole (pos 0))) (unwrap_or (option_and_then (value at) m.high) (whole (pos 0)))
+      (record (sight_of scene run m) { length = length }) tick)
+      numbers hundred
   item_same (OfMotion vehicle tick) = ap (λ b. not (is_there scene run vehicle) || b) (moves_same vehicle tick)
 
   items_same : (these : List Item) → item_claims scene run these ≡ first.item_claims scene run these

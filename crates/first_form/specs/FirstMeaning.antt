@@ -5,7 +5,7 @@ use Rattle.std.specs.List.{list_all}
 use Rattle.run_texts.specs.composition.osc_base.declared.path.Path.{Path}
 use Rattle.run_texts.specs.composition.osc_base.declared.sample.Sample.{Sample}
 use Rattle.run_texts.specs.composition.osc_base.Comparisons.{same_number}
-use Rattle.run_texts.specs.composition.osc_base.Modifiers.{holds_of, is_moment}
+use Rattle.run_texts.specs.composition.osc_base.Relations.{Sight, asks}
 use Rattle.run_texts.specs.composition.osc_base.Number.{Number, whole}
 use Rattle.run_texts.specs.composition.osc_base.Paths.{root}
 use Rattle.run_texts.specs.composition.expr_nodes.Typed.{Typed}
@@ -50,11 +50,20 @@ default_holds scene run later o = not (is_asked scene run o) || (is_overridden s
 abbrev pub end_value : Scene → Run → Option Typed → Number
 end_value scene run typed = unwrap_or (option_and_then (value (number_at scene run)) typed) (whole (pos 0))
 
+abbrev pub sight_of : Scene → Run → ModifierSpot → Sight
+sight_of scene run m = record {
+  length = 100;
+  ticks = scene.setting.ticks;
+  start = (times_of run).start m.phase;
+  end = (times_of run).end m.phase;
+  own = sample_of run m.own;
+  other = sample_of run (other_of m);
+}
+
 abbrev pub modifier_holds : Scene → Run → ModifierSpot → ℕ → Bool
 modifier_holds scene run m tick =
-    let times = times_of run in
-    not (are_met run (modifier_presence scene m) && is_moment m.moment (times.start m.phase) (times.end m.phase) (pos tick))
-    || holds_of m.kind (end_value scene run m.low) (end_value scene run m.high) (sample_of run m.own tick) (sample_of run (other_of m) tick)
+    not (are_met run (modifier_presence scene m))
+    || asks m.relation m.moment (end_value scene run m.low) (end_value scene run m.high) (sight_of scene run m) tick
 
 -- ---- motion
 

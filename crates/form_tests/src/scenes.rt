@@ -6,7 +6,9 @@ ghost use Rattle.composition.specs.SeenScenes.{seen_scene};
 use composition::{
     Content, Guard, ModifierSpot, Occurrence, PhaseKind, Scene, Setting, Spot, ValueRange,
 };
-use osc_base::{Kind, Mark, Moment, Path, Place, Row, Step, Strength, Text};
+use osc_base::{
+    Mark, Moment, Path, Place, Quantity, Rate, Reading, Relation, Row, Step, Strength, Text,
+};
 use std::alloc::{AllocError, Global};
 use type_tables::TextTable;
 
@@ -126,7 +128,7 @@ fn lanes(alloc: Global) -> Result<ModifierSpot, AllocError> {
         phase: member(alloc, 0)?,
         own: path(alloc, "v")?,
         other: None,
-        kind: Kind::Lane,
+        relation: Relation::Within(Reading::Own(Quantity::Lane), Rate::Whole),
         moment: Moment::All,
         low: None,
         high: None,

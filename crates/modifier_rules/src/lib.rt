@@ -3,4 +3,4 @@
 
 mod truth;
 
-pub use truth::true_at;
+pub use truth::{Samples, true_at};

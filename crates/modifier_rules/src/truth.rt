@@ -1,33 +1,78 @@
-//! Whether a modifier holds of two samples.
+//! Whether a relation holds of samples.
 
-ghost use Rattle.std.specs.Prelude.{◌≡◌, pos, ◌+ℤ◌, ◌-ℤ◌};
-ghost use Rattle.modifier_rules.specs.Ends.{AreComparable, AreEnds, HasEnds};
+ghost use Rattle.std.specs.Prelude.{◌≡◌, ◌*◌, ◌≤◌, ◌^◌, pos, ◌+ℤ◌, ◌-ℤ◌, ◌*ℤ◌, ◌≤ℤ◌, unsigned_abs};
+ghost use Rattle.modifier_rules.specs.Ends.{AreComparable, AreEnds, AreHeadways, HasEnds, IsHeadway, RangeFits, samples_in};
 ghost use Rattle.osc_base.specs.Fraction.{value};
 ghost use Rattle.osc_base.specs.Comparisons.{is_at_most as at_most, is_between, same_number};
-ghost use Rattle.osc_base.specs.Modifiers.{holds_of, metres, metres_a_second, lanes as lane_count};
+ghost use Rattle.osc_base.specs.Modifiers.{metres_a_second};
+ghost use Rattle.osc_base.specs.Number.{product};
+ghost use Rattle.osc_base.specs.Relations.{holds, lies as lies_in, quantity, quantity_in, read as read_in, units as units_in};
 
-use osc_base::{Fraction, Kind, Sample};
+use osc_base::{Fraction, Quantity, Rate, Reading, Relation, Sample};
 use std::cmp::Ordering;
 
-/// The modifier holds of the samples of its own vehicle and of the other one, if its range goes from `low` to `high`.
+/// The samples that a relation may look at: that of the own vehicle, that of the other one, and the own one of the next
+/// tick. A tick has so many milliseconds.
+#[derive(Clone, Copy)]
+pub struct Samples {
+    pub length: u32,
+    pub own: Sample,
+    pub other: Sample,
+    pub next: Sample,
+}
+
+/// The relation holds of the samples, if its range goes from `low` to `high`.
 ///
-/// A value is the range from it to itself. Modifiers without a range don't look at the ends.
-pub fn true_at(kind: Kind, own: &Sample, other: &Sample, low: &Fraction, high: &Fraction) -> bool
-    requires { HasEnds kind own.now other.now (value low.now) (value high.now) }
-    ensures { result ≡ holds_of kind (value low.now) (value high.now) own.now other.now }
+/// A value is the range from it to itself. Relations without a range don't look at the ends.
+pub fn true_at(relation: Relation, samples: &Samples, low: &Fraction, high: &Fraction) -> bool
+    requires { HasEnds samples.now relation (value low.now) (value high.now) }
+    ensures { result ≡ holds samples.now.length relation (value low.now) (value high.now) (samples_in samples.now) }
 {
-    match kind {
-        Kind::Speed => is_between_ends(low, high, &speed(i128::from(own.speed))),
-        Kind::FasterThan => is_between_ends(low, high, &speed(apart(own.speed, other.speed))),
-        Kind::SlowerThan => is_between_ends(low, high, &speed(apart(other.speed, own.speed))),
-        Kind::SameSpeed => own.speed == other.speed,
-        Kind::Lane => is_between_ends(low, high, &lane(i128::from(own.lane))),
-        Kind::SameLane => own.lane == other.lane,
-        Kind::LeftOf => is_same(i128::from(own.lane), left_of(other.lane)),
-        Kind::RightOf => is_same(i128::from(own.lane), right_of(other.lane)),
-        Kind::Position => is_between_ends(low, high, &position(i128::from(own.position))),
-        Kind::AheadOf => is_between_ends(low, high, &position(apart(own.position, other.position))),
-        Kind::Behind => is_between_ends(low, high, &position(apart(other.position, own.position))),
+    match relation {
+        Relation::Within(a, rate) => {
+            let count = i128::from(read(samples, a));
+            lies(samples, quantity_of(a), rate, low, high, count)
+        }
+        Relation::Apart(a, b, rate) => {
+            let count = apart(read(samples, a), read(samples, b));
+            lies(samples, quantity_of(a), rate, low, high, count)
+        }
+        Relation::Beside(a, b, more) => {
+            let beside = more_than(read(samples, b), more);
+            is_same(i128::from(read(samples, a)), beside)
+        }
+        Relation::Change(_) => true,
+    }
+}
+
+/// A number of a sample.
+fn number_in(sample: &Sample, quantity: Quantity) -> i64
+    ensures { result ≡ quantity_in sample.now quantity }
+{
+    match quantity {
+        Quantity::Lane => sample.lane,
+        Quantity::Position => sample.position,
+        Quantity::Speed => sample.speed,
+    }
+}
+
+/// The quantity that is read.
+fn quantity_of(reading: Reading) -> Quantity
+    ensures { result ≡ quantity reading }
+{
+    match reading {
+        Reading::Own(quantity) | Reading::Other(quantity) | Reading::Next(quantity) => quantity,
+    }
+}
+
+/// What is read in samples.
+fn read(samples: &Samples, reading: Reading) -> i64
+    ensures { result ≡ read_in (samples_in samples.now) reading }
+{
+    match reading {
+        Reading::Own(quantity) => number_in(&samples.own, quantity),
+        Reading::Other(quantity) => number_in(&samples.other, quantity),
+        Reading::Next(quantity) => number_in(&samples.next, quantity),
     }
 }
 
@@ -38,18 +83,11 @@ fn apart(a: i64, b: i64) -> i128
     i128::from(a) - i128::from(b)
 }
 
-/// The lane on the left.
-fn left_of(lane: i64) -> i128
-    ensures { result ≡ lane +ℤ pos 1 }
+/// So much more than a number.
+fn more_than(number: i64, more: i8) -> i128
+    ensures { result ≡ number +ℤ more }
 {
-    i128::from(lane) + 1
-}
-
-/// The lane on the right.
-fn right_of(lane: i64) -> i128
-    ensures { result ≡ lane -ℤ pos 1 }
-{
-    i128::from(lane) - 1
+    i128::from(number) + i128::from(more)
 }
 
 /// They are one number.
@@ -59,33 +97,71 @@ fn is_same(a: i128, b: i128) -> bool
     a == b
 }
 
-/// A speed in metres a second.
-fn speed(millimetres: i128) -> Fraction
-    ensures { value result ≡ metres_a_second millimetres }
+/// So many units of a quantity make a lane, a metre, or a metre a second.
+fn units(quantity: Quantity) -> i128
+    ensures is { result ≡ pos (units_in quantity) }
+    ensures positive { pos 1 ≤ℤ result }
 {
-    Fraction {
-        num: millimetres,
-        den: 1000,
+    match quantity {
+        Quantity::Lane => 1,
+        Quantity::Position => 1_000_000,
+        Quantity::Speed => 1000,
     }
 }
 
-/// A position in metres.
-fn position(micrometres: i128) -> Fraction
-    ensures { value result ≡ metres micrometres }
+/// So many units lie in the range.
+fn lies(
+    samples: &Samples,
+    quantity: Quantity,
+    rate: Rate,
+    low: &Fraction,
+    high: &Fraction,
+    count: i128,
+) -> bool
+    requires { RangeFits samples.now quantity rate (value low.now) (value high.now) count }
+    ensures { result ≡ lies_in samples.now.length (samples_in samples.now) quantity rate (value low.now) (value high.now) count }
 {
-    Fraction {
-        num: micrometres,
-        den: 1_000_000,
+    match rate {
+        Rate::Whole => is_between_ends(low, high, &counted(count, quantity)),
+        Rate::Tick => is_between_ends(low, high, &grown(count, samples.length)),
+        Rate::Headway(at) => {
+            let speed = read(samples, at);
+            let low = headway(low, speed);
+            let high = headway(high, speed);
+            is_between_ends(&low, &high, &counted(count, quantity))
+        }
     }
 }
 
-/// A lane.
-fn lane(number: i128) -> Fraction
-    ensures { value result ≡ lane_count number }
+/// So many units of a quantity.
+fn counted(count: i128, quantity: Quantity) -> Fraction
+    ensures { value result ≡ record { numerator = count; denominator = pos (units_in quantity) } }
 {
     Fraction {
-        num: number,
-        den: 1,
+        num: count,
+        den: units(quantity),
+    }
+}
+
+/// What grows by so many units in so many milliseconds.
+fn grown(count: i128, length: u32) -> Fraction
+    requires { 1 ≤ length }
+    ensures { value result ≡ record { numerator = count; denominator = pos length } }
+{
+    Fraction {
+        num: count,
+        den: i128::from(length),
+    }
+}
+
+/// The metres that so many seconds take at a speed.
+fn headway(end: &Fraction, speed: i64) -> Fraction
+    requires { IsHeadway (value end.now) speed }
+    ensures { value result ≡ product (value end.now) (metres_a_second speed) }
+{
+    Fraction {
+        num: end.num * i128::from(speed),
+        den: end.den * 1000,
     }
 }
 

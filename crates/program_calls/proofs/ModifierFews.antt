@@ -1,7 +1,7 @@
 -- The arguments of a modifier, counted.
 use Rattle.std.proofs.Common.{◌≡◌, ◌∙◌, refl, sym, ap, ap₂, ℕ, Bool, true, false, List, [], ◌∷◌, Option, Some, None, Bor, filter, filter_map, find, is_some, option_and_then, option_map}
-use Rattle.osc_base.specs.declared.modifier.Kind.{Kind}
 use Rattle.osc_base.specs.declared.modifier.Moment.{Moment}
+use Rattle.osc_base.specs.declared.relation.Relation.{Relation}
 use Rattle.dsl_tree.specs.declared.expr.Expr.{Expr}
 use Rattle.dsl_tree.specs.ExprTree.{ExprTree}
 use Rattle.dsl_tree.specs.PhaseTree.{ModifierTree}
@@ -9,7 +9,7 @@ use Rattle.composition.specs.ModifierLines.{ModifierForm, ModifierLine, NamedVal
 use Rattle.program_calls.specs.declared.few.Few.{Few}
 use Rattle.program_calls.specs.declared.modifier_forms.NamedExpr.{NamedExpr}
 use Rattle.program_calls.specs.Fews.{at_most_one, few_from, few_map}
-use Rattle.program_calls.specs.SeenModifiers.{few_moment, form_counted, form_of_each, kind_of_line, name_of_value, named_as, seen_named, seen_value, value_of_value}
+use Rattle.program_calls.specs.SeenModifiers.{few_moment, form_counted, form_of_each, relation_of_line, name_of_value, named_as, seen_named, seen_value, value_of_value}
 
 pub still_several : {X : Type 0} (xs : List X) → few_from Few.Several xs ≡ Few.Several
 still_several [] = refl
@@ -32,14 +32,14 @@ form_is_counted name (e ∷ f ∷ es) [] moment = ap (λ x. form_counted name x 
 form_is_counted name (e ∷ f ∷ es) (v ∷ []) moment = ap (λ x. form_counted name x (Few.One v) moment) (still_several es)
 form_is_counted name (e ∷ f ∷ es) (v ∷ w ∷ more) moment = ap (λ x. form_counted name x (few_from Few.Several more) moment) (still_several es)
 
--- what a line says, if there is one
-form_found : (x : Option ModifierLine) (kind : Kind) (moment : Moment) (range other : Option ExprTree) → Some kind ≡ option_map kind_of_line x →
-    Some (record { kind = kind; moment = moment; range = range; other = other }) ≡ option_map {U = ModifierForm} (λ l. record { kind = l.kind; moment = moment; range = range; other = other }) x
-form_found None kind moment range other h = absurd (cc)
-form_found (Some l) kind moment range other h = let same : kind ≡ l.kind = cc in ap (λ k. Some (record { kind = k; moment = moment; range = range; other = other })) same
+-- what a line asks, if there is one
+form_found : (x : Option ModifierLine) (relation : Relation) (moment : Moment) (range other : Option ExprTree) → Some relation ≡ option_map relation_of_line x →
+    Some (record { relation = relation; moment = moment; range = range; other = other }) ≡ option_map {U = ModifierForm} (λ l. record { relation = l.relation; moment = moment; range = range; other = other }) x
+form_found None relation moment range other h = absurd (cc)
+form_found (Some l) relation moment range other h = let same : relation ≡ l.relation = cc in ap (λ k. Some (record { relation = k; moment = moment; range = range; other = other })) same
 
-form_lost : (x : Option ModifierLine) (moment : Moment) (range other : Option ExprTree) → None ≡ option_map kind_of_line x →
-    None ≡ option_map {U = ModifierForm} (λ l. record { kind = l.kind; moment = moment; range = range; other = other }) x
+form_lost : (x : Option ModifierLine) (moment : Moment) (range other : Option ExprTree) → None ≡ option_map relation_of_line x →
+    None ≡ option_map {U = ModifierForm} (λ l. record { relation = l.relation; moment = moment; range = range; other = other }) x
 form_lost None moment range other h = refl
 form_lost (Some l) moment range other h = absurd (cc)
 
@@ -47,13 +47,13 @@ module _ (name : List ℕ) (has has' : Bool) (o : Option (List ℕ)) (range : Op
   line_is : find (is_line name has' o) modifier_lines ≡ find (is_line name has (option_map name_of_value other)) modifier_lines
   line_is = ap₂ (λ b n. find (is_line name b n) modifier_lines) same called
 
-  pub on_line : (kind : Kind) (value : Option ExprTree) → value ≡ option_map value_of_value other → Some kind ≡ option_map kind_of_line (find (is_line name has' o) modifier_lines) →
-      Some (record { kind = kind; moment = moment; range = range; other = value }) ≡ form_on_line name has range other moment
-  on_line kind value is h = form_found _ kind moment range value (h ∙ ap (option_map kind_of_line) line_is)
-      ∙ ap (λ v. option_map {U = ModifierForm} (λ l. record { kind = l.kind; moment = moment; range = range; other = v }) (find (is_line name has (option_map name_of_value other)) modifier_lines)) is
+  pub on_line : (relation : Relation) (value : Option ExprTree) → value ≡ option_map value_of_value other → Some relation ≡ option_map relation_of_line (find (is_line name has' o) modifier_lines) →
+      Some (record { relation = relation; moment = moment; range = range; other = value }) ≡ form_on_line name has range other moment
+  on_line relation value is h = form_found _ relation moment range value (h ∙ ap (option_map relation_of_line) line_is)
+      ∙ ap (λ v. option_map {U = ModifierForm} (λ l. record { relation = l.relation; moment = moment; range = range; other = v }) (find (is_line name has (option_map name_of_value other)) modifier_lines)) is
 
-  pub on_no_line : None ≡ option_map kind_of_line (find (is_line name has' o) modifier_lines) → None ≡ form_on_line name has range other moment
-  on_no_line h = form_lost _ moment range (option_map value_of_value other) (h ∙ ap (option_map kind_of_line) line_is)
+  pub on_no_line : None ≡ option_map relation_of_line (find (is_line name has' o) modifier_lines) → None ≡ form_on_line name has range other moment
+  on_no_line h = form_lost _ moment range (option_map value_of_value other) (h ∙ ap (option_map relation_of_line) line_is)
 
 module _ (m : ModifierTree) (ats : Few NamedValue) (at_is : ats ≡ few_from Few.Absent (filter (named_as true) (filter_map named_value m.arguments))) where
   moment_is : few_moment ats ≡ moment_of (filter (named_as true) (filter_map named_value m.arguments))

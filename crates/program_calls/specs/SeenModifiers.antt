@@ -1,8 +1,8 @@
 -- What the program's own forms of modifiers are seen as.
 use Rattle.std.specs.Prelude.{ℕ, Bool, true, false, not, List, Option, Some, None, is_some, option_copied, option_map}
 use Rattle.std.specs.Borrow.{Bor}
-use Rattle.osc_base.specs.declared.modifier.Kind.{Kind}
 use Rattle.osc_base.specs.declared.modifier.Moment.{Moment}
+use Rattle.osc_base.specs.declared.relation.Relation.{Relation}
 use Rattle.dsl_tree.specs.declared.expr.Expr.{Expr}
 use Rattle.dsl_tree.specs.ExprTree.{ExprTree}
 use Rattle.dsl_tree.specs.Views.{expr_tree}
@@ -15,11 +15,11 @@ use Rattle.program_calls.specs.declared.modifier_forms.NamedExpr.{NamedExpr}
 
 -- a line of the table
 abbrev pub seen_line : OwnLine → ModifierLine
-seen_line l = record { name = l.name.now; has_range = l.has_range; other = option_copied l.other; kind = l.kind }
+seen_line l = record { name = l.name.now; has_range = l.has_range; other = option_copied l.other; relation = l.relation }
 
--- what a line says
-abbrev pub kind_of_line : ModifierLine → Kind
-kind_of_line l = l.kind
+-- what a line asks
+abbrev pub relation_of_line : ModifierLine → Relation
+relation_of_line l = l.relation
 
 -- an expression
 abbrev pub seen_value : Bor Expr → ExprTree
@@ -31,7 +31,7 @@ seen_named n = record { name = n.name.now; value = expr_tree n.value.now }
 
 -- a form
 abbrev pub seen_form : OwnForm → ModifierForm
-seen_form f = record { kind = f.kind; moment = f.moment; range = option_map seen_value f.range; other = option_map seen_value f.other }
+seen_form f = record { relation = f.relation; moment = f.moment; range = option_map seen_value f.range; other = option_map seen_value f.other }
 
 -- the argument is `at:`, or it isn't
 abbrev pub named_as : Bool → NamedValue → Bool

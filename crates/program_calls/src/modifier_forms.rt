@@ -7,89 +7,101 @@ ghost use Rattle.composition.specs.ModifierLines as Lines;
 ghost use Rattle.composition.specs.ModifierLines.{form_on_line as form_on, is_line, modifier_form as form_written, modifier_lines, moment_word as moment_meant, named_value, same_name, unnamed_value};
 ghost use Rattle.program_calls.specs.declared.few.Few.{Few};
 ghost use Rattle.program_calls.specs.Fews.{few_from, few_map};
-ghost use Rattle.program_calls.specs.SeenModifiers.{few_moment, form_counted, kind_of_line, name_of_value, named_as, seen_form, seen_line, seen_named, seen_value, value_of_value};
+ghost use Rattle.program_calls.specs.SeenModifiers.{few_moment, form_counted, relation_of_line, name_of_value, named_as, seen_form, seen_line, seen_named, seen_value, value_of_value};
 
 use crate::few::Few;
 use crate::name_exprs::name_of;
 use dsl_tree::{Argument, Expr, ModifierNode};
-use osc_base::{Kind, Moment};
+use osc_base::{Moment, Quantity, Rate, Reading, Relation};
 
 /// A line of the table of modifiers: the modifier's name, whether it has a value or range, the name of the argument for
-/// another vehicle, and what it says.
+/// another vehicle, and what it asks.
 #[derive(Clone, Copy)]
 struct ModifierLine {
     name: &'static str,
     has_range: bool,
     other: Option<&'static str>,
-    kind: Kind,
+    relation: Relation,
 }
+
+const OWN_SPEED: Reading = Reading::Own(Quantity::Speed);
+
+const OTHER_SPEED: Reading = Reading::Other(Quantity::Speed);
+
+const OWN_LANE: Reading = Reading::Own(Quantity::Lane);
+
+const OTHER_LANE: Reading = Reading::Other(Quantity::Lane);
+
+const OWN_POSITION: Reading = Reading::Own(Quantity::Position);
+
+const OTHER_POSITION: Reading = Reading::Other(Quantity::Position);
 
 const LINES: [ModifierLine; 11] = [
     ModifierLine {
         name: "speed",
         has_range: true,
         other: None,
-        kind: Kind::Speed,
+        relation: Relation::Within(OWN_SPEED, Rate::Whole),
     },
     ModifierLine {
         name: "speed",
         has_range: true,
         other: Some("faster_than"),
-        kind: Kind::FasterThan,
+        relation: Relation::Apart(OWN_SPEED, OTHER_SPEED, Rate::Whole),
     },
     ModifierLine {
         name: "speed",
         has_range: true,
         other: Some("slower_than"),
-        kind: Kind::SlowerThan,
+        relation: Relation::Apart(OTHER_SPEED, OWN_SPEED, Rate::Whole),
     },
     ModifierLine {
         name: "speed",
         has_range: false,
         other: Some("same_as"),
-        kind: Kind::SameSpeed,
+        relation: Relation::Beside(OWN_SPEED, OTHER_SPEED, 0),
     },
     ModifierLine {
         name: "lane",
         has_range: true,
         other: None,
-        kind: Kind::Lane,
+        relation: Relation::Within(OWN_LANE, Rate::Whole),
     },
     ModifierLine {
         name: "lane",
         has_range: false,
         other: Some("same_as"),
-        kind: Kind::SameLane,
+        relation: Relation::Beside(OWN_LANE, OTHER_LANE, 0),
     },
     ModifierLine {
         name: "lane",
         has_range: false,
         other: Some("left_of"),
-        kind: Kind::LeftOf,
+        relation: Relation::Beside(OWN_LANE, OTHER_LANE, 1),
     },
     ModifierLine {
         name: "lane",
         has_range: false,
         other: Some("right_of"),
-        kind: Kind::RightOf,
+        relation: Relation::Beside(OWN_LANE, OTHER_LANE, -1),
     },
     ModifierLine {
         name: "position",
         has_range: true,
         other: None,
-        kind: Kind::Position,
+        relation: Relation::Within(OWN_POSITION, Rate::Whole),
     },
     ModifierLine {
         name: "position",
         has_range: true,
         other: Some("ahead_of"),
-        kind: Kind::AheadOf,
+        relation: Relation::Apart(OWN_POSITION, OTHER_POSITION, Rate::Whole),
     },
     ModifierLine {
         name: "position",
         has_range: true,
         other: Some("behind"),
-        kind: Kind::Behind,
+        relation: Relation::Apart(OTHER_POSITION, OWN_POSITION, Rate::Whole),
     },
 ];
 
@@ -100,10 +112,10 @@ struct NamedExpr<'a> {
     value: &'a Expr,
 }
 
-/// A modifier as written: what it says, its moments, its value or range, and the path to its other vehicle.
+/// A modifier as written: what it asks, its moments, its value or range, and the path to its other vehicle.
 #[derive(Clone, Copy)]
 pub struct ModifierForm<'a> {
-    pub kind: Kind,
+    pub relation: Relation,
     pub moment: Moment,
     pub range: Option<&'a Expr>,
     pub other: Option<&'a Expr>,
@@ -129,28 +141,28 @@ impl ModifierLine {
     }
 }
 
-/// What the first of some lines says that is the line of these arguments.
-fn kind_among(
+/// What the first of some lines asks that is the line of these arguments.
+fn relation_among(
     lines: &[ModifierLine],
     name: &str,
     has_range: bool,
     other: Option<&str>,
-) -> Option<Kind>
-    ensures { result ≡ option_map kind_of_line (find (is_line name.now has_range (option_copied other.entry)) (map seen_line lines.now)) }
+) -> Option<Relation>
+    ensures { result ≡ option_map relation_of_line (find (is_line name.now has_range (option_copied other.entry)) (map seen_line lines.now)) }
 {
     for line in lines {
         if line.is_for(name, has_range, other) {
-            return Some(line.kind);
+            return Some(line.relation);
         }
     }
     None
 }
 
-/// What a modifier with these arguments says.
-fn kind_of(name: &str, has_range: bool, other: Option<&str>) -> Option<Kind>
-    ensures { result ≡ option_map kind_of_line (find (is_line name.now has_range (option_copied other.entry)) modifier_lines) }
+/// What a modifier with these arguments asks.
+fn relation_of(name: &str, has_range: bool, other: Option<&str>) -> Option<Relation>
+    ensures { result ≡ option_map relation_of_line (find (is_line name.now has_range (option_copied other.entry)) modifier_lines) }
 {
-    kind_among(&LINES, name, has_range, other)
+    relation_among(&LINES, name, has_range, other)
 }
 
 /// Whether a line has the name.
@@ -275,9 +287,9 @@ fn form_on_line<'a>(
 ) -> Option<ModifierForm<'a>>
     ensures { option_map seen_form result ≡ form_on name.now (is_some range.entry) (option_map seen_value range.entry) (option_map seen_named other.entry) moment }
 {
-    match kind_of(name, range.is_some(), name_among(other)) {
-        Some(kind) => Some(ModifierForm {
-            kind,
+    match relation_of(name, range.is_some(), name_among(other)) {
+        Some(relation) => Some(ModifierForm {
+            relation,
             moment,
             range,
             other: value_among(other),

@@ -2,7 +2,7 @@
 use Rattle.std.specs.Prelude.{ℕ, ◌&&◌, false, not, Option, List, [], ◌∷◌, flat_map, is_none}
 use Rattle.std.specs.Option.{option_map_or}
 use Rattle.osc_base.specs.declared.fault.FaultCode.{FaultCode}
-use Rattle.osc_base.specs.declared.modifier.Kind.{Kind}
+use Rattle.osc_base.specs.declared.relation.Relation.{Relation}
 use Rattle.osc_base.specs.FaultRows.{FaultRow, row}
 use Rattle.dsl_tree.specs.ExprTree.{ExprTree}
 use Rattle.dsl_tree.specs.PhaseTree.{ArgumentTree, ModifierTree}
@@ -15,8 +15,8 @@ use Rattle.program_calls.specs.composition.Uses.{compared_exprs, compared_kind, 
 use Rattle.program_uses.specs.TableTypes.{of_table}
 
 -- its value or range
-abbrev pub range_rows : Table → Scope → Kind → Option ExprTree → List FaultRow
-range_rows table sc kind range = option_map_or (λ e. modifier_fit_rows (compared_kind kind) (first e) (typed table sc e)) range []
+abbrev pub range_rows : Table → Scope → Relation → Option ExprTree → List FaultRow
+range_rows table sc relation range = option_map_or (λ e. modifier_fit_rows (compared_kind relation) (first e) (typed table sc e)) range []
 
 -- its other vehicle
 abbrev pub vehicle_rows : Option ℕ → Table → Scope → Option ExprTree → List FaultRow

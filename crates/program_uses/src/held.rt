@@ -12,7 +12,7 @@ use expr_nodes::{Size, TypeId, TypeKind, Types, ValueKind};
 use units_si::Exponents;
 
 /// The exponents of a number without a unit.
-pub(crate) const NO_EXPONENTS: Exponents = Exponents {
+const NO_EXPONENTS: Exponents = Exponents {
     kg: 0,
     m: 0,
     s: 0,

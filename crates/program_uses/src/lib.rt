@@ -4,6 +4,7 @@
 mod arguments;
 mod calls;
 mod compositions;
+mod dimension;
 mod expr_parts;
 mod fields;
 mod held;

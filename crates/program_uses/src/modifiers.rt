@@ -12,13 +12,13 @@ ghost use Rattle.program_calls.specs.SeenModifiers.{seen_form, seen_value};
 ghost use Rattle.program_uses.specs.ModifierRows.{compared_rows, modifier_name_rows, range_rows, vehicle_rows};
 ghost use Rattle.program_uses.specs.TableTypes.{of_table};
 
-use crate::held::NO_EXPONENTS;
+use crate::dimension::dimension;
 use crate::rules::with_expr;
 use dsl_tree::{Argument, Expr, ModifierNode};
 use expr_eval::checked;
 use expr_nodes::{Scope, TypeId, Typed, Types, ValueKind};
 use name_scope::with_fault;
-use osc_base::{Boxed, Fault, FaultCode, Kind};
+use osc_base::{Boxed, Fault, FaultCode, Relation};
 use program_calls::{
     ModifierForm, first_place, is_drive, is_modifier, is_path, is_vehicle, modifier_form,
 };
@@ -26,41 +26,21 @@ use std::alloc::{AllocError, Global};
 use units_si::Exponents;
 use value_fits::with_compared;
 
-/// The exponents of a speed.
-const SPEED: Exponents = Exponents {
-    kg: 0,
-    m: 1,
-    s: -1,
-    a: 0,
-    k: 0,
-    mol: 0,
-    cd: 0,
-    rad: 0,
-};
-
-/// The exponents of a position.
-const METRES: Exponents = Exponents {
-    kg: 0,
-    m: 1,
-    s: 0,
-    a: 0,
-    k: 0,
-    mol: 0,
-    cd: 0,
-    rad: 0,
-};
-
-/// The kind of what a modifier compares with: a speed, a position, or a lane.
-fn compared_kind(kind: Kind) -> ValueKind
-    ensures { seen_kind result ≡ kind_compared kind }
+/// The kind of what a modifier compares with: a number with the unit of what its range counts.
+fn compared_kind(relation: Relation) -> ValueKind
+    ensures { seen_kind result ≡ kind_compared relation }
 {
-    match kind {
-        Kind::Speed | Kind::FasterThan | Kind::SlowerThan => ValueKind::Number(SPEED),
-        Kind::Position | Kind::AheadOf | Kind::Behind => ValueKind::Number(METRES),
-        Kind::SameSpeed | Kind::Lane | Kind::SameLane | Kind::LeftOf | Kind::RightOf => {
-            ValueKind::Number(NO_EXPONENTS)
-        }
-    }
+    let dimension = dimension(relation);
+    ValueKind::Number(Exponents {
+        kg: 0,
+        m: dimension.metres,
+        s: dimension.seconds,
+        a: 0,
+        k: 0,
+        mol: 0,
+        cd: 0,
+        rad: 0,
+    })
 }
 
 /// Whether an argument is `at:`.
@@ -112,16 +92,16 @@ fn with_range(
     types: &Types,
     scope: &Scope<'_>,
     first: Option<Fault>,
-    kind: Kind,
+    relation: Relation,
     range: Option<&Expr>,
 ) -> Result<Option<Fault>, AllocError>
-    ensures { IfOk result (λ f. f ≡ first_from first (range_rows types.now.table (seen_scope scope.now) kind (option_map seen_value range.entry))) }
+    ensures { IfOk result (λ f. f ≡ first_from first (range_rows types.now.table (seen_scope scope.now) relation (option_map seen_value range.entry))) }
 {
     match range {
         Some(range) => {
             let known = checked(alloc, types, scope, range)?;
             let place = first_place(range);
-            let compared = compared_kind(kind);
+            let compared = compared_kind(relation);
             Ok(with_compared(first, compared, place, &known.typed))
         }
         None => Ok(first),
@@ -176,7 +156,7 @@ fn with_form(
 {
     match form {
         Some(form) => {
-            let ranged = with_range(alloc, types, scope, first, form.kind, form.range)?;
+            let ranged = with_range(alloc, types, scope, first, form.relation, form.range)?;
             with_other(alloc, types, library, scope, ranged, form.other)
         }
         None => Ok(first),

@@ -1,5 +1,5 @@
 -- Comparisons with the ends of a modifier's range pass no limit.
-use Rattle.std.proofs.Common.{◌≡◌, ◌∙◌, refl, sym, ap, ap₂, subst, arith, ℕ, zero, suc, ◌*◌, ◌/◌, ◌<◌, ◌≤◌, Bool, true, ◌&&◌, not, List, [], ◌∷◌, Option, Some, None, unsigned_abs}
+use Rattle.std.proofs.Common.{◌≡◌, ◌∙◌, refl, sym, ap, ap₂, subst, arith, ℕ, zero, suc, ◌*◌, ◌/◌, ◌<◌, ◌≤◌, Bool, true, ◌&&◌, not, true≢false, List, [], ◌∷◌, Option, Some, None, unsigned_abs}
 use Rattle.std.proofs.Math.Nat.{mul_assoc, mul_comm, mul_left_comm, mul-div_cancel_left, mul-div_cancel', mul-le-mul_right, dvd-mul_right, le-mul_of_pos_right}
 use Rattle.std.proofs.lemmas.Nat.Gcd.{le_of_dvd}
 use Rattle.std.proofs.lemmas.Int.{unsigned_abs-mul, ints}
@@ -7,13 +7,18 @@ use Rattle.std.specs.Int.{◌∣◌}
 use Rattle.std.specs.Prelude.{ℤ, pos, ◌*ℤ◌, ◌-ℤ◌, ◌≤ℤ◌, int_le, nat_lt, unwrap_or}
 use Rattle.std.specs.List.{list_all}
 use Rattle.osc_base.specs.declared.path.Path.{Path}
-use Rattle.osc_base.specs.declared.modifier.Kind.{Kind}
 use Rattle.osc_base.specs.declared.sample.Sample.{Sample}
+use Rattle.osc_base.specs.declared.relation.Quantity.{Quantity}
+use Rattle.osc_base.specs.declared.relation.Reading.{Reading}
+use Rattle.osc_base.specs.declared.relation.Rate.{Rate}
+use Rattle.osc_base.specs.declared.relation.Relation.{Relation}
 use Rattle.osc_base.specs.Number.{Number, IsWithin}
 use Rattle.osc_base.specs.Comparisons.{greatest_part}
 use Rattle.osc_base.specs.LowestTerms.{lcm}
 use Rattle.osc_base.specs.Modifiers.{metres, metres_a_second, lanes}
-use Rattle.run_values.specs.modifier_rules.Ends.{AreComparable, AreEnds, HasEnds}
+use Rattle.osc_base.specs.Relations.{quantity_in, quantity as quantity_of, units, read, is_ranged}
+use Rattle.run_values.specs.modifier_rules.declared.truth.Samples.{Samples}
+use Rattle.run_values.specs.modifier_rules.Ends.{AreComparable, AreEnds, RangeFits, HasEnds, samples_in}
 use Rattle.run_values.specs.modifier_rules.Relations.{position_scale}
 use Rattle.expr_nodes.specs.Typed.{Typed, scale, reach}
 use Rattle.run_values.proofs.of_expr_value.Worths.{counted_worth}
@@ -21,7 +26,7 @@ use Rattle.scene_conditions.specs.composition.declared.setting.Setting.{Setting}
 use Rattle.scene_conditions.specs.composition.declared.run.Run.{Run}
 use Rattle.scene_conditions.specs.composition.RunParts.{samples_in}
 use Rattle.scene_conditions.specs.composition.Scenes.{Scene, ModifierSpot}
-use Rattle.scene_conditions.specs.composition.Invariants.{has_range, is_expression, is_setting, is_modifier}
+use Rattle.scene_conditions.specs.composition.Invariants.{is_expression, is_setting, is_whole, same_quantity, is_plain, is_modifier}
 use Rattle.scene_conditions.specs.composition.Items.{still}
 use Rattle.scene_conditions.specs.composition.Claims.{sample_in_range, road_end, top_speed}
 use Rattle.scene_conditions.specs.composition.Ranges.{lies_between}
@@ -240,25 +245,56 @@ are_ends low high x n is =
     let small : n.multiple ≤ greatest_part = omega (arith, up, n.far) in
     record { above = comparable n.multiple low x n.positive small n.low_narrow is; below = comparable n.multiple x high n.positive small is n.high_narrow }
 
-pub has_ends : (kind : Kind) (own other : Sample) (low high : Number) → (has_range kind ≡ true → AreNarrow low high) → IsMeasured own → IsMeasured other → HasEnds kind own other low high
-has_ends Kind.Speed own other low high f a b =
-    let n = f refl in are_ends low high _ n (speed_narrow n.multiple n.part n.of_positions n.far own.speed (magnitude own.speed 1000000000 a.speed_from a.speed_to))
-has_ends Kind.FasterThan own other low high f a b =
-    let n = f refl in are_ends low high _ n (speed_narrow n.multiple n.part n.of_positions n.far (own.speed -ℤ other.speed) (gap own.speed other.speed 1000000000 a.speed_from a.speed_to b.speed_from b.speed_to))
-has_ends Kind.SlowerThan own other low high f a b =
-    let n = f refl in are_ends low high _ n (speed_narrow n.multiple n.part n.of_positions n.far (other.speed -ℤ own.speed) (gap other.speed own.speed 1000000000 b.speed_from b.speed_to a.speed_from a.speed_to))
-has_ends Kind.SameSpeed own other low high f a b = tt
-has_ends Kind.Lane own other low high f a b =
-    let n = f refl in are_ends low high _ n (lane_narrow n.multiple n.part n.of_positions n.far own.lane (magnitude own.lane 8 a.lane_from a.lane_to))
-has_ends Kind.SameLane own other low high f a b = tt
-has_ends Kind.LeftOf own other low high f a b = tt
-has_ends Kind.RightOf own other low high f a b = tt
-has_ends Kind.Position own other low high f a b =
-    let n = f refl in are_ends low high _ n (position_narrow n.multiple n.part n.of_positions n.far own.position (magnitude own.position 10000000000 a.position_from a.position_to))
-has_ends Kind.AheadOf own other low high f a b =
-    let n = f refl in are_ends low high _ n (position_narrow n.multiple n.part n.of_positions n.far (own.position -ℤ other.position) (gap own.position other.position 10000000000 a.position_from a.position_to b.position_from b.position_to))
-has_ends Kind.Behind own other low high f a b =
-    let n = f refl in are_ends low high _ n (position_narrow n.multiple n.part n.of_positions n.far (other.position -ℤ own.position) (gap other.position own.position 10000000000 b.position_from b.position_to a.position_from a.position_to))
+-- the most units of a quantity
+abbrev most_of : Quantity → ℕ
+most_of Quantity.Lane = 8
+most_of Quantity.Position = 10000000000
+most_of Quantity.Speed = 1000000000
+
+-- what is read is at most that
+record IsFew (q : Quantity) (n : ℤ) : Type 0 where
+  from : pos 0 ≤ℤ n
+  to : n ≤ℤ pos (most_of q)
+
+few_in : (s : Sample) (q : Quantity) → IsMeasured s → IsFew q (quantity_in s q)
+few_in s Quantity.Lane is = record { from = is.lane_from; to = is.lane_to }
+few_in s Quantity.Position is = record { from = is.position_from; to = is.position_to }
+few_in s Quantity.Speed is = record { from = is.speed_from; to = is.speed_to }
+
+few_narrow : (low high : Number) (n : AreNarrow low high) (q : Quantity) (count : ℤ) → unsigned_abs count ≤ most_of q
+    → IsNarrow n.multiple (record { numerator = count; denominator = pos (units q) })
+few_narrow low high n Quantity.Lane count h = lane_narrow n.multiple n.part n.of_positions n.far count h
+few_narrow low high n Quantity.Position count h = position_narrow n.multiple n.part n.of_positions n.far count h
+few_narrow low high n Quantity.Speed count h = speed_narrow n.multiple n.part n.of_positions n.far count h
+
+range_fits : (s : Samples) (q : Quantity) (rate : Rate) (low high : Number) (count : ℤ) → is_whole rate ≡ true → AreNarrow low high → unsigned_abs count ≤ most_of q → RangeFits s q rate low high count
+range_fits s q Rate.Whole low high count h n few = are_ends low high (record { numerator = count; denominator = pos (units q) }) n (few_narrow low high n q count few)
+range_fits s q Rate.Tick low high count h n few = absurd (true≢false (sym h))
+range_fits s q (Rate.Headway at) low high count h n few = absurd (true≢false (sym h))
+
+like : (q p : Quantity) → same_quantity q p ≡ true → p ≡ q
+like Quantity.Lane Quantity.Lane h = refl
+like Quantity.Position Quantity.Position h = refl
+like Quantity.Speed Quantity.Speed h = refl
+like _ _ h = absurd (true≢false (sym h))
+
+module _ (s : Samples) (own : IsMeasured s.own) (other : IsMeasured s.other) (next : IsMeasured s.next) where
+  few_read : (a : Reading) → IsFew (quantity_of a) (read (samples_in s) a)
+  few_read (Reading.Own q) = few_in s.own q own
+  few_read (Reading.Other q) = few_in s.other q other
+  few_read (Reading.Next q) = few_in s.next q next
+
+  pub has_ends : (relation : Relation) (low high : Number) → is_plain relation ≡ true → (is_ranged relation ≡ true → AreNarrow low high) → HasEnds s relation low high
+  has_ends (Relation.Within a rate) low high plain f =
+      let few = few_read a in
+      range_fits s (quantity_of a) rate low high (read (samples_in s) a) plain (f refl) (magnitude (read (samples_in s) a) (most_of (quantity_of a)) few.from few.to)
+  has_ends (Relation.Apart a b rate) low high plain f =
+      let first = few_read a in
+      let second = subst (λ q. IsFew q (read (samples_in s) b)) (like (quantity_of a) (quantity_of b) (right_of (is_whole rate) (same_quantity (quantity_of a) (quantity_of b)) plain)) (few_read b) in
+      range_fits s (quantity_of a) rate low high (read (samples_in s) a -ℤ read (samples_in s) b) (left_of (is_whole rate) (same_quantity (quantity_of a) (quantity_of b)) plain) (f refl)
+      (gap (read (samples_in s) a) (read (samples_in s) b) (most_of (quantity_of a)) first.from first.to second.from second.to)
+  has_ends (Relation.Beside a b more) low high plain f = tt
+  has_ends (Relation.Change side) low high plain f = tt
 
 -- ---- modifiers
 
@@ -270,7 +306,7 @@ scale_positive scene None h = omega arith
 scale_positive scene (Some t) h = sound_scale scene t h
 
 -- the ends of a modifier with a range are narrow
-pub range_narrow : (scene : Scene) (run : Run) (m : ModifierSpot) (low high : Number) → is_modifier scene m ≡ true → is_narrow_range m ≡ true → has_range m.kind ≡ true
+pub range_narrow : (scene : Scene) (run : Run) (m : ModifierSpot) (low high : Number) → is_modifier scene m ≡ true → is_narrow_range m ≡ true → is_ranged m.relation ≡ true
     → IsEndOf scene run m.low low → IsEndOf scene run m.high high → AreNarrow low high
 range_narrow scene run m low high is narrow ranged l h =
     let w = wide m narrow (scale_positive scene m.low (low_sound scene m is ranged)) (scale_positive scene m.high (high_sound scene m is ranged)) in

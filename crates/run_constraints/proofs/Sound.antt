@@ -1,10 +1,11 @@
 -- Which expressions of a scene are sound.
-use Rattle.std.proofs.Common.{◌≡◌, refl, sym, ap, true≢false, ℕ, Bool, true, false, ◌&&◌, ◌||◌, not, List, [], ◌∷◌, Option, Some, None}
+use Rattle.std.proofs.Common.{◌≡◌, refl, sym, true≢false, ℕ, Bool, true, false, ◌&&◌, List, [], ◌∷◌, Option, Some, None}
 use Rattle.std.specs.Prelude.{is_none}
 use Rattle.std.specs.Option.{option_map_or}
 use Rattle.std.specs.List.{list_all}
 use Rattle.osc_base.specs.declared.mark.Strength.{Strength}
 use Rattle.osc_base.specs.declared.path.Path.{Path}
+use Rattle.osc_base.specs.Relations.{is_ranged}
 use Rattle.expr_nodes.specs.Kinds.{is_number, is_truth}
 use Rattle.expr_nodes.specs.Typed.{Typed, Info, kind}
 use Rattle.expr_nodes.specs.Parts.{is_scalar}
@@ -13,8 +14,9 @@ use Rattle.run_values.specs.expr_value.Held.{in_reach}
 use Rattle.scene_conditions.specs.composition.declared.run.Run.{Run}
 use Rattle.scene_conditions.specs.composition.Scenes.{Scene, Occurrence, ModifierSpot, source}
 use Rattle.scene_conditions.specs.composition.Numbers.{number_at}
-use Rattle.scene_conditions.specs.composition.Invariants.{IsScene, is_expression, is_occurrence, is_read, is_target, is_end, is_modifier, has_range}
+use Rattle.scene_conditions.specs.composition.Invariants.{IsScene, is_expression, is_occurrence, is_read, is_target, is_end, is_modifier}
 use Rattle.run_values.specs.Frames.{IsWithin}
+use Rattle.run_values.proofs.of_field_flatten.KnownModifiers.{known_modifier}
 use Rattle.run_values.proofs.Framed.{read_within, each_weaker}
 use Rattle.run_constraints.specs.FirstConstraints.{is_sound_part}
 
@@ -74,11 +76,7 @@ end_of : (scene : Scene) (typed : Option Typed) → option_map_or (is_end scene)
 end_of scene None h = refl
 end_of scene (Some t) h = right_of (is_number (kind t)) (is_expression scene t) h
 
-under : (a b : Bool) → a ≡ true → not a || b ≡ true → b ≡ true
-under true b e h = h
-under false b e h = absurd (true≢false (sym e))
-
-module _ (scene : Scene) (m : ModifierSpot) (is : is_modifier scene m ≡ true) (ranged : has_range m.kind ≡ true) where
+module _ (scene : Scene) (m : ModifierSpot) (is : is_modifier scene m ≡ true) (ranged : is_ranged m.relation ≡ true) where
   abbrev low_is : Bool
   low_is = option_map_or (is_end scene) m.low false
 
@@ -86,7 +84,7 @@ module _ (scene : Scene) (m : ModifierSpot) (is : is_modifier scene m ≡ true) 
   high_is = option_map_or (is_end scene) m.high false
 
   ends : low_is && high_is ≡ true
-  ends = under (has_range m.kind) (low_is && high_is) ranged (right_of _ (not (has_range m.kind) || (low_is && high_is)) (right_of _ _ is))
+  ends = (known_modifier scene m is).ends ranged
 
   pub low_sound : is_sound_part scene m.low ≡ true
   low_sound = end_of scene m.low (left_of low_is high_is ends)

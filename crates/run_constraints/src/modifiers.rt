@@ -5,20 +5,21 @@ ghost use Rattle.std.specs.List.{list_all, range_with_len};
 ghost use Rattle.osc_base.specs.Fraction.{value as number_of};
 ghost use Rattle.osc_base.specs.Modifiers.{is_moment as moment_at};
 ghost use Rattle.osc_base.specs.Number.{whole};
+ghost use Rattle.osc_base.specs.Relations.{is_ranged as ranged};
 ghost use Rattle.expr_nodes.specs.Seen.{seen, seen_part};
-ghost use Rattle.scene_conditions.specs.composition.Invariants.{has_range as ranged, is_expression, is_modifier};
+ghost use Rattle.scene_conditions.specs.composition.Invariants.{is_expression, is_modifier};
 ghost use Rattle.scene_conditions.specs.composition.Items.{modifier_holds, other_of as other_path, times_of};
 ghost use Rattle.scene_conditions.specs.composition.SeenParts.{seen_modifier};
 ghost use Rattle.scene_conditions.specs.composition.Slots.{ticks_of};
 ghost use Rattle.run_values.specs.field_flatten.Exactness.{is_narrow_range};
 ghost use Rattle.run_values.specs.SeenNumbers.{scene_in, run_in};
 ghost use Rattle.run_constraints.specs.FirstConstraints.{is_sound_part};
-ghost use Rattle.run_constraints.specs.Watched.{watch_holds, CanCompare, IsEndOf, IsWatch};
+ghost use Rattle.run_constraints.specs.Watched.{watch_holds, watch_samples, CanCompare, IsEndOf, IsWatch};
 
 use crate::presence::is_watched;
 use expr_nodes::Typed;
-use modifier_rules::true_at;
-use osc_base::{Fraction, Kind, Moment, Path, Sample};
+use modifier_rules::{Samples, true_at};
+use osc_base::{Fraction, Moment, Path, Relation, Sample};
 use run_values::{Numbers, sample_at, value};
 use scene_conditions::ModifierSpot;
 use std::alloc::{AllocError, Global};
@@ -26,8 +27,9 @@ use std::alloc::{AllocError, Global};
 /// A modifier that is there, with all that it compares.
 #[derive(Drop)]
 pub(crate) struct Watch<'a> {
-    kind: Kind,
+    relation: Relation,
     moment: Moment,
+    length: u32,
     start: u32,
     end: u32,
     low: Fraction,
@@ -57,9 +59,19 @@ impl Watch<'_> {
         if !self.is_moment(tick) {
             return true;
         }
-        let own = sample_at(self.own, tick as usize);
-        let other = sample_at(self.other, tick as usize);
-        true_at(self.kind, &own, &other, &self.low, &self.high)
+        true_at(self.relation, &self.samples(tick), &self.low, &self.high)
+    }
+
+    /// The samples that it looks at.
+    fn samples(&self, tick: u32) -> Samples
+        ensures { result ≡ watch_samples self.now tick }
+    {
+        Samples {
+            length: self.length,
+            own: sample_at(self.own, tick as usize),
+            other: sample_at(self.other, tick as usize),
+            next: sample_at(self.own, tick as usize + 1),
+        }
     }
 
     /// It holds at each tick that is one of its moments.
@@ -117,19 +129,13 @@ fn other_of(modifier: &ModifierSpot) -> &Path
     }
 }
 
-/// The modifier has a value or a range.
-fn has_range(kind: Kind) -> bool
-    ensures { result ≡ ranged kind }
+/// The relation has a value or a range.
+fn is_ranged(relation: Relation) -> bool
+    ensures { result ≡ ranged relation }
 {
-    match kind {
-        Kind::SameSpeed | Kind::SameLane | Kind::LeftOf | Kind::RightOf => false,
-        Kind::Speed
-        | Kind::FasterThan
-        | Kind::SlowerThan
-        | Kind::Lane
-        | Kind::Position
-        | Kind::AheadOf
-        | Kind::Behind => true,
+    match relation {
+        Relation::Beside(_, _, _) => false,
+        Relation::Within(_, _) | Relation::Apart(_, _, _) | Relation::Change(_) => true,
     }
 }
 
@@ -151,17 +157,24 @@ fn zero() -> Fraction
 }
 
 /// An end of the range, 0 if there is none.
-fn end_at(numbers: &Numbers<'_>, kind: Kind, typed: &Option<Typed>) -> Fraction
-    requires { ranged kind ≡ true → is_sound_part (scene_in numbers.now) (seen_part typed.now) ≡ true }
-    ensures { ranged kind ≡ true → IsEndOf (scene_in numbers.now) (run_in numbers.now) (seen_part typed.now) (number_of result) }
+fn end_at(numbers: &Numbers<'_>, relation: Relation, typed: &Option<Typed>) -> Fraction
+    requires { ranged relation ≡ true → is_sound_part (scene_in numbers.now) (seen_part typed.now) ≡ true }
+    ensures { ranged relation ≡ true → IsEndOf (scene_in numbers.now) (run_in numbers.now) (seen_part typed.now) (number_of result) }
 {
-    if !has_range(kind) {
+    if !is_ranged(relation) {
         return zero();
     }
     match typed {
         Some(typed) => worth_of(numbers, typed),
         None => zero(),
     }
+}
+
+/// The length of a tick.
+fn length_in(numbers: &Numbers<'_>) -> u32
+    ensures { result ≡ (run_in numbers.now).tick }
+{
+    numbers.run().tick()
 }
 
 /// What there is to compare of a modifier.
@@ -171,12 +184,13 @@ fn watching<'w>(numbers: &'w Numbers<'_>, modifier: &'w ModifierSpot) -> Watch<'
     ensures { IsWatch (scene_in numbers.now) (run_in numbers.now) (seen_modifier modifier.now) result }
 {
     Watch {
-        kind: modifier.kind,
+        relation: modifier.relation,
         moment: modifier.moment,
+        length: length_in(numbers),
         start: start_of(numbers, &modifier.phase),
         end: end_of(numbers, &modifier.phase),
-        low: end_at(numbers, modifier.kind, &modifier.low),
-        high: end_at(numbers, modifier.kind, &modifier.high),
+        low: end_at(numbers, modifier.relation, &modifier.low),
+        high: end_at(numbers, modifier.relation, &modifier.high),
         own: numbers.samples(&modifier.own),
         other: numbers.samples(other_of(modifier)),
     }

@@ -1,3 +1,4 @@
 pub mod Rooms
 pub mod RunEnds
+pub mod Steps
 pub mod TickRows

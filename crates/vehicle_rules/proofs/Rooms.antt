@@ -1,21 +1,20 @@
 -- Sound modifiers with narrow ranges have room.
-use Rattle.std.proofs.Common.{◌≡◌, ℕ, zero, suc, ◌+◌, ◌*◌, ◌/◌, ◌≤◌, ◌<◌, sym, ap, ap₂, ◌∙◌, subst, Bool, true, false, ◌&&◌, ◌||◌, not, Option, Some, None, arith, true≢false, refl}
+use Rattle.std.proofs.Common.{◌≡◌, ℕ, zero, suc, ◌+◌, ◌*◌, ◌/◌, ◌≤◌, ◌<◌, sym, ap, ap₂, ◌∙◌, subst, Bool, true, false, ◌&&◌, not, Option, Some, None, arith, true≢false, refl}
 use Rattle.std.specs.Prelude.{nat_lt}
 use Rattle.std.specs.Option.{option_map_or}
-use Rattle.std.specs.List.{list_any}
 use Rattle.std.proofs.Math.Nat.{mul_assoc}
-use Rattle.osc_base.specs.declared.path.Path.{Path}
 use Rattle.osc_base.specs.Comparisons.{greatest_part}
 use Rattle.osc_base.specs.LowestTerms.{lcm}
-use Rattle.osc_base.specs.Paths.{same_path}
+use Rattle.osc_base.specs.Relations.{is_ranged}
 use Rattle.rule_parts.specs.modifier_rules.Relations.{position_scale}
 use Rattle.expr_nodes.specs.Kinds.{is_number}
 use Rattle.expr_nodes.specs.Typed.{Typed, kind}
-use Rattle.rule_parts.specs.composition.Scenes.{Scene, ModifierSpot, vehicles, has_phase}
-use Rattle.rule_parts.specs.composition.Invariants.{is_expression, is_end, has_range, has_other, is_modifier}
+use Rattle.rule_parts.specs.composition.Scenes.{Scene, ModifierSpot}
+use Rattle.rule_parts.specs.composition.Invariants.{is_expression, is_end, is_modifier}
 use Rattle.rule_parts.specs.field_flatten.Rules.{scale_of}
 use Rattle.rule_parts.specs.field_flatten.Exactness.{quantity_reach, end_reach, is_narrow_range}
 use Rattle.rule_parts.proofs.of_field_flatten.Tests.{left_of, right_of}
+use Rattle.rule_parts.proofs.of_field_flatten.KnownModifiers.{known_modifier}
 use Rattle.rule_parts.proofs.of_field_flatten.Multiples.{common, share_of}
 use Rattle.rule_parts.specs.Rooms.{has_part, are_values, range_scale, HasRoom}
 use Rattle.rule_parts.proofs.Values.{known, not_above}
@@ -23,10 +22,6 @@ use Rattle.rule_parts.proofs.Values.{known, not_above}
 not_true : (b : Bool) → not b ≡ true → b ≡ false
 not_true true e = absurd (true≢false (sym e))
 not_true false e = refl
-
-implied : (a b : Bool) → not a || b ≡ true → a ≡ true → b ≡ true
-implied true b h e = h
-implied false b h e = absurd (true≢false (sym e))
 
 pub multiple_above : (a b : ℕ) → 0 < a → 0 < b → 0 < lcm a b
 multiple_above a b h k = (common a b h k).above
@@ -108,17 +103,10 @@ module _ (scene : Scene) where
       quantity : (n m : ℕ) → 2000000 * n ≤ m → n ≤ m
       quantity n m h = omega (arith, h)
 
-  abbrev Ranges : ModifierSpot → Bool
-  Ranges m = not (has_range m.kind) || (option_map_or (is_end scene) m.low false && option_map_or (is_end scene) m.high false)
-
-  abbrev Others : ModifierSpot → Bool
-  Others m = not (has_other m.kind) || option_map_or (λ (v : Path). list_any (same_path v) (vehicles scene)) m.other false
-
   -- a sound modifier with a narrow range has room
-  pub modifier_room : (m : ModifierSpot) → is_modifier scene m ≡ true → is_narrow_range m ≡ true → are_values m.low ≡ true → are_values m.high ≡ true → has_range m.kind ≡ true → HasRoom m
+  pub modifier_room : (m : ModifierSpot) → is_modifier scene m ≡ true → is_narrow_range m ≡ true → are_values m.low ≡ true → are_values m.high ≡ true → is_ranged m.relation ≡ true → HasRoom m
   modifier_room m sound narrow low_values high_values ranged =
-      let rest = right_of (has_phase scene m.phase && list_any (same_path m.own) (vehicles scene)) (Others m && Ranges m) sound in
-      let there = implied (has_range m.kind) (option_map_or (is_end scene) m.low false && option_map_or (is_end scene) m.high false) (right_of (Others m) (Ranges m) rest) ranged in
+      let there = (known_modifier scene m sound).ends ranged in
       let low = known_end m.low (left_of (option_map_or (is_end scene) m.low false) (option_map_or (is_end scene) m.high false) there) low_values in
       let high = known_end m.high (right_of (option_map_or (is_end scene) m.low false) (option_map_or (is_end scene) m.high false) there) high_values in
       let a = scale_of m.low in

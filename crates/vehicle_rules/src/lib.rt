@@ -1,9 +1,9 @@
 //! The rules of modifiers and of the motion of vehicles, tick by tick.
 #![tactic(auto)]
 
+mod measure;
 mod modifiers;
 mod motion;
-mod quantity;
 mod relations;
 
 pub use modifiers::modifier_rules;

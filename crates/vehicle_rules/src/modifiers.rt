@@ -1,12 +1,14 @@
 //! The rules of modifiers.
 
-ghost use Rattle.std.specs.Prelude.{◌≡◌, ◌<◌, ◌≤◌, ◌^◌, ◌++◌, ℕ, pos, true, map, IfOk, OnOk};
+ghost use Rattle.std.specs.Prelude.{◌≡◌, ◌+◌, ◌<◌, ◌≤◌, ◌^◌, ◌++◌, ◌&&◌, nat_lt, not, pos, true, map, IfOk, OnOk};
 ghost use Rattle.osc_base.specs.LowestTerms.{lcm};
+ghost use Rattle.osc_base.specs.Relations.{is_ranged, is_step as of_step, quantity};
 ghost use Rattle.box_eval.specs.FlatRules as Flat;
-ghost use Rattle.box_eval.specs.FlatRules.{FlatTerm, flat_rule, flat_term};
-ghost use Rattle.rule_parts.specs.modifier_rules.Relations.{moment_at as rules_of_moment, relation_at};
+ghost use Rattle.box_eval.specs.FlatRules.{flat_rule, flat_term};
+ghost use Rattle.rule_parts.specs.modifier_rules.Relations.{moment_at as rules_of_moment};
+ghost use Rattle.rule_parts.specs.modifier_rules.RelationRules.{lies_rule, relation_rule, slot_read as read_at};
 ghost use Rattle.expr_nodes.specs.Seen.{seen_part};
-ghost use Rattle.rule_parts.specs.composition.Invariants.{has_range, is_modifier};
+ghost use Rattle.rule_parts.specs.composition.Invariants.{is_modifier, is_plain};
 ghost use Rattle.rule_parts.specs.composition.Items.{other_of as other_path};
 ghost use Rattle.rule_parts.specs.composition.SeenParts.{seen_modifier};
 ghost use Rattle.rule_parts.specs.composition.Slots.{ticks_of};
@@ -15,18 +17,18 @@ ghost use Rattle.rule_parts.specs.field_flatten.Exactness.{is_narrow_range};
 ghost use Rattle.rule_parts.specs.field_flatten.Rules.{modifier_rule as rule_of, presence_rules, sample_slots, scale_of as scale_in, end_of};
 ghost use Rattle.rule_parts.specs.field_flatten.Shapes.{phase_start, phase_end};
 ghost use Rattle.rule_parts.specs.scene_conditions.SeenConditions.{seen_condition};
-ghost use Rattle.vehicle_rules.specs.Relations.{relation_rule, is_ranged};
+ghost use Rattle.vehicle_rules.specs.Relations.{compared_term as term_of, slots_in, RateRoom, RelationRoom};
 ghost use Rattle.rule_parts.specs.Rooms.{HasRoom, are_values, has_part, range_scale as scale_of_range};
 ghost use Rattle.rule_parts.specs.scene_slots.SeenSlots.{layout_of, scene_of};
 
-use crate::quantity::Quantity;
-use crate::relations::{POSITION_SCALE, Relation, beside, in_range, relation_of};
+use crate::measure::Amount;
+use crate::relations::{POSITION_SCALE, SeenSlots, beside, is_step, lies, quantity_of, slot_read};
 use box_eval::{Rule, Term};
 use expr_nodes::Typed;
-use osc_base::{Moment, Path, Row, SampleSlots};
+use osc_base::{Moment, Path, Rate, Reading, Relation, Row, SampleSlots};
 use rule_parts::{
-    Condition, ModifierSpot, SceneSlots, common_scale, condition_row, equal, modifier_presence,
-    number, rows, under, with_row,
+    Condition, ModifierSpot, SceneSlots, common_scale, condition_row, modifier_presence, number,
+    rows, under, with_row,
 };
 use std::alloc::{AllocError, Global};
 
@@ -79,36 +81,60 @@ fn end_term(
     }
 }
 
-/// A quantity is in the range of a modifier.
+/// A number is in the range of a modifier.
 fn range_rule(
     alloc: Global,
     slots: &SceneSlots<'_>,
     modifier: &ModifierSpot,
-    quantity: Quantity,
+    seen: SeenSlots,
+    amount: Amount,
+    rate: Rate,
 ) -> Result<Rule, AllocError>
-    requires { HasRoom (seen_modifier modifier.now) }
-    ensures { IfOk result (λ r. flat_rule r ≡ relation_rule (Relation.Within quantity) (end_of (layout_of slots.now) (seen_modifier modifier.now).low (scale_of_range (seen_modifier modifier.now))) (end_of (layout_of slots.now) (seen_modifier modifier.now).high (scale_of_range (seen_modifier modifier.now))) (scale_of_range (seen_modifier modifier.now))) }
+    requires range { HasRoom (seen_modifier modifier.now) }
+    requires rate { RateRoom seen.length rate (scale_of_range (seen_modifier modifier.now)) }
+    ensures { IfOk result (λ r. flat_rule r ≡ lies_rule seen.length (slots_in seen) amount.quantity rate (term_of amount.slot amount.less) (end_of (layout_of slots.now) (seen_modifier modifier.now).low (scale_of_range (seen_modifier modifier.now))) (end_of (layout_of slots.now) (seen_modifier modifier.now).high (scale_of_range (seen_modifier modifier.now))) (scale_of_range (seen_modifier modifier.now))) }
 {
     let scale = range_scale(modifier);
     let low = end_term(alloc, slots, &modifier.low, scale)?;
     let high = end_term(alloc, slots, &modifier.high, scale)?;
-    in_range(alloc, quantity, low, high, scale)
+    lies(alloc, seen, amount, rate, low, high, scale)
 }
 
-/// What a modifier says of two samples.
+/// What a relation reads in one place, or in one less in another.
+fn amount(seen: SeenSlots, a: Reading, less: Option<u32>) -> Amount
+    ensures quantity { result.quantity ≡ quantity a }
+    ensures slot { result.slot ≡ read_at (slots_in seen) a }
+    ensures less { result.less ≡ less }
+{
+    Amount {
+        quantity: quantity_of(a),
+        slot: slot_read(seen, a),
+        less,
+    }
+}
+
+/// What a modifier asks of the samples in these slots.
 fn sample_rule(
     alloc: Global,
     slots: &SceneSlots<'_>,
     modifier: &ModifierSpot,
-    relation: Relation,
+    seen: SeenSlots,
 ) -> Result<Rule, AllocError>
-    requires { is_ranged relation ≡ true → HasRoom (seen_modifier modifier.now) }
-    ensures { IfOk result (λ r. flat_rule r ≡ relation_rule relation (end_of (layout_of slots.now) (seen_modifier modifier.now).low (scale_of_range (seen_modifier modifier.now))) (end_of (layout_of slots.now) (seen_modifier modifier.now).high (scale_of_range (seen_modifier modifier.now))) (scale_of_range (seen_modifier modifier.now))) }
+    requires { RelationRoom seen.length modifier.now.relation (seen_modifier modifier.now) }
+    ensures { IfOk result (λ r. flat_rule r ≡ relation_rule seen.length modifier.now.relation (slots_in seen) (end_of (layout_of slots.now) (seen_modifier modifier.now).low (scale_of_range (seen_modifier modifier.now))) (end_of (layout_of slots.now) (seen_modifier modifier.now).high (scale_of_range (seen_modifier modifier.now))) (scale_of_range (seen_modifier modifier.now))) }
 {
-    match relation {
-        Relation::Within(quantity) => range_rule(alloc, slots, modifier, quantity),
-        Relation::Same(a, b) => Ok(equal(a, b)),
-        Relation::Beside(a, b, by) => beside(alloc, a, b, by),
+    match modifier.relation {
+        Relation::Within(a, rate) => {
+            range_rule(alloc, slots, modifier, seen, amount(seen, a, None), rate)
+        }
+        Relation::Apart(a, b, rate) => {
+            let less = Some(slot_read(seen, b));
+            range_rule(alloc, slots, modifier, seen, amount(seen, a, less), rate)
+        }
+        Relation::Beside(a, b, more) => {
+            beside(alloc, slot_read(seen, a), slot_read(seen, b), more)
+        }
+        Relation::Change(_) => Ok(Rule::Always),
     }
 }
 
@@ -179,18 +205,43 @@ pub(crate) fn slots_at(slots: &SceneSlots<'_>, vehicle: &Path, tick: u32) -> Sam
     slots.track(vehicle).at(tick)
 }
 
-/// What a modifier says at a tick.
-fn relation_at_tick(slots: &SceneSlots<'_>, modifier: &ModifierSpot, tick: u32) -> Relation
+/// The slots of a vehicle's sample at the next tick, or at this one if it is the last.
+fn next_slots(slots: &SceneSlots<'_>, vehicle: &Path, tick: u32) -> SampleSlots
     requires { tick ≤ (scene_of slots.now).setting.ticks }
-    ensures rule { (low high : FlatTerm) (scale : ℕ) → relation_rule result low high scale ≡ relation_at modifier.now.kind (sample_slots (layout_of slots.now) modifier.now.own tick) (sample_slots (layout_of slots.now) (other_path (seen_modifier modifier.now)) tick) low high scale }
-    ensures range { is_ranged result ≡ has_range modifier.now.kind }
+    ensures { tick < (scene_of slots.now).setting.ticks → result ≡ sample_slots (layout_of slots.now) vehicle.now (tick + 1) }
 {
-    let own = slots_at(slots, &modifier.own, tick);
-    let other = slots_at(slots, other_of(modifier), tick);
-    relation_of(modifier.kind, own, other)
+    if tick < slots.scene().setting().ticks {
+        slots_at(slots, vehicle, tick + 1)
+    } else {
+        slots_at(slots, vehicle, tick)
+    }
 }
 
-/// A modifier holds at a tick, if it is there and the tick is one of its moments.
+/// The slots that a modifier may look at.
+fn seen_slots(slots: &SceneSlots<'_>, modifier: &ModifierSpot, tick: u32) -> SeenSlots
+    requires { tick ≤ (scene_of slots.now).setting.ticks }
+    ensures length { result.length ≡ (scene_of slots.now).setting.tick }
+    ensures own { result.own ≡ sample_slots (layout_of slots.now) modifier.now.own tick }
+    ensures other { result.other ≡ sample_slots (layout_of slots.now) (other_path (seen_modifier modifier.now)) tick }
+    ensures next { tick < (scene_of slots.now).setting.ticks → result.next ≡ sample_slots (layout_of slots.now) modifier.now.own (tick + 1) }
+{
+    let other = slots_at(slots, other_of(modifier), tick);
+    SeenSlots {
+        length: slots.scene().setting().tick,
+        own: slots_at(slots, &modifier.own, tick),
+        other,
+        next: next_slots(slots, &modifier.own, tick),
+    }
+}
+
+/// The relation looks at the next tick, and there is none.
+fn is_past(slots: &SceneSlots<'_>, relation: Relation, tick: u32) -> bool
+    ensures { result ≡ (of_step relation && not (nat_lt tick (scene_of slots.now).setting.ticks)) }
+{
+    is_step(relation) && tick >= slots.scene().setting().ticks
+}
+
+/// A modifier has what it asks at a tick, if it is there and the tick is one of its moments.
 fn modifier_rule(
     alloc: Global,
     slots: &SceneSlots<'_>,
@@ -200,12 +251,17 @@ fn modifier_rule(
 ) -> Result<Rule, AllocError>
     requires tick { tick ≤ (scene_of slots.now).setting.ticks }
     requires conditions { map seen_condition conditions.now ≡ conditions_of (scene_of slots.now) (seen_modifier modifier.now) }
-    requires room { has_range modifier.now.kind ≡ true → HasRoom (seen_modifier modifier.now) }
+    requires plain { is_plain modifier.now.relation ≡ true }
+    requires room { is_ranged modifier.now.relation ≡ true → HasRoom (seen_modifier modifier.now) }
     ensures { IfOk result (λ r. flat_rule r ≡ rule_of (scene_of slots.now) (layout_of slots.now) (seen_modifier modifier.now) tick) }
 {
-    let relation = relation_at_tick(slots, modifier, tick);
+    let is_past = is_past(slots, modifier.relation, tick);
+    if is_past {
+        return Ok(Rule::Always);
+    }
+    let seen = seen_slots(slots, modifier, tick);
     let row = asked_row(alloc, slots, modifier, conditions, tick)?;
-    under(alloc, row, sample_rule(alloc, slots, modifier, relation)?)
+    under(alloc, row, sample_rule(alloc, slots, modifier, seen)?)
 }
 
 /// Puts the rules of a modifier at each tick at the end.

@@ -99,7 +99,7 @@ impl Within<'_, '_> {
             phase,
             own,
             other,
-            kind: form.kind,
+            relation: form.relation,
             moment: form.moment,
             low: ends.low,
             high: ends.high,
